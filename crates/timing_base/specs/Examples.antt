@@ -1,0 +1,29 @@
+-- Small flows for examples that are worked by hand. The payload type is 96, and the source is 7.
+use Rattle.std.specs.Prelude.{ℕ, Bool, true, false, List, [], ◌∷◌, Ok, Err}
+use Rattle.timing_base.specs.declared.packet.FlowPacket.{FlowPacket}
+use Rattle.timing_base.specs.declared.packet.PacketFault.{PacketFault}
+
+-- a packet by record, stamp, packet number, RTP timestamp and marker
+abbrev pub sent : ℕ → ℕ → ℕ → ℕ → Bool → FlowPacket
+sent rec at number stamp marker = record { rec = rec; at = at; rtp = Ok record { number = number; stamp = stamp; marker = marker; pt = 96; ssrc = 7 } }
+
+-- the same from another source, and with another payload type
+abbrev pub sent_by : ℕ → ℕ → ℕ → ℕ → ℕ → Bool → FlowPacket
+sent_by ssrc rec at number stamp marker = record { rec = rec; at = at; rtp = Ok record { number = number; stamp = stamp; marker = marker; pt = 96; ssrc = ssrc } }
+
+abbrev pub sent_as : ℕ → ℕ → ℕ → ℕ → ℕ → Bool → FlowPacket
+sent_as pt rec at number stamp marker = record { rec = rec; at = at; rtp = Ok record { number = number; stamp = stamp; marker = marker; pt = pt; ssrc = 7 } }
+
+-- a packet that was not read
+abbrev pub unread : ℕ → ℕ → PacketFault → FlowPacket
+unread rec at fault = record { rec = rec; at = at; rtp = Err fault }
+
+-- a head of one packet, two groups of two, and a tail of one
+abbrev pub two_groups : List FlowPacket
+two_groups =
+    sent 1 10 6 100 true ∷ sent 2 20 7 101 false ∷ sent 3 30 8 101 true ∷ sent 4 40 9 102 false ∷ sent 5 50 10 102 true
+    ∷ sent 6 60 11 103 false ∷ []
+
+-- three packets, the first alone marked; 8 and 65,544 have equal low halves
+abbrev pub equal_low_halves : List FlowPacket
+equal_low_halves = sent 1 10 6 100 true ∷ sent 2 20 7 101 false ∷ sent 3 30 65544 101 false ∷ []

@@ -1,0 +1,135 @@
+//! What holds of the definitions themselves, and the definitions on flows worked by hand. Each
+//! function is a theorem: it does nothing, and its clauses are proved.
+
+ghost use Rattle.std.specs.Prelude.{◌≡◌, ◌<◌, ◌≤◌, ◌*◌, ◌+◌, ◌^◌, ◌++◌, ◌∷◌, [], ℕ, List, Some, None, true, false, length, All};
+ghost use Rattle.timing_base.specs.declared.packet.FlowPacket.{FlowPacket};
+ghost use Rattle.timing_base.specs.declared.flows.FirstFault.{FirstFault};
+ghost use Rattle.timing_base.specs.Flows.{cuts, fault, fault_within, first_fault, IsFirstFault, run_start, markers, markers_before};
+ghost use Rattle.timing_base.specs.Judged.{judged, runs};
+ghost use Rattle.timing_base.specs.Grouped.{IsGroupedVerdict};
+ghost use Rattle.timing_base.specs.Examples.{sent, sent_by, sent_as, unread, two_groups, equal_low_halves};
+
+use crate::judged::{FlowVerdict, RunOutcome};
+use crate::packet::PacketFault;
+
+/// The first fault of a flow is that of its least faulty packet, and a flow has none exactly where
+/// no packet has one.
+pub fn first_fault_is_least()
+    ensures least { (packets : List FlowPacket) (pt : ℕ) (first : FirstFault)
+        → first_fault packets pt ≡ Some first → IsFirstFault packets pt first }
+    ensures none { (packets : List FlowPacket) (pt k : ℕ)
+        → first_fault packets pt ≡ None → k < length packets → fault packets pt k ≡ None }
+{}
+
+/// What is judged of a flow is whole groups of one size, at most 262,144 packets each, and stamps
+/// that never fall and are below 2^62. A flow with gaps has 2 to 1,025 runs, and the first of them
+/// alone has no expected number.
+pub fn judged_is_grouped()
+    ensures { (packets : List FlowPacket) (pt tai : ℕ) → length packets < 2 ^ 41 → tai ≤ 1000
+        → All (λ p. p.at < 2 ^ 32 * 10 ^ 9) packets → IsGroupedVerdict (judged packets pt tai) }
+{}
+
+/// Worked by hand: the places of cuts and markers, and of the start of a run.
+pub fn places_by_hand()
+    ensures no_cut { cuts two_groups 6 ≡ [] }
+    ensures one_cut { cuts equal_low_halves 3 ≡ 2 ∷ [] }
+    ensures wraps { cuts (sent 1 0 4294967295 0 true ∷ sent 2 0 0 1 true ∷ sent 3 0 1 2 true ∷ []) 3 ≡ [] }
+    ensures marks { markers two_groups 0 6 ≡ 0 ∷ 2 ∷ 4 ∷ [] }
+    ensures before { markers_before two_groups 4 ≡ 0 ∷ 2 ∷ [] }
+    ensures start { run_start equal_low_halves 2 ≡ 2 }
+    ensures start_before { run_start equal_low_halves 1 ≡ 0 }
+{}
+
+/// Worked by hand: the faults of a packet by itself, and by the first packet.
+pub fn sender_faults_by_hand()
+    ensures short { judged (unread 9 0 PacketFault.Short ∷ []) 96 0
+        ≡ FlowVerdict.Refused 9 PacketFault.Short }
+    ensures version { judged (sent 1 0 6 0 true ∷ unread 2 0 PacketFault.Version ∷ []) 96 0
+        ≡ FlowVerdict.Refused 2 PacketFault.Version }
+    ensures payload { judged (sent_as 97 1 0 6 0 true ∷ []) 96 0
+        ≡ FlowVerdict.Refused 1 PacketFault.PayloadType }
+    ensures source { judged (sent 1 0 6 0 true ∷ sent_by 8 2 0 7 1 true ∷ sent 3 0 8 2 true ∷ []) 96 0
+        ≡ FlowVerdict.Refused 2 PacketFault.SecondSource }
+
+    // The third packet has the source of the second, and not of the first.
+    ensures source_of_first { fault (sent 1 0 6 0 true ∷ sent_by 8 2 0 7 1 true
+        ∷ sent_by 8 3 0 8 2 true ∷ []) 96 2 ≡ Some PacketFault.SecondSource }
+{}
+
+/// Worked by hand: the faults by the packet before, for flows with at most one cut.
+pub fn order_faults_by_hand()
+    ensures number { fault_within 1 9 (sent 1 0 0 0 true ∷ sent 2 0 2 1 true ∷ sent 3 0 4 2 true ∷ []) 96 2
+        ≡ Some (PacketFault.Number 3 4) }
+    ensures first_cut { fault_within 1 9 (sent 1 0 0 0 true ∷ sent 2 0 2 1 true ∷ []) 96 1 ≡ None }
+    ensures stamp_back { judged (sent 1 100 6 0 true ∷ sent 2 99 7 1 true ∷ []) 96 3
+        ≡ FlowVerdict.Refused 2 (PacketFault.StampBack 100 99) }
+    ensures equal_stamps { fault (sent 1 100 6 0 true ∷ sent 2 100 7 1 true ∷ []) 96 1 ≡ None }
+    ensures no_marker { judged (sent 1 0 6 0 false ∷ sent 2 0 7 1 true ∷ []) 96 0
+        ≡ FlowVerdict.Refused 2 PacketFault.NoMarker }
+    ensures no_marker_at_cut { fault (sent 1 0 6 0 false ∷ sent 2 0 8 1 true ∷ []) 96 1 ≡ None }
+    ensures same_stamp { judged (sent 1 0 6 0 true ∷ sent 2 0 7 0 false ∷ []) 96 0
+        ≡ FlowVerdict.Refused 2 PacketFault.SameStamp }
+    ensures same_stamp_at_cut { fault (sent 1 0 6 0 true ∷ sent 2 0 8 0 false ∷ []) 96 1 ≡ None }
+{}
+
+/// Worked by hand: the faults by the group, for groups of at most three packets where it says so.
+pub fn size_faults_by_hand()
+    ensures short { judged (sent 1 0 6 0 true ∷ sent 2 0 7 1 false ∷ sent 3 0 8 1 true
+        ∷ sent 4 0 9 2 true ∷ []) 96 0 ≡ FlowVerdict.Refused 4 (PacketFault.FrameSize 2 1) }
+    ensures long { judged (sent 1 0 6 0 true ∷ sent 2 0 7 1 false ∷ sent 3 0 8 1 true
+        ∷ sent 4 0 9 2 false ∷ sent 5 0 10 2 false ∷ sent 6 0 11 2 true ∷ []) 96 0
+        ≡ FlowVerdict.Refused 6 (PacketFault.FrameSize 2 3) }
+    ensures too_large { fault_within 9 3 (sent 1 0 6 0 true ∷ sent 2 0 7 1 false ∷ sent 3 0 8 1 false
+        ∷ sent 4 0 9 1 false ∷ sent 5 0 10 1 false ∷ []) 96 4 ≡ Some PacketFault.FrameTooLarge }
+    ensures large { fault_within 9 3 (sent 1 0 6 0 true ∷ sent 2 0 7 1 false ∷ sent 3 0 8 1 false
+        ∷ sent 4 0 9 1 true ∷ []) 96 3 ≡ None }
+
+    // Sizes count anew after a cut.
+    ensures after_cut { first_fault (sent 1 0 6 0 true ∷ sent 2 0 7 1 false ∷ sent 3 0 8 1 true
+        ∷ sent 4 0 90 2 true ∷ sent 5 0 91 3 true ∷ sent 6 0 92 4 true ∷ []) 96 ≡ None }
+{}
+
+/// Worked by hand: flows of one run, with head and tail, and with no whole group.
+pub fn runs_by_hand()
+    ensures absent { judged [] 96 0 ≡ FlowVerdict.Absent }
+    ensures one_run { judged two_groups 96 1 ≡ FlowVerdict.Run (RunOutcome.Judged record {
+      per_group = 2;
+      groups = 2;
+      head = 1;
+      tail = 1;
+      stamps = 1000000020 ∷ 1000000030 ∷ 1000000040 ∷ 1000000050 ∷ [];
+    }) }
+    ensures long_head { judged (sent 1 5 6 0 false ∷ sent 2 6 7 0 true ∷ sent 3 7 8 1 true ∷ []) 96 0
+        ≡ FlowVerdict.Run (RunOutcome.Judged record {
+          per_group = 1;
+          groups = 1;
+          head = 2;
+          tail = 0;
+          stamps = 7 ∷ [];
+        }) }
+    ensures no_marker { judged (sent 1 0 6 0 false ∷ sent 2 0 7 0 false ∷ []) 96 0
+        ≡ FlowVerdict.Run (RunOutcome.NoWholeFrame 2) }
+    ensures one_marker { judged (sent 1 0 6 0 true ∷ sent 2 0 7 1 false ∷ []) 96 0
+        ≡ FlowVerdict.Run (RunOutcome.NoWholeFrame 1) }
+{}
+
+/// Worked by hand: flows of two runs.
+pub fn cut_flows_by_hand()
+    ensures equal_low_halves { judged equal_low_halves 96 0 ≡ FlowVerdict.Runs (
+        record { rec = 1; number = 6; expected = None; outcome = RunOutcome.NoWholeFrame 1 }
+        ∷ record { rec = 3; number = 65544; expected = Some 8; outcome = RunOutcome.NoWholeFrame 1 } ∷ []) }
+    ensures judged_first { judged (two_groups ++ sent 7 70 13 104 false ∷ []) 96 0 ≡ FlowVerdict.Runs (
+        record {
+          rec = 1;
+          number = 6;
+          expected = None;
+          outcome = RunOutcome.Judged record {
+            per_group = 2;
+            groups = 2;
+            head = 1;
+            tail = 1;
+            stamps = 20 ∷ 30 ∷ 40 ∷ 50 ∷ [];
+          };
+        }
+        ∷ record { rec = 7; number = 13; expected = Some 12; outcome = RunOutcome.NoWholeFrame 1 } ∷ []) }
+{}
