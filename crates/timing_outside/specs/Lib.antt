@@ -1,0 +1,9 @@
+pub mod Causes
+pub mod Counts
+pub mod Files
+pub mod MemoryShelves
+pub mod MemorySinks
+pub mod MemorySources
+pub mod SteadyShelves
+pub mod Texts
+pub mod Written

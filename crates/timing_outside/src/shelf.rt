@@ -1,0 +1,54 @@
+ghost use Rattle.std.specs.Prelude.{◌≡◌, ◌≤◌, ◌<◌, List, ℕ, Option, IfOk, IsErrOf};
+ghost use Rattle.timing_outside.specs.Causes.{Rose};
+
+use crate::source::Source;
+use std::alloc::AllocError as OutOfMemory;
+
+/// Why a text could not be fetched.
+#[derive(Clone, Copy, Debug, PartialEq, Eq)]
+pub enum OpenFault {
+    /// The outside failed, or has no text of this name.
+    Failed,
+    /// Memory ran out.
+    OutOfMemory,
+}
+
+impl From<OutOfMemory> for OpenFault {
+    ghost use Rattle.timing_outside.specs.declared.shelf.OpenFault.TheVariants.{OutOfMemory};
+
+    ghost from_gives = { λ _ e. e ≡ OutOfMemory };
+
+    fn from(_fault: OutOfMemory) -> OpenFault {
+        OpenFault::OutOfMemory
+    }
+}
+
+/// Texts by name.
+pub trait Shelf {
+    /// What a fetched text is read from.
+    type Source: Source;
+
+    /// The text of a name, where told.
+    ghost text: { Self → List ℕ → Option (List ℕ) };
+
+    /// How often this name has failed. It never falls.
+    ghost faults: { Self → List ℕ → ℕ };
+
+    /// A source at the start of the text of this name. Fetching a name again gives the same text.
+    fn fetch(&mut self, name: &str) -> Result<Self::Source, OpenFault>
+        ensures named { IfOk result (λ s. Self.Source.name s ≡ name.now) }
+        ensures whole { IfOk result (λ s. Self.Source.left s ≡ text self.old name.now) }
+        ensures fresh { IfOk result (λ s. Self.Source.faults s ≡ 0) }
+        ensures texts { (n : List ℕ) → text self.new n ≡ text self.old n }
+        ensures later { (n : List ℕ) → faults self.old n ≤ faults self.new n }
+        ensures failed { IsErrOf result OpenFault.Failed
+            → Rose (faults self.old name.now) (faults self.new name.now) };
+
+    /// Takes a source back. A source that failed makes its name a failed one.
+    fn give_back(&mut self, source: Self::Source)
+        ensures raised { 0 < Self.Source.faults source
+            → Rose (faults self.old (Self.Source.name source))
+            (faults self.new (Self.Source.name source)) }
+        ensures texts { (n : List ℕ) → text self.new n ≡ text self.old n }
+        ensures later { (n : List ℕ) → faults self.old n ≤ faults self.new n };
+}
