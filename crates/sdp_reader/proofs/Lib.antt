@@ -1,0 +1,10 @@
+pub mod Cuts
+pub mod Least
+pub mod Numbering
+pub mod Prefixes
+pub mod Trims
+pub mod Items
+pub mod Summaries
+pub mod Complete
+pub mod Sessions
+pub mod First

@@ -1,0 +1,10 @@
+pub mod Answer
+pub mod Bytes
+pub mod Error
+pub mod Fault
+pub mod Lines
+pub mod Parameters
+pub mod Parts
+pub mod Plain
+pub mod Session
+pub mod Summary

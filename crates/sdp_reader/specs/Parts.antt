@@ -1,0 +1,184 @@
+-- Media parts (RFC 4566, section 5.14), connections (section 5.7) and the raw video parts of
+-- SMPTE ST 2110-20: what each says, and its faults.
+-- Addresses are 32-bit numbers, the first octet highest.
+use Rattle.std.specs.Prelude.{ℕ, ◌+◌, ◌*◌, ◌&&◌, ◌||◌, Bool, true, false, if◌then◌else◌, List, [], ◌∷◌, ◌++◌, Option, Some, None, is_some, is_none, codes, find}
+use Rattle.std.specs.Option.{option_and_then, option_map}
+use Rattle.std.specs.List.{list_any, flat_map}
+use Rattle.std.specs.Str.{str_eq_ignore_ascii_case}
+use Rattle.timing_base.specs.declared.Kind.{Kind}
+use Rattle.sdp_reader.specs.Bytes.{before, after, holds, after_prefix, digits_of, within, number}
+use Rattle.sdp_reader.specs.Lines.{TextLine, at, media_fields, video_of}
+use Rattle.sdp_reader.specs.Parameters.{Item, is_the, parameters, value_within, value_rate, value_kind, item_named, item_faults, repeated_faults}
+use Rattle.sdp_reader.specs.declared.fault.SdpCause.TheVariants.{NoConnection, BadAddress, MissingParameter}
+use Rattle.sdp_reader.specs.declared.fault.SdpFault.{SdpFault}
+use Rattle.sdp_reader.specs.declared.line.Video.{Video}
+use Rattle.sdp_reader.specs.declared.parameter.Name.{Name}
+use Rattle.sdp_reader.specs.declared.parameter.Name.TheVariants.{Width, Height, ExactFrameRate, Interlace, Tp, Troff, Cmax}
+use Rattle.sdp_reader.specs.declared.parameter.Rate.{Rate}
+
+-- a media part: the line that begins `m=`, and the lines up to the next such line or the end
+pub record Part : Type 0 where
+  pub head : TextLine
+  pub body : List TextLine
+
+-- the line begins `m=`
+abbrev pub is_head : TextLine → Bool
+is_head l = is_some (media_fields l)
+
+-- the lines before the first line that begins `m=`
+abbrev pub own_lines : List TextLine → List TextLine
+own_lines [] = []
+own_lines (l ∷ ls) = if is_head l then [] else l ∷ own_lines ls
+
+-- the media parts, in order; the lines before the first are the session's
+abbrev pub parts : List TextLine → List Part
+parts [] = []
+parts (l ∷ ls) = if is_head l then record { head = l; body = own_lines ls } ∷ parts ls else parts ls
+
+-- the first `c=` line of some lines
+abbrev pub is_connection : TextLine → Bool
+is_connection l = is_some (after_prefix (codes "c=") l.text)
+
+abbrev pub connection_line : List TextLine → Option TextLine
+connection_line ls = find is_connection ls
+
+-- the connection that counts: the part's own, or where it has none the session's
+abbrev pub counting : Option TextLine → Option TextLine → Option TextLine
+counting None session = session
+counting (Some own) session = Some own
+
+-- an octet, or a TTL: one to three digits of value at most 255
+abbrev pub octet : List ℕ → Option ℕ
+octet text = option_and_then (within 0 255) (digits_of 3 text)
+
+-- the address of four octets
+abbrev pub joined : Option ℕ → Option ℕ → Option ℕ → Option ℕ → Option ℕ
+joined a b c d = option_and_then (λ x. option_and_then (λ y. option_and_then (λ z. option_map (λ w. x * 16777216 + y * 65536 + z * 256 + w) d) c) b) a
+
+-- what stands after a slash, if there is one, is a TTL
+abbrev pub is_ttl : List ℕ → Bool
+is_ttl last = if holds 47 last then is_some (octet (after 47 last)) else true
+
+-- three octets and dots, and a last one, maybe with a TTL
+abbrev pub dotted : List ℕ → List ℕ → List ℕ → List ℕ → Option ℕ
+dotted a b c last = if is_ttl last then joined (octet a) (octet b) (octet c) (octet (before 47 last)) else None
+
+-- `A.B.C.D` or `A.B.C.D/TTL`
+abbrev pub address_at : List ℕ → Option ℕ
+address_at rest =
+    dotted (before 46 rest) (before 46 (after 46 rest)) (before 46 (after 46 (after 46 rest))) (after 46 (after 46 (after 46 rest)))
+
+-- the address of a line `c=IN IP4 ADDRESS`
+abbrev pub address_of : TextLine → Option ℕ
+address_of l = option_and_then address_at (after_prefix (codes "c=IN IP4 ") l.text)
+
+-- a line `a=rtpmap:FORMAT raw/90000`
+abbrev pub is_raw_map_at : ℕ → Option (List ℕ) → Bool
+is_raw_map_at format None = false
+is_raw_map_at format (Some rest) = is_the format (number (before 32 rest)) && str_eq_ignore_ascii_case (after 32 rest) (codes "raw/90000")
+
+abbrev pub is_raw_map : ℕ → TextLine → Bool
+is_raw_map format l = is_raw_map_at format (after_prefix (codes "a=rtpmap:") l.text)
+
+-- a raw part
+pub record RawPart : Type 0 where
+  -- the line that begins it
+  pub line : ℕ
+  pub port : ℕ
+  pub format : ℕ
+  -- the connection that counts
+  pub connection : Option TextLine
+  pub items : List Item
+
+-- the raw part with this line and these lines after it; first the session's connection
+abbrev pub raw_part : Option TextLine → ℕ → List TextLine → Video → RawPart
+raw_part session line body video = record {
+  line = line;
+  port = video.port;
+  format = video.format;
+  connection = counting (connection_line body) session;
+  items = parameters video.format body;
+}
+
+-- a video part is raw where it maps its format so
+abbrev pub raw_with : Option TextLine → ℕ → List TextLine → Video → Option RawPart
+raw_with session line body video =
+    if list_any (is_raw_map video.format) body then Some (raw_part session line body video) else None
+
+-- the raw part that a part is, where it is one; first the session's connection
+abbrev pub raw_of : Option TextLine → Part → Option RawPart
+raw_of session part = option_and_then (raw_with session part.head.number part.body) (option_and_then video_of (media_fields part.head))
+
+-- NoConnection: neither the part nor the session has a connection.
+-- BadAddress: the connection that counts hasn't the form
+abbrev pub connection_faults : ℕ → Option TextLine → List SdpFault
+connection_faults line None = at line NoConnection true
+connection_faults line (Some connection) = at connection.number BadAddress (is_none (address_of connection))
+
+-- MissingParameter: a name that doesn't stand at all
+abbrev pub lacks : Name → List Item → Bool
+lacks name items = is_none (item_named name items)
+
+abbrev pub is_missing : List Item → Bool
+is_missing items = lacks Width items || lacks Height items || lacks ExactFrameRate items
+
+-- the causes 5 to 12, on the lines of a raw part with this first line, connection and parameters
+abbrev pub faults_at : ℕ → Option TextLine → List Item → List SdpFault
+faults_at line connection items =
+    connection_faults line connection ++ (at line MissingParameter (is_missing items)
+    ++ (flat_map item_faults items ++ repeated_faults [] items))
+
+abbrev pub part_faults : RawPart → List SdpFault
+part_faults r = faults_at r.line r.connection r.items
+
+-- the address, where the connection has the form
+abbrev pub good_address : RawPart → Option ℕ
+good_address r = option_and_then address_of r.connection
+
+-- a video stream
+pub record Stream : Type 0 where
+  pub line : ℕ
+  pub address : ℕ
+  pub port : ℕ
+  pub pt : ℕ
+  pub width : ℕ
+  pub height : ℕ
+  pub interlaced : Bool
+  pub p : ℕ
+  pub q : ℕ
+  pub declared : Option Kind
+  pub troff : Option ℕ
+  pub cmax : Option ℕ
+
+-- the number of the item of a name
+abbrev pub number_named : Name → ℕ → ℕ → List Item → Option ℕ
+number_named name low high items = option_and_then (value_within low high) (item_named name items)
+
+-- the stream with these sizes and this rate
+abbrev pub stream_with : ℕ → Video → List Item → ℕ → ℕ → ℕ → Rate → Stream
+stream_with line video items address width height rate = record {
+  line = line;
+  address = address;
+  port = video.port;
+  pt = video.format;
+  width = width;
+  height = height;
+  interlaced = is_some (item_named Interlace items);
+  p = rate.p;
+  q = rate.q;
+  declared = option_and_then value_kind (item_named Tp items);
+  troff = number_named Troff 0 1000000 items;
+  cmax = number_named Cmax 1 65535 items;
+}
+
+-- the stream of a part, where it has all that a stream has to have
+abbrev pub stream_of : ℕ → Video → Option ℕ → List Item → Option Stream
+stream_of line video address items =
+    option_and_then (λ a. option_and_then (λ w. option_and_then (λ h. option_map (stream_with line video items a w h)
+    (option_and_then value_rate (item_named ExactFrameRate items)))
+    (number_named Height 1 32767 items))
+    (number_named Width 1 32767 items))
+    address
+
+abbrev pub media_of : RawPart → Option Stream
+media_of r = stream_of r.line (record { port = r.port; format = r.format }) (good_address r) r.items

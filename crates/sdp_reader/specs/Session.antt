@@ -1,0 +1,86 @@
+-- The video streams of a session description, or its first fault (RFC 4566, SMPTE ST 2110-20 and
+-- ST 2110-21; the limits and the numbers of the causes are this project's profile).
+use Rattle.std.specs.Prelude.{ℕ, ◌==◌, ◌&&◌, nat_lt, Bool, true, false, if◌then◌else◌, List, [], ◌∷◌, ◌++◌, length, drop, map, Option, Some, None, Result, Ok, Err}
+use Rattle.std.specs.Option.{option_map}
+use Rattle.std.specs.List.{list_any, flat_map, filter_map}
+use Rattle.sdp_reader.specs.Fault.{least, IsAmong}
+use Rattle.sdp_reader.specs.Lines.{TextLine, lines, at, line_faults, version_faults}
+use Rattle.sdp_reader.specs.Parts.{parts, own_lines, connection_line, RawPart, raw_of, good_address, part_faults, Stream, media_of}
+use Rattle.sdp_reader.specs.declared.fault.SdpCause.{SdpCause}
+use Rattle.sdp_reader.specs.declared.fault.SdpCause.TheVariants.{SameTarget, TooManyMedia, NoVideo, TooLarge}
+use Rattle.sdp_reader.specs.declared.fault.SdpFault.{SdpFault}
+use Rattle.sdp_reader.specs.declared.part.Target.{Target}
+
+-- the raw parts, in order
+abbrev pub raw_parts : List TextLine → List RawPart
+raw_parts ls = filter_map (raw_of (connection_line (own_lines ls))) (parts ls)
+
+-- the target of a part with this address, if it has a good one, and this port
+abbrev pub target_at : Option ℕ → ℕ → Option Target
+target_at address port = option_map (λ a. record { address = a; port = port }) address
+
+-- a part's first line, and where its packets go
+pub record Destination : Type 0 where
+  pub line : ℕ
+  pub target : Option Target
+
+abbrev pub target_of : RawPart → Destination
+target_of r = record { line = r.line; target = target_at (good_address r) r.port }
+
+-- the same address and port
+abbrev pub is_same : Target → Target → Bool
+is_same a b = (a.address == b.address) && (a.port == b.port)
+
+-- the packets go to the target
+abbrev pub goes_to : Target → Option Target → Bool
+goes_to t None = false
+goes_to t (Some own) = is_same own t
+
+-- whether one of these parts has the target
+abbrev pub is_taken : Option Target → List Destination → Bool
+is_taken None earlier = false
+is_taken (Some t) earlier = list_any (λ part. goes_to t part.target) earlier
+
+-- SameTarget: an earlier raw part has the same address and port
+abbrev pub target_faults : List Destination → List Destination → List SdpFault
+target_faults earlier [] = []
+target_faults earlier (t ∷ ts) =
+    at t.line SameTarget (is_taken t.target earlier) ++ target_faults (earlier ++ t ∷ []) ts
+
+-- TooManyMedia: on the 65th part
+abbrev pub first_too_many : List Destination → List SdpFault
+first_too_many [] = []
+first_too_many (t ∷ ts) = at t.line TooManyMedia true
+
+abbrev pub too_many_faults : List Destination → List SdpFault
+too_many_faults ts = first_too_many (drop 64 ts)
+
+-- the causes 5 to 14, of these raw parts
+abbrev pub raw_faults : List RawPart → List SdpFault
+raw_faults rs = flat_map part_faults rs ++ (target_faults [] (map target_of rs) ++ too_many_faults (map target_of rs))
+
+-- all faults, each on its line
+abbrev pub faults : List TextLine → List SdpFault
+faults ls = version_faults ls ++ (flat_map line_faults ls ++ raw_faults (raw_parts ls))
+
+-- the cause stands on the line
+abbrev pub StandsOn : SdpCause → List TextLine → ℕ → Type 0
+StandsOn cause ls line = IsAmong (record { line = line; what = cause }) (faults ls)
+
+-- where no line has a fault: NoVideo, or the streams of the raw parts in order
+abbrev pub streams : List RawPart → Result (List Stream) SdpFault
+streams [] = Err (record { line = 0; what = NoVideo })
+streams (r ∷ rs) = Ok (filter_map media_of (r ∷ rs))
+
+-- the first fault, or where there is none the rest
+abbrev pub unless_fault : Option SdpFault → Result (List Stream) SdpFault → Result (List Stream) SdpFault
+unless_fault (Some fault) rest = Err fault
+unless_fault None rest = rest
+
+-- the answer for the lines of a text that isn't too large
+abbrev pub answer : List TextLine → Result (List Stream) SdpFault
+answer ls = unless_fault (least (faults ls)) (streams (raw_parts ls))
+
+-- the session of a text: the video streams, or the first fault
+abbrev pub session : List ℕ → Result (List Stream) SdpFault
+session bytes = if nat_lt 1048576 (length bytes) then Err (record { line = 0; what = TooLarge }) else answer (lines bytes)

@@ -1,0 +1,136 @@
+ghost use Rattle.std.specs.Prelude.{◌≡◌, ◌≤◌, ◌<◌, ◌==◌, ℕ, Bool, length, MatchOption, IfSome, ⊤, true, false, ◌+◌, ◌∷◌, []};
+ghost use Rattle.std.specs.Option.{option_copied};
+ghost use Rattle.std.specs.List.{position_or_len, slice_split};
+ghost use Rattle.std.specs.Str.{bytes_eq, str_eq_ignore_ascii_case};
+ghost use Rattle.sdp_reader.specs.Bytes.{before, after, holds, after_prefix, trim_end, trim_start, is_blank, digits_of, number, number_within};
+
+use memchr::memchr;
+
+// What stands before and after the first `byte`, where there is one.
+pub(crate) fn cut(byte: u8, text: &[u8]) -> Option<(&[u8], &[u8])>
+    ensures nowhere { MatchOption result (holds byte text.now ≡ false)
+        (λ parts. holds byte text.now ≡ true) }
+    ensures before { MatchOption result (before byte text.now ≡ text.now)
+        (λ parts. parts.0.now ≡ before byte text.now) }
+    ensures after { MatchOption result (after byte text.now ≡ [])
+        (λ parts. parts.1.now ≡ after byte text.now) }
+    ensures shorter { MatchOption result ⊤
+        (λ parts. length parts.0.now + length parts.1.now + 1 ≡ length text.now) }
+    ensures pieces { MatchOption result (slice_split (λ x. x == byte) text.now ≡ text.now ∷ [])
+        (λ parts. slice_split (λ x. x == byte) text.now
+        ≡ parts.0.now ∷ slice_split (λ x. x == byte) parts.1.now) }
+{
+    match memchr(byte, text) {
+        Some(k) => Some((&text[..k], &text[k + 1..])),
+        None => None,
+    }
+}
+
+// The first field of a text whose fields are cut at `byte`, and what stands after it.
+pub(crate) fn field(byte: u8, text: &[u8]) -> (&[u8], &[u8])
+    ensures first { result.0.now ≡ before byte text.now }
+    ensures rest { result.1.now ≡ after byte text.now }
+{
+    match cut(byte, text) {
+        Some(parts) => parts,
+        None => (text, &text[text.len()..]),
+    }
+}
+
+// What stands after a prefix.
+pub(crate) fn strip<'a>(text: &'a [u8], prefix: &[u8]) -> Option<&'a [u8]>
+    ensures { option_copied result ≡ after_prefix prefix.now text.now }
+{
+    let mut rest = text;
+    for byte in prefix {
+        match rest {
+            [first, others @ ..] => {
+                if *first != *byte {
+                    return None;
+                }
+                rest = others;
+            }
+            [] => return None,
+        }
+    }
+    Some(rest)
+}
+
+// Whether two texts are the same.
+pub(crate) fn is_same(one: &[u8], other: &[u8]) -> bool
+    ensures { result ≡ bytes_eq one.now other.now }
+{
+    one == other
+}
+
+// Whether two texts are the same without regard to ASCII case.
+pub(crate) fn is_same_word(one: &[u8], other: &[u8]) -> bool
+    ensures { result ≡ str_eq_ignore_ascii_case one.now other.now }
+{
+    one.eq_ignore_ascii_case(other)
+}
+
+fn is_blank(byte: u8) -> bool
+    ensures { result ≡ is_blank byte }
+{
+    byte == b' ' || byte == b'\t'
+}
+
+// The text without the blanks at its end.
+pub(crate) fn trim_end(text: &[u8]) -> &[u8]
+    ensures value { result.now ≡ trim_end text.now }
+    ensures shorter { length result.now ≤ length text.now }
+{
+    let mut end = text.len();
+    while end > 0 && is_blank(text[end - 1]) {
+        end -= 1;
+    }
+    &text[..end]
+}
+
+// The text without the blanks at its front.
+pub(crate) fn trim_start(text: &[u8]) -> &[u8]
+    ensures { result.now ≡ trim_start text.now }
+{
+    let mut begin = 0;
+    while begin < text.len() && is_blank(text[begin]) {
+        begin += 1;
+    }
+    &text[begin..]
+}
+
+// The value of one to `most` digits.
+pub(crate) fn digits_of(most: usize, text: &[u8]) -> Option<u64>
+    requires { most ≤ 10 }
+    ensures { result ≡ digits_of most text.now }
+{
+    if text.is_empty() || text.len() > most {
+        return None;
+    }
+    let mut value = 0;
+    for byte in text {
+        if !byte.is_ascii_digit() {
+            return None;
+        }
+        value = value * 10 + u64::from(*byte - b'0');
+    }
+    Some(value)
+}
+
+// A number of one to ten digits.
+pub(crate) fn number(text: &[u8]) -> Option<u64>
+    ensures { result ≡ number text.now }
+{
+    digits_of(10, text)
+}
+
+// A number of one to ten digits from `low` to `high`.
+pub(crate) fn number_within(low: u64, high: u64, text: &[u8]) -> Option<u64>
+    ensures value { result ≡ number_within low high text.now }
+    ensures range { IfSome result (λ n. (low ≤ n) × (n ≤ high)) }
+{
+    match number(text) {
+        Some(n) if low <= n && n <= high => Some(n),
+        _ => None,
+    }
+}

@@ -1,0 +1,178 @@
+ghost use Rattle.std.specs.Prelude.{◌≡◌};
+ghost use Rattle.sdp_reader.specs.Fault.{number_of, name_of, comes_before, first_of};
+
+use std::alloc::AllocError;
+use std::error::Error;
+use std::fmt;
+
+/// Why a text is no session description of video streams. The numbers 1 to 15 and 17 of the causes
+/// are in this order.
+#[derive(Clone, Copy, Debug, PartialEq, Eq)]
+pub enum SdpCause {
+    /// The line holds a byte 0, or a CR that doesn't end it.
+    NotText,
+    /// The first line that isn't empty isn't `v=0`.
+    NoVersion,
+    /// The line doesn't begin with a letter a to z and `=`.
+    BadLine,
+    /// A video line without port, `RTP/AVP` and format.
+    BadMedia,
+    /// Neither the part nor the session has a `c=` line.
+    NoConnection,
+    /// The `c=` line that counts has no IPv4 address.
+    BadAddress,
+    /// A parameter other than exactframerate hasn't its form.
+    BadParameter,
+    /// A parameter stands a second time in its part.
+    RepeatedParameter,
+    /// There is no width, height or exactframerate.
+    MissingParameter,
+    /// The parameter exactframerate hasn't its form.
+    BadRate,
+    /// The pictures are progressive and come as segments.
+    Segmented,
+    /// The packets are larger than the standard UDP size limit.
+    ExtendedUdp,
+    /// An earlier raw part has the same address and port.
+    SameTarget,
+    /// The part is the 65th.
+    TooManyMedia,
+    /// There is no video part of raw pictures.
+    NoVideo,
+    /// The text has more than 1,048,576 bytes.
+    TooLarge,
+}
+
+impl SdpCause {
+    /// The number of the cause. Of two causes on one line that with the smaller number is told.
+    pub fn number(self) -> u32
+        ensures { result ≡ number_of self }
+    {
+        match self {
+            SdpCause::NotText => 1,
+            SdpCause::NoVersion => 2,
+            SdpCause::BadLine => 3,
+            SdpCause::BadMedia => 4,
+            SdpCause::NoConnection => 5,
+            SdpCause::BadAddress => 6,
+            SdpCause::BadParameter => 7,
+            SdpCause::RepeatedParameter => 8,
+            SdpCause::MissingParameter => 9,
+            SdpCause::BadRate => 10,
+            SdpCause::Segmented => 11,
+            SdpCause::ExtendedUdp => 12,
+            SdpCause::SameTarget => 13,
+            SdpCause::TooManyMedia => 14,
+            SdpCause::NoVideo => 15,
+            SdpCause::TooLarge => 17,
+        }
+    }
+
+    /// The name of the cause, as messages have it.
+    pub fn name(self) -> &'static str
+        ensures { result.now ≡ name_of self }
+    {
+        match self {
+            SdpCause::NotText => "NotText",
+            SdpCause::NoVersion => "NoVersion",
+            SdpCause::BadLine => "BadLine",
+            SdpCause::BadMedia => "BadMedia",
+            SdpCause::NoConnection => "NoConnection",
+            SdpCause::BadAddress => "BadAddress",
+            SdpCause::BadParameter => "BadParameter",
+            SdpCause::RepeatedParameter => "RepeatedParameter",
+            SdpCause::MissingParameter => "MissingParameter",
+            SdpCause::BadRate => "BadRate",
+            SdpCause::Segmented => "Segmented",
+            SdpCause::ExtendedUdp => "ExtendedUdp",
+            SdpCause::SameTarget => "SameTarget",
+            SdpCause::TooManyMedia => "TooManyMedia",
+            SdpCause::NoVideo => "NoVideo",
+            SdpCause::TooLarge => "TooLarge",
+        }
+    }
+}
+
+impl fmt::Display for SdpCause {
+    ghost use Rattle.std.specs.Prelude.{Some};
+    ghost use Rattle.sdp_reader.specs.Fault.{name_of};
+
+    ghost output = { λ cause. Some (name_of cause) };
+
+    fn fmt<W: fmt::Write>(&self, f: &mut fmt::Formatter<W>) -> fmt::Result {
+        f.write_str(self.name())
+    }
+}
+
+/// A fault of a session description: the line that has to be mended, and why.
+#[derive(Clone, Copy, Debug, PartialEq, Eq)]
+pub struct SdpFault {
+    /// Counted from 1, or 0 for a fault of the whole text.
+    pub line: u32,
+    pub what: SdpCause,
+}
+
+impl fmt::Display for SdpFault {
+    ghost use Rattle.std.specs.Prelude.{Some};
+    ghost use Rattle.sdp_reader.specs.Fault.{fault_text};
+
+    ghost output = { λ fault. Some (fault_text fault) };
+
+    fn fmt<W: fmt::Write>(&self, f: &mut fmt::Formatter<W>) -> fmt::Result {
+        let what = self.what;
+        write!(f, "line {} {what}", self.line)
+    }
+}
+
+// Whether the line is less, or the line is the same and the number of the cause is less.
+fn comes_before(one: SdpFault, other: SdpFault) -> bool
+    ensures { result ≡ comes_before one other }
+{
+    one.line < other.line || (one.line == other.line && one.what.number() < other.what.number())
+}
+
+// The one of two that comes first.
+pub(crate) fn first_of(one: Option<SdpFault>, other: Option<SdpFault>) -> Option<SdpFault>
+    ensures { result ≡ first_of one other }
+{
+    match (one, other) {
+        (Some(f), Some(g)) => if comes_before(g, f) { Some(g) } else { Some(f) },
+        (Some(f), None) => Some(f),
+        (None, g) => g,
+    }
+}
+
+/// Why there is no session.
+#[derive(Clone, Copy, Debug, PartialEq, Eq)]
+pub enum SdpError {
+    /// The text is refused, for its first fault.
+    Refused(SdpFault),
+    /// Memory ran out; nothing is said of the text.
+    OutOfMemory,
+}
+
+impl fmt::Display for SdpError {
+    ghost use Rattle.std.specs.Prelude.{Some};
+    ghost use Rattle.sdp_reader.specs.Error.{error_text};
+
+    ghost output = { λ error. Some (error_text error) };
+
+    fn fmt<W: fmt::Write>(&self, f: &mut fmt::Formatter<W>) -> fmt::Result {
+        match self {
+            SdpError::Refused(fault) => write!(f, "sdp refused: {fault}"),
+            SdpError::OutOfMemory => f.write_str("out of memory"),
+        }
+    }
+}
+
+impl Error for SdpError {}
+
+impl From<AllocError> for SdpError {
+    ghost use Rattle.sdp_reader.specs.declared.fault.SdpError.TheVariants.{OutOfMemory};
+
+    ghost from_gives = { λ _ e. e ≡ OutOfMemory };
+
+    fn from(_: AllocError) -> Self {
+        SdpError::OutOfMemory
+    }
+}

@@ -1,0 +1,174 @@
+ghost use Rattle.std.specs.Prelude.{◌≡◌, ◌≤◌, length, map, IfOk, IfSome};
+ghost use Rattle.std.specs.List.{flat_map};
+ghost use Rattle.sdp_reader.specs.Fault.{least};
+ghost use Rattle.sdp_reader.specs.Lines.{lines, without_cr, at, is_not_text, is_bad_line, is_well_begun, is_bad_media, line_faults, version_faults, media_fields, is_video, video_of};
+ghost use Rattle.sdp_reader.specs.Plain.{plain};
+
+use crate::bytes::{cut, field, is_same, number_within, strip, trim_end};
+use crate::fault::{SdpCause, SdpFault, first_of};
+use std::alloc::{AllocError, Global};
+
+// One line of the text, without its end and the blanks before it.
+#[derive(Clone, Copy, Debug)]
+pub(crate) struct Line<'a> {
+    // Counted from 1.
+    pub number: u32,
+    pub text: &'a [u8],
+}
+
+// What a video line says.
+#[derive(Clone, Copy, Debug)]
+pub(crate) struct Video {
+    pub port: u16,
+    pub format: u8,
+}
+
+// A piece that a LF ended, without one CR at its end.
+fn without_cr(piece: &[u8]) -> &[u8]
+    ensures value { result.now ≡ without_cr piece.now }
+    ensures shorter { length result.now ≤ length piece.now }
+{
+    if !piece.is_empty() && piece[piece.len() - 1] == b'\r' {
+        &piece[..piece.len() - 1]
+    } else {
+        piece
+    }
+}
+
+// The lines of a text of at most a megabyte.
+pub(crate) fn read_lines(alloc: Global, bytes: &[u8]) -> Result<Vec<Line<'_>>, AllocError>
+    requires { length bytes.now ≤ 1048576 }
+    ensures { IfOk result (λ v. map plain v.items ≡ lines bytes.now) }
+{
+    let mut lines = Vec::new(alloc);
+    let mut number = 1;
+    let mut rest = bytes;
+    while let Some((piece, after)) = cut(b'\n', rest) {
+        lines.push(Line {
+            number,
+            text: trim_end(without_cr(piece)),
+        })?;
+        number += 1;
+        rest = after;
+    }
+    if !rest.is_empty() {
+        lines.push(Line {
+            number,
+            text: trim_end(rest),
+        })?;
+    }
+    Ok(lines)
+}
+
+// The cause on the line, where it stands there.
+pub(crate) fn at(line: u32, what: SdpCause, stands: bool) -> Option<SdpFault>
+    ensures { result ≡ least (at line what stands) }
+{
+    if stands {
+        Some(SdpFault { line, what })
+    } else {
+        None
+    }
+}
+
+// The port and the format of the fields of a video line.
+pub(crate) fn video_of(fields: &[u8]) -> Option<Video>
+    ensures value { result ≡ video_of fields.now }
+    ensures ranges { IfSome result (λ v. (1 ≤ v.port) × (v.format ≤ 127)) }
+{
+    let (kind, rest) = field(b' ', fields);
+    let (port, rest) = field(b' ', rest);
+    let (protocol, rest) = field(b' ', rest);
+    let (format, _) = field(b' ', rest);
+    if !is_same(kind, b"video") || !is_same(protocol, b"RTP/AVP") {
+        return None;
+    }
+    match (
+        number_within(1, 65_535, port),
+        number_within(0, 127, format),
+    ) {
+        (Some(port), Some(format)) => Some(Video {
+            port: port as u16,
+            format: format as u8,
+        }),
+        _ => None,
+    }
+}
+
+// Whether the first field is `video`.
+fn is_video(fields: &[u8]) -> bool
+    ensures { result ≡ is_video fields.now }
+{
+    let (kind, _) = field(b' ', fields);
+    is_same(kind, b"video")
+}
+
+impl Line<'_> {
+    ghost use Rattle.std.specs.Option.{option_copied};
+
+    // The fields of an `m=` line.
+    pub(crate) fn media_fields(&self) -> Option<&[u8]>
+        ensures { option_copied result ≡ media_fields (plain self.now) }
+    {
+        strip(self.text, b"m=")
+    }
+
+    fn is_not_text(&self) -> bool
+        ensures { result ≡ is_not_text (plain self.now) }
+    {
+        self.text.iter().any(|b| *b == 0 || *b == b'\r')
+    }
+
+    fn is_bad_line(&self) -> bool
+        ensures { result ≡ is_bad_line (plain self.now) }
+    {
+        let text = self.text;
+        !text.is_empty() && !(text.len() >= 2 && text[0].is_ascii_lowercase() && text[1] == b'=')
+    }
+
+    fn is_bad_media(&self) -> bool
+        ensures { result ≡ is_bad_media (plain self.now) }
+    {
+        match self.media_fields() {
+            Some(fields) => is_video(fields) && video_of(fields).is_none(),
+            None => false,
+        }
+    }
+
+    // The first cause that stands on the line whatever part it is in.
+    fn fault(&self) -> Option<SdpFault>
+        ensures { result ≡ least (line_faults (plain self.now)) }
+    {
+        let media = at(self.number, SdpCause::BadMedia, self.is_bad_media());
+        let line = at(self.number, SdpCause::BadLine, self.is_bad_line());
+        let text = at(self.number, SdpCause::NotText, self.is_not_text());
+        first_of(text, first_of(line, media))
+    }
+}
+
+// The first of the faults of single lines.
+pub(crate) fn line_fault(lines: &[Line]) -> Option<SdpFault>
+    ensures { result ≡ least (flat_map line_faults (map plain lines.now)) }
+{
+    let mut fault = None;
+    for line in lines {
+        fault = first_of(fault, line.fault());
+    }
+    fault
+}
+
+// Whether the first line that isn't empty gives the version.
+pub(crate) fn version_fault(lines: &[Line]) -> Option<SdpFault>
+    ensures { result ≡ least (version_faults (map plain lines.now)) }
+{
+    for line in lines {
+        if !line.text.is_empty() {
+            return at(
+                line.number,
+                SdpCause::NoVersion,
+                !is_same(line.text, b"v=0"),
+            );
+        }
+    }
+    at(1, SdpCause::NoVersion, true)
+}

@@ -1,0 +1,354 @@
+ghost use Rattle.std.specs.Prelude.{◌≡◌, ◌≤◌, ◌<◌, ◌*◌, ◌++◌, [], length, map, find, IfOk, OnOk, IfSome};
+ghost use Rattle.std.specs.Option.{option_map, option_copied, option_to_list};
+ghost use Rattle.std.specs.List.{flat_map};
+ghost use Rattle.sdp_reader.specs.Fault.{least};
+ghost use Rattle.sdp_reader.specs.Parameters.{table_name, row_of, item_at, items_of, list_of, parameters, value_within, is_the, udp_cause, value_rate, value_kind, rate_of, kind_of, cause_of, item_faults, repeated_faults, item_named};
+ghost use Rattle.sdp_reader.specs.Bytes.{number};
+ghost use Rattle.sdp_reader.specs.Plain.{plain, plain_item};
+
+use crate::bytes::{
+    cut, field, is_same, is_same_word, number, number_within, strip, trim_end, trim_start,
+};
+use crate::fault::{SdpCause, SdpFault, first_of};
+use crate::line::{Line, at};
+use std::alloc::{AllocError, Global};
+use timing_base::Kind;
+
+// The names of the table.
+#[derive(Clone, Copy, Debug)]
+pub(crate) enum Name {
+    Width,
+    Height,
+    ExactFrameRate,
+    Interlace,
+    Segmentation,
+    Tp,
+    Troff,
+    Cmax,
+    MaxUdp,
+}
+
+impl Name {
+    // The row of the table.
+    fn row(self) -> usize
+        ensures value { result ≡ row_of self }
+        ensures inside { result < 9 }
+    {
+        match self {
+            Name::Width => 0,
+            Name::Height => 1,
+            Name::ExactFrameRate => 2,
+            Name::Interlace => 3,
+            Name::Segmentation => 4,
+            Name::Tp => 5,
+            Name::Troff => 6,
+            Name::Cmax => 7,
+            Name::MaxUdp => 8,
+        }
+    }
+}
+
+// A frame rate of `p / q` frames per second.
+#[derive(Clone, Copy, Debug)]
+pub(crate) struct Rate {
+    pub p: u32,
+    pub q: u32,
+}
+
+// A parameter with a name of the table.
+#[derive(Clone, Copy, Debug)]
+pub(crate) struct Parameter<'a> {
+    pub line: u32,
+    pub name: Name,
+    pub value: Option<&'a [u8]>,
+}
+
+// The name of the table that the text is.
+fn table_name(text: &[u8]) -> Option<Name>
+    ensures { result ≡ table_name text.now }
+{
+    if is_same_word(text, b"width") {
+        Some(Name::Width)
+    } else if is_same_word(text, b"height") {
+        Some(Name::Height)
+    } else if is_same_word(text, b"exactframerate") {
+        Some(Name::ExactFrameRate)
+    } else if is_same_word(text, b"interlace") {
+        Some(Name::Interlace)
+    } else if is_same_word(text, b"segmented") {
+        Some(Name::Segmentation)
+    } else if is_same_word(text, b"TP") {
+        Some(Name::Tp)
+    } else if is_same_word(text, b"TROFF") {
+        Some(Name::Troff)
+    } else if is_same_word(text, b"CMAX") {
+        Some(Name::Cmax)
+    } else if is_same_word(text, b"MAXUDP") {
+        Some(Name::MaxUdp)
+    } else {
+        None
+    }
+}
+
+// The parameter of one piece of a list.
+fn item_at(line: u32, piece: &[u8]) -> Option<Parameter<'_>>
+    ensures { option_map plain_item result ≡ item_at line piece.now }
+{
+    let text = trim_start(trim_end(piece));
+    match cut(b'=', text) {
+        Some((name, value)) => match table_name(name) {
+            Some(name) => Some(Parameter {
+                line,
+                name,
+                value: Some(value),
+            }),
+            None => None,
+        },
+        None => match table_name(text) {
+            Some(name) => Some(Parameter {
+                line,
+                name,
+                value: None,
+            }),
+            None => None,
+        },
+    }
+}
+
+// A rate of at most 240 frames per second.
+fn rate_of(text: &[u8]) -> Option<Rate>
+    ensures value { result ≡ rate_of text.now }
+    ensures p_some { IfSome result (λ r. 1 ≤ r.p) }
+    ensures p_most { IfSome result (λ r. r.p ≤ 240 * r.q) }
+    ensures q_some { IfSome result (λ r. 1 ≤ r.q) }
+    ensures q_most { IfSome result (λ r. r.q ≤ 1001) }
+{
+    let (p, q) = match cut(b'/', text) {
+        Some((p, q)) => (number(p), number_within(1, 1001, q)),
+        None => (number(text), Some(1)),
+    };
+    match (p, q) {
+        (Some(p), Some(q)) if 1 <= p && p <= 240 * q => Some(Rate {
+            p: p as u32,
+            q: q as u32,
+        }),
+        _ => None,
+    }
+}
+
+// A sender type.
+fn kind_of(text: &[u8]) -> Option<Kind>
+    ensures { result ≡ kind_of text.now }
+{
+    if is_same(text, b"2110TPN") {
+        Some(Kind::N)
+    } else if is_same(text, b"2110TPNL") {
+        Some(Kind::NL)
+    } else if is_same(text, b"2110TPW") {
+        Some(Kind::W)
+    } else {
+        None
+    }
+}
+
+impl Parameter<'_> {
+    // The value, as a number in a range.
+    pub(crate) fn number(&self, low: u64, high: u64) -> Option<u64>
+        ensures value { result ≡ value_within low high (plain_item self.now) }
+        ensures low { IfSome result (λ n. low ≤ n) }
+        ensures high { IfSome result (λ n. n ≤ high) }
+    {
+        match self.value {
+            Some(text) => number_within(low, high, text),
+            None => None,
+        }
+    }
+
+    // The value, as a frame rate.
+    pub(crate) fn rate(&self) -> Option<Rate>
+        ensures value { result ≡ value_rate (plain_item self.now) }
+        ensures p_some { IfSome result (λ r. 1 ≤ r.p) }
+        ensures p_most { IfSome result (λ r. r.p ≤ 240 * r.q) }
+        ensures q_some { IfSome result (λ r. 1 ≤ r.q) }
+        ensures q_most { IfSome result (λ r. r.q ≤ 1001) }
+    {
+        match self.value {
+            Some(text) => rate_of(text),
+            None => None,
+        }
+    }
+
+    // The value, as a sender type.
+    pub(crate) fn kind(&self) -> Option<Kind>
+        ensures { result ≡ value_kind (plain_item self.now) }
+    {
+        match self.value {
+            Some(text) => kind_of(text),
+            None => None,
+        }
+    }
+
+    // What is wrong with the parameter, if anything is.
+    fn cause(&self) -> Option<SdpCause>
+        ensures { result ≡ cause_of self.now.name (plain_item self.now) }
+    {
+        let fits = match self.name {
+            Name::Width | Name::Height => self.number(1, 32_767).is_some(),
+            Name::ExactFrameRate => {
+                return if self.rate().is_some() {
+                    None
+                } else {
+                    Some(SdpCause::BadRate)
+                };
+            }
+            Name::Interlace => self.value.is_none(),
+            Name::Segmentation => {
+                return if self.value.is_none() {
+                    Some(SdpCause::Segmented)
+                } else {
+                    Some(SdpCause::BadParameter)
+                };
+            }
+            Name::Tp => self.kind().is_some(),
+            Name::Troff => self.number(0, 1_000_000).is_some(),
+            Name::Cmax => self.number(1, 65_535).is_some(),
+            Name::MaxUdp => return udp_cause(self.number(1, 65_535)),
+        };
+        if fits {
+            None
+        } else {
+            Some(SdpCause::BadParameter)
+        }
+    }
+
+    // The fault on the parameter's line, if there is one.
+    fn fault(&self) -> Option<SdpFault>
+        ensures { result ≡ least (item_faults (plain_item self.now)) }
+    {
+        match self.cause() {
+            Some(what) => Some(SdpFault {
+                line: self.line,
+                what,
+            }),
+            None => None,
+        }
+    }
+}
+
+// What is wrong with a UDP size limit.
+fn udp_cause(limit: Option<u64>) -> Option<SdpCause>
+    ensures { result ≡ udp_cause limit }
+{
+    match limit {
+        Some(bytes) if bytes > 1460 => Some(SdpCause::ExtendedUdp),
+        Some(_) => None,
+        None => Some(SdpCause::BadParameter),
+    }
+}
+
+// The list of a line `a=fmtp:FORMAT LIST`, or nothing.
+fn list_of<'a>(line: &Line<'a>, format: u8) -> &'a [u8]
+    ensures { result.now ≡ list_of format (plain line.now) }
+{
+    match strip(line.text, b"a=fmtp:") {
+        Some(rest) => {
+            let (own, list) = field(b' ', rest);
+            if is_the(format, own) { list } else { &[] }
+        }
+        None => &[],
+    }
+}
+
+// Whether the text is this number.
+pub(crate) fn is_the(format: u8, text: &[u8]) -> bool
+    ensures { result ≡ is_the format (number text.now) }
+{
+    match number(text) {
+        Some(n) => n == u64::from(format),
+        None => false,
+    }
+}
+
+// Adds a parameter, where there is one.
+fn add_item<'a>(
+    items: &mut Vec<Parameter<'a>>,
+    item: Option<Parameter<'a>>,
+) -> Result<(), AllocError>
+    ensures { OnOk result (map plain_item items.new.items
+        ≡ map plain_item items.old.items ++ option_to_list (option_map plain_item item.entry)) }
+{
+    if let Some(item) = item {
+        items.push(item)?;
+    }
+    Ok(())
+}
+
+// Adds the parameters of a list.
+fn add_items<'a>(
+    items: &mut Vec<Parameter<'a>>,
+    line: u32,
+    list: &'a [u8],
+) -> Result<(), AllocError>
+    ensures { OnOk result (map plain_item items.new.items
+        ≡ map plain_item items.old.items ++ items_of line list.now) }
+{
+    let mut rest = list;
+    while let Some((piece, after)) = cut(b';', rest) {
+        add_item(items, item_at(line, piece))?;
+        rest = after;
+    }
+    add_item(items, item_at(line, rest))
+}
+
+// The parameters of a part's lines, in order.
+pub(crate) fn parameters<'a>(
+    alloc: Global,
+    format: u8,
+    body: &[Line<'a>],
+) -> Result<Vec<Parameter<'a>>, AllocError>
+    ensures { IfOk result (λ v. map plain_item v.items ≡ parameters format (map plain body.now)) }
+{
+    let mut items = Vec::new(alloc);
+    for line in body {
+        add_items(&mut items, line.number, list_of(line, format))?;
+    }
+    Ok(items)
+}
+
+// The first of the faults of single parameters.
+pub(crate) fn item_fault(items: &[Parameter]) -> Option<SdpFault>
+    ensures { result ≡ least (flat_map item_faults (map plain_item items.now)) }
+{
+    let mut fault = None;
+    for item in items {
+        fault = first_of(fault, item.fault());
+    }
+    fault
+}
+
+// The first of the parameters that stand a second time.
+pub(crate) fn repeated_fault(items: &[Parameter]) -> Option<SdpFault>
+    ensures { result ≡ least (repeated_faults [] (map plain_item items.now)) }
+{
+    let mut fault = None;
+    let mut seen = [false; 9];
+    for item in items {
+        let row = item.name.row();
+        fault = first_of(fault, at(item.line, SdpCause::RepeatedParameter, seen[row]));
+        seen[row] = true;
+    }
+    fault
+}
+
+// The first parameter of a name.
+pub(crate) fn item_named<'a>(name: Name, items: &[Parameter<'a>]) -> Option<Parameter<'a>>
+    ensures { option_map plain_item result ≡ item_named name (map plain_item items.now) }
+{
+    let row = name.row();
+    for item in items {
+        if item.name.row() == row {
+            return Some(*item);
+        }
+    }
+    None
+}

@@ -1,0 +1,357 @@
+ghost use Rattle.std.specs.Prelude.{◌≡◌, ◌+◌, ◌≤◌, ◌<◌, ◌*◌, ◌++◌, [], length, map, find, IfOk, OnOk, IfSome};
+ghost use Rattle.std.specs.Option.{option_map, option_copied, option_and_then};
+ghost use Rattle.std.specs.List.{list_any};
+ghost use Rattle.sdp_reader.specs.Fault.{least};
+ghost use Rattle.sdp_reader.specs.Bytes.{after};
+ghost use Rattle.sdp_reader.specs.Lines.{media_fields, video_of};
+ghost use Rattle.sdp_reader.specs.Parameters.{value_kind, value_rate, item_named, parameters};
+ghost use Rattle.sdp_reader.specs.Parts.{own_lines, connection_line, octet, is_ttl, joined, address_at, address_of, is_raw_map, raw_part, raw_of, counting, connection_faults, faults_at, is_missing, number_named, stream_of, stream_with};
+ghost use Rattle.sdp_reader.specs.Plain.{plain, plain_item, stream};
+ghost use Rattle.sdp_reader.specs.Session.{target_at};
+ghost use Rattle.sdp_reader.specs.Summary.{summary, summary_of};
+
+use crate::bytes::{cut, digits_of, field, is_same_word, strip};
+use crate::fault::{SdpCause, SdpFault, first_of};
+use crate::line::{Line, Video, at, video_of};
+use crate::parameter::{
+    Name, Parameter, Rate, is_the, item_fault, item_named, parameters, repeated_fault,
+};
+use std::alloc::{AllocError, Global};
+use timing_base::{Kind, Media};
+
+// Where packets go: an IPv4 address, the first octet highest, and a UDP port.
+#[derive(Clone, Copy, Debug, PartialEq, Eq, PartialOrd, Ord)]
+pub(crate) struct Target {
+    pub address: u32,
+    pub port: u16,
+}
+
+// What is kept of a raw part once its lines are read.
+#[derive(Clone, Copy, Debug)]
+pub(crate) struct Reading {
+    pub line: u32,
+    // Where the part has a good address.
+    pub target: Option<Target>,
+    pub fault: Option<SdpFault>,
+    pub media: Option<Media>,
+}
+
+// The lines before the first that begins a media part.
+pub(crate) fn own_lines<'b, 'a>(lines: &'b [Line<'a>]) -> &'b [Line<'a>]
+    ensures { map plain result.now ≡ own_lines (map plain lines.now) }
+{
+    for (i, line) in lines.iter().enumerate() {
+        if line.media_fields().is_some() {
+            return &lines[..i];
+        }
+    }
+    lines
+}
+
+// The first `c=` line.
+pub(crate) fn connection_line<'a>(lines: &[Line<'a>]) -> Option<Line<'a>>
+    ensures { option_map plain result ≡ connection_line (map plain lines.now) }
+{
+    for line in lines {
+        if strip(line.text, b"c=").is_some() {
+            return Some(*line);
+        }
+    }
+    None
+}
+
+// An octet, or a TTL.
+fn octet(text: &[u8]) -> Option<u32>
+    ensures value { result ≡ octet text.now }
+    ensures range { IfSome result (λ n. n ≤ 255) }
+{
+    match digits_of(3, text) {
+        Some(n) if n <= 255 => Some(n as u32),
+        _ => None,
+    }
+}
+
+// Whether what stands after a slash, if there is one, is a TTL.
+fn is_ttl(last: &[u8]) -> bool
+    ensures { result ≡ is_ttl last.now }
+{
+    match cut(b'/', last) {
+        Some((_, ttl)) => octet(ttl).is_some(),
+        None => true,
+    }
+}
+
+// The address of four octets.
+fn joined(a: &[u8], b: &[u8], c: &[u8], d: &[u8]) -> Option<u32>
+    ensures { result ≡ joined (octet a.now) (octet b.now) (octet c.now) (octet d.now) }
+{
+    let Some(a) = octet(a) else {
+        return None;
+    };
+    let Some(b) = octet(b) else {
+        return None;
+    };
+    let Some(c) = octet(c) else {
+        return None;
+    };
+    let Some(d) = octet(d) else {
+        return None;
+    };
+    Some(a * 16_777_216 + b * 65_536 + c * 256 + d)
+}
+
+// `A.B.C.D` or `A.B.C.D/TTL`.
+fn address_at(rest: &[u8]) -> Option<u32>
+    ensures { result ≡ address_at rest.now }
+{
+    let (a, rest) = field(b'.', rest);
+    let (b, rest) = field(b'.', rest);
+    let (c, last) = field(b'.', rest);
+    let (d, _) = field(b'/', last);
+    if is_ttl(last) {
+        joined(a, b, c, d)
+    } else {
+        None
+    }
+}
+
+// The address of a line `c=IN IP4 ADDRESS`.
+fn address_of(line: &Line) -> Option<u32>
+    ensures { result ≡ address_of (plain line.now) }
+{
+    match strip(line.text, b"c=IN IP4 ") {
+        Some(rest) => address_at(rest),
+        None => None,
+    }
+}
+
+// Whether the line is `a=rtpmap:FORMAT raw/90000`.
+fn is_raw_map(line: &Line, format: u8) -> bool
+    ensures { result ≡ is_raw_map format (plain line.now) }
+{
+    match strip(line.text, b"a=rtpmap:") {
+        Some(rest) => {
+            let (own, encoding) = field(b' ', rest);
+            is_the(format, own) && is_same_word(encoding, b"raw/90000")
+        }
+        None => false,
+    }
+}
+
+// Whether a line of the part maps its format so.
+fn is_raw(body: &[Line], format: u8) -> bool
+    ensures { result ≡ list_any (is_raw_map format) (map plain body.now) }
+{
+    for line in body {
+        if is_raw_map(line, format) {
+            return true;
+        }
+    }
+    false
+}
+
+// The fault of the connection that counts.
+fn connection_fault(line: u32, connection: Option<Line>) -> Option<SdpFault>
+    ensures { result ≡ least (connection_faults line (option_map plain connection.entry)) }
+{
+    match connection {
+        Some(connection) => at(
+            connection.number,
+            SdpCause::BadAddress,
+            address_of(&connection).is_none(),
+        ),
+        None => at(line, SdpCause::NoConnection, true),
+    }
+}
+
+// Whether a parameter that has to stand doesn't.
+fn is_missing(items: &[Parameter]) -> bool
+    ensures { result ≡ is_missing (map plain_item items.now) }
+{
+    item_named(Name::Width, items).is_none()
+        || item_named(Name::Height, items).is_none()
+        || item_named(Name::ExactFrameRate, items).is_none()
+}
+
+// The number of the first parameter of a name.
+fn number_named(name: Name, low: u32, high: u32, items: &[Parameter]) -> Option<u32>
+    ensures value { result ≡ number_named name low high (map plain_item items.now) }
+    ensures low { IfSome result (λ n. low ≤ n) }
+    ensures high { IfSome result (λ n. n ≤ high) }
+{
+    match item_named(name, items) {
+        Some(item) => match item.number(u64::from(low), u64::from(high)) {
+            Some(n) => Some(n as u32),
+            None => None,
+        },
+        None => None,
+    }
+}
+
+// The sender type of the first parameter TP.
+fn kind_named(items: &[Parameter]) -> Option<Kind>
+    ensures { result ≡ option_and_then value_kind (item_named Name.Tp (map plain_item items.now)) }
+{
+    match item_named(Name::Tp, items) {
+        Some(item) => item.kind(),
+        None => None,
+    }
+}
+
+// The rate of the first parameter exactframerate.
+fn rate_named(items: &[Parameter]) -> Option<Rate>
+    ensures value { result
+        ≡ option_and_then value_rate (item_named Name.ExactFrameRate (map plain_item items.now)) }
+    ensures p_some { IfSome result (λ r. 1 ≤ r.p) }
+    ensures p_most { IfSome result (λ r. r.p ≤ 240 * r.q) }
+    ensures q_some { IfSome result (λ r. 1 ≤ r.q) }
+    ensures q_most { IfSome result (λ r. r.q ≤ 1001) }
+{
+    match item_named(Name::ExactFrameRate, items) {
+        Some(item) => item.rate(),
+        None => None,
+    }
+}
+
+// The stream of a part, where it has all that a stream has to have.
+fn media_of(line: u32, video: Video, address: Option<u32>, items: &[Parameter]) -> Option<Media>
+    requires port { 1 ≤ video.port }
+    requires format { video.format ≤ 127 }
+    ensures { option_map stream result ≡ stream_of line video address (map plain_item items.now) }
+{
+    let Some(address) = address else {
+        return None;
+    };
+    let Some(width) = number_named(Name::Width, 1, 32_767, items) else {
+        return None;
+    };
+    let Some(height) = number_named(Name::Height, 1, 32_767, items) else {
+        return None;
+    };
+    let Some(rate) = rate_named(items) else {
+        return None;
+    };
+    let interlaced = item_named(Name::Interlace, items).is_some();
+    let declared = kind_named(items);
+    let troff = number_named(Name::Troff, 0, 1_000_000, items);
+    let cmax = number_named(Name::Cmax, 1, 65_535, items);
+    Some(Media {
+        line,
+        address,
+        port: video.port,
+        pt: video.format,
+        width,
+        height,
+        interlaced,
+        p: rate.p,
+        q: rate.q,
+        declared,
+        troff,
+        cmax,
+    })
+}
+
+// What is kept of a raw part with this head and these lines; first the session's connection.
+fn read_raw<'a>(
+    alloc: Global,
+    session: Option<Line<'a>>,
+    line: u32,
+    video: Video,
+    body: &[Line<'a>],
+) -> Result<Reading, AllocError>
+    requires port { 1 ≤ video.port }
+    requires format { video.format ≤ 127 }
+    ensures { IfOk result (λ r. summary r ≡ summary_of (raw_part
+        (option_map plain session.entry) line (map plain body.now) video)) }
+{
+    let items = parameters(alloc, video.format, body)?;
+    let list = items.as_slice();
+    let connection = counting(connection_line(body), session);
+    let address = good_address(connection);
+    Ok(Reading {
+        line,
+        target: target_at(address, video.port),
+        fault: raw_fault(line, connection, list),
+        media: media_of(line, video, address, list),
+    })
+}
+
+// The first fault of a raw part with this first line, connection and parameters.
+fn raw_fault(line: u32, connection: Option<Line>, items: &[Parameter]) -> Option<SdpFault>
+    ensures { result
+        ≡ least (faults_at line (option_map plain connection.entry) (map plain_item items.now)) }
+{
+    let of_items = first_of(item_fault(items), repeated_fault(items));
+    let missing = at(line, SdpCause::MissingParameter, is_missing(items));
+    first_of(
+        connection_fault(line, connection),
+        first_of(missing, of_items),
+    )
+}
+
+// The part's own connection, or where it has none the session's.
+fn counting<'a>(own: Option<Line<'a>>, session: Option<Line<'a>>) -> Option<Line<'a>>
+    ensures { option_map plain result
+        ≡ counting (option_map plain own.entry) (option_map plain session.entry) }
+{
+    match own {
+        Some(line) => Some(line),
+        None => session,
+    }
+}
+
+// The address, where the connection has the form.
+fn good_address(connection: Option<Line>) -> Option<u32>
+    ensures { result ≡ option_and_then address_of (option_map plain connection.entry) }
+{
+    match connection {
+        Some(line) => address_of(&line),
+        None => None,
+    }
+}
+
+// The target of a part with this address, if it has a good one, and this port.
+fn target_at(address: Option<u32>, port: u16) -> Option<Target>
+    ensures { result ≡ target_at address port }
+{
+    match address {
+        Some(address) => Some(Target { address, port }),
+        None => None,
+    }
+}
+
+// What is kept of the part that a line begins, where it is a raw part; `rest` are the lines after
+// it.
+pub(crate) fn read_part<'a>(
+    alloc: Global,
+    session: Option<Line<'a>>,
+    head: &Line<'a>,
+    rest: &[Line<'a>],
+) -> Result<Option<Reading>, AllocError>
+    ensures { IfOk result (λ r. option_map summary r ≡ option_map summary_of (raw_of
+        (option_map plain session.entry)
+        (record { head = plain head.now; body = own_lines (map plain rest.now) }))) }
+{
+    let Some(video) = video_of_head(head) else {
+        return Ok(None);
+    };
+    let body = own_lines(rest);
+    if !is_raw(body, video.format) {
+        return Ok(None);
+    }
+    match read_raw(alloc, session, head.number, video, body) {
+        Ok(reading) => Ok(Some(reading)),
+        Err(e) => Err(e),
+    }
+}
+
+// Port and format, where the line is a video line.
+fn video_of_head(head: &Line) -> Option<Video>
+    ensures value { result ≡ option_and_then video_of (media_fields (plain head.now)) }
+    ensures ranges { IfSome result (λ v. (1 ≤ v.port) × (v.format ≤ 127)) }
+{
+    match head.media_fields() {
+        Some(fields) => video_of(fields),
+        None => None,
+    }
+}
