@@ -1,0 +1,4 @@
+pub mod Buffers
+pub mod Lists
+pub mod Reading
+pub mod Texts

@@ -1,0 +1,30 @@
+-- Small captures, laid out by hand, to try the definitions on.
+use Rattle.std.specs.Prelude.{ℕ, List, [], ◌∷◌}
+
+-- a header: little-endian, nanoseconds, version 2.4, snaplen 262,144, link type 1
+abbrev pub little_header : List ℕ
+little_header =
+    0x4d ∷ 0x3c ∷ 0xb2 ∷ 0xa1 ∷ 2 ∷ 0 ∷ 4 ∷ 0 ∷ 0 ∷ 0 ∷ 0 ∷ 0
+    ∷ 0 ∷ 0 ∷ 0 ∷ 0 ∷ 0 ∷ 0 ∷ 4 ∷ 0 ∷ 1 ∷ 0 ∷ 0 ∷ 0 ∷ []
+
+-- a header: big-endian, microseconds, version 2.4, snaplen 262,144, link type 1 under high bits
+abbrev pub big_header : List ℕ
+big_header =
+    0xa1 ∷ 0xb2 ∷ 0xc3 ∷ 0xd4 ∷ 0 ∷ 2 ∷ 0 ∷ 4 ∷ 0 ∷ 0 ∷ 0 ∷ 0
+    ∷ 0 ∷ 0 ∷ 0 ∷ 0 ∷ 0 ∷ 4 ∷ 0 ∷ 0 ∷ 0xf0 ∷ 0 ∷ 0 ∷ 1 ∷ []
+
+-- little-endian: 3 seconds, 5 units, 3 bytes captured of 60, and the bytes
+abbrev pub little_record : List ℕ
+little_record = 3 ∷ 0 ∷ 0 ∷ 0 ∷ 5 ∷ 0 ∷ 0 ∷ 0 ∷ 3 ∷ 0 ∷ 0 ∷ 0 ∷ 60 ∷ 0 ∷ 0 ∷ 0 ∷ 7 ∷ 8 ∷ 9 ∷ []
+
+-- big-endian: 3 seconds, 5 units, 1 byte captured of 1, and the byte
+abbrev pub big_record : List ℕ
+big_record = 0 ∷ 0 ∷ 0 ∷ 3 ∷ 0 ∷ 0 ∷ 0 ∷ 5 ∷ 0 ∷ 0 ∷ 0 ∷ 1 ∷ 0 ∷ 0 ∷ 0 ∷ 1 ∷ 7 ∷ []
+
+-- little-endian: the head of a record with 10^9 units, and 262,145 bytes captured
+abbrev pub faulty_head : List ℕ
+faulty_head = 0 ∷ 0 ∷ 0 ∷ 0 ∷ 0 ∷ 0xca ∷ 0x9a ∷ 0x3b ∷ 1 ∷ 0 ∷ 4 ∷ 0 ∷ 0 ∷ 0 ∷ 0 ∷ 0 ∷ []
+
+-- little-endian: the head of a record with 262,145 bytes captured
+abbrev pub long_head : List ℕ
+long_head = 0 ∷ 0 ∷ 0 ∷ 0 ∷ 0 ∷ 0 ∷ 0 ∷ 0 ∷ 1 ∷ 0 ∷ 4 ∷ 0 ∷ 0 ∷ 0 ∷ 0 ∷ 0 ∷ []

@@ -1,0 +1,51 @@
+-- The file header of a classic capture (pcap-savefile): 24 bytes, of which the magic, the version
+-- and the link type count. Places are bytes from the header's start.
+use Rattle.std.specs.Prelude.{ℕ, ◌^◌, ◌%◌, ◌==◌, nat_lt, if◌then◌else◌, List, length, drop, Option, Some, None, Result, Ok, Err}
+use Rattle.byteorder.specs.Endian.{big_number, little_number}
+use Rattle.timing_base.specs.declared.capture.PcapFault.{PcapFault}
+use Rattle.timing_base.specs.declared.capture.PcapFault.TheVariants.{BadMagic, BadVersion, BadLink}
+use Rattle.pcap_reader.specs.declared.layout.Order.{Order}
+use Rattle.pcap_reader.specs.declared.layout.Order.TheVariants.{Big, Little}
+use Rattle.pcap_reader.specs.declared.layout.Fraction.{Fraction}
+use Rattle.pcap_reader.specs.declared.layout.Fraction.TheVariants.{Micros, Nanos}
+use Rattle.pcap_reader.specs.declared.layout.Layout.{Layout}
+
+-- the number in the first n bytes
+abbrev pub number : Order → ℕ → List ℕ → ℕ
+number Big n bytes = big_number n bytes
+number Little n bytes = little_number n bytes
+
+-- how many units of a fraction make a second
+abbrev pub per_second : Fraction → ℕ
+per_second Micros = 10 ^ 6
+per_second Nanos = 10 ^ 9
+
+-- how many nanoseconds one unit is
+abbrev pub nanos : Fraction → ℕ
+nanos Micros = 1000
+nanos Nanos = 1
+
+-- what the first four bytes say, read with the highest first
+abbrev pub layout_of : ℕ → Option Layout
+layout_of magic =
+    if magic == 0xa1b2c3d4 then Some (record { order = Big; fraction = Micros })
+    else if magic == 0xd4c3b2a1 then Some (record { order = Little; fraction = Micros })
+    else if magic == 0xa1b23c4d then Some (record { order = Big; fraction = Nanos })
+    else if magic == 0x4d3cb2a1 then Some (record { order = Little; fraction = Nanos })
+    else None
+
+-- the version is 2.4, and the low 16 bits of the link type are 1, Ethernet
+abbrev pub header_by : Option Layout → List ℕ → Result Layout PcapFault
+header_by None text = Err BadMagic
+header_by (Some layout) text =
+    if number layout.order 2 (drop 4 text) == 2 then
+    (if number layout.order 2 (drop 6 text) == 4 then
+    (if number layout.order 4 (drop 20 text) % 65536 == 1 then Ok layout else Err BadLink)
+    else Err BadVersion)
+    else Err BadVersion
+
+-- what a capture's header says of its records, or its first fault
+abbrev pub header : List ℕ → Result Layout PcapFault
+header text =
+    if nat_lt (length text) 24 then Err BadMagic
+    else header_by (layout_of (big_number 4 text)) text

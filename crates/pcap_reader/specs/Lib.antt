@@ -1,0 +1,7 @@
+pub mod Header
+pub mod Records
+pub mod Windows
+pub mod Readers
+pub mod Stages
+pub mod Examples
+pub mod Sights

@@ -1,0 +1,79 @@
+-- The records of a whole capture, cut from its text (pcap-savefile). Places are bytes from the
+-- text's start, stamps are nanoseconds, records count from 1.
+use Rattle.std.specs.Prelude.{◌≡◌, ℕ, ◌+◌, ◌*◌, ◌^◌, ◌==◌, nat_lt, if◌then◌else◌, List, [], ◌∷◌, length, take, drop, Option, Some, None, Result, Ok, Err}
+use Rattle.timing_base.specs.Captures.{Record}
+use Rattle.timing_base.specs.declared.capture.PcapFault.{PcapFault}
+use Rattle.timing_base.specs.declared.capture.PcapFault.TheVariants.{ReadFault, BadStamp, BadLength, TooLong}
+use Rattle.pcap_reader.specs.declared.layout.Fraction.{Fraction}
+use Rattle.pcap_reader.specs.declared.layout.Layout.{Layout}
+use Rattle.pcap_reader.specs.declared.ending.Ending.{Ending}
+use Rattle.pcap_reader.specs.declared.ending.Ending.TheVariants.{End, Cut, Refused}
+use Rattle.pcap_reader.specs.Header.{number, nanos, per_second, header}
+
+-- the whole seconds, the fraction and the captured length of the record at the front of a rest
+abbrev pub seconds : Layout → List ℕ → ℕ
+seconds layout rest = number layout.order 4 (drop 0 rest)
+
+abbrev pub fraction : Layout → List ℕ → ℕ
+fraction layout rest = number layout.order 4 (drop 4 rest)
+
+abbrev pub captured : Layout → List ℕ → ℕ
+captured layout rest = number layout.order 4 (drop 8 rest)
+
+-- its stamp
+abbrev pub stamp : Layout → List ℕ → ℕ
+stamp layout rest = seconds layout rest * 10 ^ 9 + fraction layout rest * nanos layout.fraction
+
+-- what stands in the way of a record whose head is there: the fraction, the captured length, the
+-- greatest length of a capture, or the end of the text after `long` bytes
+abbrev pub ending_by : Fraction → (most number place long fraction captured : ℕ) → Option Ending
+ending_by unit most number place long fraction captured =
+    if nat_lt fraction (per_second unit) then
+    (if nat_lt 262144 captured then Some (Refused (BadLength number))
+    else if nat_lt most (place + 16 + captured) then Some (Refused TooLong)
+    else if nat_lt long (16 + captured) then Some (Cut place)
+    else None)
+    else Some (Refused (BadStamp number))
+
+-- why no record stands at the front of this rest, which begins at `place` of the text
+abbrev pub ending : Layout → (most number place : ℕ) → List ℕ → Option Ending
+ending layout most number place rest =
+    if length rest == 0 then Some End
+    else if nat_lt (length rest) 16 then Some (Cut place)
+    else ending_by layout.fraction most number place (length rest)
+    (fraction layout rest) (captured layout rest)
+
+-- the record at the front of a rest
+abbrev pub record_of : Layout → (number : ℕ) → List ℕ → Record
+record_of layout number rest = record {
+  number = number;
+  stamp = stamp layout rest;
+  bytes = take (captured layout rest) (drop 16 rest);
+}
+
+-- the rest from `place` is these records, the first with this number, and then ends so
+abbrev pub RecordsFrom : Layout → (most number place : ℕ) → List ℕ → List Record → Ending → Type 0
+RecordsFrom layout most number place rest [] end = ending layout most number place rest ≡ Some end
+RecordsFrom layout most number place rest (item ∷ items) end =
+    (ending layout most number place rest ≡ None) × (item ≡ record_of layout number rest)
+    × RecordsFrom layout most (number + 1) (place + 16 + captured layout rest)
+    (drop (16 + captured layout rest) rest) items end
+
+-- the text after a header is these records, and then ends so; a faulty header has no records
+abbrev pub RecordsBy : Result Layout PcapFault → (most : ℕ) → List ℕ → List Record → Ending → Type 0
+RecordsBy (Ok layout) most text items end = RecordsFrom layout most 1 24 (drop 24 text) items end
+RecordsBy (Err fault) most text items end = (items ≡ []) × (end ≡ Refused fault)
+
+-- the text of a capture is these records, and then ends so, for a reader of at most `most` bytes
+abbrev pub Records : (text : List ℕ) → (most : ℕ) → List Record → Ending → Type 0
+Records text most items end = RecordsBy (header text) most text items end
+
+-- of an ending that is no failed read
+abbrev pub UnlessReadFault : Ending → Type 0 → Type 0
+UnlessReadFault (Refused ReadFault) P = Unit {0}
+UnlessReadFault end P = P
+
+-- of a failed read
+abbrev pub OnReadFault : Ending → Type 0 → Type 0
+OnReadFault (Refused ReadFault) P = P
+OnReadFault end P = Unit {0}

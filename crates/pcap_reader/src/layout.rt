@@ -1,0 +1,109 @@
+ghost use Rattle.std.specs.Prelude.{◌≡◌, ◌≤◌, ◌<◌, ◌+◌, ◌*◌, ◌^◌, length, drop};
+ghost use Rattle.pcap_reader.specs.Header.{number, layout_of, header, per_second, nanos};
+
+use byteorder::{BigEndian, ByteOrder, LittleEndian};
+use timing_base::PcapFault;
+
+/// The order of the bytes of a number.
+#[derive(Clone, Copy, Debug)]
+pub enum Order {
+    Big,
+    Little,
+}
+
+/// What the fraction of a stamp counts.
+#[derive(Clone, Copy, Debug)]
+pub enum Fraction {
+    Micros,
+    Nanos,
+}
+
+/// What the magic of a capture says of its numbers.
+#[derive(Clone, Copy, Debug)]
+pub struct Layout {
+    pub order: Order,
+    pub fraction: Fraction,
+}
+
+impl Order {
+    /// The number of 32 bits at a place.
+    pub fn read_u32(self, bytes: &[u8], place: usize) -> u32
+        requires { place + 4 ≤ length bytes.now }
+        ensures { result ≡ number self 4 (drop place bytes.now) }
+    {
+        match self {
+            Order::Big => BigEndian::read_u32(&bytes[place..]),
+            Order::Little => LittleEndian::read_u32(&bytes[place..]),
+        }
+    }
+
+    /// The number of 16 bits at a place.
+    fn read_u16(self, bytes: &[u8], place: usize) -> u16
+        requires { place + 2 ≤ length bytes.now }
+        ensures { result ≡ number self 2 (drop place bytes.now) }
+    {
+        match self {
+            Order::Big => BigEndian::read_u16(&bytes[place..]),
+            Order::Little => LittleEndian::read_u16(&bytes[place..]),
+        }
+    }
+}
+
+impl Fraction {
+    /// How many of them make a second.
+    pub fn per_second(self) -> u32
+        ensures { result ≡ per_second self }
+    {
+        match self {
+            Fraction::Micros => 1_000_000,
+            Fraction::Nanos => 1_000_000_000,
+        }
+    }
+
+    /// So many of them, fewer than a second, in nanoseconds.
+    pub fn to_nanos(self, count: u32) -> u32
+        requires { count < per_second self }
+        ensures value { result ≡ count * nanos self }
+        ensures below { result < 10 ^ 9 }
+    {
+        match self {
+            Fraction::Micros => count * 1_000,
+            Fraction::Nanos => count,
+        }
+    }
+}
+
+impl Layout {
+    /// The layout that a magic stands for, its four bytes being read as big-endian.
+    fn of_magic(magic: u32) -> Option<Layout>
+        ensures { result ≡ layout_of magic }
+    {
+        let (order, fraction) = match magic {
+            0xa1b2_c3d4 => (Order::Big, Fraction::Micros),
+            0xd4c3_b2a1 => (Order::Little, Fraction::Micros),
+            0xa1b2_3c4d => (Order::Big, Fraction::Nanos),
+            0x4d3c_b2a1 => (Order::Little, Fraction::Nanos),
+            _ => return None,
+        };
+        Some(Layout { order, fraction })
+    }
+
+    /// Reads the 24 bytes of a file header. The first fault wins: magic, version, link type.
+    pub fn read_header(bytes: &[u8]) -> Result<Layout, PcapFault>
+        requires { 24 ≤ length bytes.now }
+        ensures { result ≡ header bytes.now }
+    {
+        let Some(layout) = Layout::of_magic(BigEndian::read_u32(bytes)) else {
+            return Err(PcapFault::BadMagic);
+        };
+        let major = layout.order.read_u16(bytes, 4);
+        let minor = layout.order.read_u16(bytes, 6);
+        if major != 2 || minor != 4 {
+            return Err(PcapFault::BadVersion);
+        }
+        if layout.order.read_u32(bytes, 20) % 65_536 != 1 {
+            return Err(PcapFault::BadLink);
+        }
+        Ok(layout)
+    }
+}

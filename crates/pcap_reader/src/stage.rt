@@ -1,0 +1,27 @@
+use crate::ending::Ending;
+use crate::layout::Layout;
+
+/// How far a reader has come.
+#[derive(Clone, Copy, Debug)]
+pub enum Stage {
+    /// Before the file header.
+    Header,
+    /// At a record.
+    Records(Layout),
+    /// All was answered, and ended so.
+    Ended(Ending),
+}
+
+/// What the head of a record says: the stamp, in nanoseconds, and how many bytes were captured.
+#[derive(Clone, Copy, Debug)]
+pub struct Head {
+    pub at: u64,
+    pub captured: usize,
+}
+
+/// What a reader comes to next: a record that it let go, or how its answers end.
+#[derive(Clone, Copy, Debug)]
+pub enum Found {
+    Frame(Head),
+    Ended(Ending),
+}

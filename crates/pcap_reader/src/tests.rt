@@ -1,0 +1,289 @@
+ghost use Rattle.std.specs.Prelude.{◌≡◌, None, IfOk};
+ghost use Rattle.pcap_reader.specs.Readers.{ended};
+
+use super::*;
+use std::alloc::{AllocError, Global};
+use std::process::Abort;
+use std::test::Fail;
+use timing_base::PcapFault;
+use timing_outside::{MemoryShelf, MemorySource, OpenFault, ReadPlan, Shelf};
+
+const MOST: u64 = 1 << 40;
+
+const SECOND: u64 = 1_000_000_000;
+
+const PIECES: [u32; 4] = [1, 7, 100, 65_536];
+
+// One packet to 239.0.0.1, port 50000, laid out by hand.
+const FRAME: [u8; 56] = [
+    0x01, 0x00, 0x5e, 0x00, 0x00, 0x01, 0x02, 0x00, 0x00, 0x00, 0x00, 0x01, 0x08, 0x00, // Ethernet
+    0x45, 0x00, 0x00, 0x2a, 0x00, 0x00, 0x40, 0x00, 0x40, 0x11, 0x00, 0x00, // IPv4
+    0xc0, 0x00, 0x02, 0x01, 0xef, 0x00, 0x00, 0x01, // addresses
+    0xc3, 0x50, 0xc3, 0x50, 0x00, 0x16, 0x00, 0x00, // UDP
+    0x80, 0x60, 0x00, 0x01, 0x00, 0x00, 0x07, 0x08, 0x00, 0x00, 0x00, 0x01, // RTP
+    0x00, 0x00, // extended sequence number
+];
+
+// How the numbers of a capture stand in it.
+#[derive(Clone, Copy)]
+enum Kind {
+    LittleNanos,
+    BigMicros,
+}
+
+impl Kind {
+    // The fields of a header behind its version: zone, sigfigs, snaplen and link type.
+    fn header(self, alloc: Global, minor: u8, link: u32) -> Result<Vec<u8>, AllocError> {
+        let mut out = Vec::new(alloc);
+        match self {
+            Kind::LittleNanos => out.extend_from_slice(&[0x4d, 0x3c, 0xb2, 0xa1, 2, 0, minor, 0])?,
+            Kind::BigMicros => out.extend_from_slice(&[0xa1, 0xb2, 0xc3, 0xd4, 0, 2, 0, minor])?,
+        }
+        for number in [0, 0, 262_144, link] {
+            self.number(&mut out, number)?;
+        }
+        Ok(out)
+    }
+
+    fn number(self, out: &mut Vec<u8>, number: u32) -> Result<(), AllocError> {
+        match self {
+            Kind::LittleNanos => out.extend_from_slice(&number.to_le_bytes()),
+            Kind::BigMicros => out.extend_from_slice(&number.to_be_bytes()),
+        }
+    }
+
+    // A record's head, the stamp in nanoseconds.
+    fn head(self, out: &mut Vec<u8>, at: u64, captured: u32) -> Result<(), AllocError> {
+        let fraction = match self {
+            Kind::LittleNanos => at % SECOND,
+            Kind::BigMicros => at % SECOND / 1000,
+        };
+        self.number(out, (at / SECOND % (1 << 32)) as u32)?;
+        self.number(out, fraction as u32)?;
+        self.number(out, captured)?;
+        self.number(out, captured)
+    }
+}
+
+// The stamp of a record of the capture of two frames of 20 packets each behind one head packet.
+fn stamp(index: u8) -> u64 {
+    let first = 1_600_000_000 * SECOND;
+    if index == 0 {
+        return first - 1_000_000;
+    }
+    let packet = u64::from(index - 1);
+    first + 20_000_000 * (packet / 20) + 764_000 + 960_000 * (packet % 20)
+}
+
+// Its frame: the low byte of the sequence number is the index.
+fn frame(index: u8) -> [u8; 56] {
+    let mut bytes = FRAME;
+    bytes[45] = index;
+    bytes
+}
+
+// That capture: 41 records of 72 bytes.
+fn capture(alloc: Global, kind: Kind) -> Result<Vec<u8>, AllocError> {
+    let mut out = kind.header(alloc, 4, 1)?;
+    for index in 0..41 {
+        kind.head(&mut out, stamp(index), 56)?;
+        out.extend_from_slice(&frame(index))?;
+    }
+    Ok(out)
+}
+
+// A reader of this text, which comes in pieces of so many bytes. The reads of these numbers fail.
+fn open(
+    alloc: Global,
+    text: &[u8],
+    piece: u32,
+    fails: &[u32],
+    most: u64,
+) -> Result<PcapReader<MemorySource>, OpenFault>
+    ensures { IfOk result (λ r. ended r ≡ None) }
+{
+    let plan = ReadPlan {
+        fetch_fails: false,
+        piece: piece.max(1),
+        fails: Vec::from_slice(alloc, fails)?,
+    };
+    let mut shelf = MemoryShelf::new(alloc);
+    shelf.put(
+        String::from_str(alloc, "a.pcap")?,
+        Vec::from_slice(alloc, text)?,
+        plan,
+    )?;
+    let source = shelf.fetch("a.pcap")?;
+    match PcapReader::start(alloc, source, most.max(24).min(MOST)) {
+        Ok(reader) => Ok(reader),
+        Err(_) => Err(OpenFault::OutOfMemory),
+    }
+}
+
+// In whatever pieces this text comes, it has so many records of that capture, and this ending.
+fn has_records(
+    rt: &(impl Abort + AllocGlobal),
+    text: &[u8],
+    count: usize,
+    ending: Ending,
+) -> Result<(), Fail> {
+    for piece in PIECES {
+        let mut reader = open(rt.alloc(), text, piece, &[], MOST)?;
+        let (sights, end) = take_all(rt.alloc(), &mut reader)?;
+        assert_eq!(rt; end, ending, "in pieces of {piece}");
+        assert_eq!(rt; sights.len(), count, "in pieces of {piece}");
+        for (index, sight) in sights.iter().enumerate() {
+            let want = Sight {
+                at: stamp((index % 256) as u8),
+                length: 56,
+            };
+            assert_eq!(rt; *sight, want, "at record {index}");
+        }
+    }
+    Ok(())
+}
+
+#[test]
+fn reader_stops(rt: HostRuntime) -> Result<(), Fail> {
+    let alloc = rt.alloc();
+    let text = capture(alloc, Kind::LittleNanos)?;
+    for piece in PIECES {
+        let mut reader = open(alloc, &text, piece, &[], 100)?;
+        match reader.next() {
+            Ok(Step::Frame { at, bytes }) => {
+                assert_eq!(rt; at, 1_599_999_999_999_000_000);
+                assert_eq!(rt; bytes, &frame(0)[..]);
+            }
+            _ => assert!(rt; false, "no first frame"),
+        }
+        assert_eq!(rt; reader.next().err(), Some(PcapFault::TooLong));
+        assert_eq!(rt; reader.next().err(), Some(PcapFault::TooLong));
+    }
+    Ok(())
+}
+
+#[test]
+fn largest_record(rt: HostRuntime) -> Result<(), Fail> {
+    let alloc = rt.alloc();
+    let mut body = Vec::new(alloc);
+    for place in 0..262_144u32 {
+        body.push((place % 251) as u8)?;
+    }
+    let mut text = Kind::LittleNanos.header(alloc, 4, 1)?;
+    Kind::LittleNanos.head(&mut text, 7 * SECOND, 262_144)?;
+    text.extend_from_slice(&body)?;
+    for piece in PIECES {
+        let mut reader = open(alloc, &text, piece, &[], MOST)?;
+        match reader.next() {
+            Ok(Step::Frame { at, bytes }) => {
+                assert_eq!(rt; at, 7 * SECOND);
+                assert!(rt; bytes == body.as_slice(), "in pieces of {piece}");
+            }
+            _ => assert!(rt; false, "no frame"),
+        }
+        assert!(rt; matches!(reader.next(), Ok(Step::End)));
+        assert!(rt; matches!(reader.next(), Ok(Step::End)));
+    }
+    Ok(())
+}
+
+#[test]
+fn bad_headers(rt: HostRuntime) -> Result<(), Fail> {
+    let alloc = rt.alloc();
+    let good = Kind::LittleNanos.header(alloc, 4, 1)?;
+    let short = Vec::from_slice(alloc, good.get(..23).unwrap_or(&[]))?;
+    let version = Kind::LittleNanos.header(alloc, 3, 1)?;
+    let link = Kind::LittleNanos.header(alloc, 4, 101)?;
+    let high = Kind::LittleNanos.header(alloc, 4, 0xf000_0001)?;
+    let rows = [
+        (short, Ending::Refused(PcapFault::BadMagic)),
+        (version, Ending::Refused(PcapFault::BadVersion)),
+        (link, Ending::Refused(PcapFault::BadLink)),
+        (high, Ending::End),
+    ];
+    for (text, ending) in &rows {
+        has_records(&rt, text, 0, *ending)?;
+    }
+    Ok(())
+}
+
+#[test]
+fn bad_records(rt: HostRuntime) -> Result<(), Fail> {
+    let alloc = rt.alloc();
+    let kind = Kind::LittleNanos;
+    let mut stamped = kind.header(alloc, 4, 1)?;
+    for number in [1_600_000_000, 1_000_000_000, 56, 56] {
+        kind.number(&mut stamped, number)?;
+    }
+    let mut long = kind.header(alloc, 4, 1)?;
+    kind.head(&mut long, stamp(0), 262_145)?;
+    has_records(
+        &rt,
+        &stamped,
+        0,
+        Ending::Refused(PcapFault::BadStamp { rec: 1 }),
+    )?;
+    has_records(
+        &rt,
+        &long,
+        0,
+        Ending::Refused(PcapFault::BadLength { rec: 1 }),
+    )
+}
+
+#[test]
+fn other_orders(rt: HostRuntime) -> Result<(), Fail> {
+    let alloc = rt.alloc();
+    for kind in [Kind::LittleNanos, Kind::BigMicros] {
+        let text = capture(alloc, kind)?;
+        has_records(&rt, &text, 41, Ending::End)?;
+        for piece in PIECES {
+            let mut reader = open(alloc, &text, piece, &[], MOST)?;
+            for index in 0..41 {
+                match reader.next() {
+                    Ok(Step::Frame { at, bytes }) => {
+                        assert_eq!(rt; at, stamp(index), "at {index}");
+                        assert_eq!(rt; bytes, &frame(index)[..], "at {index}");
+                    }
+                    _ => assert!(rt; false, "no frame at {index}"),
+                }
+            }
+            assert!(rt; matches!(reader.next(), Ok(Step::End)));
+        }
+    }
+    Ok(())
+}
+
+#[test]
+fn cut_capture(rt: HostRuntime) -> Result<(), Fail> {
+    let text = capture(rt.alloc(), Kind::LittleNanos)?;
+    assert_eq!(rt; text.len(), 2976);
+    has_records(
+        &rt,
+        text.get(..2914).unwrap_or(&[]),
+        40,
+        Ending::Cut { at: 2904 },
+    )
+}
+
+#[test]
+fn compressed_file(rt: HostRuntime) -> Result<(), Fail> {
+    let mut text = [0; 100];
+    text[0] = 0x1f;
+    text[1] = 0x8b;
+    has_records(&rt, &text, 0, Ending::Refused(PcapFault::BadMagic))
+}
+
+// After a failed read nothing is read, though the source would go on.
+#[test]
+fn failed_read(rt: HostRuntime) -> Result<(), Fail> {
+    let alloc = rt.alloc();
+    let text = capture(alloc, Kind::LittleNanos)?;
+    let mut reader = open(alloc, &text, 100, &[3], MOST)?;
+    let (sights, end) = take_all(alloc, &mut reader)?;
+    assert_eq!(rt; end, Ending::Refused(PcapFault::ReadFault));
+    assert_eq!(rt; sights.len(), 2);
+    assert_eq!(rt; reader.next().err(), Some(PcapFault::ReadFault));
+    assert_eq!(rt; reader.next().err(), Some(PcapFault::ReadFault));
+    Ok(())
+}

@@ -1,0 +1,249 @@
+ghost use Rattle.pcap_reader.specs.Stages.{is_begun};
+ghost use Rattle.pcap_reader.specs.declared.stage.Stage.TheVariants as stage;
+ghost use Rattle.std.specs.Prelude.{◌≡◌, ◌≤◌, ◌<◌, ◌+◌, ◌-◌, ◌*◌, ◌^◌, ◌++◌, ℕ, [], IfOk, IfErr, Some, None, IsTrue, true, false, vec_len, length, take, drop};
+
+use crate::ending::Ending;
+use crate::layout::Layout;
+use crate::stage::{Head, Stage};
+use std::alloc::{AllocError, Global};
+use timing_base::PcapFault;
+use timing_outside::{Failed, Source};
+
+/// A whole record of the greatest length, and then a whole read.
+const ROOM: usize = 327_696;
+
+/// The most bytes that a record may have.
+const MOST_CAPTURED: u32 = 262_144;
+
+/// The most bytes that one read asks for.
+const READ: u64 = 65_536;
+
+/// The bytes of a capture that are held, from `start` to `filled` of a buffer, and where they stand
+/// in the capture.
+#[derive(Drop)]
+pub struct Window {
+    buf: Vec<u8>,
+    start: usize,
+    filled: usize,
+    /// The place in the capture of the first held byte, counted from 0.
+    pub place: u64,
+    /// The records that were let go.
+    pub count: u64,
+    /// The greatest length of a capture.
+    pub most: u64,
+    pub stage: Stage,
+    ghost ordered: { start ≤ filled },
+    ghost within: { filled ≤ vec_len buf },
+    ghost roomy: { vec_len buf ≡ 327696 },
+    ghost long: { 24 ≤ most },
+    ghost short: { most ≤ 2 ^ 40 },
+    ghost begins: { is_begun stage ≡ false → place ≡ 0 },
+    ghost inside: { place ≤ most },
+    ghost few: { 16 * count ≤ place },
+    ghost taken: { place + (filled - start) ≤ most + 16 },
+}
+
+impl Window {
+    ghost use Rattle.std.specs.Io.KnownBytes.{Keeps, IsAtEnd, prepend_known};
+    ghost use Rattle.timing_outside.specs.Causes.{HasCause};
+    ghost use Rattle.pcap_reader.specs.Windows.{held, behind, SameRecord, stop_of};
+    ghost use Rattle.pcap_reader.specs.Records.{stamp, captured, OnReadFault};
+    ghost use Rattle.pcap_reader.specs.declared.ending.Ending.TheVariants as ending;
+
+    /// A window at the start of a capture.
+    pub fn new(alloc: Global, most: u64) -> Result<Window, AllocError>
+        requires least { 24 ≤ most }
+        requires greatest { most ≤ 2 ^ 40 }
+        ensures held { IfOk result (λ w. held w ≡ []) }
+        ensures place { IfOk result (λ w. w.place ≡ 0) }
+        ensures count { IfOk result (λ w. w.count ≡ 0) }
+        ensures most { IfOk result (λ w. w.most ≡ most) }
+        ensures stage { IfOk result (λ w. w.stage ≡ stage.Header) }
+    {
+        let buf = vec![in alloc; 0u8; ROOM]?;
+        Ok(Window {
+            buf,
+            start: 0,
+            filled: 0,
+            place: 0,
+            count: 0,
+            most,
+            stage: Stage::Header,
+        })
+    }
+
+    /// How many bytes are held.
+    pub fn len(&self) -> usize
+        ensures { result ≡ length (held self.now) }
+    {
+        self.filled - self.start
+    }
+
+    /// What is held.
+    pub fn peek(&self) -> &[u8]
+        ensures { result.now ≡ held self.now }
+    {
+        &self.buf[self.start..self.filled]
+    }
+
+    /// The bytes that were let go last.
+    pub fn last(&self, count: usize) -> &[u8]
+        requires { count ≤ self.now.start }
+        ensures { result.now ≡ behind count self.now }
+    {
+        &self.buf[self.start - count..self.start]
+    }
+
+    /// Lets the file header go.
+    pub fn pass_header(&mut self, layout: Layout)
+        requires held { 24 ≤ length (held self.old) }
+        requires first { self.old.place ≡ 0 }
+        ensures held { held self.new ≡ drop 24 (held self.old) }
+        ensures place { self.new.place ≡ 24 }
+        ensures count { self.new.count ≡ 0 }
+        ensures same_count { self.new.count ≡ self.old.count }
+        ensures most { self.new.most ≡ self.old.most }
+        ensures stage { self.new.stage ≡ stage.Records layout }
+    {
+        self.start += 24;
+        self.place += 24;
+        self.stage = Stage::Records(layout);
+    }
+
+    /// Says how all ended.
+    pub fn settle(&mut self, ending: Ending)
+        ensures held { held self.new ≡ held self.old }
+        ensures count { self.new.count ≡ self.old.count }
+        ensures most { self.new.most ≡ self.old.most }
+        ensures stage { self.new.stage ≡ stage.Ended ending }
+    {
+        self.stage = Stage::Ended(ending);
+    }
+
+    /// Looks at the head of the record at the front of what is held. The first fault wins: the
+    /// fraction, the captured length, the greatest length of a capture.
+    pub fn head(&self, layout: Layout) -> Result<Head, Ending>
+        requires { 16 ≤ length (held self.now) }
+        ensures stamp { IfOk result (λ h. h.at ≡ stamp layout (held self.now)) }
+        ensures captured { IfOk result (λ h. h.captured ≡ captured layout (held self.now)) }
+        ensures below { IfOk result (λ h. h.at < 2 ^ 32 * 10 ^ 9) }
+        ensures few { IfOk result (λ h. h.captured ≤ 262144) }
+        ensures most { IfOk result (λ h. self.now.place + 16 + h.captured ≤ self.now.most) }
+        ensures whole { IfOk result (λ h. (long : ℕ) → 16 + h.captured ≤ long
+            → stop_of layout self.now long ≡ None) }
+        ensures cut { IfOk result (λ h. (long : ℕ) → long < 16 + h.captured
+            → stop_of layout self.now long ≡ Some (ending.Cut self.now.place)) }
+        ensures faulty { IfErr result (λ e. (long : ℕ) → stop_of layout self.now long ≡ Some e) }
+        ensures read { IfErr result (λ e. OnReadFault e ⊥) }
+    {
+        let bytes = self.peek();
+        let seconds = layout.order.read_u32(bytes, 0);
+        let fraction = layout.order.read_u32(bytes, 4);
+        let captured = layout.order.read_u32(bytes, 8);
+        let rec = self.count + 1;
+        if fraction >= layout.fraction.per_second() {
+            return Err(Ending::Refused(PcapFault::BadStamp { rec }));
+        }
+        if captured > MOST_CAPTURED {
+            return Err(Ending::Refused(PcapFault::BadLength { rec }));
+        }
+        if self.place + 16 + u64::from(captured) > self.most {
+            return Err(Ending::Refused(PcapFault::TooLong));
+        }
+        let nanos = layout.fraction.to_nanos(fraction);
+        Ok(Head {
+            at: u64::from(seconds) * 1_000_000_000 + u64::from(nanos),
+            captured: captured as usize,
+        })
+    }
+
+    /// Lets a record with so many captured bytes go, which still stand behind what is held.
+    pub fn pass_record(&mut self, captured: usize)
+        requires held { 16 + captured ≤ length (held self.old) }
+        requires most { self.old.place + 16 + captured ≤ self.old.most }
+        requires begun { is_begun self.old.stage ≡ true }
+        ensures held { held self.new ≡ drop (16 + captured) (held self.old) }
+        ensures behind { behind captured self.new ≡ take captured (drop 16 (held self.old)) }
+        ensures start { captured ≤ self.new.start }
+        ensures place { self.new.place ≡ self.old.place + 16 + captured }
+        ensures count { self.new.count ≡ self.old.count + 1 }
+        ensures most { self.new.most ≡ self.old.most }
+        ensures stage { self.new.stage ≡ self.old.stage }
+    {
+        let length = 16 + captured;
+        self.start += length;
+        self.place += length as u64;
+        self.count += 1;
+    }
+
+    /// Moves what is held to the front of the buffer.
+    fn compact(&mut self)
+        ensures bytes { held self.new ≡ held self.old }
+        ensures start { self.new.start ≡ 0 }
+        ensures filled { self.new.filled ≡ self.old.filled - self.old.start }
+        ensures same { SameRecord self.old self.new }
+    {
+        self.buf.copy_within(self.start..self.filled, 0);
+        self.filled -= self.start;
+        self.start = 0;
+    }
+
+    /// How many bytes the next read asks for: no more than a capture of the greatest length and the
+    /// head of a record behind it have.
+    fn want(&self) -> usize
+        requires { self.now.place + (self.now.filled - self.now.start) < self.now.most + 16 }
+        ensures some { 0 < result }
+        ensures few { result ≤ 65536 }
+        ensures room { self.now.place + (self.now.filled - self.now.start) + result
+            ≤ self.now.most + 16 }
+    {
+        let taken = self.place + (self.filled - self.start) as u64;
+        READ.min(self.most + 16 - taken) as usize
+    }
+
+    /// Reads once behind what is held.
+    fn read_more<S: Source>(&mut self, source: &mut S) -> Result<usize, Failed>
+        requires room { self.old.filled + 65536 ≤ 327696 }
+        requires taken { self.old.place + (self.old.filled - self.old.start) < self.old.most + 16 }
+        ensures bytes { Keeps (prepend_known (held self.old) (S.left source.old))
+            (prepend_known (held self.new) (S.left source.new)) }
+        ensures name { S.name source.new ≡ S.name source.old }
+        ensures cause { HasCause (S.faults source.old) (S.faults source.new) result }
+        ensures start { self.new.start ≡ self.old.start }
+        ensures same { SameRecord self.old self.new }
+        ensures filled { IfOk result (λ n. self.new.filled ≡ self.old.filled + n) }
+        ensures end { IfOk result (λ n. n ≡ 0 → IsAtEnd (S.left source.new)) }
+    {
+        let end = self.filled + self.want();
+        let got = source.read(&mut self.buf[self.filled..end])?;
+        self.filled += got;
+        Ok(got)
+    }
+
+    /// Holds so many bytes, and answers whether there are so many. It reads only where fewer are
+    /// held.
+    pub fn fill<S: Source>(&mut self, source: &mut S, need: usize) -> Result<bool, Failed>
+        requires need { need ≤ 262160 }
+        requires most { self.old.place + need ≤ self.old.most + 16 }
+        ensures bytes { Keeps (prepend_known (held self.old) (S.left source.old))
+            (prepend_known (held self.new) (S.left source.new)) }
+        ensures name { S.name source.new ≡ S.name source.old }
+        ensures cause { HasCause (S.faults source.old) (S.faults source.new) result }
+        ensures same { SameRecord self.old self.new }
+        ensures enough { IfOk result (λ b. IsTrue b → need ≤ length (held self.new)) }
+        ensures few { IfOk result (λ b. b ≡ false → length (held self.new) < need) }
+        ensures end { IfOk result (λ b. b ≡ false → IsAtEnd (S.left source.new)) }
+    {
+        if self.filled - self.start >= need {
+            return Ok(true);
+        }
+        self.compact();
+        while self.filled < need {
+            let got = self.read_more(source)?;
+            if got == 0 {
+                return Ok(false);
+            }
+        }
+        Ok(true)
+    }
+}
