@@ -1,0 +1,61 @@
+-- A frame laid out by hand, octet by octet, with what may differ in it.
+use Rattle.std.specs.Prelude.{ℕ, List, [], ◌∷◌, ◌++◌}
+use Rattle.udp_rtp.specs.Frames.{Datagram}
+
+-- the destination and the source of the Ethernet header
+abbrev pub macs : List ℕ
+macs = 0x01 ∷ 0x00 ∷ 0x5e ∷ 0x00 ∷ 0x00 ∷ 0x01 ∷ 0x02 ∷ 0x00 ∷ 0x00 ∷ 0x00 ∷ 0x00 ∷ 0x01 ∷ []
+
+-- the type field of IPv4, and a tag of VLAN 5 with priority 3
+abbrev pub ip_type : List ℕ
+ip_type = 0x08 ∷ 0x00 ∷ []
+
+abbrev pub tag : List ℕ
+tag = 0x81 ∷ 0x00 ∷ 0x60 ∷ 0x05 ∷ []
+
+-- an IPv4 header from 192.0.2.1 to 239.0.0.1, of these version and IHL, flags, offset and protocol
+abbrev pub ip : ℕ → ℕ → ℕ → ℕ → List ℕ
+ip first flags offset protocol =
+    first ∷ 0x00 ∷ 0x00 ∷ 0x2a
+    ∷ 0x00 ∷ 0x00 ∷ flags ∷ offset
+    ∷ 0x40 ∷ protocol ∷ 0x00 ∷ 0x00
+    ∷ 0xc0 ∷ 0x00 ∷ 0x02 ∷ 0x01
+    ∷ 0xef ∷ 0x00 ∷ 0x00 ∷ 0x01 ∷ []
+
+-- the usual one, which has the flag DF
+abbrev pub plain_ip : List ℕ
+plain_ip = ip 0x45 0x40 0x00 0x11
+
+-- a UDP header from port 50000 to port 50000, with this length, below 256
+abbrev pub udp : ℕ → List ℕ
+udp stated = 0xc3 ∷ 0x50 ∷ 0xc3 ∷ 0x50 ∷ 0x00 ∷ stated ∷ 0x00 ∷ 0x00 ∷ []
+
+-- the fixed header of RTP with these first two octets: sequence number 8, timestamp 1800, SSRC 1
+abbrev pub rtp : ℕ → ℕ → List ℕ
+rtp first second =
+    first ∷ second ∷ 0x00 ∷ 0x08
+    ∷ 0x00 ∷ 0x00 ∷ 0x07 ∷ 0x08
+    ∷ 0x00 ∷ 0x00 ∷ 0x00 ∷ 0x01 ∷ []
+
+-- the extended sequence number 1, with which the packet number is 65,544
+abbrev pub extended : List ℕ
+extended = 0x00 ∷ 0x01 ∷ []
+
+-- a contributing source, and a header extension of one word
+abbrev pub source : List ℕ
+source = 0x11 ∷ 0x22 ∷ 0x33 ∷ 0x44 ∷ []
+
+abbrev pub extension : List ℕ
+extension = 0xbe ∷ 0xde ∷ 0x00 ∷ 0x01 ∷ 0x51 ∷ 0x52 ∷ 0x53 ∷ 0x54 ∷ []
+
+-- the payload with nothing between the fixed header and the extended sequence number
+abbrev pub packet : List ℕ
+packet = rtp 0x80 0x60 ++ extended
+
+-- an untagged frame of this IPv4 header with its options, and a whole packet
+abbrev pub frame_of : List ℕ → List ℕ
+frame_of header = macs ++ (ip_type ++ (header ++ (udp 22 ++ packet)))
+
+-- what goes to 239.0.0.1, port 50000, with this payload
+abbrev pub to_group : List ℕ → Datagram
+to_group octets = record { address = 0xef000001; port = 50000; payload = octets }

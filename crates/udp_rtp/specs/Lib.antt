@@ -1,0 +1,5 @@
+pub mod Octets
+pub mod Frames
+pub mod Reading
+pub mod Flow
+pub mod Examples

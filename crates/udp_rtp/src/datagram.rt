@@ -1,0 +1,10 @@
+/// Where a frame goes, and the UDP payload that it still has.
+#[derive(Clone, Copy, Debug)]
+pub struct Target<'a> {
+    /// The IPv4 address of the destination, its first octet highest.
+    pub address: u32,
+    /// The UDP port of the destination.
+    pub port: u16,
+    /// The UDP payload, as far as it was captured.
+    pub payload: &'a [u8],
+}

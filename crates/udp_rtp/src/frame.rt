@@ -1,0 +1,89 @@
+ghost use Rattle.std.specs.Prelude.{◌≡◌, ◌+◌, ◌≤◌, length};
+ghost use Rattle.std.specs.Option.{option_map};
+ghost use Rattle.udp_rtp.specs.Frames.{ip_place, is_udp_at, payload_at, seen, target_of, udp_place};
+
+use crate::datagram::Target;
+use byteorder::{BigEndian, ByteOrder};
+
+// The type field of IPv4 (IEEE 802.3; RFC 894), and of a tag (IEEE 802.1Q).
+const IPV4: u16 = 0x0800;
+
+const TAG: u16 = 0x8100;
+
+// The least length of a frame with a target: Ethernet 14, IPv4 20, and the ports 4.
+const LEAST: usize = 38;
+
+/// Where the IPv4 header of a frame stands, if it has one behind at most one tag.
+fn ip_header(frame: &[u8]) -> Option<usize>
+    requires { 18 ≤ length frame.now }
+    ensures { result ≡ ip_place frame.now }
+{
+    let kind = BigEndian::read_u16(&frame[12..]);
+    if kind == IPV4 {
+        Some(14)
+    } else if kind == TAG && BigEndian::read_u16(&frame[16..]) == IPV4 {
+        Some(18)
+    } else {
+        None
+    }
+}
+
+/// The data of the UDP header at `udp`.
+fn payload(frame: &[u8], udp: usize) -> &[u8]
+    requires { udp + 4 ≤ length frame.now }
+    ensures { result.now ≡ payload_at frame.now udp }
+{
+    if frame.len() < udp + 8 {
+        return &[];
+    }
+    let stated = usize::from(BigEndian::read_u16(&frame[udp + 4..]));
+    let data = &frame[udp + 8..];
+    &data[..stated.saturating_sub(8).min(data.len())]
+}
+
+/// The target of an Ethernet frame: what it carries to a UDP port over IPv4. `None` for any other
+/// frame.
+///
+/// ```text
+/// Ethernet  0 to 11  12 13   a tag puts 4 bytes before the type
+///           MACs     type    0x8100, tag control, and then the type
+/// IPv4      e        e+1     e+2 e+3  e+4 e+5    e+6 e+7
+///           version, service length   id         flags, fragment
+///           IHL
+///           e+8      e+9      e+10 e+11  e+12 to e+15  e+16 to e+19
+///           time     protocol checksum   source        destination
+/// UDP       u u+1    u+2 u+3       u+4 u+5  u+6 u+7    u+8 ..
+///           source   destination   length   checksum   payload
+/// ```
+///
+/// The type is 0x0800 (IPv4), behind one tag of IEEE 802.1Q or none; version 4 and protocol 17
+/// (UDP); the header has 5 words at least, and the frame is no fragment (RFC 791, section 3.1). A
+/// frame that was captured up to its ports has a target; the payload ends where the UDP length (RFC
+/// 768) or the frame ends, and is empty where that is before it begins. Checksums, the IPv4 length,
+/// padding after the datagram, and the tag's control are passed over.
+pub fn target(frame: &[u8]) -> Option<Target<'_>>
+    ensures { option_map seen result ≡ target_of frame.now }
+{
+    if frame.len() < LEAST {
+        return None;
+    }
+    let ip = ip_header(frame)?;
+    if frame.len() < ip + 24 {
+        return None;
+    }
+    let first = frame[ip];
+    let udp = ip + 4 * usize::from(first % 16);
+    if first / 16 != 4
+        || first % 16 < 5
+        || frame[ip + 9] != 17
+        || BigEndian::read_u16(&frame[ip + 6..]) % 0x4000 != 0
+        || frame.len() < udp + 4
+    {
+        return None;
+    }
+    Some(Target {
+        address: BigEndian::read_u32(&frame[ip + 16..]),
+        port: BigEndian::read_u16(&frame[udp + 2..]),
+        payload: payload(frame, udp),
+    })
+}
