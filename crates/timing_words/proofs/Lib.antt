@@ -1,0 +1,9 @@
+pub mod Lines
+pub mod Lookups
+pub mod Rules
+pub mod Turns
+pub mod Walks
+pub mod Checks
+pub mod Tables
+pub mod Texts
+pub mod Says

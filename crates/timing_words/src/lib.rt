@@ -1,0 +1,18 @@
+//! The words of a command line, read as what they ask for.
+//!
+//! The first word is the command. [`read_words`] hands the others to one simple command of `clap`,
+//! which cuts them into options, flags and names; what may be missing, what may not stand together,
+//! how many names there may be and all ranges are tested here.
+#![tactic(auto)]
+
+mod jobs;
+pub mod laws;
+mod line;
+mod read;
+mod values;
+
+pub use line::WordFault;
+pub use read::read_words;
+
+#[cfg(test)]
+mod tests;

@@ -1,0 +1,346 @@
+use super::*;
+use std::alloc::{AllocError, Global};
+use std::test::Fail;
+use timing_base::{FileName, Items, Request};
+
+// The words of a line, which bars part.
+fn words_of(alloc: Global, line: &str) -> Result<Vec<String>, AllocError> {
+    let mut words = Vec::new(alloc);
+    for word in line.split('|') {
+        let word = String::from_str(alloc, word)?;
+        words.push(word)?;
+    }
+    Ok(words)
+}
+
+fn files(alloc: Global, items: &Items<FileName>) -> Result<String, AllocError> {
+    let mut text = String::new(alloc);
+    for file in items.as_slice() {
+        text.push_str(" ")?;
+        text.push_str(file.as_str())?;
+    }
+    Ok(text)
+}
+
+// The fields of a request: file names, then numbers, then flags, then captures.
+fn shown(alloc: Global, request: &Request) -> Result<String, AllocError> {
+    match request {
+        Request::Check(job) => {
+            let captures = files(alloc, &job.captures)?;
+            let sdp = job.sdp.as_str();
+            let (workers, tai) = (job.workers, job.tai);
+            let (json, joined) = (job.json, job.joined);
+            format!(in alloc; "check {sdp} {workers} {tai} {json} {joined}:{captures}")
+        }
+        Request::Verify(job) => {
+            let captures = files(alloc, &job.captures)?;
+            let sdp = job.sdp.as_str();
+            let (media, kind, tai, joined) = (job.media, job.kind, job.tai, job.joined);
+            let proof = job.proof;
+            let (model, from, to) = (proof.model, proof.from, proof.to);
+            let (count, limit) = (proof.count, proof.limit);
+            format!(in alloc;
+                "verify {sdp} {media} {kind:?} {model:?} {from} {to} {count} {limit} {tai} {joined}:{captures}"
+            )
+        }
+        Request::VerifyReport(job) => {
+            let captures = files(alloc, &job.captures)?;
+            let (sdp, report) = (job.sdp.as_str(), job.report.as_str());
+            let (tai, joined) = (job.tai, job.joined);
+            format!(in alloc; "report {sdp} {report} {tai} {joined}:{captures}")
+        }
+        Request::SelfTest(job) => {
+            let (frames, workers) = (job.frames, job.workers);
+            format!(in alloc; "selftest {frames} {workers}")
+        }
+        Request::Window(job) => {
+            let (sdp, capture) = (job.sdp.as_str(), job.capture.as_str());
+            let (media, tai) = (job.media, job.tai);
+            format!(in alloc; "window {sdp} {media} {tai}: {capture}")
+        }
+        Request::Shape(job) => {
+            let (sdp, capture) = (job.flow.sdp.as_str(), job.flow.capture.as_str());
+            let (media, tai) = (job.flow.media, job.flow.tai);
+            let (kind, list) = (job.kind, job.list);
+            format!(in alloc; "shape {sdp} {media} {kind:?} {tai} {list}: {capture}")
+        }
+        Request::Skew(job) => {
+            let captures = files(alloc, &job.captures)?;
+            let sdp = job.sdp.as_str();
+            let (media, pair) = (job.media, job.pair);
+            format!(in alloc; "skew {sdp} {media} {pair}:{captures}")
+        }
+    }
+}
+
+// What words are read as, and whether memory sufficed.
+fn read(alloc: Global, words: &[String]) -> Result<String, AllocError> {
+    match read_words(alloc, words) {
+        Ok(request) => shown(alloc, &request),
+        Err(WordFault::Usage) => String::from_str(alloc, "Usage"),
+        Err(WordFault::OutOfMemory) => String::from_str(alloc, "OutOfMemory"),
+    }
+}
+
+#[test]
+fn no_capture(rt: HostRuntime) -> Result<(), Fail> {
+    let alloc = rt.alloc();
+    let words = words_of(alloc, "check|--sdp|p.sdp")?;
+    assert_eq!(rt;
+        read_words(alloc, words.as_slice()).err(),
+        Some(WordFault::Usage)
+    );
+    Ok(())
+}
+
+#[test]
+fn no_words(rt: HostRuntime) {
+    let words: [String; 0] = [];
+    assert_eq!(rt;
+        read_words(rt.alloc(), &words).err(),
+        Some(WordFault::Usage)
+    );
+}
+
+static OUT_OF_RANGE: [&str; 5] = [
+    "check|--workers|17|--sdp|p|c",
+    "check|--sdp|p|c|c|c|c|c|c|c|c|c|c|c|c|c|c|c|c|c",
+    "check|--tai|1001|--sdp|p|c",
+    "selftest|1",
+    "selftest|20001",
+];
+
+#[test]
+fn out_of_range_words(rt: HostRuntime) -> Result<(), Fail> {
+    let alloc = rt.alloc();
+    for line in &OUT_OF_RANGE {
+        let words = words_of(alloc, line)?;
+        let got = read(alloc, words.as_slice())?;
+        assert!(rt; got.as_str() == "Usage", "{line}: {got}");
+    }
+    Ok(())
+}
+
+static ROWS: [(&str, &str); 112] = [
+    // both forms of an option, in any order, and after names
+    ("check|--sdp|p|c", "check p 4 0 false false: c"),
+    ("check|--sdp=p|c", "check p 4 0 false false: c"),
+    ("check|c|--sdp|p", "check p 4 0 false false: c"),
+    ("check|c|--sdp=p|d", "check p 4 0 false false: c d"),
+    ("check|--sdp=a=b|c", "check a=b 4 0 false false: c"),
+    ("check|--sdp|a=b|c", "check a=b 4 0 false false: c"),
+    ("check|--sdp=--x|c", "check --x 4 0 false false: c"),
+    ("check|--sdp=-|c", "check - 4 0 false false: c"),
+    ("check|--sdp|-|-", "check - 4 0 false false: -"),
+    (
+        "check|--sdp|check|check",
+        "check check 4 0 false false: check",
+    ),
+    // `--`
+    ("check|--sdp|p|--|c", "check p 4 0 false false: c"),
+    ("check|--sdp|p|--|--json", "check p 4 0 false false: --json"),
+    ("check|--sdp|p|--|--|-h", "check p 4 0 false false: -- -h"),
+    (
+        "check|--sdp|p|c|--|--sdp|d",
+        "check p 4 0 false false: c --sdp d",
+    ),
+    ("check|--sdp|p|c|--", "check p 4 0 false false: c"),
+    ("check|--sdp|p|--", "Usage"),
+    ("check|--|--sdp|p|c", "Usage"),
+    ("check|--sdp|--|p|c", "Usage"),
+    // a value that is none
+    ("check|--sdp|-p|c", "Usage"),
+    ("check|--sdp|--json|c", "Usage"),
+    ("check|c|--sdp", "Usage"),
+    ("check|--sdp=|c", "Usage"),
+    ("check|--sdp||c", "Usage"),
+    ("check|--sdp|p|", "Usage"),
+    // twice
+    ("check|--sdp|p|--sdp|p|c", "Usage"),
+    ("check|--sdp=p|c|--sdp=q", "Usage"),
+    ("check|--sdp|p|--serial|--serial|c", "Usage"),
+    ("check|--sdp|p|--json|c|--json", "Usage"),
+    ("check|--sdp|p|--joined|--joined|c", "Usage"),
+    // flags
+    ("check|--sdp|p|--serial|c", "check p 0 0 false false: c"),
+    ("check|--sdp|p|--json|c", "check p 4 0 true false: c"),
+    ("check|--sdp|p|--joined|c|d", "check p 4 0 false true: c d"),
+    (
+        "check|--json|--joined|--serial|c|--sdp|p",
+        "check p 0 0 true true: c",
+    ),
+    ("check|--sdp|p|--serial=|c", "Usage"),
+    ("check|--sdp|p|--serial=true|c", "Usage"),
+    (
+        "check|--sdp|p|--serial|true|c",
+        "check p 0 0 false false: true c",
+    ),
+    // what the command does not take
+    ("check|--sdp|p|--list|c", "Usage"),
+    ("check|--sdp|p|--media|1|c", "Usage"),
+    ("check|--sdp|p|--ser|c", "Usage"),
+    ("check|--sd|p|c", "Usage"),
+    ("check|--SDP|p|c", "Usage"),
+    ("check|-sdp|p|c", "Usage"),
+    ("check|--sdp|p|---json|c", "Usage"),
+    ("check|--sdp|p|--=x|c", "Usage"),
+    ("check|--sdp|p|--names|c", "Usage"),
+    ("check|--sdp|p|-é|c", "Usage"),
+    ("check|--sdp|p|--help|c", "Usage"),
+    ("check|--sdp|p|-h|c", "Usage"),
+    ("check|--sdp|p|--version|c", "Usage"),
+    ("check|--sdp|p|-V|c", "Usage"),
+    ("check|help", "Usage"),
+    // commands
+    ("", "Usage"),
+    ("help", "Usage"),
+    ("--help", "Usage"),
+    ("--version", "Usage"),
+    ("-h", "Usage"),
+    ("Check|--sdp|p|c", "Usage"),
+    ("chec|--sdp|p|c", "Usage"),
+    ("--sdp|p|check|c", "Usage"),
+    ("check", "Usage"),
+    // numbers
+    ("check|--sdp|p|--workers|1|c", "check p 1 0 false false: c"),
+    (
+        "check|--sdp|p|--workers=16|c",
+        "check p 16 0 false false: c",
+    ),
+    ("check|--sdp|p|--workers|0|c", "Usage"),
+    ("check|--sdp|p|--workers|17|c", "Usage"),
+    (
+        "check|--sdp|p|--workers|00000000000000000002|c",
+        "check p 2 0 false false: c",
+    ),
+    ("check|--sdp|p|--workers|000000000000000000002|c", "Usage"),
+    ("check|--sdp|p|--workers|+2|c", "Usage"),
+    ("check|--sdp|p|--workers=-2|c", "Usage"),
+    ("check|--sdp|p|--workers=|c", "Usage"),
+    ("check|--sdp|p|--workers|2 |c", "Usage"),
+    ("check|--sdp|p|--workers|0x2|c", "Usage"),
+    ("check|--sdp|p|--tai|0|c", "check p 4 0 false false: c"),
+    ("check|--sdp|p|--tai|37|c", "check p 4 37 false false: c"),
+    (
+        "check|--sdp|p|--tai|1000|c",
+        "check p 4 1000 false false: c",
+    ),
+    ("check|--sdp|p|--tai|1001|c", "Usage"),
+    ("check|--sdp|p|--tai|18446744073709551616|c", "Usage"),
+    // exclusions, and what is missing
+    ("check|--sdp|p|--workers|2|--serial|c", "Usage"),
+    ("check|--serial|--sdp|p|c|--workers=2", "Usage"),
+    ("check|c", "Usage"),
+    ("check|--json|c", "Usage"),
+    // names
+    ("check|--sdp|p|a\nb", "Usage"),
+    ("check|--sdp|a\nb|c", "Usage"),
+    ("check|--sdp|p|é b", "check p 4 0 false false: é b"),
+    ("check|--sdp|p|a\u{7f}", "Usage"),
+    (
+        "check|--sdp|p|c|c|c|c|c|c|c|c|c|c|c|c|c|c|c|c",
+        "check p 4 0 false false: c c c c c c c c c c c c c c c c",
+    ),
+    ("check|--sdp|p|c|c|c|c|c|c|c|c|c|c|c|c|c|c|c|c|c", "Usage"),
+    // verify
+    (
+        "verify|--sdp|p|--media|1|--type|N|--model|Bucket|--from|20|--to|24|--count|5|--limit|4|c",
+        "verify p 0 N Bucket 20 24 5 4 0 false: c",
+    ),
+    (
+        "verify|c|--limit=18446744073709551615|--count=0|--to=1|--from=0|--model=Over|--type=NL|--media=64|--sdp=p|--tai=9",
+        "verify p 63 NL Over 0 1 0 18446744073709551615 9 false: c",
+    ),
+    (
+        "verify|--joined|--sdp|p|--media|2|--type|W|--model|Empty|--from|1|--to|1|--count|1|--limit|2|c|d",
+        "verify p 1 W Empty 1 1 1 2 0 true: c d",
+    ),
+    (
+        "verify|--sdp|p|--media|2|--type|W|--model|Empty|--from|1|--to|1|--count|1|--limit|2|c|d",
+        "Usage",
+    ),
+    (
+        "verify|--sdp|p|--media|0|--type|N|--model|Over|--from|1|--to|1|--count|1|--limit|2|c",
+        "Usage",
+    ),
+    (
+        "verify|--sdp|p|--media|65|--type|N|--model|Over|--from|1|--to|1|--count|1|--limit|2|c",
+        "Usage",
+    ),
+    (
+        "verify|--sdp|p|--media|1|--type|n|--model|Over|--from|1|--to|1|--count|1|--limit|2|c",
+        "Usage",
+    ),
+    (
+        "verify|--sdp|p|--media|1|--type|N|--model|over|--from|1|--to|1|--count|1|--limit|2|c",
+        "Usage",
+    ),
+    (
+        "verify|--sdp|p|--media|1|--type|N|--model|Over|--from|1|--to|1|--count|1|--limit|18446744073709551616|c",
+        "Usage",
+    ),
+    (
+        "verify|--sdp|p|--media|1|--type|N|--model|Over|--from|1|--to|1|--count|1|c",
+        "Usage",
+    ),
+    (
+        "verify|--sdp|p|--media|1|--type|N|--model|Over|--from|1|--to|1|--count|1|--limit|2",
+        "Usage",
+    ),
+    // verify-report
+    (
+        "verify-report|--sdp|p|--report|r|c",
+        "report p r 0 false: c",
+    ),
+    (
+        "verify-report|--joined|--tai=5|--report=r|--sdp=p|c|d",
+        "report p r 5 true: c d",
+    ),
+    ("verify-report|--sdp|p|c", "Usage"),
+    ("verify-report|--sdp|p|--report|r|--json|c", "Usage"),
+    // selftest
+    ("selftest|2", "selftest 2 0"),
+    ("selftest|--workers|3|20000", "selftest 20000 3"),
+    ("selftest|2|3", "Usage"),
+    ("selftest", "Usage"),
+    ("selftest|--serial|2", "Usage"),
+    // window, shape and skew
+    ("window|--sdp|p|--media|3|--tai|1|c", "window p 2 1: c"),
+    ("window|--sdp|p|--media|3|c|d", "Usage"),
+    (
+        "shape|--sdp|p|--media|1|--type|NL|--list|c",
+        "shape p 0 NL 0 true: c",
+    ),
+    ("shape|--sdp|p|--media|1|c", "Usage"),
+    ("skew|--sdp|p|--media|1|--pair|2|c", "skew p 0 1: c"),
+    ("skew|--sdp|p|--media|1|--pair|2|c|d|e", "Usage"),
+];
+
+#[test]
+fn lines(rt: HostRuntime) -> Result<(), Fail> {
+    let alloc = rt.alloc();
+    for (line, want) in &ROWS {
+        let words = words_of(alloc, line)?;
+        let got = read(alloc, words.as_slice())?;
+        assert!(rt; got.as_str() == *want, "{line}: {got}");
+    }
+    Ok(())
+}
+
+#[test]
+fn long_names(rt: HostRuntime) -> Result<(), Fail> {
+    let alloc = rt.alloc();
+    let mut line = String::from_str(alloc, "check|--sdp|p|")?;
+    for _ in 0..4096 {
+        line.push_str("c")?;
+    }
+    let words = words_of(alloc, line.as_str())?;
+    assert!(rt; read_words(alloc, words.as_slice()).is_ok());
+    line.push_str("c")?;
+    let words = words_of(alloc, line.as_str())?;
+    assert_eq!(rt;
+        read_words(alloc, words.as_slice()).err(),
+        Some(WordFault::Usage)
+    );
+    Ok(())
+}
