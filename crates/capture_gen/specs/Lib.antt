@@ -1,0 +1,5 @@
+pub mod Capture
+pub mod Flaws
+pub mod Heads
+pub mod Packets
+pub mod Sdp

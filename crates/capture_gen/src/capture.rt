@@ -1,0 +1,75 @@
+ghost use Rattle.std.specs.Prelude.{ℕ, ◌≡◌, ◌≤◌, ◌+◌, ◌-◌, ◌*◌, nat_le, if◌then◌else◌, length};
+ghost use Rattle.timing_outside.specs.Causes.{HasCause};
+ghost use Rattle.timing_outside.specs.Written.{PutsAll};
+ghost use Rattle.capture_gen.specs.Capture.{capture, frames_bytes};
+
+use crate::flaw::Flaw;
+use crate::frame::{Frame, head};
+use crate::heads::file_head;
+use timing_outside::{Failed, Sink, put_all};
+
+const FILE_HEAD_LEN: u64 = 24;
+
+const RECORD_LEN: u64 = 72;
+
+/// How many bytes a capture of so many frames has. Flaws 3 and 4 leave one packet out.
+pub fn capture_len(frames: u32, flaw: u32) -> u64
+    requires some { 1 ≤ frames }
+    requires few { frames ≤ 20000 }
+    requires known { flaw ≤ 4 }
+
+    ensures value { result ≡ 24 + 72 * (1 + 20 * frames) - (if nat_le 3 flaw then 72 else 0) }
+
+    // Whatever number the capture is made from.
+    ensures counts { (number : ℕ) → length (capture number frames flaw) ≡ result }
+{
+    let left_out = if flaw >= 3 { 1 } else { 0 };
+    FILE_HEAD_LEN + RECORD_LEN * (1 + 20 * u64::from(frames) - left_out)
+}
+
+/// Writes the records of the packets of all frames.
+fn put_frames<K: Sink>(number: u64, frames: u32, flaw: Flaw, out: &mut K) -> Result<(), Failed>
+    requires { frames ≤ 20000 }
+    ensures bytes { PutsAll (K.written out.old) (K.written out.new) result
+        (frames_bytes number frames flaw) }
+    ensures cause { HasCause (K.faults out.old) (K.faults out.new) result }
+{
+    for index in 0..frames {
+        let frame = Frame {
+            number,
+            flaw,
+            index,
+            last: index + 1 == frames,
+        };
+        frame.put(out)?;
+    }
+    Ok(())
+}
+
+/// Writes the capture that is made from this number: a file head, the record of a packet that ends an
+/// earlier frame, and then `frames` frames of 20 packets. After `Err` a front of it that isn't the
+/// whole was written.
+///
+/// Frame 0 begins 1,600,000,000 seconds and `number` modulo 1,000,000 after 1970, and the packets have
+/// the numbers from `number` on, modulo 2^32. The flaw is 0, none; 1, packets 1 to 4 of the last frame
+/// have the stamp of its packet 0; 2, the packets of a frame stand 1,000,000 ns apart in place of
+/// 960,000; 3, packet 10 of the last frame is left out; 4, packet 19 of the last frame is left out,
+/// and packet 18 has the marker.
+pub fn write_capture<K: Sink>(
+    number: u64,
+    frames: u32,
+    flaw: u32,
+    out: &mut K,
+) -> Result<(), Failed>
+    requires some { 1 ≤ frames }
+    requires few { frames ≤ 20000 }
+    requires known { flaw ≤ 4 }
+
+    ensures bytes { PutsAll (K.written out.old) (K.written out.new) result
+        (capture number frames flaw) }
+    ensures cause { HasCause (K.faults out.old) (K.faults out.new) result }
+{
+    put_all(out, &file_head())?;
+    put_all(out, &head(number).record())?;
+    put_frames(number, frames, Flaw::of(flaw), out)
+}
