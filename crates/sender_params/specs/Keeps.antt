@@ -1,0 +1,78 @@
+-- When the judged packets keep the limits of a sender type (SMPTE ST 2110-21), and what shows that they
+-- don't. m is the video, n the packets of one group, and the stamps are those of the judged packets, in
+-- nanoseconds, counted from 0. An instant is any fraction of nanoseconds.
+use Rattle.std.specs.Prelude.{◌≡◌, ◌+◌, ◌-◌, ◌≤◌, ◌<◌, ℕ, ℤ, pos, ◌-ℤ◌, ◌≤ℤ◌, Bool, List, length, slice_index, count_by}
+use Rattle.std.specs.List.{range_with_len}
+use Rattle.fraction128.specs.Fractions.{Fraction, Below, at_most, whole}
+use Rattle.timing_base.specs.declared.media.Media.{Media}
+use Rattle.timing_base.specs.declared.media.Kind.{Kind}
+use Rattle.timing_base.specs.declared.fail.FailProof.{FailProof}
+use Rattle.timing_base.specs.declared.fail.Broken.{Broken}
+use Rattle.timing_base.specs.declared.fail.Broken.TheVariants.{Bucket, Over, Empty}
+use Rattle.sender_params.specs.Limits.{c_max_of, vrx_full_of, gapped_of}
+use Rattle.sender_params.specs.Reads.{AreDue, anchor_of, read_of}
+use Rattle.sender_params.specs.Ticks.{KeepsBucket, load_of}
+
+-- the packets that came by the instant t
+abbrev pub arrived : List ℕ → Fraction → ℕ
+arrived stamps t = count_by (λ at. at_most (whole at) t) stamps
+
+-- the reads among the first `count` ones that are due at the instant t
+abbrev pub due_among : Media → ℕ → ℤ → Bool → ℕ → Fraction → ℕ
+due_among m n anchor gapped count t = count_by (λ x. at_most (read_of m n anchor gapped x) t) (range_with_len 0 count)
+
+-- the packets that the virtual receiver buffer holds at the instant t; below 0 where a read found none
+abbrev pub held_of : Media → ℕ → List ℕ → Bool → Fraction → ℤ
+held_of m n stamps gapped t =
+    pos (arrived stamps t) -ℤ pos (due_among m n (anchor_of m (slice_index stamps 0)) gapped (length stamps) t)
+
+-- at every instant the buffer holds between nothing and VRX_FULL of this type
+abbrev pub KeepsBuffer : Media → ℕ → List ℕ → Kind → Type 0
+KeepsBuffer m n stamps kind = (t : Fraction) → 0 < t.den
+    → (pos 0 ≤ℤ held_of m n stamps (gapped_of kind) t)
+    × (held_of m n stamps (gapped_of kind) t ≤ℤ pos (vrx_full_of m n kind))
+
+-- a sender of this type sends so
+pub record Keeps (m : Media) (n : ℕ) (stamps : List ℕ) (kind : Kind) : Type 0 where
+  pub bucket : KeepsBucket m n stamps kind
+  pub buffer : KeepsBuffer m n stamps kind
+
+-- when packet i comes, the buffer then holds `count` packets: those up to i, less the reads that are due
+abbrev pub HeldAt : Media → ℕ → List ℕ → Kind → ℕ → ℕ → Type 0
+HeldAt m n stamps kind i count = (reads : ℕ)
+    × AreDue m n (anchor_of m (slice_index stamps 0)) (gapped_of kind) (whole (slice_index stamps i)) reads
+    × (count ≡ (i + 1) - reads)
+
+-- when packet i comes, the buffer holds more than VRX_FULL packets
+abbrev pub IsOver : Media → ℕ → List ℕ → Kind → ℕ → Type 0
+IsOver m n stamps kind i = (count : ℕ) × HeldAt m n stamps kind i count × (vrx_full_of m n kind < count)
+
+-- packet i comes after its own read, which found nothing
+abbrev pub IsEmpty : Media → ℕ → List ℕ → Kind → ℕ → Type 0
+IsEmpty m n stamps kind i =
+    Below (read_of m n (anchor_of m (slice_index stamps 0)) (gapped_of kind) i) (whole (slice_index stamps i))
+
+-- the packets that came by read i
+abbrev pub arrived_by_read : Media → ℕ → List ℕ → Kind → ℕ → ℕ
+arrived_by_read m n stamps kind i =
+    arrived stamps (read_of m n (anchor_of m (slice_index stamps 0)) (gapped_of kind) i)
+
+-- the count of an interval is as the fail says, and breaks the limit of its model
+abbrev pub BreaksLimit : Media → ℕ → List ℕ → Kind → FailProof → Broken → Type 0
+BreaksLimit m n stamps kind f Bucket = (f.limit ≡ c_max_of m n kind)
+    × (f.count ≡ load_of m n stamps f.from f.to)
+    × (f.limit < f.count)
+BreaksLimit m n stamps kind f Over = (f.limit ≡ vrx_full_of m n kind)
+    × (f.from ≡ 0)
+    × HeldAt m n stamps kind f.to f.count
+    × (f.limit < f.count)
+BreaksLimit m n stamps kind f Empty = (f.limit ≡ f.to + 1)
+    × (f.from ≡ f.to)
+    × (f.count ≡ arrived_by_read m n stamps kind f.to)
+    × (f.count < f.limit)
+
+-- the fail names an interval of judged packets that doesn't keep the limits of this type
+pub record Confirms (m : Media) (n : ℕ) (stamps : List ℕ) (kind : Kind) (f : FailProof) : Type 0 where
+  pub ordered : f.from ≤ f.to
+  pub judged : f.to < length stamps
+  pub breaks : BreaksLimit m n stamps kind f f.model

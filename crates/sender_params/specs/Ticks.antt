@@ -1,0 +1,28 @@
+-- The drain of the network compatibility model (SMPTE ST 2110-21). m is the video, n the packets of one
+-- group, and the stamps are those of the judged packets, in nanoseconds, counted from 0.
+use Rattle.std.specs.Prelude.{◌+◌, ◌-◌, ◌*◌, ◌/◌, ◌≤◌, ◌<◌, ℕ, List, length, slice_index}
+use Rattle.timing_base.specs.declared.media.Media.{Media}
+use Rattle.timing_base.specs.declared.media.Kind.{Kind}
+use Rattle.sender_params.specs.Times.{drain_time}
+use Rattle.sender_params.specs.Limits.{c_max_of}
+
+-- the ticks from a0 up to `at`, which stand at a0 + T_DRAIN, a0 + 2 T_DRAIN and so on
+abbrev pub ticks_of : Media → ℕ → ℕ → ℕ → ℕ
+ticks_of m n a0 at = (at - a0) * (drain_time m n).1 / (drain_time m n).0
+
+-- the ticks up to packet i, from the first packet on
+abbrev pub ticks_at : Media → ℕ → List ℕ → ℕ → ℕ
+ticks_at m n stamps i = ticks_of m n (slice_index stamps 0) (slice_index stamps i)
+
+-- the packets j to i, less the ticks after packet j and up to packet i; 0 where the ticks are more
+abbrev pub load_of : Media → ℕ → List ℕ → ℕ → ℕ → ℕ
+load_of m n stamps j i = (i - j + 1) - (ticks_at m n stamps i - ticks_at m n stamps j)
+
+-- no interval of packets has more than C_MAX of this type
+abbrev pub KeepsBucket : Media → ℕ → List ℕ → Kind → Type 0
+KeepsBucket m n stamps kind = (j i : ℕ) → j ≤ i → i < length stamps
+    → load_of m n stamps j i ≤ c_max_of m n kind
+
+-- no packet comes before the one in front of it
+abbrev pub NeverFall : List ℕ → Type 0
+NeverFall stamps = (j i : ℕ) → j ≤ i → i < length stamps → slice_index stamps j ≤ slice_index stamps i

@@ -1,0 +1,258 @@
+//! The numbers of one sender.
+
+ghost use Rattle.std.specs.Prelude.{◌≡◌, ◌≤◌, ◌<◌, ◌^◌, ◌*◌, true};
+ghost use Rattle.std.specs.Prelude.{false, pos, negsuc, ◌≤ℤ◌, ◌<ℤ◌, ◌-ℤ◌};
+ghost use Rattle.fraction128.specs.Fractions.{floor_of_signed};
+ghost use Rattle.timing_base.specs.declared.media.Kind.TheVariants.{N, NL, W};
+ghost use Rattle.sender_params.specs.Limits.{c_max_of, vrx_full_of};
+ghost use Rattle.sender_params.specs.Reads.{anchor_of};
+ghost use Rattle.sender_params.specs.Ticks.{ticks_of};
+ghost use Rattle.sender_params.specs.Times.{drain_time, frame_time, group_time, offset_time};
+ghost use Rattle.sender_params.specs.Times.{per_frame_of, read_step};
+
+use crate::rules::{self, Ratio};
+use fraction128::{floor_near, floor_of, floor_signed};
+use timing_base::{Kind, Media};
+
+/// One number for each sender type.
+#[derive(Clone, Copy, Debug, PartialEq, Eq)]
+struct PerKind {
+    n: u64,
+    nl: u64,
+    w: u64,
+}
+
+/// The numbers of a sender of `media` with `n` packets in each group.
+#[derive(Clone, Copy, Debug, PartialEq, Eq)]
+pub struct Params {
+    /// The video.
+    pub media: Media,
+    /// The packets of one group: 1 to 262,144.
+    pub n: u32,
+    c_max: PerKind,
+    vrx_full: PerKind,
+    drain: Ratio,
+    offset: Ratio,
+    gapped: Ratio,
+    linear: Ratio,
+    ghost n_some: { 1 ≤ n },
+    ghost n_most: { n ≤ 262144 },
+    ghost c_max_n: { c_max.n ≡ c_max_of media n N },
+    ghost c_max_nl: { c_max.nl ≡ c_max_of media n NL },
+    ghost c_max_w: { c_max.w ≡ c_max_of media n W },
+    ghost vrx_full_n: { vrx_full.n ≡ vrx_full_of media n N },
+    ghost vrx_full_nl: { vrx_full.nl ≡ vrx_full_of media n NL },
+    ghost vrx_full_w: { vrx_full.w ≡ vrx_full_of media n W },
+    ghost drain_num: { drain.num ≡ (drain_time media n).0 },
+    ghost drain_den: { drain.den ≡ (drain_time media n).1 },
+    ghost offset_num: { offset.num ≡ (offset_time media).0 },
+    ghost offset_den: { offset.den ≡ (offset_time media).1 },
+    ghost gapped_num: { gapped.num ≡ (read_step media n true).0 },
+    ghost gapped_den: { gapped.den ≡ (read_step media n true).1 },
+    ghost linear_num: { linear.num ≡ (read_step media n false).0 },
+    ghost linear_den: { linear.den ≡ (read_step media n false).1 },
+    ghost drain_some: { 1 ≤ drain.den },
+    ghost drain_num_some: { 10000000000 ≤ drain.num },
+    ghost drain_num_small: { drain.num < 2 ^ 44 },
+    ghost drain_den_small: { drain.den < 2 ^ 41 },
+    ghost drain_slow: { drain.den * 4 < drain.num },
+    ghost offset_some: { 1 ≤ offset.den },
+    ghost offset_within: { offset.num * (group_time media).1
+        ≤ 480 * (offset.den * (group_time media).0) },
+    ghost offset_num_small: { offset.num < 2 ^ 46 },
+    ghost offset_den_small: { offset.den < 2 ^ 29 },
+    ghost gapped_some: { 1 ≤ gapped.den },
+    ghost gapped_num_small: { gapped.num < 2 ^ 50 },
+    ghost gapped_den_small: { gapped.den < 2 ^ 48 },
+    ghost linear_some: { 1 ≤ linear.den },
+    ghost linear_num_small: { linear.num < 2 ^ 50 },
+    ghost linear_den_small: { linear.den < 2 ^ 48 },
+}
+
+impl Params {
+    /// The numbers of a sender of `media` with `n` packets in each group.
+    pub fn of(media: &Media, n: u32) -> Params
+        requires some { 1 ≤ n }
+        requires most { n ≤ 262144 }
+        ensures media { result.media ≡ media.now }
+        ensures n { result.n ≡ n }
+    {
+        Params {
+            media: *media,
+            n,
+            c_max: PerKind {
+                n: rules::c_max(media, n, Kind::N),
+                nl: rules::c_max(media, n, Kind::NL),
+                w: rules::c_max(media, n, Kind::W),
+            },
+            vrx_full: PerKind {
+                n: rules::vrx_full(media, n, Kind::N),
+                nl: rules::vrx_full(media, n, Kind::NL),
+                w: rules::vrx_full(media, n, Kind::W),
+            },
+            drain: rules::drain(media, n),
+            offset: rules::offset(media),
+            gapped: rules::step(media, n, true),
+            linear: rules::step(media, n, false),
+        }
+    }
+
+    /// C_MAX of this sender type, in packets. CMAX replaces that of the declared type alone.
+    pub fn c_max(&self, kind: Kind) -> u64
+        ensures { result ≡ c_max_of self.now.media self.now.n kind }
+    {
+        match kind {
+            Kind::N => self.c_max.n,
+            Kind::NL => self.c_max.nl,
+            Kind::W => self.c_max.w,
+        }
+    }
+
+    /// VRX_FULL of this sender type, in packets.
+    pub fn vrx_full(&self, kind: Kind) -> u64
+        ensures { result ≡ vrx_full_of self.now.media self.now.n kind }
+    {
+        match kind {
+            Kind::N => self.vrx_full.n,
+            Kind::NL => self.vrx_full.nl,
+            Kind::W => self.vrx_full.w,
+        }
+    }
+
+    /// T_DRAIN in nanoseconds, as numerator and denominator.
+    pub fn drain(&self) -> (u128, u128)
+        ensures num { result.0 ≡ (drain_time self.now.media self.now.n).0 }
+        ensures den { result.1 ≡ (drain_time self.now.media self.now.n).1 }
+        ensures some { 1 ≤ result.1 }
+    {
+        self.drain.pair()
+    }
+
+    /// TR_OFFSET in nanoseconds, as numerator and denominator.
+    pub fn offset(&self) -> (u128, u128)
+        ensures num { result.0 ≡ (offset_time self.now.media).0 }
+        ensures den { result.1 ≡ (offset_time self.now.media).1 }
+        ensures some { 1 ≤ result.1 }
+        ensures num_small { result.0 < 2 ^ 46 }
+        ensures within { let group = group_time self.now.media in
+            result.0 * group.1 ≤ 480 * (result.1 * group.0) }
+        ensures den_small { result.1 < 2 ^ 29 }
+    {
+        self.offset.pair()
+    }
+
+    /// T_FRAME in nanoseconds, as numerator and denominator.
+    pub fn frame(&self) -> (u128, u128)
+        ensures num { result.0 ≡ (frame_time self.now.media).0 }
+        ensures den { result.1 ≡ (frame_time self.now.media).1 }
+        ensures some { 1 ≤ result.1 }
+        ensures num_small { result.0 < 2 ^ 40 }
+        ensures den_small { result.1 < 2 ^ 18 }
+    {
+        let media = self.media;
+        (u128::from(media.q) * 1_000_000_000, u128::from(media.p))
+    }
+
+    /// T_GROUP in nanoseconds, the time from one group to the next, as numerator and denominator.
+    pub fn group(&self) -> (u128, u128)
+        ensures num { result.0 ≡ (group_time self.now.media).0 }
+        ensures den { result.1 ≡ (group_time self.now.media).1 }
+        ensures some_num { 1 ≤ result.0 }
+        ensures slow { result.1 * 1000000000 ≤ 480 * result.0 }
+        ensures some { 1 ≤ result.1 }
+        ensures num_small { result.0 < 2 ^ 40 }
+        ensures den_small { result.1 < 2 ^ 19 }
+    {
+        let (num, den) = self.frame();
+        (num, u128::from(rules::groups(&self.media)) * den)
+    }
+
+    /// T_RS in nanoseconds, of the gapped schedule or the linear one, as numerator and denominator.
+    pub fn step(&self, gapped: bool) -> (u128, u128)
+        ensures num { result.0 ≡ (read_step self.now.media self.now.n gapped).0 }
+        ensures den { result.1 ≡ (read_step self.now.media self.now.n gapped).1 }
+        ensures some { 1 ≤ result.1 }
+        ensures num_small { result.0 < 2 ^ 50 }
+        ensures den_small { result.1 < 2 ^ 48 }
+    {
+        if gapped {
+            self.gapped.pair()
+        } else {
+            self.linear.pair()
+        }
+    }
+
+    /// The packets of one group.
+    pub fn n(&self) -> u32
+        ensures value { result ≡ self.now.n }
+        ensures some { 1 ≤ result }
+        ensures most { result ≤ 262144 }
+    {
+        self.n
+    }
+
+    /// N, the packets of one frame.
+    pub fn per_frame(&self) -> u32
+        ensures value { result ≡ per_frame_of self.now.media self.now.n }
+        ensures some { 1 ≤ result }
+        ensures most { result ≤ 524288 }
+    {
+        rules::per_frame(&self.media, self.n)
+    }
+
+    /// The ticks of the bucket's drain from `a0` up to `at`, both in nanoseconds of TAI.
+    pub fn ticks(&self, a0: u64, at: u64) -> u128
+        requires order { a0 ≤ at }
+        requires small { at < 2 ^ 62 }
+        ensures value { result ≡ ticks_of self.now.media self.now.n a0 at }
+        ensures small { result < 2 ^ 60 }
+    {
+        floor_of(
+            u128::from(at - a0),
+            u128::from(self.drain.den),
+            u128::from(self.drain.num),
+        )
+    }
+
+    /// The same ticks. Where `near` is at most their number and near it, as the ticks up to the
+    /// packet before are, no 128-bit division is made.
+    pub fn ticks_near(&self, a0: u64, at: u64, near: u64) -> u128
+        requires order { a0 ≤ at }
+        requires small { at < 2 ^ 62 }
+        ensures value { result ≡ ticks_of self.now.media self.now.n a0 at }
+        ensures small { result < 2 ^ 60 }
+    {
+        floor_near(
+            u128::from(at - a0) * u128::from(self.drain.den),
+            self.drain.num,
+            near,
+        )
+    }
+
+    /// The number of the group that is nearest to a first packet at `a0`, in nanoseconds of TAI:
+    /// its distance from the first read of that group is at most half of T_GROUP.
+    pub fn anchor(&self, a0: u64) -> i128
+        requires { a0 < 2 ^ 62 }
+        ensures value { result ≡ anchor_of self.now.media a0 }
+        ensures low { negsuc 479 ≤ℤ result }
+        ensures high { result <ℤ pos (2 ^ 42) }
+    {
+        let (offset, per) = self.offset();
+        let (group, rate) = self.group();
+        let up = u128::from(a0) * per * rate * 2 + per * group;
+        floor_difference(up, offset * rate * 2, per * group * 2)
+    }
+}
+
+/// `(up - down) / den`, rounded towards minus infinity.
+fn floor_difference(up: u128, down: u128, den: u128) -> i128
+    requires some { 1 ≤ den }
+    requires small { den < 2 ^ 80 }
+    requires low { down ≤ 480 * den }
+    requires high { up < 2 ^ 42 * den }
+    ensures value { result ≡ floor_of_signed (pos up -ℤ pos down) den }
+    ensures low { negsuc 479 ≤ℤ result }
+    ensures high { result <ℤ pos (2 ^ 42) }
+{
+    floor_signed(up as i128 - down as i128, den)
+}
