@@ -1,0 +1,3 @@
+pub mod Reich
+pub mod Stands
+pub mod Word
