@@ -1,0 +1,9 @@
+pub mod Answered
+pub mod Buckets
+pub mod Completing
+pub mod Flows
+pub mod Medias
+pub mod Printing
+pub mod Reports
+pub mod Sessions
+pub mod Taken

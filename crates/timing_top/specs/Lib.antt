@@ -1,0 +1,6 @@
+pub mod Bucket
+pub mod Check
+pub mod Complete
+pub mod Flow
+pub mod Printed
+pub mod Tasks

@@ -1,0 +1,116 @@
+ghost use Rattle.std.specs.Prelude.{◌≡◌, ◌≤◌, ◌<◌, ◌++◌, ℕ, List, Some, IfOk, IsErrOf, length, take, vec_len};
+ghost use Rattle.std.specs.Io.KnownBytes.{Consumes, IsAtEnd};
+ghost use Rattle.timing_outside.specs.Causes.{Rose};
+
+use std::alloc::{AllocError as OutOfMemory, AllocFailed, Global};
+use timing_outside::{OpenFault, Shelf, Source};
+
+/// Bytes asked for in one read of a text.
+const PIECE: usize = 65_536;
+
+/// Why a text wasn't read.
+#[derive(Clone, Copy, Debug, PartialEq, Eq)]
+pub enum TextFault {
+    /// A read failed, or the text couldn't be fetched.
+    Failed,
+    OutOfMemory,
+}
+
+impl From<OutOfMemory> for TextFault {
+    ghost use Rattle.timing_top.specs.declared.text.TextFault.TheVariants.{OutOfMemory};
+    ghost use Rattle.std.specs.Prelude.{◌≡◌};
+
+    ghost from_gives = { λ _ e. e ≡ OutOfMemory };
+
+    fn from(_: OutOfMemory) -> Self {
+        TextFault::OutOfMemory
+    }
+}
+
+impl<T: Drop> From<AllocFailed<T>> for TextFault {
+    ghost use Rattle.timing_top.specs.declared.text.TextFault.TheVariants.{OutOfMemory};
+    ghost use Rattle.std.specs.Prelude.{◌≡◌};
+
+    ghost from_gives = { λ _ e. e ≡ OutOfMemory };
+
+    fn from(_: AllocFailed<T>) -> Self {
+        TextFault::OutOfMemory
+    }
+}
+
+/// So many bytes, all 0.
+fn blank(alloc: Global, size: usize) -> Result<Vec<u8>, OutOfMemory>
+    ensures { IfOk result (λ v. vec_len v ≡ size) }
+{
+    vec![in alloc; 0u8; size]
+}
+
+/// Reads once into `piece`, `room` bytes at most, and appends what came to `text`. Answers how many
+/// bytes came.
+fn read_more<S: Source>(
+    source: &mut S,
+    piece: &mut [u8],
+    room: usize,
+    text: &mut Vec<u8>,
+) -> Result<usize, TextFault>
+    requires { room ≤ length piece.old }
+    ensures bytes { IfOk result (λ n. (bs : List ℕ) × (length bs ≡ n) × (n ≤ room)
+        × Consumes (S.left source.old) (S.left source.new) bs × (text.new.items ≡ text.old.items ++ bs)
+        × (n ≡ 0 → 0 < room → IsAtEnd (S.left source.new))) }
+    ensures name { S.name source.new ≡ S.name source.old }
+    ensures later { S.faults source.old ≤ S.faults source.new }
+    ensures failed { IsErrOf result TextFault.Failed → Rose (S.faults source.old) (S.faults source.new) }
+{
+    let Ok(count) = source.read(&mut piece[..room]) else {
+        return Err(TextFault::Failed);
+    };
+    text.extend_from_slice(&piece[..count])?;
+    Ok(count)
+}
+
+/// The first bytes that the source has left, `most` of them at most.
+pub fn read_front<S: Source>(
+    alloc: Global,
+    source: &mut S,
+    most: usize,
+) -> Result<Vec<u8>, TextFault>
+    ensures text { IfOk result (λ v. (t : List ℕ) → S.left source.old ≡ Some t → v.items ≡ take most t) }
+    ensures name { S.name source.new ≡ S.name source.old }
+    ensures later { S.faults source.old ≤ S.faults source.new }
+    ensures failed { IsErrOf result TextFault.Failed → Rose (S.faults source.old) (S.faults source.new) }
+{
+    let mut piece = blank(alloc, PIECE)?;
+    let mut text = Vec::new(alloc);
+    for _ in 0..u64::MAX {
+        let room = (most - text.len()).min(piece.len());
+        let count = read_more(source, &mut piece, room, &mut text)?;
+        if count == 0 {
+            break;
+        }
+    }
+    Ok(text)
+}
+
+/// The first bytes of the text of this name, `most` of them at most. The source goes back to the
+/// shelf.
+pub fn fetch_front<H: Shelf>(
+    alloc: Global,
+    shelf: &mut H,
+    name: &str,
+    most: usize,
+) -> Result<Vec<u8>, TextFault>
+    ensures text { IfOk result (λ v. (t : List ℕ) → H.text shelf.old name.now ≡ Some t → v.items ≡ take most t) }
+    ensures failed { IsErrOf result TextFault.Failed → Rose (H.faults shelf.old name.now) (H.faults shelf.new name.now) }
+    ensures texts { (n : List ℕ) → H.text shelf.new n ≡ H.text shelf.old n }
+    ensures later { (n : List ℕ) → H.faults shelf.old n ≤ H.faults shelf.new n }
+{
+    match shelf.fetch(name) {
+        Ok(mut source) => {
+            let text = read_front(alloc, &mut source, most);
+            shelf.give_back(source);
+            text
+        }
+        Err(OpenFault::Failed) => Err(TextFault::Failed),
+        Err(OpenFault::OutOfMemory) => Err(TextFault::OutOfMemory),
+    }
+}
