@@ -2,7 +2,8 @@
 -- A group is a frame of a progressive video or a field of an interlaced one; the RTP marker stands on
 -- its last packet (RFC 4175, section 4.1; SMPTE ST 2110-20). What is a fault, and a run of its own after
 -- each gap in the packet numbers, is this project's profile.
--- Packets count from 0 here. Stamps are in nanoseconds, as the capture has them.
+-- Packets count from 0 here. A stamp is the capture's, in nanoseconds; a timestamp is that of RTP, in ticks
+-- of 90 kHz, and one for all packets of a frame or field.
 use Rattle.std.specs.Prelude.{◌≡◌, ◌<◌, ℕ, zero, suc, Bool, false, not, ◌&&◌, ◌||◌, ◌+◌, ◌-◌, ◌%◌, ◌^◌, ◌==◌, nat_lt, nat_le, if◌then◌else◌, List, [], ◌∷◌, ◌++◌, length, slice_index, slice_index_or, Option, Some, None, Result, Ok, Err}
 use Rattle.timing_base.specs.declared.packet.Rtp.{Rtp}
 use Rattle.timing_base.specs.declared.packet.FlowPacket.{FlowPacket}
@@ -101,16 +102,16 @@ abbrev pub goes_on : List FlowPacket → ℕ → Bool
 goes_on packets i = nat_lt 0 i && not (is_cut packets i)
 
 -- the RTP timestamp is that of the packet before
-abbrev pub has_same_stamp : List FlowPacket → ℕ → Bool
-has_same_stamp packets i = (rtp packets i).stamp == (rtp packets (i - 1)).stamp
+abbrev pub has_same_timestamp : List FlowPacket → ℕ → Bool
+has_same_timestamp packets i = (rtp packets i).stamp == (rtp packets (i - 1)).stamp
 
 -- a new RTP timestamp, and the packet before had no marker
 abbrev pub lacks_marker : List FlowPacket → ℕ → Bool
-lacks_marker packets i = goes_on packets i && (not (has_same_stamp packets i) && not (has_marker packets (i - 1)))
+lacks_marker packets i = goes_on packets i && (not (has_same_timestamp packets i) && not (has_marker packets (i - 1)))
 
 -- the same RTP timestamp, and the packet before had the marker
-abbrev pub repeats_stamp : List FlowPacket → ℕ → Bool
-repeats_stamp packets i = goes_on packets i && (has_same_stamp packets i && has_marker packets (i - 1))
+abbrev pub repeats_timestamp : List FlowPacket → ℕ → Bool
+repeats_timestamp packets i = goes_on packets i && (has_same_timestamp packets i && has_marker packets (i - 1))
 
 -- a group after the first judged one ends here too early, or goes on too long
 abbrev pub is_other_size : List FlowPacket → ℕ → Bool
@@ -151,7 +152,7 @@ order_fault most packets i =
     first_of (fault_if (is_cut_too_many most packets i) (Number (expected_number packets i) (rtp packets i).number))
     (first_of (fault_if (is_stamp_back packets i) (StampBack (packet packets (i - 1)).at (packet packets i).at))
     (first_of (fault_if (lacks_marker packets i) NoMarker)
-    (fault_if (repeats_stamp packets i) SameStamp)))
+    (fault_if (repeats_timestamp packets i) SameStamp)))
 
 -- faults by the group, where a group has at most so many packets
 abbrev pub size_fault : ℕ → List FlowPacket → ℕ → Option PacketFault

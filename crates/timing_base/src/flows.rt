@@ -1,6 +1,6 @@
-//! The judged packets of a flow, by plain passes over all its packets.
-ghost use Rattle.std.specs.Prelude.{◌≡◌, ◌≤◌, ◌<◌, ◌+◌, ◌*◌, ◌^◌, ◌++◌, ◌∷◌, [], ℕ, List, None, length};
-ghost use Rattle.timing_base.specs.Flows.{rtp, is_cut, is_other_payload, is_second_source, is_stamp_back, lacks_marker, repeats_stamp, has_same_stamp, has_marker, goes_on, markers_before, markers, run_start, cuts, fault, first_fault, first_fault_below, is_cut_too_many, is_other_size, is_too_large, sender_fault, order_fault, size_fault};
+//! The faults of a flow's packets, with the cuts and markers that they depend on.
+ghost use Rattle.std.specs.Prelude.{◌≡◌, ◌≤◌, ◌<◌, ◌+◌, ◌^◌, ◌++◌, ◌∷◌, [], ℕ, List, None, length};
+ghost use Rattle.timing_base.specs.Flows.{rtp, is_cut, is_other_payload, is_second_source, is_stamp_back, goes_on, has_same_timestamp, lacks_marker, repeats_timestamp, markers_before, is_cut_too_many, is_other_size, is_too_large, sender_fault, order_fault, size_fault, fault, first_fault};
 ghost use Rattle.timing_base.specs.Marks.{AreMarks, StandsBefore, StandsAt, IsSized};
 
 use crate::packet::{FlowPacket, PacketFault, Rtp};
@@ -43,10 +43,11 @@ impl Marks {
         }
     }
 
-    // These markers and one more, after them all.
-    pub fn and(self, place: usize) -> Marks
+    // These markers, and one more at a place after them all.
+    pub fn with_last(self, place: usize) -> Marks
         requires { self.count < 2 ^ 62 }
-        ensures are { (marks : List ℕ) → AreMarks marks self → AreMarks (marks ++ place ∷ []) result }
+        ensures are { (marks : List ℕ) → AreMarks marks self
+            → AreMarks (marks ++ place ∷ []) result }
         ensures count { result.count ≡ self.count + 1 }
     {
         Marks {
@@ -83,6 +84,7 @@ pub fn is_cut(packets: &[FlowPacket], i: usize) -> bool
     i > 0 && rtp_at(packets, i).number != rtp_at(packets, i - 1).number.wrapping_add(1)
 }
 
+// Whether the payload type of packet i is not the media's.
 fn is_other_payload(packets: &[FlowPacket], pt: u8, i: usize) -> bool
     requires { i < length packets.now }
     ensures { result ≡ is_other_payload packets.now pt i }
@@ -90,6 +92,7 @@ fn is_other_payload(packets: &[FlowPacket], pt: u8, i: usize) -> bool
     rtp_at(packets, i).pt != pt
 }
 
+// Whether the source of packet i is not that of the flow's first packet.
 fn is_second_source(packets: &[FlowPacket], i: usize) -> bool
     requires { i < length packets.now }
     ensures { result ≡ is_second_source packets.now i }
@@ -97,6 +100,7 @@ fn is_second_source(packets: &[FlowPacket], i: usize) -> bool
     rtp_at(packets, i).ssrc != rtp_at(packets, 0).ssrc
 }
 
+// Whether the stamp of packet i is below that of the packet before.
 fn is_stamp_back(packets: &[FlowPacket], i: usize) -> bool
     requires { i < length packets.now }
     ensures { result ≡ is_stamp_back packets.now i }
@@ -104,6 +108,7 @@ fn is_stamp_back(packets: &[FlowPacket], i: usize) -> bool
     i > 0 && packets[i].at < packets[i - 1].at
 }
 
+// Whether packet i goes on after the packet before, without a cut.
 fn goes_on(packets: &[FlowPacket], i: usize) -> bool
     requires { i < length packets.now }
     ensures { result ≡ goes_on packets.now i }
@@ -111,26 +116,29 @@ fn goes_on(packets: &[FlowPacket], i: usize) -> bool
     i > 0 && !is_cut(packets, i)
 }
 
-fn has_same_stamp(packets: &[FlowPacket], i: usize) -> bool
+// Whether packet i has the RTP timestamp of the packet before.
+fn has_same_timestamp(packets: &[FlowPacket], i: usize) -> bool
     requires within { i < length packets.now }
     requires later { 0 < i }
-    ensures { result ≡ has_same_stamp packets.now i }
+    ensures { result ≡ has_same_timestamp packets.now i }
 {
     rtp_at(packets, i).stamp == rtp_at(packets, i - 1).stamp
 }
 
+// Whether packet i has a new RTP timestamp, and the packet before had no marker.
 fn lacks_marker(packets: &[FlowPacket], i: usize) -> bool
     requires { i < length packets.now }
     ensures { result ≡ lacks_marker packets.now i }
 {
-    goes_on(packets, i) && (!has_same_stamp(packets, i) && !rtp_at(packets, i - 1).marker)
+    goes_on(packets, i) && (!has_same_timestamp(packets, i) && !rtp_at(packets, i - 1).marker)
 }
 
-fn repeats_stamp(packets: &[FlowPacket], i: usize) -> bool
+// Whether packet i has the RTP timestamp of the packet before, which had the marker.
+fn repeats_timestamp(packets: &[FlowPacket], i: usize) -> bool
     requires { i < length packets.now }
-    ensures { result ≡ repeats_stamp packets.now i }
+    ensures { result ≡ repeats_timestamp packets.now i }
 {
-    goes_on(packets, i) && (has_same_stamp(packets, i) && rtp_at(packets, i - 1).marker)
+    goes_on(packets, i) && (has_same_timestamp(packets, i) && rtp_at(packets, i - 1).marker)
 }
 
 impl Before {
@@ -147,7 +155,7 @@ impl Before {
         }
     }
 
-    // At a cut a run starts that has no marker yet.
+    // At packet i, in its own run: at a cut a run starts that has no marker yet.
     fn enter(self, packets: &[FlowPacket], i: usize) -> Before
         requires within { i < length packets.now }
         requires stands { StandsBefore packets.now i self }
@@ -182,7 +190,7 @@ impl Before {
             self.cuts
         };
         let marks = if rtp_at(packets, i).marker {
-            self.marks.and(i)
+            self.marks.with_last(i)
         } else {
             self.marks
         };
@@ -200,6 +208,7 @@ const MOST_CUTS: usize = 1024;
 // The most packets that a group may have.
 const MOST_IN_GROUP: usize = 262_144;
 
+// Whether a cut stands at packet i, and as many as a flow may have stand before.
 fn is_cut_too_many(packets: &[FlowPacket], i: usize, before: &Before) -> bool
     requires within { i < length packets.now }
     requires stands { StandsAt packets.now i before.now }
@@ -208,6 +217,7 @@ fn is_cut_too_many(packets: &[FlowPacket], i: usize, before: &Before) -> bool
     is_cut(packets, i) && before.cuts >= MOST_CUTS
 }
 
+// Whether a group after the first judged one ends at packet i too early, or goes on too long there.
 fn is_other_size(packets: &[FlowPacket], i: usize, before: &Before) -> bool
     requires within { i < length packets.now }
     requires stands { StandsAt packets.now i before.now }
@@ -222,6 +232,7 @@ fn is_other_size(packets: &[FlowPacket], i: usize, before: &Before) -> bool
     (rtp_at(packets, i).marker && got < want) || got == want + 1
 }
 
+// Whether packet i is the one packet more that the first judged group may not have.
 fn is_too_large(packets: &[FlowPacket], i: usize, before: &Before) -> bool
     requires within { i < length packets.now }
     requires stands { StandsAt packets.now i before.now }
@@ -231,7 +242,8 @@ fn is_too_large(packets: &[FlowPacket], i: usize, before: &Before) -> bool
     before.marks.count == 1 && i - before.marks.last == MOST_IN_GROUP + 1
 }
 
-// The size of the first judged group, and the place of packet i in its own.
+// The fault of packet i by its group: another size than that of the first judged group, or too many
+// packets in that one.
 fn size_fault(packets: &[FlowPacket], i: usize, before: &Before) -> Option<PacketFault>
     requires within { i < length packets.now }
     requires stands { StandsAt packets.now i before.now }
@@ -250,6 +262,8 @@ fn size_fault(packets: &[FlowPacket], i: usize, before: &Before) -> Option<Packe
     None
 }
 
+// The fault of packet i by the packet before: a gap too many, a stamp that goes back, or a frame or
+// field that ends without the marker or goes on after it.
 fn order_fault(packets: &[FlowPacket], i: usize, before: &Before) -> Option<PacketFault>
     requires within { i < length packets.now }
     requires stands { StandsAt packets.now i before.now }
@@ -270,12 +284,13 @@ fn order_fault(packets: &[FlowPacket], i: usize, before: &Before) -> Option<Pack
     if lacks_marker(packets, i) {
         return Some(PacketFault::NoMarker);
     }
-    if repeats_stamp(packets, i) {
+    if repeats_timestamp(packets, i) {
         return Some(PacketFault::SameStamp);
     }
     None
 }
 
+// The fault of packet i by itself, or by the source of the first packet.
 fn sender_fault(packets: &[FlowPacket], pt: u8, i: usize) -> Option<PacketFault>
     requires { i < length packets.now }
     ensures { result ≡ sender_fault packets.now pt i }
@@ -316,11 +331,11 @@ pub fn first_fault(packets: &[FlowPacket], pt: u8) -> Option<FirstFault>
 {
     let mut before = Before::none();
     for i in 0..packets.len() {
-        let at = before.enter(packets, i);
-        if let Some(fault) = fault_at(packets, pt, i, &at) {
+        let here = before.enter(packets, i);
+        if let Some(fault) = fault_at(packets, pt, i, &here) {
             return Some(FirstFault { index: i, fault });
         }
-        before = at.leave(packets, i);
+        before = here.leave(packets, i);
     }
     None
 }

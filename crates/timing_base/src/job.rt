@@ -13,7 +13,7 @@ pub struct CheckJob {
     pub captures: Items<FileName>,
     /// The number of workers, 0 to 16; 0 is one thread for all.
     pub workers: u32,
-    /// Seconds that are added to the captures' stamps, at most 1,000.
+    /// Seconds that are added to the stamps of the captures, 0 to 1,000.
     pub tai: u64,
     /// Whether the report is JSON.
     pub json: bool,
@@ -33,6 +33,7 @@ pub struct VerifyJob {
     pub media: u32,
     pub kind: Kind,
     pub proof: FailProof,
+    /// Seconds that are added to the stamps of the captures, 0 to 1,000.
     pub tai: u64,
     /// The capture files: one, or 1 to 16 that are joined.
     pub captures: Items<FileName>,
@@ -49,6 +50,7 @@ pub struct VerifyJob {
 pub struct ReportJob {
     pub sdp: FileName,
     pub report: FileName,
+    /// Seconds that are added to the stamps of the captures, 0 to 1,000.
     pub tai: u64,
     /// The capture files, 1 to 16.
     pub captures: Items<FileName>,
@@ -76,6 +78,7 @@ pub struct FlowJob {
     pub sdp: FileName,
     /// The media, counted from 0, at most 63.
     pub media: u32,
+    /// Seconds that are added to the stamps of the capture, 0 to 1,000.
     pub tai: u64,
     pub capture: FileName,
     ghost media_few: { media < 64 },

@@ -1,8 +1,8 @@
 //! What is judged of a flow: its runs, and the packets of whole groups in each.
-ghost use Rattle.std.specs.Prelude.{◌≡◌, ◌≤◌, ◌<◌, ◌+◌, ◌*◌, ◌^◌, ◌++◌, ◌∷◌, [], ℕ, List, None, length, All, map, IfOk};
+ghost use Rattle.std.specs.Prelude.{◌≡◌, ◌≤◌, ◌<◌, ◌+◌, ◌*◌, ◌^◌, None, length, All, map, IfOk};
 ghost use Rattle.timing_base.specs.declared.packet.FlowPacket.{FlowPacket};
 ghost use Rattle.timing_base.specs.Flows.{cuts, markers, first_fault};
-ghost use Rattle.timing_base.specs.Judged.{stamp_of, run_outcome, run_at, runs, judged, judged_run, expected_at, refusal};
+ghost use Rattle.timing_base.specs.Judged.{stamp_of, run_outcome, run_at, runs, judged, expected_at, refusal};
 ghost use Rattle.timing_base.specs.Grouped.{IsGroupedVerdict};
 ghost use Rattle.timing_base.specs.Marks.{AreMarks, IsSized, EachSized};
 
@@ -72,7 +72,7 @@ fn marks_in(packets: &[FlowPacket], from: usize, to: usize) -> Marks
     let mut marks = Marks::none();
     for i in from..to {
         if rtp_at(packets, i).marker {
-            marks = marks.and(i);
+            marks = marks.with_last(i);
         }
     }
     marks
@@ -208,10 +208,13 @@ fn refusal(rec: u64, fault: PacketFault) -> FlowVerdict
 }
 
 /// Judges the packets of one media, in the order of their records. `pt` is the payload type of the
-/// media, and `tai` seconds are added to the stamps.
+/// media, and `tai` seconds are added to the stamps of the judged packets, but not to those that a
+/// fault tells.
 ///
 /// Of several faults that of the least faulty packet is told, and of this packet's faults the first
 /// in the order of [`PacketFault`].
+///
+/// `Err` is want of memory, for the stamps or the runs.
 pub fn judge_flow(
     alloc: Global,
     packets: &[FlowPacket],

@@ -5,7 +5,7 @@ ghost use Rattle.std.specs.Prelude.{◌≡◌, ◌<◌, ◌≤◌, ◌*◌, ◌+
 ghost use Rattle.timing_base.specs.declared.packet.FlowPacket.{FlowPacket};
 ghost use Rattle.timing_base.specs.declared.flows.FirstFault.{FirstFault};
 ghost use Rattle.timing_base.specs.Flows.{cuts, fault, fault_within, first_fault, IsFirstFault, run_start, markers, markers_before};
-ghost use Rattle.timing_base.specs.Judged.{judged, runs};
+ghost use Rattle.timing_base.specs.Judged.{judged};
 ghost use Rattle.timing_base.specs.Grouped.{IsGroupedVerdict};
 ghost use Rattle.timing_base.specs.Examples.{sent, sent_by, sent_as, unread, two_groups, equal_low_halves};
 
@@ -33,7 +33,8 @@ pub fn judged_is_grouped()
 pub fn places_by_hand()
     ensures no_cut { cuts two_groups 6 ≡ [] }
     ensures one_cut { cuts equal_low_halves 3 ≡ 2 ∷ [] }
-    ensures wraps { cuts (sent 1 0 4294967295 0 true ∷ sent 2 0 0 1 true ∷ sent 3 0 1 2 true ∷ []) 3 ≡ [] }
+    ensures wraps { cuts (sent 1 0 4294967295 0 true ∷ sent 2 0 0 1 true
+        ∷ sent 3 0 1 2 true ∷ []) 3 ≡ [] }
     ensures marks { markers two_groups 0 6 ≡ 0 ∷ 2 ∷ 4 ∷ [] }
     ensures before { markers_before two_groups 4 ≡ 0 ∷ 2 ∷ [] }
     ensures start { run_start equal_low_halves 2 ≡ 2 }
@@ -48,7 +49,8 @@ pub fn sender_faults_by_hand()
         ≡ FlowVerdict.Refused 2 PacketFault.Version }
     ensures payload { judged (sent_as 97 1 0 6 0 true ∷ []) 96 0
         ≡ FlowVerdict.Refused 1 PacketFault.PayloadType }
-    ensures source { judged (sent 1 0 6 0 true ∷ sent_by 8 2 0 7 1 true ∷ sent 3 0 8 2 true ∷ []) 96 0
+    ensures source { judged (sent 1 0 6 0 true ∷ sent_by 8 2 0 7 1 true
+        ∷ sent 3 0 8 2 true ∷ []) 96 0
         ≡ FlowVerdict.Refused 2 PacketFault.SecondSource }
 
     // The third packet has the source of the second, and not of the first.
@@ -58,12 +60,14 @@ pub fn sender_faults_by_hand()
 
 /// Worked by hand: the faults by the packet before, for flows with at most one cut.
 pub fn order_faults_by_hand()
-    ensures number { fault_within 1 9 (sent 1 0 0 0 true ∷ sent 2 0 2 1 true ∷ sent 3 0 4 2 true ∷ []) 96 2
-        ≡ Some (PacketFault.Number 3 4) }
+    ensures number { fault_within 1 9 (sent 1 0 0 0 true ∷ sent 2 0 2 1 true
+        ∷ sent 3 0 4 2 true ∷ []) 96 2 ≡ Some (PacketFault.Number 3 4) }
     ensures first_cut { fault_within 1 9 (sent 1 0 0 0 true ∷ sent 2 0 2 1 true ∷ []) 96 1 ≡ None }
     ensures stamp_back { judged (sent 1 100 6 0 true ∷ sent 2 99 7 1 true ∷ []) 96 3
         ≡ FlowVerdict.Refused 2 (PacketFault.StampBack 100 99) }
     ensures equal_stamps { fault (sent 1 100 6 0 true ∷ sent 2 100 7 1 true ∷ []) 96 1 ≡ None }
+    ensures stamp_back_at_cut { judged (sent 1 100 6 0 true ∷ sent 2 99 8 1 true ∷ []) 96 0
+        ≡ FlowVerdict.Refused 2 (PacketFault.StampBack 100 99) }
     ensures no_marker { judged (sent 1 0 6 0 false ∷ sent 2 0 7 1 true ∷ []) 96 0
         ≡ FlowVerdict.Refused 2 PacketFault.NoMarker }
     ensures no_marker_at_cut { fault (sent 1 0 6 0 false ∷ sent 2 0 8 1 true ∷ []) 96 1 ≡ None }
@@ -79,14 +83,41 @@ pub fn size_faults_by_hand()
     ensures long { judged (sent 1 0 6 0 true ∷ sent 2 0 7 1 false ∷ sent 3 0 8 1 true
         ∷ sent 4 0 9 2 false ∷ sent 5 0 10 2 false ∷ sent 6 0 11 2 true ∷ []) 96 0
         ≡ FlowVerdict.Refused 6 (PacketFault.FrameSize 2 3) }
-    ensures too_large { fault_within 9 3 (sent 1 0 6 0 true ∷ sent 2 0 7 1 false ∷ sent 3 0 8 1 false
-        ∷ sent 4 0 9 1 false ∷ sent 5 0 10 1 false ∷ []) 96 4 ≡ Some PacketFault.FrameTooLarge }
-    ensures large { fault_within 9 3 (sent 1 0 6 0 true ∷ sent 2 0 7 1 false ∷ sent 3 0 8 1 false
-        ∷ sent 4 0 9 1 true ∷ []) 96 3 ≡ None }
+
+    // A tail can't be longer than a group, though no marker has come.
+    ensures long_tail { judged (sent 1 0 6 0 true ∷ sent 2 0 7 1 false ∷ sent 3 0 8 1 true
+        ∷ sent 4 0 9 2 false ∷ sent 5 0 10 2 false ∷ sent 6 0 11 2 false ∷ []) 96 0
+        ≡ FlowVerdict.Refused 6 (PacketFault.FrameSize 2 3) }
+    ensures full_tail { first_fault (sent 1 0 6 0 true ∷ sent 2 0 7 1 false ∷ sent 3 0 8 1 true
+        ∷ sent 4 0 9 2 false ∷ sent 5 0 10 2 false ∷ []) 96 ≡ None }
+
+    // The first judged group has no size to keep, only a limit.
+    ensures too_large { fault_within 9 3 (sent 1 0 6 0 true ∷ sent 2 0 7 1 false
+        ∷ sent 3 0 8 1 false ∷ sent 4 0 9 1 false ∷ sent 5 0 10 1 false ∷ []) 96 4
+        ≡ Some PacketFault.FrameTooLarge }
+    ensures large { fault_within 9 3 (sent 1 0 6 0 true ∷ sent 2 0 7 1 false
+        ∷ sent 3 0 8 1 false ∷ sent 4 0 9 1 true ∷ []) 96 3 ≡ None }
 
     // Sizes count anew after a cut.
     ensures after_cut { first_fault (sent 1 0 6 0 true ∷ sent 2 0 7 1 false ∷ sent 3 0 8 1 true
         ∷ sent 4 0 90 2 true ∷ sent 5 0 91 3 true ∷ sent 6 0 92 4 true ∷ []) 96 ≡ None }
+{}
+
+/// Worked by hand: of two faults at one packet the first in the order of [`PacketFault`] is told.
+pub fn first_of_two_by_hand()
+    ensures payload { judged (sent_by 8 1 0 6 0 true ∷ sent_as 97 2 0 7 1 true ∷ []) 96 0
+        ≡ FlowVerdict.Refused 2 PacketFault.PayloadType }
+    ensures source { judged (sent 1 100 6 0 true ∷ sent_by 8 2 99 7 1 true ∷ []) 96 0
+        ≡ FlowVerdict.Refused 2 PacketFault.SecondSource }
+    ensures number { fault_within 1 9 (sent 1 100 0 0 true ∷ sent 2 100 2 1 true
+        ∷ sent 3 99 4 2 true ∷ []) 96 2 ≡ Some (PacketFault.Number 3 4) }
+    ensures stamp_back { judged (sent 1 100 6 0 false ∷ sent 2 99 7 1 true ∷ []) 96 0
+        ≡ FlowVerdict.Refused 2 (PacketFault.StampBack 100 99) }
+    ensures no_marker { judged (sent 1 0 6 0 true ∷ sent 2 0 7 1 false ∷ sent 3 0 8 1 true
+        ∷ sent 4 0 9 2 false ∷ sent 5 0 10 2 false ∷ sent 6 0 11 3 false ∷ []) 96 0
+        ≡ FlowVerdict.Refused 6 PacketFault.NoMarker }
+    ensures same_stamp { judged (sent 1 0 6 0 true ∷ sent 2 0 7 1 false ∷ sent 3 0 8 1 true
+        ∷ sent 4 0 9 1 true ∷ []) 96 0 ≡ FlowVerdict.Refused 4 PacketFault.SameStamp }
 {}
 
 /// Worked by hand: flows of one run, with head and tail, and with no whole group.
@@ -99,7 +130,8 @@ pub fn runs_by_hand()
       tail = 1;
       stamps = 1000000020 ∷ 1000000030 ∷ 1000000040 ∷ 1000000050 ∷ [];
     }) }
-    ensures long_head { judged (sent 1 5 6 0 false ∷ sent 2 6 7 0 true ∷ sent 3 7 8 1 true ∷ []) 96 0
+    ensures long_head { judged (sent 1 5 6 0 false ∷ sent 2 6 7 0 true
+        ∷ sent 3 7 8 1 true ∷ []) 96 0
         ≡ FlowVerdict.Run (RunOutcome.Judged record {
           per_group = 1;
           groups = 1;
@@ -117,9 +149,10 @@ pub fn runs_by_hand()
 pub fn cut_flows_by_hand()
     ensures equal_low_halves { judged equal_low_halves 96 0 ≡ FlowVerdict.Runs (
         record { rec = 1; number = 6; expected = None; outcome = RunOutcome.NoWholeFrame 1 }
-        ∷ record { rec = 3; number = 65544; expected = Some 8; outcome = RunOutcome.NoWholeFrame 1 } ∷ []) }
-    ensures judged_first { judged (two_groups ++ sent 7 70 13 104 false ∷ []) 96 0 ≡ FlowVerdict.Runs (
-        record {
+        ∷ record { rec = 3; number = 65544; expected = Some 8; outcome = RunOutcome.NoWholeFrame 1 }
+        ∷ []) }
+    ensures judged_first { judged (two_groups ++ sent 7 70 13 104 false ∷ []) 96 0
+        ≡ FlowVerdict.Runs (record {
           rec = 1;
           number = 6;
           expected = None;
@@ -131,5 +164,6 @@ pub fn cut_flows_by_hand()
             stamps = 20 ∷ 30 ∷ 40 ∷ 50 ∷ [];
           };
         }
-        ∷ record { rec = 7; number = 13; expected = Some 12; outcome = RunOutcome.NoWholeFrame 1 } ∷ []) }
+        ∷ record { rec = 7; number = 13; expected = Some 12; outcome = RunOutcome.NoWholeFrame 1 }
+        ∷ []) }
 {}

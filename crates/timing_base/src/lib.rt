@@ -1,8 +1,12 @@
 //! The words that the analyser's crates share: media and sessions, packets and their faults, fails,
-//! and the jobs that a command line asks for.
+//! and the jobs that a command line asks for. Beside this plain data, what is judged of a flow:
+//! [`first_fault`] and [`judge_flow`] compute it.
 //!
-//! Plain data, with the limits of each quantity in its type. Files, media and frames count from 0
-//! here and from 1 in printed text; the records of a capture count from 1 everywhere.
+//! Media, sessions, jobs and file names have the limits of their quantities in their types; the other
+//! types hold any values. What `judge_flow` answers keeps its limits by a clause.
+//!
+//! Files, media and frames count from 0 here and from 1 in printed text; the records of a capture
+//! count from 1 everywhere.
 #![tactic(auto)]
 
 mod capture;

@@ -1,14 +1,15 @@
-/// What the analyser reads of one RTP packet of video (RFC 3550, section 5.1; RFC 4175, section 4.2).
+/// What the analyser reads of one RTP packet of video (RFC 3550, section 5.1; RFC 4175, section
+/// 4.2).
 #[derive(Clone, Copy, Debug, PartialEq, Eq)]
 pub struct Rtp {
-    /// The packet number: the extended sequence number is its high half, the RTP sequence number its
-    /// low half.
+    /// The packet number: the extended sequence number is its high half, the RTP sequence number
+    /// its low half.
     pub number: u32,
     /// The RTP timestamp, in ticks of 90 kHz.
     pub stamp: u32,
     /// Whether this is the last packet of its frame or field.
     pub marker: bool,
-    /// The payload type, 7 bits.
+    /// The payload type; a packet has 7 bits for it.
     pub pt: u8,
     /// The synchronisation source.
     pub ssrc: u32,
@@ -44,8 +45,9 @@ pub enum PacketFault {
 pub struct FlowPacket {
     /// The number of its record, counted from 1.
     pub rec: u64,
-    /// The capture's stamp, in nanoseconds.
+    /// The stamp of its record, in nanoseconds, as the capture has it.
     pub at: u64,
-    /// What was read of it, or `Short` or `Version`.
+    /// What was read of it, or why it could not be read: `Short` or `Version`. The other faults are
+    /// those of a packet's place in its flow.
     pub rtp: Result<Rtp, PacketFault>,
 }

@@ -1,9 +1,16 @@
+ghost use Rattle.std.specs.Prelude.{◌≤◌, ◌<◌, ◌^◌};
+
 use super::*;
 use std::alloc::{AllocError, Global};
 use std::process::Abort;
 
-// Nanoseconds of the first packet of a capture.
-const START: u64 = 1_600_000_000_000_000_000;
+// When frame 0 of a capture begins whose head has this packet number, in nanoseconds.
+fn start(number: u32) -> u64
+    ensures some { 1000000 ≤ result }
+    ensures few { result < 2 ^ 62 }
+{
+    (1_600_000_000 + u64::from(number % 1_000_000)) * 1_000_000_000
+}
 
 fn packet(rec: u64, at: u64, number: u32, stamp: u32, marker: bool) -> FlowPacket {
     FlowPacket {
@@ -19,15 +26,25 @@ fn packet(rec: u64, at: u64, number: u32, stamp: u32, marker: bool) -> FlowPacke
     }
 }
 
-// A marked packet, and then packets in frames of 20, numbers in order.
+// The head of a capture: a marked packet 1 ms before frame 0.
+fn head(number: u32) -> FlowPacket {
+    packet(1, start(number) - 1_000_000, number, 0, true)
+}
+
+// When the packet so many after the head was captured, in frames of 20 ms with 20 packets each.
+fn stamp_after(number: u32, j: u32) -> u64 {
+    start(number) + 20_000_000 * u64::from(j / 20) + 764_000 + 960_000 * u64::from(j % 20)
+}
+
+// A head and so many packets after it, numbers in order.
 fn flow(alloc: Global, number: u32, count: u32) -> Result<Vec<FlowPacket>, AllocError> {
     let mut packets = Vec::new(alloc);
-    packets.push(packet(1, START, number, 0, true))?;
+    packets.push(head(number))?;
     for j in 0..count {
-        let at = START + 764_000 + 960_000 * u64::from(j);
         let next = number.wrapping_add(1).wrapping_add(j);
-        let stamp = (1 + j / 20).wrapping_mul(1800);
-        packets.push(packet(u64::from(j) + 2, at, next, stamp, j % 20 == 19))?;
+        let timestamp = (1 + j / 20).wrapping_mul(1800);
+        let at = stamp_after(number, j);
+        packets.push(packet(u64::from(j) + 2, at, next, timestamp, j % 20 == 19))?;
     }
     Ok(packets)
 }
@@ -53,7 +70,15 @@ fn is_refused(rt: &impl Abort, verdict: &FlowVerdict, at: u64, want: PacketFault
     }
 }
 
-fn is_judged(rt: &impl Abort, outcome: &RunOutcome, groups: u64, head: u64, tail: u64) {
+// Groups of 20 packets, the first of which stands where frame 0 has it after this head.
+fn is_judged(
+    rt: &impl Abort,
+    outcome: &RunOutcome,
+    number: u32,
+    groups: u64,
+    head: u64,
+    tail: u64,
+) {
     match outcome {
         RunOutcome::Judged(run) => {
             assert_eq!(rt; run.per_group, 20);
@@ -62,7 +87,7 @@ fn is_judged(rt: &impl Abort, outcome: &RunOutcome, groups: u64, head: u64, tail
             assert_eq!(rt; run.tail, tail);
             assert_eq!(rt;
                 run.stamps.as_slice().first().copied(),
-                Some(START + 764_000)
+                Some(stamp_after(number, 0))
             );
         }
         _ => assert!(rt; false, "not judged"),
@@ -86,7 +111,7 @@ fn starts(rt: &impl Abort, run: &FlowRun, rec: u64, number: u32, expected: Optio
 fn number_wraps(rt: HostRuntime) {
     let packets = flow(rt.alloc(), 4_294_967_295, 40).expect(&rt, "there is memory");
     match judged(&rt, rt.alloc(), &packets) {
-        FlowVerdict::Run(outcome) => is_judged(&rt, &outcome, 2, 1, 0),
+        FlowVerdict::Run(outcome) => is_judged(&rt, &outcome, 4_294_967_295, 2, 1, 0),
         _ => assert!(rt; false, "not one run"),
     }
 }
@@ -95,7 +120,7 @@ fn number_wraps(rt: HostRuntime) {
 fn cut_capture(rt: HostRuntime) {
     let packets = flow(rt.alloc(), 0, 39).expect(&rt, "there is memory");
     match judged(&rt, rt.alloc(), &packets) {
-        FlowVerdict::Run(outcome) => is_judged(&rt, &outcome, 1, 1, 19),
+        FlowVerdict::Run(outcome) => is_judged(&rt, &outcome, 0, 1, 1, 19),
         _ => assert!(rt; false, "not one run"),
     }
 }
@@ -111,11 +136,11 @@ fn no_packets(rt: HostRuntime) {
 #[test]
 fn no_marker(rt: HostRuntime) {
     let packets = [
-        packet(1, START, 0, 7, false),
-        packet(2, START, 1, 7, false),
-        packet(3, START, 2, 7, false),
-        packet(4, START, 3, 7, false),
-        packet(5, START, 4, 7, false),
+        packet(1, start(0), 0, 7, false),
+        packet(2, start(0), 1, 7, false),
+        packet(3, start(0), 2, 7, false),
+        packet(4, start(0), 3, 7, false),
+        packet(5, start(0), 4, 7, false),
     ];
     match judged(&rt, rt.alloc(), &packets) {
         FlowVerdict::Run(outcome) => has_no_frame(&rt, &outcome, 5),
@@ -125,15 +150,18 @@ fn no_marker(rt: HostRuntime) {
 
 #[test]
 fn second_source(rt: HostRuntime) {
-    let mut other = packet(2, START, 1, 1800, true);
-    other.rtp = Ok(Rtp {
-        number: 1,
-        stamp: 1800,
-        marker: true,
-        pt: 96,
-        ssrc: 2,
-    });
-    let packets = [packet(1, START, 0, 0, true), other];
+    let other = FlowPacket {
+        rec: 2,
+        at: stamp_after(0, 0),
+        rtp: Ok(Rtp {
+            number: 1,
+            stamp: 1800,
+            marker: false,
+            pt: 96,
+            ssrc: 2,
+        }),
+    };
+    let packets = [head(0), other];
     is_refused(
         &rt,
         &judged(&rt, rt.alloc(), &packets),
@@ -158,7 +186,7 @@ fn stamp_back(rt: HostRuntime) {
 #[test]
 fn short_frame(rt: HostRuntime) {
     let mut packets = flow(rt.alloc(), 0, 38).expect(&rt, "there is memory");
-    let last = packet(40, START + 40_000_000, 39, 3600, true);
+    let last = packet(40, stamp_after(0, 38), 39, 3600, true);
     packets.push(last).expect(&rt, "there is memory");
     let want = PacketFault::FrameSize { want: 20, got: 19 };
     is_refused(&rt, &judged(&rt, rt.alloc(), &packets), 40, want);
@@ -168,14 +196,15 @@ fn short_frame(rt: HostRuntime) {
 fn two_runs(rt: HostRuntime) {
     let mut packets = flow(rt.alloc(), 2, 30).expect(&rt, "there is memory");
     for j in 0..9 {
-        let next = packet(u64::from(j) + 32, START + 40_000_000, j + 34, 3600, j == 8);
+        let at = stamp_after(2, 31 + j);
+        let next = packet(u64::from(j) + 32, at, j + 34, 3600, j == 8);
         packets.push(next).expect(&rt, "there is memory");
     }
     match judged(&rt, rt.alloc(), &packets) {
         FlowVerdict::Runs(runs) => match runs.as_slice() {
             [first, second] => {
                 starts(&rt, first, 1, 2, None);
-                is_judged(&rt, &first.outcome, 1, 1, 10);
+                is_judged(&rt, &first.outcome, 2, 1, 1, 10);
                 starts(&rt, second, 32, 34, Some(33));
                 has_no_frame(&rt, &second.outcome, 9);
             }
@@ -188,9 +217,9 @@ fn two_runs(rt: HostRuntime) {
 #[test]
 fn equal_low_halves(rt: HostRuntime) {
     let packets = [
-        packet(1, START, 6, 0, true),
-        packet(2, START, 7, 1800, false),
-        packet(3, START, 65_544, 1800, false),
+        head(6),
+        packet(2, stamp_after(6, 0), 7, 1800, false),
+        packet(3, stamp_after(6, 1), 65_544, 1800, false),
     ];
     match judged(&rt, rt.alloc(), &packets) {
         FlowVerdict::Runs(runs) => match runs.as_slice() {
@@ -210,7 +239,7 @@ fn equal_low_halves(rt: HostRuntime) {
 fn too_many_gaps(rt: HostRuntime) {
     let mut packets = Vec::new(rt.alloc());
     for j in 0..1026_u32 {
-        let next = packet(u64::from(j) + 1, START, 2 * j, 0, false);
+        let next = packet(u64::from(j) + 1, start(0), 2 * j, 0, false);
         packets.push(next).expect(&rt, "there is memory");
     }
     match judged(&rt, rt.alloc(), &packets) {
@@ -227,10 +256,10 @@ fn too_many_gaps(rt: HostRuntime) {
 fn frame_too_large(rt: HostRuntime) {
     let mut packets = Vec::new(rt.alloc());
     packets
-        .push(packet(1, START, 0, 0, true))
+        .push(packet(1, start(0), 0, 0, true))
         .expect(&rt, "there is memory");
     for j in 0..262_145_u32 {
-        let next = packet(u64::from(j) + 2, START, j + 1, 1800, false);
+        let next = packet(u64::from(j) + 2, start(0), j + 1, 1800, false);
         packets.push(next).expect(&rt, "there is memory");
     }
     is_refused(

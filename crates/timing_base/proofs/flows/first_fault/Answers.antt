@@ -25,11 +25,11 @@ returns-in-Some c =
 pub loop-i-preserved : goal.loop-i-preserved
 loop-i-preserved c =
     let none : fault c.args.packets.now c.args.pt c.loop-i.i ≡ None = sym c.fault_at.ensures ∙ c.in_default.is in
-    let at = sized-enter c.args.packets.now c.loop-i.i c.loop-i.before.start c.loop-i.invariant.stands.run c.loop-i.invariant.sized in
+    let here = sized-enter c.args.packets.now c.loop-i.i c.loop-i.before.start c.loop-i.invariant.stands.run c.loop-i.invariant.sized in
     record {
       stands = c.leave-before.ensures.stands;
-      sized = subst (λ start. IsSized (c.loop-i.i + 1) (markers c.args.packets.now start (c.loop-i.i + 1))) (sym (c.leave-before.ensures.start ∙ c.enter-at.ensures.stands.run)) (sized-next c.args.packets.now c.args.pt c.loop-i.i none at);
+      sized = subst (λ start. IsSized (c.loop-i.i + 1) (markers c.args.packets.now start (c.loop-i.i + 1))) (sym (c.leave-before.ensures.start ∙ c.enter-here.ensures.stands.run)) (sized-next c.args.packets.now c.args.pt c.loop-i.i none here);
       none = no_fault-next c.args.packets.now c.args.pt c.loop-i.i c.loop-i.invariant.none none;
-      few_cuts = omega (arith, c.leave-before.ensures.cuts, c.enter-at.ensures.cuts, c.loop-i.invariant.few_cuts);
-      few_marks = omega (arith, c.leave-before.ensures.marks, c.enter-at.ensures.marks, c.loop-i.invariant.few_marks);
+      few_cuts = omega (arith, c.leave-before.ensures.cuts, c.enter-here.ensures.cuts, c.loop-i.invariant.few_cuts);
+      few_marks = omega (arith, c.leave-before.ensures.marks, c.enter-here.ensures.marks, c.loop-i.invariant.few_marks);
     }

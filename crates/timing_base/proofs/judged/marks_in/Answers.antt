@@ -17,9 +17,9 @@ pub loop-i-preserved : goal.loop-i-preserved
 loop-i-preserved c = elim c.if-rtp_at.branch [
   | then-rtp_at w ↦ record {
     are = subst (λ (marks : Marks). AreMarks (markers c.args.packets.now c.args.from (c.loop-i.i + 1)) marks) (sym w.marks-is)
-        (subst (λ places. AreMarks places w.and-marks.result) (sym (places-here (has_marker c.args.packets.now) c.args.from c.loop-i.i (omega arith) (sym (ap (λ (r : Rtp). r.marker) c.rtp_at.ensures) ∙ w.if-rtp_at.true)))
-        (w.and-marks.ensures.are _ c.loop-i.invariant.are));
-    few = omega (arith, ap (λ (m : Marks). m.count) w.marks-is, w.and-marks.ensures.count, c.loop-i.invariant.few);
+        (subst (λ places. AreMarks places w.with_last-marks.result) (sym (places-here (has_marker c.args.packets.now) c.args.from c.loop-i.i (omega arith) (sym (ap (λ (r : Rtp). r.marker) c.rtp_at.ensures) ∙ w.if-rtp_at.true)))
+        (w.with_last-marks.ensures.are _ c.loop-i.invariant.are));
+    few = omega (arith, ap (λ (m : Marks). m.count) w.marks-is, w.with_last-marks.ensures.count, c.loop-i.invariant.few);
   }
   | else-rtp_at w ↦ record {
     are = subst (λ (marks : Marks). AreMarks (markers c.args.packets.now c.args.from (c.loop-i.i + 1)) marks) (sym w.marks-is)

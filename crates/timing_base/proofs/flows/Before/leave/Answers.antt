@@ -16,7 +16,7 @@ returns-then-rtp_at-clause-stands c =
       | else-is_cut w ↦ counted-other c.args.packets.now c.args.i c.args.self.cuts _ (sym c.is_cut.ensures ∙ w.if-is_cut.false) c.requires.stands.cut_count w.cuts-is
     ] in
     leaves c.args.packets.now c.args.i c.args.self _ _ c.requires.stands counts
-    (subst (λ places. AreMarks places c.and-marks.result) (sym (markers-here c.args.packets.now c.args.i marked)) (c.and-marks.ensures.are _ c.requires.stands.are))
+    (subst (λ places. AreMarks places c.with_last-marks.result) (sym (markers-here c.args.packets.now c.args.i marked)) (c.with_last-marks.ensures.are _ c.requires.stands.are))
 
 pub returns-else-rtp_at-clause-stands : goal.returns-else-rtp_at-clause-stands
 returns-else-rtp_at-clause-stands c =
