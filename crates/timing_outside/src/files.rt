@@ -13,14 +13,15 @@ use std::rt::Files;
 // How often a call that a signal interrupts is tried again before it counts as failed.
 const TRIES: u32 = 1000;
 
-/// The files of the system. Their names have one count of faults, which rises at each error.
+/// The files of the system. Their names have one count of faults, which rises at each error of the
+/// system and where a source comes back of which a read has failed.
 #[derive(Drop)]
 pub struct FileShelf<R: Drop> {
     rt: R,
     faults: u64,
 }
 
-/// An open file under its name.
+/// An open file under its name. It counts each read that fails.
 #[derive(Drop)]
 pub struct FileSource<F: Drop> {
     name: String,
@@ -66,7 +67,9 @@ where
 
     ghost faults = { λ s _. shelf_faults s };
 
-    /// Opens the file of this name. Each error of the system is counted.
+    /// Opens the file of this name. Each error of the system is counted, and answered as `Failed`,
+    /// or as `OutOfMemory` where the system says so. Where there is no memory to keep the name,
+    /// nothing is opened or counted.
     fn fetch(&mut self, name: &str) -> Result<FileSource<R::File>, OpenFault>
         ensures named { IfOk result (λ s. name_of s ≡ name.now) }
         ensures fresh { IfOk result (λ s. source_faults s ≡ 0) }
@@ -111,6 +114,7 @@ impl<F: Read + Send + Drop> Source for FileSource<F> {
 
     ghost faults = { λ s. source_faults s };
 
+    /// Reads some of the bytes. A read that a signal interrupts is tried again, up to 1,000 tries.
     fn read(&mut self, buf: &mut [u8]) -> Result<usize, Failed>
         ensures same_name { name_of self.new ≡ name_of self.old }
         ensures bound { ReadsAtMost result buf.new }
@@ -192,6 +196,8 @@ impl Sink for StdSink {
 
     ghost faults = { λ s. sink_faults s };
 
+    /// Writes some of the bytes. A write that a signal interrupts is tried again, up to 1,000
+    /// tries.
     fn write(&mut self, bytes: &[u8]) -> Result<usize, Failed>
         ensures bound { IfOk result (λ k. k ≤ length bytes.now) }
         ensures some { IfOk result (λ k. 0 < length bytes.now → 0 < k) }

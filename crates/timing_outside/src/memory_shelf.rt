@@ -47,6 +47,7 @@ impl MemoryShelf {
 
     /// Puts a text on the shelf, in the place of one of the same name. A refused put changes
     /// nothing. No count changes: a new name begins with the count of the names that aren't there.
+    #[tactic(auto, using(std::proofs::lemmas::Map::Text::text_keys))]
     pub fn put(&mut self, name: String, bytes: Vec<u8>, plan: ReadPlan) -> Result<(), OutOfMemory>
         ensures texts { (n : List ℕ) → bytes_of self.new n
             ≡ cond (is_ok result && bytes_eq (string_bytes name) n)
@@ -79,6 +80,7 @@ impl MemoryShelf {
     }
 
     // Counts a fault of this name.
+    #[tactic(auto, using(std::proofs::lemmas::Map::Text::text_keys))]
     fn raise(&mut self, name: &str)
         ensures texts { (n : List ℕ) → bytes_of self.new n ≡ bytes_of self.old n }
         ensures plans { (n : List ℕ) → plan_of self.new n ≡ plan_of self.old n }
@@ -137,6 +139,7 @@ impl Shelf for MemoryShelf {
         opened
     }
 
+    /// Counts a fault of the source's name where a read of the source has failed.
     fn give_back(&mut self, source: MemorySource)
         ensures raised { 0 < faults_of source
             → Rose (count_of self.old (name_of source)) (count_of self.new (name_of source)) }

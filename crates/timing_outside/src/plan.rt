@@ -9,7 +9,8 @@ pub struct ReadPlan {
     pub fetch_fails: bool,
     /// The greatest number of bytes that one read gives; at least 1.
     pub piece: u32,
-    /// The numbers of the reads that fail. The first read of a source has number 1.
+    /// The numbers of the reads that fail. The first read of a source has number 1; a read that
+    /// fails has a number too.
     pub fails: Vec<u32>,
     ghost some: { 1 ≤ piece },
 }
@@ -20,7 +21,7 @@ pub struct WritePlan {
     /// The greatest number of bytes that one write takes; at least 1.
     pub piece: u32,
     /// The numbers of the writes that fail. The first write of a piece that isn't empty has
-    /// number 1.
+    /// number 1; a write that fails has a number too.
     pub fails: Vec<u32>,
     ghost some: { 1 ≤ piece },
 }

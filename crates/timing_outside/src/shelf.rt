@@ -1,3 +1,4 @@
+//! What texts are fetched from by their names.
 ghost use Rattle.std.specs.Prelude.{◌≡◌, ◌≤◌, ◌<◌, List, ℕ, Option, IfOk, IsErrOf};
 ghost use Rattle.timing_outside.specs.Causes.{Rose};
 
@@ -31,10 +32,15 @@ pub trait Shelf {
     /// The text of a name, where told.
     ghost text: { Self → List ℕ → Option (List ℕ) };
 
-    /// How often this name has failed. It never falls.
+    /// How often this name has failed. It never falls, and one at the end of 64 bits counts as
+    /// risen.
     ghost faults: { Self → List ℕ → ℕ };
 
-    /// A source at the start of the text of this name. Fetching a name again gives the same text.
+    /// A source at the start of the text of this name, of which no read has failed. Fetching a name
+    /// again gives the same text.
+    ///
+    /// `Failed` comes only where the count of this name rose; no count is tied to `OutOfMemory`.
+    /// After either the texts are as they were.
     fn fetch(&mut self, name: &str) -> Result<Self::Source, OpenFault>
         ensures named { IfOk result (λ s. Self.Source.name s ≡ name.now) }
         ensures whole { IfOk result (λ s. Self.Source.left s ≡ text self.old name.now) }
@@ -44,7 +50,8 @@ pub trait Shelf {
         ensures failed { IsErrOf result OpenFault.Failed
             → Rose (faults self.old name.now) (faults self.new name.now) };
 
-    /// Takes a source back. A source that failed makes its name a failed one.
+    /// Takes a source back. Where a read of it has failed, the count of its name rises. The texts
+    /// stay as they were.
     fn give_back(&mut self, source: Self::Source)
         ensures raised { 0 < Self.Source.faults source
             → Rose (faults self.old (Self.Source.name source))

@@ -1,3 +1,4 @@
+//! What bytes are read from.
 ghost use Rattle.std.specs.Prelude.{◌≡◌, ◌≤◌, List, ℕ, Option};
 ghost use Rattle.std.specs.Io.{ReadsAtMost};
 ghost use Rattle.std.specs.Io.KnownBytes.{ReadConsumes};
@@ -15,12 +16,15 @@ pub trait Source: Send + Drop {
     /// The bytes that are left, where told.
     ghost left: { Self → Option (List ℕ) };
 
-    /// How often a read has failed. It never falls.
+    /// How often a read has failed. It never falls, and one at the end of 64 bits counts as risen.
     ghost faults: { Self → ℕ };
 
     /// Gives the next bytes, as many as it answers, at the front of `buf`. `Ok(0)` into a buffer
-    /// that isn't empty is the end of the bytes. Behind what it gave, the buffer may hold anything.
-    /// After `Err` no byte was taken.
+    /// that isn't empty is the end of the bytes; into an empty one it says nothing. Behind what it
+    /// gave, the buffer may hold anything.
+    ///
+    /// `Failed` comes only where the count of faults rose. Then no byte was taken, the whole buffer
+    /// may hold anything, and the next read begins at the same byte.
     fn read(&mut self, buf: &mut [u8]) -> Result<usize, Failed>
         ensures same_name { name self.new ≡ name self.old }
         ensures bound { ReadsAtMost result buf.new }

@@ -41,6 +41,7 @@ impl SteadyShelf {
 
     /// Puts a text on the shelf, in the place of one of the same name. A refused put changes
     /// nothing.
+    #[tactic(auto, using(std::proofs::lemmas::Map::Text::text_keys))]
     pub fn put(&mut self, name: String, bytes: Vec<u8>) -> Result<(), OutOfMemory>
         ensures { (n : List ℕ) → bytes_of self.new n
             ≡ cond (is_ok result && bytes_eq (string_bytes name) n)
