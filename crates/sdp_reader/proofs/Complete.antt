@@ -102,9 +102,9 @@ none_of_three false false false h = (refl, refl, refl)
 -- so the part has a stream
 pub media_stands : (r : RawPart) → least (part_faults r) ≡ None → is_some (media_of r) ≡ true
 media_stands r h =
-    let first = append-none (connection_faults r.line r.connection) (at r.line MissingParameter (is_missing r.items) ++ (flat_map item_faults r.items ++ repeated_faults [] r.items)) h in
-    let second = append-none (at r.line MissingParameter (is_missing r.items)) (flat_map item_faults r.items ++ repeated_faults [] r.items) first.1 in
-    let third = append-none (flat_map item_faults r.items) (repeated_faults [] r.items) second.1 in
+    let first = append-none (connection_faults r.line r.connection) (at r.line MissingParameter (is_missing r.items) ++ (flat_map item_faults r.items ++ repeated_faults r.items)) h in
+    let second = append-none (at r.line MissingParameter (is_missing r.items)) (flat_map item_faults r.items ++ repeated_faults r.items) first.1 in
+    let third = append-none (flat_map item_faults r.items) (repeated_faults r.items) second.1 in
     let missing = none_of_three (is_none (item_named Width r.items)) (is_none (item_named Height r.items)) (is_none (item_named ExactFrameRate r.items)) (at-none r.line MissingParameter (is_missing r.items) second.0) in
     all_stand r.line (record { port = r.port; format = r.format }) r.items (good_address r) (number_named Width 1 32767 r.items) (number_named Height 1 32767 r.items) (option_and_then value_rate (item_named ExactFrameRate r.items))
     (connected r.line r.connection first.0)

@@ -1,15 +1,10 @@
 -- The parameters of a list and of a part, one by one.
-use Rattle.std.proofs.Common.{◌≡◌, ◌<◌, ◌==◌, ◌+◌, ◌||◌, ℕ, Bool, true, false, List, [], ◌∷◌, ◌++◌, Option, Some, None, map, length, take, drop, get_or, set, arith, refl, sym, ap, ◌∙◌, append_assoc}
+use Rattle.std.proofs.Common.{◌≡◌, ◌<◌, ◌==◌, ◌+◌, ◌||◌, ℕ, Bool, true, false, List, [], ◌∷◌, ◌++◌, Option, Some, None, map, length, take, get_or, set, arith, refl, sym, ap, ◌∙◌, append_assoc}
 use Rattle.std.specs.Option.{option_to_list}
 use Rattle.std.specs.List.{slice_split, filter_map, list_any}
 use Rattle.std.proofs.lemmas.List.{map-append}
 use Rattle.std.proofs.lemmas.Grind.{common_steps, take_at_read}
-use Rattle.sdp_reader.specs.declared.fault.SdpCause.TheVariants.{RepeatedParameter}
-use Rattle.sdp_reader.specs.declared.fault.SdpFault.{SdpFault}
-use Rattle.sdp_reader.specs.Fault.{first_of, least}
-use Rattle.sdp_reader.specs.Lines.{at}
-use Rattle.sdp_reader.specs.Parameters.{Item, row_of, is_of, repeated_faults}
-use Rattle.sdp_reader.proofs.Least.{first_of-assoc, least-append, at_front}
+use Rattle.sdp_reader.specs.Parameters.{Item, row_of, is_of}
 
 pub filter_map-cons : {X Y : Type 0} (h : X → Option Y) (o : Option Y) (x : X) (xs : List X) → o ≡ h x → filter_map h (x ∷ xs) ≡ option_to_list o ++ filter_map h xs
 filter_map-cons h None x xs e = rw (← e) refl
@@ -40,21 +35,7 @@ items-last h c new old o xs a b e =
 pub take-push : {A B : Type 0} (g : A → B) (xs : List A) (i : ℕ) (d : A) → i < length xs → map g (take (i + 1) xs) ≡ map g (take i xs) ++ g (get_or xs i d) ∷ []
 take-push g xs i d h = ap (map g) (take_at_read xs i d h).1 ∙ map-append g (take i xs) (get_or xs i d ∷ [])
 
-pub repeated-step : {A : Type 0} (g : A → Item) (fault r s : Option SdpFault) (xs : List A) (i : ℕ) (d : A) (b : Bool)
-    → r ≡ first_of fault s → s ≡ least (at (g (get_or xs i d)).line RepeatedParameter b)
-    → b ≡ list_any (is_of (row_of (g (get_or xs i d)).name)) (map g (take i xs)) → i < length xs
-    → first_of r (least (repeated_faults (map g (take (i + 1) xs)) (map g (drop (i + 1) xs)))) ≡ first_of fault (least (repeated_faults (map g (take i xs)) (map g (drop i xs))))
-repeated-step g fault r s xs i d b p q e h =
-    let x = g (get_or xs i d) in
-    let earlier = map g (take i xs) in
-    let later = map g (drop (i + 1) xs) in
-    let here = at x.line RepeatedParameter (list_any (is_of (row_of x.name)) earlier) in
-    ap (λ l. first_of r (least (repeated_faults l later))) (take-push g xs i d h)
-    ∙ ap (λ t. first_of t (least (repeated_faults (earlier ++ x ∷ []) later))) (p ∙ ap (first_of fault) (q ∙ ap (λ t. least (at x.line RepeatedParameter t)) e))
-    ∙ first_of-assoc fault (least here) (least (repeated_faults (earlier ++ x ∷ []) later))
-    ∙ ap (first_of fault) (sym (least-append here (repeated_faults (earlier ++ x ∷ []) later)))
-    ∙ ap (λ l. first_of fault (least (repeated_faults earlier (map g l)))) (sym (at_front xs i d h))
-
+-- a test of a list with one more at its end
 pub list_any-push : {A : Type 0} (p : A → Bool) (xs : List A) (x : A) → list_any p (xs ++ x ∷ []) ≡ (p x || list_any p xs)
 list_any-push p [] x = grind (arith, common_steps)
 list_any-push p (y ∷ ys) x = grind (arith, common_steps, list_any-push p ys x)

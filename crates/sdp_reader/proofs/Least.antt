@@ -1,7 +1,9 @@
 -- The first fault of joined lists.
-use Rattle.std.proofs.Common.{◌≡◌, ◌<◌, ◌+◌, ◌==◌, ◌&&◌, ◌||◌, ℕ, Bool, true, false, cond, List, [], ◌∷◌, ◌++◌, Option, Some, None, nat_lt, length, drop, get_or, map, add-one, drop-cons, arith, refl, sym, ap, ◌∙◌}
+use Rattle.std.proofs.Common.{◌≡◌, ◌<◌, ◌+◌, ◌==◌, ◌&&◌, ◌||◌, if◌then◌else◌, ℕ, Bool, true, false, cond, List, [], ◌∷◌, ◌++◌, Option, Some, None, nat_lt, length, drop, get_or, map, add-one, drop-cons, arith, refl, sym, ap, ◌∙◌}
 use Rattle.std.specs.List.{flat_map}
 use Rattle.std.proofs.lemmas.Grind.{common_steps}
+use Rattle.sdp_reader.specs.declared.fault.SdpCause.{SdpCause}
+use Rattle.sdp_reader.specs.declared.fault.SdpCause.TheVariants.{NotText, NoVersion, BadLine, BadMedia, NoConnection, BadAddress, BadParameter, RepeatedParameter, MissingParameter, BadRate, Segmented, ExtendedUdp, SameTarget, TooManyMedia, NoVideo, TooLarge}
 use Rattle.sdp_reader.specs.declared.fault.SdpFault.{SdpFault}
 use Rattle.sdp_reader.specs.Fault.{number_of, comes_before, first_of, least}
 
@@ -57,6 +59,76 @@ first_of-assoc None b c = refl
 first_of-assoc (Some f) None c = refl
 first_of-assoc (Some f) (Some g) None = first_of-none (first_of (Some f) (Some g))
 first_of-assoc (Some f) (Some g) (Some h) = three f g h _ _ _ refl refl refl
+
+-- the cause of a number
+abbrev cause_numbered : ℕ → SdpCause
+cause_numbered n =
+    if n == 1 then NotText
+    else if n == 2 then NoVersion
+    else if n == 3 then BadLine
+    else if n == 4 then BadMedia
+    else if n == 5 then NoConnection
+    else if n == 6 then BadAddress
+    else if n == 7 then BadParameter
+    else if n == 8 then RepeatedParameter
+    else if n == 9 then MissingParameter
+    else if n == 10 then BadRate
+    else if n == 11 then Segmented
+    else if n == 12 then ExtendedUdp
+    else if n == 13 then SameTarget
+    else if n == 14 then TooManyMedia
+    else if n == 15 then NoVideo
+    else TooLarge
+
+cause_numbered-number_of : (c : SdpCause) → cause_numbered (number_of c) ≡ c
+cause_numbered-number_of NotText = refl
+cause_numbered-number_of NoVersion = refl
+cause_numbered-number_of BadLine = refl
+cause_numbered-number_of BadMedia = refl
+cause_numbered-number_of NoConnection = refl
+cause_numbered-number_of BadAddress = refl
+cause_numbered-number_of BadParameter = refl
+cause_numbered-number_of RepeatedParameter = refl
+cause_numbered-number_of MissingParameter = refl
+cause_numbered-number_of BadRate = refl
+cause_numbered-number_of Segmented = refl
+cause_numbered-number_of ExtendedUdp = refl
+cause_numbered-number_of SameTarget = refl
+cause_numbered-number_of TooManyMedia = refl
+cause_numbered-number_of NoVideo = refl
+cause_numbered-number_of TooLarge = refl
+
+one_line : (a m b n : ℕ) → earlier a m b n ≡ false → earlier b n a m ≡ false → a ≡ b
+one_line a m b n p q = grind (arith, common_steps)
+
+one_number : (a m b n : ℕ) → earlier a m b n ≡ false → earlier b n a m ≡ false → m ≡ n
+one_number a m b n p q = grind (arith, common_steps)
+
+-- two faults of which neither comes first are one
+one_fault : (f g : SdpFault) → comes_before f g ≡ false → comes_before g f ≡ false → f ≡ g
+one_fault f g p q =
+    let line = one_line f.line (number_of f.what) g.line (number_of g.what) p q in
+    let number = one_number f.line (number_of f.what) g.line (number_of g.what) p q in
+    let cause : f.what ≡ g.what = sym (cause_numbered-number_of f.what) ∙ ap cause_numbered number ∙ cause_numbered-number_of g.what in
+    λ i. record { line = line i; what = cause i }
+
+either_way : (f g : SdpFault) (gf fg : Bool) → comes_before g f ≡ gf → comes_before f g ≡ fg → cond gf (Some g) (Some f) ≡ cond fg (Some f) (Some g)
+either_way f g true true p q = sym (ap (λ t. cond t (Some f) (Some g)) (sym q ∙ before-back g f p))
+either_way f g true false p q = refl
+either_way f g false true p q = refl
+either_way f g false false p q = ap Some (one_fault f g q p)
+
+pub first_of-comm : (a b : Option SdpFault) → first_of a b ≡ first_of b a
+first_of-comm None b = sym (first_of-none b)
+first_of-comm (Some f) None = refl
+first_of-comm (Some f) (Some g) = either_way f g _ _ refl refl
+
+-- the middle two of four, the other way round
+pub first_of-middle : (a b c d : Option SdpFault) → first_of (first_of a b) (first_of c d) ≡ first_of (first_of a c) (first_of b d)
+first_of-middle a b c d =
+    first_of-assoc a b (first_of c d)
+    ∙ ap (first_of a) (sym (first_of-assoc b c d) ∙ ap (λ t. first_of t d) (first_of-comm b c) ∙ first_of-assoc c b d)
+    ∙ sym (first_of-assoc a c (first_of b d))
 
 -- the first of two lists
 pub least-append : (xs ys : List SdpFault) → least (xs ++ ys) ≡ first_of (least xs) (least ys)

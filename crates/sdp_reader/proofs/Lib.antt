@@ -2,6 +2,7 @@ pub mod Cuts
 pub mod Least
 pub mod Numbering
 pub mod Prefixes
+pub mod Repeats
 pub mod Trims
 pub mod Items
 pub mod Summaries

@@ -47,19 +47,19 @@ pub faults-found : (ls : List TextLine) (xs : List Reading) (all version lines l
     → all ≡ first_of version lines → version ≡ least (version_faults ls)
     → lines ≡ first_of line parts → line ≡ least (flat_map line_faults ls)
     → parts ≡ first_of part rest → part ≡ first_fault (map summary xs)
-    → rest ≡ first_of targets many → targets ≡ least (target_faults [] (map target xs)) → many ≡ least (too_many_faults (map target xs))
+    → rest ≡ first_of targets many → targets ≡ least (target_faults (map target xs)) → many ≡ least (too_many_faults (map target xs))
     → all ≡ least (faults ls)
 faults-found ls xs all version lines line parts part rest targets many h a b c d e f g i j =
     let rs = raw_parts ls in
     let ts = map target_of rs in
     let t = targets-are xs rs h in
     let part_is : part ≡ least (flat_map part_faults rs) = f ∙ ap first_fault h ∙ first_fault-of rs in
-    let targets_is : targets ≡ least (target_faults [] ts) = i ∙ ap (λ l. least (target_faults [] l)) t in
+    let targets_is : targets ≡ least (target_faults ts) = i ∙ ap (λ l. least (target_faults l)) t in
     let many_is : many ≡ least (too_many_faults ts) = j ∙ ap (λ l. least (too_many_faults l)) t in
-    let rest_is : rest ≡ least (target_faults [] ts ++ too_many_faults ts) =
-    g ∙ ap (λ o. first_of o many) targets_is ∙ ap (first_of (least (target_faults [] ts))) many_is ∙ sym (least-append (target_faults [] ts) (too_many_faults ts)) in
+    let rest_is : rest ≡ least (target_faults ts ++ too_many_faults ts) =
+    g ∙ ap (λ o. first_of o many) targets_is ∙ ap (first_of (least (target_faults ts))) many_is ∙ sym (least-append (target_faults ts) (too_many_faults ts)) in
     let parts_is : parts ≡ least (raw_faults rs) =
-    e ∙ ap (λ o. first_of o rest) part_is ∙ ap (first_of (least (flat_map part_faults rs))) rest_is ∙ sym (least-append (flat_map part_faults rs) (target_faults [] ts ++ too_many_faults ts)) in
+    e ∙ ap (λ o. first_of o rest) part_is ∙ ap (first_of (least (flat_map part_faults rs))) rest_is ∙ sym (least-append (flat_map part_faults rs) (target_faults ts ++ too_many_faults ts)) in
     let lines_is : lines ≡ least (flat_map line_faults ls ++ raw_faults rs) =
     c ∙ ap (λ o. first_of o parts) d ∙ ap (first_of (least (flat_map line_faults ls))) parts_is ∙ sym (least-append (flat_map line_faults ls) (raw_faults rs)) in
     a ∙ ap (λ o. first_of o lines) b ∙ ap (first_of (least (version_faults ls))) lines_is ∙ sym (least-append (version_faults ls) (flat_map line_faults ls ++ raw_faults rs))
@@ -123,7 +123,7 @@ pub media-some : (ls : List TextLine) (xs : List Reading) (media : List Stream) 
 media-some ls xs media h f e m =
     let rs = raw_parts ls in
     let n = as_many xs rs h in
-    let parts = append-none (flat_map part_faults rs) (target_faults [] (map target_of rs) ++ too_many_faults (map target_of rs)) (raw_none ls (sym f)) in
+    let parts = append-none (flat_map part_faults rs) (target_faults (map target_of rs) ++ too_many_faults (map target_of rs)) (raw_none ls (sym f)) in
     let some = some_media rs (omega arith) parts.0 in
     let same = ap length (m ∙ media-are xs rs h) in
     omega (arith, some, same)
@@ -133,8 +133,8 @@ pub media-few : (ls : List TextLine) (xs : List Reading) (media : List Stream) �
 media-few ls xs media h f m =
     let rs = raw_parts ls in
     let ts = map target_of rs in
-    let parts = append-none (flat_map part_faults rs) (target_faults [] ts ++ too_many_faults ts) (raw_none ls (sym f)) in
-    let many = append-none (target_faults [] ts) (too_many_faults ts) parts.1 in
+    let parts = append-none (flat_map part_faults rs) (target_faults ts ++ too_many_faults ts) (raw_none ls (sym f)) in
+    let many = append-none (target_faults ts) (too_many_faults ts) parts.1 in
     let none = none_more (drop 64 ts) many.1 in
     let left = length-drop 64 ts in
     let count = length-map rs target_of in

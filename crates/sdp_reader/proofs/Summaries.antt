@@ -1,5 +1,5 @@
 -- What is kept of raw parts is what the definitions say of them.
-use Rattle.std.proofs.Common.{◌≡◌, ◌<◌, ◌==◌, ◌+◌, ◌&&◌, ◌||◌, ℕ, Bool, true, cond, arith, List, [], ◌∷◌, ◌++◌, Option, Some, None, map, length, take, drop, get_or, refl, sym, ap, ◌∙◌, append_assoc}
+use Rattle.std.proofs.Common.{◌≡◌, ◌<◌, ◌==◌, ◌+◌, ◌&&◌, ◌||◌, ℕ, Bool, true, false, cond, arith, List, [], ◌∷◌, ◌++◌, Option, Some, None, map, length, take, drop, get_or, refl, sym, ap, ◌∙◌, append_assoc}
 use Rattle.std.specs.Option.{option_to_list, option_map, option_and_then, is_some}
 use Rattle.std.specs.List.{filter_map, list_any}
 use Rattle.std.specs.BTreeSet.{BTreeSet}
@@ -16,10 +16,11 @@ use Rattle.sdp_reader.specs.Lines.{TextLine, at, media_fields, video_of}
 use Rattle.sdp_reader.specs.Parameters.{Item, parameters}
 use Rattle.sdp_reader.specs.Parts.{own_lines, parts, connection_line, counting, address_of, is_raw_map, raw_part, raw_with, raw_of, faults_at, Stream, stream_of}
 use Rattle.sdp_reader.specs.Plain.{stream}
-use Rattle.sdp_reader.specs.Session.{Destination, target_at, is_same, goes_to, is_taken, target_faults}
+use Rattle.sdp_reader.specs.Session.{Destination, target_at, is_same, are_same, have_one_target}
 use Rattle.sdp_reader.specs.Summary.{Summary, summary, summary_of, target, first_fault, target_cmp, has, TakesTarget}
 use Rattle.sdp_reader.proofs.Items.{filter_map-cons, take-push, list_any-push}
-use Rattle.sdp_reader.proofs.Least.{first_of-assoc, least-append, at_front}
+use Rattle.sdp_reader.proofs.Least.{first_of-assoc, at_front}
+use Rattle.sdp_reader.proofs.Repeats.{repeats_after, repeats_after-step}
 
 -- a raw part that was read
 pub raw_summary : (r : Reading) (session : Option TextLine) (line : ℕ) (body : List TextLine) (video : Video)
@@ -118,7 +119,7 @@ media-step new old xs i d e h =
 
 -- the targets that earlier parts have
 abbrev pub AreSeen : BTreeSet Target → List Destination → Type 0
-AreSeen seen earlier = (t : Target) → has seen t ≡ list_any (λ e. goes_to t e.target) earlier
+AreSeen seen earlier = (t : Target) → has seen t ≡ list_any (λ e. are_same (Some t) e.target) earlier
 
 is_eq-both : (a m b n : ℕ) → is_eq (ordering_then (nat_cmp a b) (nat_cmp m n)) ≡ ((a == b) && (m == n))
 is_eq-both a m b n = grind (arith, common_steps)
@@ -126,16 +127,21 @@ is_eq-both a m b n = grind (arith, common_steps)
 is_eq-cmp : (t q : Target) → is_eq (target_cmp t q) ≡ is_same t q
 is_eq-cmp t q = is_eq-both t.address t.port q.address q.port
 
-taken_is : (old new : BTreeSet Target) (o : Option Target) (taken : Bool) (earlier : List Destination) → TakesTarget old new o taken → AreSeen old earlier → taken ≡ is_taken o earlier
-taken_is old new None taken earlier h s = h.0
+none_same : (earlier : List Destination) → list_any (λ e. are_same None e.target) earlier ≡ false
+none_same [] = refl
+none_same (e ∷ earlier) = none_same earlier
+
+taken_is : (old new : BTreeSet Target) (o : Option Target) (taken : Bool) (earlier : List Destination) → TakesTarget old new o taken → AreSeen old earlier
+    → taken ≡ list_any (λ e. are_same o e.target) earlier
+taken_is old new None taken earlier h s = h.0 ∙ sym (none_same earlier)
 taken_is old new (Some t) taken earlier h s = h.0 ∙ s t
 
 seen_next : (old new : BTreeSet Target) (o : Option Target) (taken : Bool) (earlier : List Destination) (line : ℕ) → TakesTarget old new o taken → AreSeen old earlier
     → AreSeen new (earlier ++ record { line = line; target = o } ∷ [])
 seen_next old new None taken earlier line h s = λ q.
-    h.1 q ∙ s q ∙ sym (list_any-push (λ e. goes_to q e.target) earlier (record { line = line; target = None }))
+    h.1 q ∙ s q ∙ sym (list_any-push (λ e. are_same (Some q) e.target) earlier (record { line = line; target = None }))
 seen_next old new (Some t) taken earlier line h s = λ q.
-    h.1 q ∙ ap (λ b. b || has old q) (is_eq-cmp t q) ∙ ap (λ b. is_same t q || b) (s q) ∙ sym (list_any-push (λ e. goes_to q e.target) earlier (record { line = line; target = Some t }))
+    h.1 q ∙ ap (λ b. b || has old q) (is_eq-cmp t q) ∙ ap (λ b. is_same t q || b) (s q) ∙ sym (list_any-push (λ e. are_same (Some q) e.target) earlier (record { line = line; target = Some t }))
 
 -- one target more
 pub seen-step : (old new : BTreeSet Target) (taken : Bool) (xs : List Reading) (i : ℕ) (d : Reading)
@@ -143,20 +149,13 @@ pub seen-step : (old new : BTreeSet Target) (taken : Bool) (xs : List Reading) (
     → AreSeen old (map target (take i xs)) → AreSeen new (map target (take (i + 1) xs))
 seen-step old new taken xs i d h l s = λ q.
     seen_next old new (get_or xs i d).target taken (map target (take i xs)) (get_or xs i d).line h s q
-    ∙ ap (list_any (λ e. goes_to q e.target)) (sym (take-push target xs i d l))
+    ∙ ap (list_any (λ e. are_same (Some q) e.target)) (sym (take-push target xs i d l))
 
 pub target-step : (fault r s : Option SdpFault) (old new : BTreeSet Target) (taken : Bool) (xs : List Reading) (i : ℕ) (d : Reading)
     → r ≡ first_of fault s → s ≡ least (at (get_or xs i d).line SameTarget taken)
     → TakesTarget old new (get_or xs i d).target taken → i < length xs → AreSeen old (map target (take i xs))
-    → first_of r (least (target_faults (map target (take (i + 1) xs)) (map target (drop (i + 1) xs)))) ≡ first_of fault (least (target_faults (map target (take i xs)) (map target (drop i xs))))
+    → first_of r (least (repeats_after (λ part. part.line) SameTarget have_one_target (map target (take (i + 1) xs)) (map target (drop (i + 1) xs))))
+    ≡ first_of fault (least (repeats_after (λ part. part.line) SameTarget have_one_target (map target (take i xs)) (map target (drop i xs))))
 target-step fault r s old new taken xs i d p q h l a =
-    let x = get_or xs i d in
-    let earlier = map target (take i xs) in
-    let later = map target (drop (i + 1) xs) in
-    let here = at x.line SameTarget (is_taken x.target earlier) in
-    let rest = target_faults (earlier ++ target x ∷ []) later in
-    ap (λ t. first_of r (least (target_faults t later))) (take-push target xs i d l)
-    ∙ ap (λ t. first_of t (least rest)) (p ∙ ap (first_of fault) (q ∙ ap (λ t. least (at x.line SameTarget t)) (taken_is old new x.target taken earlier h a)))
-    ∙ first_of-assoc fault (least here) (least rest)
-    ∙ ap (first_of fault) (sym (least-append here rest))
-    ∙ ap (λ t. first_of fault (least (target_faults earlier (map target t)))) (sym (at_front xs i d l))
+    repeats_after-step (λ part. part.line) SameTarget have_one_target target fault r s xs i d taken p q
+    (taken_is old new (get_or xs i d).target taken (map target (take i xs)) h a) l

@@ -48,7 +48,7 @@ is_digit b = nat_le 48 b && nat_le b 57
 abbrev pub value_of : List ℕ → ℕ
 value_of digits = fold (λ n b. n * 10 + (b - 48)) 0 digits
 
--- the value of `least` to `most` digits and no more
+-- the value of one to `most` digits and no more
 abbrev pub digits_of : ℕ → List ℕ → Option ℕ
 digits_of most xs = if nat_le 1 (length xs) && nat_le (length xs) most && list_all is_digit xs then Some (value_of xs) else None
 

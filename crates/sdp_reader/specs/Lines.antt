@@ -1,7 +1,7 @@
 -- The lines of a session description (RFC 4566, section 5), and the faults of single lines.
 -- Lines are counted from 1. A line is kept without its line end and the blanks before it.
 use Rattle.std.specs.Prelude.{ℕ, ◌+◌, ◌==◌, ◌&&◌, ◌||◌, not, Bool, true, false, nat_le, if◌then◌else◌, List, [], ◌∷◌, ◌++◌, length, slice_index, Option, Some, None, is_none, codes}
-use Rattle.std.specs.List.{list_any, slice_split}
+use Rattle.std.specs.List.{list_any, flat_map, slice_split}
 use Rattle.std.specs.Str.{bytes_eq}
 use Rattle.std.specs.Char.{is_ascii_lowercase}
 use Rattle.sdp_reader.specs.Bytes.{before, after, after_prefix, trim_end, number_within}
@@ -36,6 +36,11 @@ lines bytes = numbered 1 (slice_split (λ x. x == 10) bytes)
 abbrev pub at : ℕ → SdpCause → Bool → List SdpFault
 at line cause stands = if stands then record { line = line; what = cause } ∷ [] else []
 
+-- of each two that are alike, the cause on the line of the later
+abbrev pub repeats : {A : Type 0} → (A → ℕ) → SdpCause → (A → A → Bool) → List A → List SdpFault
+repeats line cause alike [] = []
+repeats line cause alike (x ∷ xs) = flat_map (λ later. at (line later) cause (alike x later)) xs ++ repeats line cause alike xs
+
 -- NotText: the line holds a byte 0 or a CR
 abbrev pub is_not_text : TextLine → Bool
 is_not_text l = list_any (λ b. b == 0 || b == 13) l.text
@@ -56,13 +61,15 @@ media_fields l = after_prefix (codes "m=") l.text
 abbrev pub is_video : List ℕ → Bool
 is_video fields = bytes_eq (before 32 fields) (codes "video")
 
--- the second field is the port, the third the protocol, the fourth the format
+-- the second field is the port
 abbrev pub port_of : List ℕ → Option ℕ
 port_of fields = number_within 1 65535 (before 32 (after 32 fields))
 
+-- the third is the protocol
 abbrev pub protocol_of : List ℕ → List ℕ
 protocol_of fields = before 32 (after 32 (after 32 fields))
 
+-- the fourth is the format
 abbrev pub format_of : List ℕ → Option ℕ
 format_of fields = number_within 0 127 (before 32 (after 32 (after 32 (after 32 fields))))
 
@@ -78,11 +85,12 @@ video_of fields =
     if is_video fields && bytes_eq (protocol_of fields) (codes "RTP/AVP") then video_at (port_of fields) (format_of fields)
     else None
 
--- BadMedia: an `m=` line whose first field is `video` isn't a video line
+-- the first field is `video`, and the fields aren't those of a video line
 abbrev pub are_bad_fields : Option (List ℕ) → Bool
 are_bad_fields None = false
 are_bad_fields (Some fields) = is_video fields && is_none (video_of fields)
 
+-- BadMedia: an `m=` line has such fields
 abbrev pub is_bad_media : TextLine → Bool
 is_bad_media l = are_bad_fields (media_fields l)
 

@@ -1,14 +1,14 @@
 -- The parameters of a raw part: `a=fmtp` (RFC 4566, section 6) with the names of SMPTE ST 2110-20 and
 -- ST 2110-21. Sizes are pixels and lines, the rate frames per second, TROFF microseconds, CMAX packets
 -- and MAXUDP bytes.
-use Rattle.std.specs.Prelude.{ℕ, ◌*◌, ◌==◌, ◌&&◌, Bool, true, false, nat_le, nat_lt, if◌then◌else◌, List, [], ◌∷◌, ◌++◌, Option, Some, None, is_some, is_none, codes, find}
+use Rattle.std.specs.Prelude.{ℕ, ◌*◌, ◌==◌, ◌&&◌, Bool, true, false, nat_le, nat_lt, if◌then◌else◌, List, [], Option, Some, None, is_some, is_none, codes, find}
 use Rattle.std.specs.Option.{option_and_then}
-use Rattle.std.specs.List.{list_any, slice_split, filter_map, flat_map}
+use Rattle.std.specs.List.{slice_split, filter_map, flat_map}
 use Rattle.std.specs.Str.{bytes_eq, str_eq_ignore_ascii_case}
 use Rattle.timing_base.specs.declared.Kind.{Kind}
 use Rattle.timing_base.specs.declared.Kind.TheVariants.{N, NL, W}
 use Rattle.sdp_reader.specs.Bytes.{before, after, holds, after_prefix, trim_end, trim_start, number, number_within}
-use Rattle.sdp_reader.specs.Lines.{TextLine, at}
+use Rattle.sdp_reader.specs.Lines.{TextLine, at, repeats}
 use Rattle.sdp_reader.specs.declared.fault.SdpCause.{SdpCause}
 use Rattle.sdp_reader.specs.declared.fault.SdpCause.TheVariants.{BadParameter, RepeatedParameter, BadRate, Segmented, ExtendedUdp}
 use Rattle.sdp_reader.specs.declared.fault.SdpFault.{SdpFault}
@@ -143,6 +143,7 @@ abbrev pub at_most_one : ℕ → Option SdpCause → List SdpFault
 at_most_one line None = []
 at_most_one line (Some cause) = at line cause true
 
+-- the cause of an item, on its line
 abbrev pub item_faults : Item → List SdpFault
 item_faults item = at_most_one item.line (cause_of item.name item)
 
@@ -150,11 +151,13 @@ item_faults item = at_most_one item.line (cause_of item.name item)
 abbrev pub is_of : ℕ → Item → Bool
 is_of row item = row_of item.name == row
 
--- RepeatedParameter: the item is the second or a later one of its name
-abbrev pub repeated_faults : List Item → List Item → List SdpFault
-repeated_faults earlier [] = []
-repeated_faults earlier (item ∷ items) =
-    at item.line RepeatedParameter (list_any (is_of (row_of item.name)) earlier) ++ repeated_faults (earlier ++ item ∷ []) items
+-- an item and a later one have the same name
+abbrev pub have_one_name : Item → Item → Bool
+have_one_name item later = is_of (row_of later.name) item
+
+-- RepeatedParameter: an earlier item of the part has the same name
+abbrev pub repeated_faults : List Item → List SdpFault
+repeated_faults items = repeats (λ item. item.line) RepeatedParameter have_one_name items
 
 -- the first item of a name
 abbrev pub item_named : Name → List Item → Option Item

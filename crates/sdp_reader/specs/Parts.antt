@@ -1,5 +1,6 @@
--- Media parts (RFC 4566, section 5.14), connections (section 5.7) and the raw video parts of
--- SMPTE ST 2110-20: what each says, and its faults.
+-- Media parts (RFC 4566, section 5.14), connections (section 5.7), and the raw video parts of
+-- SMPTE ST 2110-20, whose `a=rtpmap` (section 6) has the encoding raw/90000 of RFC 4175: what each says,
+-- and its faults.
 -- Addresses are 32-bit numbers, the first octet highest.
 use Rattle.std.specs.Prelude.{ℕ, ◌+◌, ◌*◌, ◌&&◌, ◌||◌, Bool, true, false, if◌then◌else◌, List, [], ◌∷◌, ◌++◌, Option, Some, None, is_some, is_none, codes, find}
 use Rattle.std.specs.Option.{option_and_then, option_map}
@@ -35,10 +36,11 @@ abbrev pub parts : List TextLine → List Part
 parts [] = []
 parts (l ∷ ls) = if is_head l then record { head = l; body = own_lines ls } ∷ parts ls else parts ls
 
--- the first `c=` line of some lines
+-- the line begins `c=`
 abbrev pub is_connection : TextLine → Bool
 is_connection l = is_some (after_prefix (codes "c=") l.text)
 
+-- the first such line
 abbrev pub connection_line : List TextLine → Option TextLine
 connection_line ls = find is_connection ls
 
@@ -52,8 +54,8 @@ abbrev pub octet : List ℕ → Option ℕ
 octet text = option_and_then (within 0 255) (digits_of 3 text)
 
 -- the address of four octets
-abbrev pub joined : Option ℕ → Option ℕ → Option ℕ → Option ℕ → Option ℕ
-joined a b c d = option_and_then (λ x. option_and_then (λ y. option_and_then (λ z. option_map (λ w. x * 16777216 + y * 65536 + z * 256 + w) d) c) b) a
+abbrev pub address_from : Option ℕ → Option ℕ → Option ℕ → Option ℕ → Option ℕ
+address_from a b c d = option_and_then (λ x. option_and_then (λ y. option_and_then (λ z. option_map (λ w. x * 16777216 + y * 65536 + z * 256 + w) d) c) b) a
 
 -- what stands after a slash, if there is one, is a TTL
 abbrev pub is_ttl : List ℕ → Bool
@@ -61,7 +63,7 @@ is_ttl last = if holds 47 last then is_some (octet (after 47 last)) else true
 
 -- three octets and dots, and a last one, maybe with a TTL
 abbrev pub dotted : List ℕ → List ℕ → List ℕ → List ℕ → Option ℕ
-dotted a b c last = if is_ttl last then joined (octet a) (octet b) (octet c) (octet (before 47 last)) else None
+dotted a b c last = if is_ttl last then address_from (octet a) (octet b) (octet c) (octet (before 47 last)) else None
 
 -- `A.B.C.D` or `A.B.C.D/TTL`
 abbrev pub address_at : List ℕ → Option ℕ
@@ -72,11 +74,12 @@ address_at rest =
 abbrev pub address_of : TextLine → Option ℕ
 address_of l = option_and_then address_at (after_prefix (codes "c=IN IP4 ") l.text)
 
--- a line `a=rtpmap:FORMAT raw/90000`
+-- `FORMAT raw/90000`, where there is such a text
 abbrev pub is_raw_map_at : ℕ → Option (List ℕ) → Bool
 is_raw_map_at format None = false
 is_raw_map_at format (Some rest) = is_the format (number (before 32 rest)) && str_eq_ignore_ascii_case (after 32 rest) (codes "raw/90000")
 
+-- a line `a=rtpmap:FORMAT raw/90000`
 abbrev pub is_raw_map : ℕ → TextLine → Bool
 is_raw_map format l = is_raw_map_at format (after_prefix (codes "a=rtpmap:") l.text)
 
@@ -115,10 +118,11 @@ abbrev pub connection_faults : ℕ → Option TextLine → List SdpFault
 connection_faults line None = at line NoConnection true
 connection_faults line (Some connection) = at connection.number BadAddress (is_none (address_of connection))
 
--- MissingParameter: a name that doesn't stand at all
+-- no item has the name
 abbrev pub lacks : Name → List Item → Bool
 lacks name items = is_none (item_named name items)
 
+-- MissingParameter: a name that has to stand doesn't
 abbrev pub is_missing : List Item → Bool
 is_missing items = lacks Width items || lacks Height items || lacks ExactFrameRate items
 
@@ -126,8 +130,9 @@ is_missing items = lacks Width items || lacks Height items || lacks ExactFrameRa
 abbrev pub faults_at : ℕ → Option TextLine → List Item → List SdpFault
 faults_at line connection items =
     connection_faults line connection ++ (at line MissingParameter (is_missing items)
-    ++ (flat_map item_faults items ++ repeated_faults [] items))
+    ++ (flat_map item_faults items ++ repeated_faults items))
 
+-- those of a raw part
 abbrev pub part_faults : RawPart → List SdpFault
 part_faults r = faults_at r.line r.connection r.items
 
@@ -180,5 +185,6 @@ stream_of line video address items =
     (number_named Width 1 32767 items))
     address
 
+-- the stream of a raw part
 abbrev pub media_of : RawPart → Option Stream
 media_of r = stream_of r.line (record { port = r.port; format = r.format }) (good_address r) r.items

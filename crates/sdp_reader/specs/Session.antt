@@ -2,9 +2,9 @@
 -- ST 2110-21; the limits and the numbers of the causes are this project's profile).
 use Rattle.std.specs.Prelude.{ℕ, ◌==◌, ◌&&◌, nat_lt, Bool, true, false, if◌then◌else◌, List, [], ◌∷◌, ◌++◌, length, drop, map, Option, Some, None, Result, Ok, Err}
 use Rattle.std.specs.Option.{option_map}
-use Rattle.std.specs.List.{list_any, flat_map, filter_map}
+use Rattle.std.specs.List.{flat_map, filter_map}
 use Rattle.sdp_reader.specs.Fault.{least, IsAmong}
-use Rattle.sdp_reader.specs.Lines.{TextLine, lines, at, line_faults, version_faults}
+use Rattle.sdp_reader.specs.Lines.{TextLine, lines, at, repeats, line_faults, version_faults}
 use Rattle.sdp_reader.specs.Parts.{parts, own_lines, connection_line, RawPart, raw_of, good_address, part_faults, Stream, media_of}
 use Rattle.sdp_reader.specs.declared.fault.SdpCause.{SdpCause}
 use Rattle.sdp_reader.specs.declared.fault.SdpCause.TheVariants.{SameTarget, TooManyMedia, NoVideo, TooLarge}
@@ -24,6 +24,7 @@ pub record Destination : Type 0 where
   pub line : ℕ
   pub target : Option Target
 
+-- the first line and the target of a raw part
 abbrev pub target_of : RawPart → Destination
 target_of r = record { line = r.line; target = target_at (good_address r) r.port }
 
@@ -31,33 +32,32 @@ target_of r = record { line = r.line; target = target_at (good_address r) r.port
 abbrev pub is_same : Target → Target → Bool
 is_same a b = (a.address == b.address) && (a.port == b.port)
 
--- the packets go to the target
-abbrev pub goes_to : Target → Option Target → Bool
-goes_to t None = false
-goes_to t (Some own) = is_same own t
+-- there are two targets, and they are the same
+abbrev pub are_same : Option Target → Option Target → Bool
+are_same None own = false
+are_same (Some t) None = false
+are_same (Some t) (Some own) = is_same own t
 
--- whether one of these parts has the target
-abbrev pub is_taken : Option Target → List Destination → Bool
-is_taken None earlier = false
-is_taken (Some t) earlier = list_any (λ part. goes_to t part.target) earlier
+-- a part and a later one have the same target
+abbrev pub have_one_target : Destination → Destination → Bool
+have_one_target part later = are_same later.target part.target
 
 -- SameTarget: an earlier raw part has the same address and port
-abbrev pub target_faults : List Destination → List Destination → List SdpFault
-target_faults earlier [] = []
-target_faults earlier (t ∷ ts) =
-    at t.line SameTarget (is_taken t.target earlier) ++ target_faults (earlier ++ t ∷ []) ts
+abbrev pub target_faults : List Destination → List SdpFault
+target_faults parts = repeats (λ part. part.line) SameTarget have_one_target parts
 
--- TooManyMedia: on the 65th part
+-- TooManyMedia: on the first of these parts
 abbrev pub first_too_many : List Destination → List SdpFault
 first_too_many [] = []
 first_too_many (t ∷ ts) = at t.line TooManyMedia true
 
+-- after 64 parts, which is on the 65th
 abbrev pub too_many_faults : List Destination → List SdpFault
 too_many_faults ts = first_too_many (drop 64 ts)
 
 -- the causes 5 to 14, of these raw parts
 abbrev pub raw_faults : List RawPart → List SdpFault
-raw_faults rs = flat_map part_faults rs ++ (target_faults [] (map target_of rs) ++ too_many_faults (map target_of rs))
+raw_faults rs = flat_map part_faults rs ++ (target_faults (map target_of rs) ++ too_many_faults (map target_of rs))
 
 -- all faults, each on its line
 abbrev pub faults : List TextLine → List SdpFault

@@ -18,6 +18,7 @@ pub record Summary : Type 0 where
   pub fault : Option SdpFault
   pub media : Option Stream
 
+-- those of a raw part, as they are defined
 abbrev pub summary_of : RawPart → Summary
 summary_of r = record { target = target_of r; fault = least (part_faults r); media = media_of r }
 

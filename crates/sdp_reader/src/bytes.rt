@@ -125,12 +125,12 @@ pub(crate) fn number(text: &[u8]) -> Option<u64>
 }
 
 // A number of one to ten digits from `low` to `high`.
-pub(crate) fn number_within(low: u64, high: u64, text: &[u8]) -> Option<u64>
+pub(crate) fn number_within(low: u32, high: u32, text: &[u8]) -> Option<u32>
     ensures value { result ≡ number_within low high text.now }
     ensures range { IfSome result (λ n. (low ≤ n) × (n ≤ high)) }
 {
     match number(text) {
-        Some(n) if low <= n && n <= high => Some(n),
+        Some(n) if u64::from(low) <= n && n <= u64::from(high) => Some(n as u32),
         _ => None,
     }
 }

@@ -7,37 +7,42 @@ use std::fmt;
 
 /// Why a text is no session description of video streams. The numbers 1 to 15 and 17 of the causes
 /// are in this order.
+///
+/// From `NoConnection` to `TooManyMedia` they are of raw parts alone: video parts that map their
+/// format to `raw/90000`. A parameter is one that the reader knows (width, height, exactframerate,
+/// interlace, segmented, TP, TROFF, CMAX and MAXUDP); others are passed over.
 #[derive(Clone, Copy, Debug, PartialEq, Eq)]
 pub enum SdpCause {
-    /// The line holds a byte 0, or a CR that doesn't end it.
+    /// The line holds a byte 0, or a CR that isn't directly before a LF.
     NotText,
-    /// The first line that isn't empty isn't `v=0`.
+    /// The first line that isn't empty isn't `v=0`. Where there is no such line, the fault is on line
+    /// 1.
     NoVersion,
-    /// The line doesn't begin with a letter a to z and `=`.
+    /// The line isn't empty, and doesn't begin with a letter a to z and `=`.
     BadLine,
-    /// A video line without port, `RTP/AVP` and format.
+    /// The first field of the `m=` line is `video`, and the line isn't `m=video PORT RTP/AVP FORMAT`.
     BadMedia,
     /// Neither the part nor the session has a `c=` line.
     NoConnection,
-    /// The `c=` line that counts has no IPv4 address.
+    /// The `c=` line that counts isn't `c=IN IP4 A.B.C.D` or `c=IN IP4 A.B.C.D/TTL`.
     BadAddress,
     /// A parameter other than exactframerate hasn't its form.
     BadParameter,
-    /// A parameter stands a second time in its part.
+    /// A parameter stands a second time, or a later one, in its part.
     RepeatedParameter,
-    /// There is no width, height or exactframerate.
+    /// The part has no width, height or exactframerate. One in a bad form isn't missing.
     MissingParameter,
     /// The parameter exactframerate hasn't its form.
     BadRate,
-    /// The pictures are progressive and come as segments.
+    /// The parameter segmented stands, with interlace or without: the pictures come as segments.
     Segmented,
-    /// The packets are larger than the standard UDP size limit.
+    /// MAXUDP is above 1,460 bytes.
     ExtendedUdp,
     /// An earlier raw part has the same address and port.
     SameTarget,
-    /// The part is the 65th.
+    /// The part is the 65th raw part.
     TooManyMedia,
-    /// There is no video part of raw pictures.
+    /// No line has a fault, and there is no raw part.
     NoVideo,
     /// The text has more than 1,048,576 bytes.
     TooLarge,

@@ -2,7 +2,7 @@ ghost use Rattle.std.specs.Prelude.{◌≡◌, ◌≤◌, ◌<◌, ◌*◌, ◌+
 ghost use Rattle.std.specs.Option.{option_map, option_copied, option_to_list};
 ghost use Rattle.std.specs.List.{flat_map};
 ghost use Rattle.sdp_reader.specs.Fault.{least};
-ghost use Rattle.sdp_reader.specs.Parameters.{table_name, row_of, item_at, items_of, list_of, parameters, value_within, is_the, udp_cause, value_rate, value_kind, rate_of, kind_of, cause_of, item_faults, repeated_faults, item_named};
+ghost use Rattle.sdp_reader.specs.Parameters.{table_name, row_of, item_at, items_of, list_of, parameters, value_within, is_the, udp_cause, value_rate, value_kind, rate_of, kind_of, unless, cause_of, item_faults, repeated_faults, item_named};
 ghost use Rattle.sdp_reader.specs.Bytes.{number};
 ghost use Rattle.sdp_reader.specs.Plain.{plain, plain_item};
 
@@ -95,24 +95,12 @@ fn item_at(line: u32, piece: &[u8]) -> Option<Parameter<'_>>
     ensures { option_map plain_item result ≡ item_at line piece.now }
 {
     let text = trim_start(trim_end(piece));
-    match cut(b'=', text) {
-        Some((name, value)) => match table_name(name) {
-            Some(name) => Some(Parameter {
-                line,
-                name,
-                value: Some(value),
-            }),
-            None => None,
-        },
-        None => match table_name(text) {
-            Some(name) => Some(Parameter {
-                line,
-                name,
-                value: None,
-            }),
-            None => None,
-        },
-    }
+    let (name, value) = match cut(b'=', text) {
+        Some((name, value)) => (name, Some(value)),
+        None => (text, None),
+    };
+    let name = table_name(name)?;
+    Some(Parameter { line, name, value })
 }
 
 // A rate of at most 240 frames per second.
@@ -128,10 +116,7 @@ fn rate_of(text: &[u8]) -> Option<Rate>
         None => (number(text), Some(1)),
     };
     match (p, q) {
-        (Some(p), Some(q)) if 1 <= p && p <= 240 * q => Some(Rate {
-            p: p as u32,
-            q: q as u32,
-        }),
+        (Some(p), Some(q)) if 1 <= p && p <= 240 * u64::from(q) => Some(Rate { p: p as u32, q }),
         _ => None,
     }
 }
@@ -153,15 +138,12 @@ fn kind_of(text: &[u8]) -> Option<Kind>
 
 impl Parameter<'_> {
     // The value, as a number in a range.
-    pub(crate) fn number(&self, low: u64, high: u64) -> Option<u64>
+    pub(crate) fn number(&self, low: u32, high: u32) -> Option<u32>
         ensures value { result ≡ value_within low high (plain_item self.now) }
         ensures low { IfSome result (λ n. low ≤ n) }
         ensures high { IfSome result (λ n. n ≤ high) }
     {
-        match self.value {
-            Some(text) => number_within(low, high, text),
-            None => None,
-        }
+        number_within(low, high, self.value?)
     }
 
     // The value, as a frame rate.
@@ -172,52 +154,31 @@ impl Parameter<'_> {
         ensures q_some { IfSome result (λ r. 1 ≤ r.q) }
         ensures q_most { IfSome result (λ r. r.q ≤ 1001) }
     {
-        match self.value {
-            Some(text) => rate_of(text),
-            None => None,
-        }
+        rate_of(self.value?)
     }
 
     // The value, as a sender type.
     pub(crate) fn kind(&self) -> Option<Kind>
         ensures { result ≡ value_kind (plain_item self.now) }
     {
-        match self.value {
-            Some(text) => kind_of(text),
-            None => None,
-        }
+        kind_of(self.value?)
     }
 
     // What is wrong with the parameter, if anything is.
     fn cause(&self) -> Option<SdpCause>
         ensures { result ≡ cause_of self.now.name (plain_item self.now) }
     {
-        let fits = match self.name {
-            Name::Width | Name::Height => self.number(1, 32_767).is_some(),
-            Name::ExactFrameRate => {
-                return if self.rate().is_some() {
-                    None
-                } else {
-                    Some(SdpCause::BadRate)
-                };
-            }
-            Name::Interlace => self.value.is_none(),
-            Name::Segmentation => {
-                return if self.value.is_none() {
-                    Some(SdpCause::Segmented)
-                } else {
-                    Some(SdpCause::BadParameter)
-                };
-            }
-            Name::Tp => self.kind().is_some(),
-            Name::Troff => self.number(0, 1_000_000).is_some(),
-            Name::Cmax => self.number(1, 65_535).is_some(),
-            Name::MaxUdp => return udp_cause(self.number(1, 65_535)),
-        };
-        if fits {
-            None
-        } else {
-            Some(SdpCause::BadParameter)
+        let bad = SdpCause::BadParameter;
+        match self.name {
+            Name::Width | Name::Height => unless(self.number(1, 32_767).is_some(), bad),
+            Name::ExactFrameRate => unless(self.rate().is_some(), SdpCause::BadRate),
+            Name::Interlace => unless(self.value.is_none(), bad),
+            Name::Segmentation if self.value.is_none() => Some(SdpCause::Segmented),
+            Name::Segmentation => Some(bad),
+            Name::Tp => unless(self.kind().is_some(), bad),
+            Name::Troff => unless(self.number(0, 1_000_000).is_some(), bad),
+            Name::Cmax => unless(self.number(1, 65_535).is_some(), bad),
+            Name::MaxUdp => udp_cause(self.number(1, 65_535)),
         }
     }
 
@@ -225,18 +186,23 @@ impl Parameter<'_> {
     fn fault(&self) -> Option<SdpFault>
         ensures { result ≡ least (item_faults (plain_item self.now)) }
     {
-        match self.cause() {
-            Some(what) => Some(SdpFault {
-                line: self.line,
-                what,
-            }),
-            None => None,
-        }
+        let what = self.cause()?;
+        Some(SdpFault {
+            line: self.line,
+            what,
+        })
     }
 }
 
-// What is wrong with a UDP size limit.
-fn udp_cause(limit: Option<u64>) -> Option<SdpCause>
+// The cause, unless the parameter fits.
+fn unless(fits: bool, cause: SdpCause) -> Option<SdpCause>
+    ensures { result ≡ unless fits cause }
+{
+    if fits { None } else { Some(cause) }
+}
+
+// What is wrong with a UDP size limit, in bytes.
+fn udp_cause(limit: Option<u32>) -> Option<SdpCause>
     ensures { result ≡ udp_cause limit }
 {
     match limit {
@@ -263,10 +229,7 @@ fn list_of<'a>(line: &Line<'a>, format: u8) -> &'a [u8]
 pub(crate) fn is_the(format: u8, text: &[u8]) -> bool
     ensures { result ≡ is_the format (number text.now) }
 {
-    match number(text) {
-        Some(n) => n == u64::from(format),
-        None => false,
-    }
+    number(text) == Some(u64::from(format))
 }
 
 // Adds a parameter, where there is one.
@@ -328,7 +291,7 @@ pub(crate) fn item_fault(items: &[Parameter]) -> Option<SdpFault>
 
 // The first of the parameters that stand a second time.
 pub(crate) fn repeated_fault(items: &[Parameter]) -> Option<SdpFault>
-    ensures { result ≡ least (repeated_faults [] (map plain_item items.now)) }
+    ensures { result ≡ least (repeated_faults (map plain_item items.now)) }
 {
     let mut fault = None;
     let mut seen = [false; 9];

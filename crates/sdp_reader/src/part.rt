@@ -5,7 +5,7 @@ ghost use Rattle.sdp_reader.specs.Fault.{least};
 ghost use Rattle.sdp_reader.specs.Bytes.{after};
 ghost use Rattle.sdp_reader.specs.Lines.{media_fields, video_of};
 ghost use Rattle.sdp_reader.specs.Parameters.{value_kind, value_rate, item_named, parameters};
-ghost use Rattle.sdp_reader.specs.Parts.{own_lines, connection_line, octet, is_ttl, joined, address_at, address_of, is_raw_map, raw_part, raw_of, counting, connection_faults, faults_at, is_missing, number_named, stream_of, stream_with};
+ghost use Rattle.sdp_reader.specs.Parts.{own_lines, connection_line, octet, is_ttl, address_from, address_at, address_of, is_raw_map, raw_part, raw_of, counting, connection_faults, faults_at, is_missing, number_named, stream_of, stream_with};
 ghost use Rattle.sdp_reader.specs.Plain.{plain, plain_item, stream};
 ghost use Rattle.sdp_reader.specs.Session.{target_at};
 ghost use Rattle.sdp_reader.specs.Summary.{summary, summary_of};
@@ -82,21 +82,13 @@ fn is_ttl(last: &[u8]) -> bool
 }
 
 // The address of four octets.
-fn joined(a: &[u8], b: &[u8], c: &[u8], d: &[u8]) -> Option<u32>
-    ensures { result ≡ joined (octet a.now) (octet b.now) (octet c.now) (octet d.now) }
+fn address_from(a: &[u8], b: &[u8], c: &[u8], d: &[u8]) -> Option<u32>
+    ensures { result ≡ address_from (octet a.now) (octet b.now) (octet c.now) (octet d.now) }
 {
-    let Some(a) = octet(a) else {
-        return None;
-    };
-    let Some(b) = octet(b) else {
-        return None;
-    };
-    let Some(c) = octet(c) else {
-        return None;
-    };
-    let Some(d) = octet(d) else {
-        return None;
-    };
+    let a = octet(a)?;
+    let b = octet(b)?;
+    let c = octet(c)?;
+    let d = octet(d)?;
     Some(a * 16_777_216 + b * 65_536 + c * 256 + d)
 }
 
@@ -109,7 +101,7 @@ fn address_at(rest: &[u8]) -> Option<u32>
     let (c, last) = field(b'.', rest);
     let (d, _) = field(b'/', last);
     if is_ttl(last) {
-        joined(a, b, c, d)
+        address_from(a, b, c, d)
     } else {
         None
     }
@@ -119,10 +111,7 @@ fn address_at(rest: &[u8]) -> Option<u32>
 fn address_of(line: &Line) -> Option<u32>
     ensures { result ≡ address_of (plain line.now) }
 {
-    match strip(line.text, b"c=IN IP4 ") {
-        Some(rest) => address_at(rest),
-        None => None,
-    }
+    address_at(strip(line.text, b"c=IN IP4 ")?)
 }
 
 // Whether the line is `a=rtpmap:FORMAT raw/90000`.
@@ -179,23 +168,14 @@ fn number_named(name: Name, low: u32, high: u32, items: &[Parameter]) -> Option<
     ensures low { IfSome result (λ n. low ≤ n) }
     ensures high { IfSome result (λ n. n ≤ high) }
 {
-    match item_named(name, items) {
-        Some(item) => match item.number(u64::from(low), u64::from(high)) {
-            Some(n) => Some(n as u32),
-            None => None,
-        },
-        None => None,
-    }
+    item_named(name, items)?.number(low, high)
 }
 
 // The sender type of the first parameter TP.
 fn kind_named(items: &[Parameter]) -> Option<Kind>
     ensures { result ≡ option_and_then value_kind (item_named Name.Tp (map plain_item items.now)) }
 {
-    match item_named(Name::Tp, items) {
-        Some(item) => item.kind(),
-        None => None,
-    }
+    item_named(Name::Tp, items)?.kind()
 }
 
 // The rate of the first parameter exactframerate.
@@ -207,10 +187,7 @@ fn rate_named(items: &[Parameter]) -> Option<Rate>
     ensures q_some { IfSome result (λ r. 1 ≤ r.q) }
     ensures q_most { IfSome result (λ r. r.q ≤ 1001) }
 {
-    match item_named(Name::ExactFrameRate, items) {
-        Some(item) => item.rate(),
-        None => None,
-    }
+    item_named(Name::ExactFrameRate, items)?.rate()
 }
 
 // The stream of a part, where it has all that a stream has to have.
@@ -219,18 +196,10 @@ fn media_of(line: u32, video: Video, address: Option<u32>, items: &[Parameter]) 
     requires format { video.format ≤ 127 }
     ensures { option_map stream result ≡ stream_of line video address (map plain_item items.now) }
 {
-    let Some(address) = address else {
-        return None;
-    };
-    let Some(width) = number_named(Name::Width, 1, 32_767, items) else {
-        return None;
-    };
-    let Some(height) = number_named(Name::Height, 1, 32_767, items) else {
-        return None;
-    };
-    let Some(rate) = rate_named(items) else {
-        return None;
-    };
+    let address = address?;
+    let width = number_named(Name::Width, 1, 32_767, items)?;
+    let height = number_named(Name::Height, 1, 32_767, items)?;
+    let rate = rate_named(items)?;
     let interlaced = item_named(Name::Interlace, items).is_some();
     let declared = kind_named(items);
     let troff = number_named(Name::Troff, 0, 1_000_000, items);
@@ -294,30 +263,22 @@ fn counting<'a>(own: Option<Line<'a>>, session: Option<Line<'a>>) -> Option<Line
     ensures { option_map plain result
         ≡ counting (option_map plain own.entry) (option_map plain session.entry) }
 {
-    match own {
-        Some(line) => Some(line),
-        None => session,
-    }
+    own.or(session)
 }
 
 // The address, where the connection has the form.
 fn good_address(connection: Option<Line>) -> Option<u32>
     ensures { result ≡ option_and_then address_of (option_map plain connection.entry) }
 {
-    match connection {
-        Some(line) => address_of(&line),
-        None => None,
-    }
+    address_of(&connection?)
 }
 
 // The target of a part with this address, if it has a good one, and this port.
 fn target_at(address: Option<u32>, port: u16) -> Option<Target>
     ensures { result ≡ target_at address port }
 {
-    match address {
-        Some(address) => Some(Target { address, port }),
-        None => None,
-    }
+    let address = address?;
+    Some(Target { address, port })
 }
 
 // What is kept of the part that a line begins, where it is a raw part; `rest` are the lines after
@@ -339,10 +300,8 @@ pub(crate) fn read_part<'a>(
     if !is_raw(body, video.format) {
         return Ok(None);
     }
-    match read_raw(alloc, session, head.number, video, body) {
-        Ok(reading) => Ok(Some(reading)),
-        Err(e) => Err(e),
-    }
+    let reading = read_raw(alloc, session, head.number, video, body)?;
+    Ok(Some(reading))
 }
 
 // Port and format, where the line is a video line.
@@ -350,8 +309,5 @@ fn video_of_head(head: &Line) -> Option<Video>
     ensures value { result ≡ option_and_then video_of (media_fields (plain head.now)) }
     ensures ranges { IfSome result (λ v. (1 ≤ v.port) × (v.format ≤ 127)) }
 {
-    match head.media_fields() {
-        Some(fields) => video_of(fields),
-        None => None,
-    }
+    video_of(head.media_fields()?)
 }

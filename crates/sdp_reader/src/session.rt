@@ -80,7 +80,7 @@ fn is_taken(seen: &mut BTreeSet<Target>, target: Option<Target>) -> Result<bool,
 
 // The first part whose target an earlier part has.
 fn target_fault(alloc: Global, readings: &[Reading]) -> Result<Option<SdpFault>, AllocError>
-    ensures { IfOk result (λ fault. fault ≡ least (target_faults [] (map target readings.now))) }
+    ensures { IfOk result (λ fault. fault ≡ least (target_faults (map target readings.now))) }
 {
     let mut fault = None;
     let mut seen = BTreeSet::new(alloc);
@@ -139,9 +139,8 @@ fn answer(alloc: Global, lines: &[Line]) -> Result<Vec<Media>, SdpError>
     let session = connection_line(own_lines(lines));
     let readings = read_parts(alloc, session, lines)?;
     let list = readings.as_slice();
-    match first_fault(alloc, lines, list)? {
-        Some(fault) => return Err(SdpError::Refused(fault)),
-        None => {}
+    if let Some(fault) = first_fault(alloc, lines, list)? {
+        return Err(SdpError::Refused(fault));
     }
     if list.is_empty() {
         return Err(SdpError::Refused(SdpFault {

@@ -22,7 +22,7 @@ some_read : (c : After-drop-readings-2) → 0 < length c.as_slice-list.result.no
 some_read c = grind (arith, common_steps, c.if-is_empty.false, c.is_empty.ensures)
 
 no_fault : (c : After-drop-readings-2) → None ≡ least (faults (map plain c.args.lines.now))
-no_fault c = sym c.in-None.is ∙ c.in_ok-fault.ensures
+no_fault c = sym c.in_default.is ∙ c.in_ok-fault.ensures
 
 pub returns-clause-told : goal.returns-clause-told
 returns-clause-told c =

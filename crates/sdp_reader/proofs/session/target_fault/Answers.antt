@@ -1,10 +1,19 @@
-use Rattle.std.proofs.Common.{◌∙◌, ap, subst, arith}
+use Rattle.std.proofs.Common.{◌∙◌, map, ap, subst, arith}
+use Rattle.std.proofs.lemmas.Grind.{common_steps}
 use Rattle.sdp_reader.specs.declared.fault.SdpCause.TheVariants.{SameTarget}
 use Rattle.sdp_reader.specs.Fault.{least}
 use Rattle.sdp_reader.specs.Lines.{at}
-use Rattle.sdp_reader.specs.Summary.{TakesTarget}
+use Rattle.sdp_reader.specs.Session.{have_one_target}
+use Rattle.sdp_reader.specs.Summary.{TakesTarget, target}
+use Rattle.sdp_reader.proofs.Repeats.{repeats_after-none}
 use Rattle.sdp_reader.proofs.Summaries.{seen-step, target-step}
 use Rattle.sdp_reader.proofs.session.target_fault.Goals as goal
+
+pub loop-reading-init : goal.loop-reading-init
+loop-reading-init c = record {
+  told = repeats_after-none (λ part. part.line) SameTarget have_one_target (map target c.args.readings.now);
+  seen = λ t. grind (arith, common_steps);
+}
 
 pub loop-reading-preserved : goal.loop-reading-preserved
 loop-reading-preserved c =
