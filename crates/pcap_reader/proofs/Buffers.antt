@@ -32,6 +32,7 @@ held-before f s xs r h k =
     let e : s + (f - s) ≡ f = omega arith in
     drop-append-le s (take f xs) r (omega (arith, length-take f xs)) ∙ ap (λ l. l ++ r) (ap (λ j. drop s (take j xs)) (sym e) ∙ drop-take s (f - s) xs)
 
+-- a read puts its bytes behind what was held
 pub held-after_read : (f s n : ℕ) (xs new post : List ℕ) → s ≤ f → f ≤ length xs → n ≤ length new
     → take ((f + n) - s) (drop s (take f xs ++ (new ++ post))) ≡ take (f - s) (drop s xs) ++ take n new
 held-after_read f s n xs new post h k m =
@@ -41,6 +42,7 @@ held-after_read f s n xs new post h k m =
     ap (take ((f + n) - s)) (held-before f s xs (new ++ post) h k) ∙ ap (λ j. take j (old ++ (new ++ post))) e ∙ take-append-add old (new ++ post) n
     ∙ ap (λ l. old ++ l) (take-append-le n new post m)
 
+-- a read that failed leaves what was held
 pub held-after_fail : (f s : ℕ) (xs r : List ℕ) → s ≤ f → f ≤ length xs → take (f - s) (drop s (take f xs ++ r)) ≡ take (f - s) (drop s xs)
 held-after_fail f s xs r h k =
     let old = take (f - s) (drop s xs) in
@@ -53,6 +55,7 @@ Keeps-read None b h bs p = tt
 Keeps-read (Some x) None h bs p = absurd p
 Keeps-read (Some x) (Some y) h bs p = append_assoc h bs y ∙ ap (λ l. h ++ l) (sym p)
 
+-- and after a read that failed the same is left
 pub Keeps-failed : (a b : Option (List ℕ)) (h : List ℕ) → Keeps a b → Keeps (prepend_known h a) (prepend_known h b)
 Keeps-failed None b h p = tt
 Keeps-failed (Some x) None h p = absurd p

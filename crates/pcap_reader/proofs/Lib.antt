@@ -1,4 +1,5 @@
 pub mod Buffers
 pub mod Lists
 pub mod Reading
+pub mod Taking
 pub mod Texts

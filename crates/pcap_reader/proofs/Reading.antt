@@ -1,5 +1,5 @@
 -- Lemmas on what a window reads of a text, and on what is then still to be given.
-use Rattle.std.proofs.Common.{subst, refl, ◌≡◌, ◌≤◌, ◌<◌, ◌+◌, ℕ, List, [], ◌∷◌, length, take, drop, None, Some, Ok, Err, sym, ap, ◌∙◌, arith, length-append}
+use Rattle.std.proofs.Common.{subst, refl, ◌≡◌, ◌≤◌, ◌<◌, ◌+◌, ℕ, List, [], ◌∷◌, length, take, drop, None, Some, Ok, sym, ap, ◌∙◌, arith, length-append}
 use Rattle.std.specs.Prelude.{Option}
 use Rattle.std.specs.Io.KnownBytes.{Keeps, IsAtEnd, prepend_known}
 use Rattle.std.proofs.KnownBytes.{Keeps-trans}
@@ -12,17 +12,18 @@ use Rattle.pcap_reader.specs.declared.stage.Stage.TheVariants as stage
 use Rattle.pcap_reader.specs.declared.window.Window.{Window}
 use Rattle.pcap_reader.specs.declared.ending.Ending.{Ending}
 use Rattle.pcap_reader.specs.declared.ending.Ending.TheVariants.{End, Cut, Refused}
-use Rattle.pcap_reader.specs.Header.{header}
 use Rattle.pcap_reader.specs.Windows.{held, behind, SameRecord, stop_of}
-use Rattle.pcap_reader.specs.Records.{captured, stamp, ending, RecordsFrom, RecordsBy, Records, UnlessReadFault}
-use Rattle.pcap_reader.specs.Readers.{Reads, HeaderIs, StageGives}
-use Rattle.pcap_reader.proofs.Texts.{ending-read, captured-read, stamp-read, bytes-read, ahead-let_go, text_at_end, known_text}
+use Rattle.pcap_reader.specs.Records.{captured, stamp, ending, record_of, RecordsFrom, UnlessReadFault}
+use Rattle.pcap_reader.specs.Readers.{StageGives}
+use Rattle.pcap_reader.specs.Finding.{FoundGives}
+use Rattle.pcap_reader.proofs.Texts.{ending-none, ending-short, ending-read, captured-read, stamp-read, bytes-read, ahead-let_go, text_at_end, known_text}
 
 -- what holds of each ending holds of each that is no failed read
 pub unless_read_fault : (e : Ending) (P : Type 0) → P → UnlessReadFault e P
 unless_read_fault (Refused fault.ReadFault) P p = tt
 unless_read_fault e P p = p
 
+-- and so does what follows from it
 pub unless-map : (e : Ending) (P Q : Type 0) → (P → Q) → UnlessReadFault e P → UnlessReadFault e Q
 unless-map (Refused fault.ReadFault) P Q f p = tt
 unless-map e P Q f p = f p
@@ -44,16 +45,40 @@ ending-cut l v w1 w2 a b c text n same1 same2 p q e m end few cut =
     let short : length text < 16 + n = subst (λ k. length k < 16 + n) (sym t) few in
     ending-stop_of l v w1 a b text same1 p e m ∙ cut (length text) short ∙ ap (λ k. Some (Cut k)) (sym same2.place)
 
+-- a text that ends right here
+pub ending-here : (l : Layout) (v w : Window) (a b : Option (List ℕ)) (text : List ℕ) → Keeps a (prepend_known (held w) b) → a ≡ Some text → IsAtEnd b → length (held w) ≡ 0
+    → ending l v.most (v.count + 1) v.place text ≡ Some End
+ending-here l v w a b text p e end none =
+    ending-none l v.most (v.count + 1) v.place text (ap length (text_at_end a b (held w) text p e end) ∙ none)
+
+-- a text that ends within the head of a record
+pub ending-in_head : (l : Layout) (v w : Window) (a b : Option (List ℕ)) (text : List ℕ) → SameRecord v w → Keeps a (prepend_known (held w) b) → a ≡ Some text
+    → IsAtEnd b → 0 < length (held w) → length (held w) < 16 → ending l v.most (v.count + 1) v.place text ≡ Some (Cut w.place)
+ending-in_head l v w a b text same p e end some few =
+    let long : length text ≡ length (held w) = ap length (text_at_end a b (held w) text p e end) in
+    ending-short l v.most (v.count + 1) v.place text (omega (arith, long, some)) (omega (arith, long, few)) ∙ ap (λ k. Some (Cut k)) (sym same.place)
+
 -- nothing is no ending
 pub none_some : (e : Ending) → None ≡ Some e → ⊥
 none_some e p = cc
 
+-- a text is at least as long as what is held of it
 long_enough : (a b : Option (List ℕ)) (h text : List ℕ) (n : ℕ) → Keeps a (prepend_known h b) → a ≡ Some text → n ≤ length h → n ≤ length text
 long_enough a b h text n p e m = let k = known_text a b h text p e in subst (λ t. n ≤ length t) (sym k.2) (omega (arith, length-append h k.0, m))
 
+-- the record that was let go is the next of the text, and what is behind it is still to come
+abbrev IsNext : Layout → (old new : Window) → List ℕ → Option (List ℕ) → Head → Type 0
+IsNext layout old new text rest head =
+    (ending layout old.most (old.count + 1) old.place text ≡ None)
+    × (record_of layout (old.count + 1) text ≡ record { number = new.count; stamp = head.at; bytes = behind head.captured new })
+    × (new.place ≡ old.place + 16 + captured layout text)
+    × (rest ≡ Some (drop (16 + captured layout text) text))
+
+-- a record of these parts
 abbrev make : ℕ → ℕ → List ℕ → Record
 make a b c = record { number = a; stamp = b; bytes = c }
 
+-- equal parts make equal records
 record_is : (n m s t : ℕ) (xs ys : List ℕ) → n ≡ m → s ≡ t → xs ≡ ys
     → make n s xs ≡ make m t ys
 record_is n m s t xs ys e f g =
@@ -66,7 +91,7 @@ pub reads_record : (l : Layout) (v w1 w2 new : Window) (a b c : Option (List ℕ
     → ((long : ℕ) → 16 + head.captured ≤ long → stop_of l w1 long ≡ None)
     → held new ≡ drop (16 + head.captured) (held w2) → behind head.captured new ≡ take head.captured (drop 16 (held w2))
     → new.place ≡ w2.place + 16 + head.captured → new.count ≡ w2.count + 1
-    → Reads l v new text (prepend_known (held new) c) (Ok head)
+    → IsNext l v new text (prepend_known (held new) c) head
 reads_record l v w1 w2 new a b c text head same1 same2 p q e m long at cap whole rest bytes place count =
     let pq = Keeps-trans a _ _ p q in
     let n : captured l text ≡ head.captured = captured-read l a b (held w1) text p e m ∙ sym cap in
@@ -80,41 +105,30 @@ reads_record l v w1 w2 new a b c text head same1 same2 p q e m long at cap whole
       ahead-let_go a c (held w2) (held new) text (16 + head.captured) pq e long rest ∙ ap (λ k. Some (drop (16 + k) text)) (sym n),
     )
 
+-- an ending is known from its option
 pub some-injective : (x y : Ending) → Some x ≡ Some y → x ≡ y
 some-injective x y e = cc
 
+-- what is to be given at a stage that is known
+pub gives-at : (s t : Stage) (w : Window) (known : Option (List ℕ)) (items : List Record) (end : Ending) → s ≡ t → StageGives s w known items end → StageGives t w known items end
+gives-at s t w known items end e p = subst (λ k. StageGives k w known items end) e p
+
 -- a record that was read is the first of those that were to be given
 pub gives-frame : (l : Layout) (old new : Window) (text : List ℕ) (rest : Option (List ℕ)) (head : Head) (items : List Record) (end : Ending)
-    → Reads l old new text rest (Ok head) → new.count ≡ old.count + 1 → new.most ≡ old.most → RecordsFrom l old.most (old.count + 1) old.place text items end
-    → (later : List Record) × (items ≡ record { number = new.count; stamp = head.at; bytes = behind head.captured new } ∷ later) × StageGives (stage.Records l) new rest later end
-gives-frame l old new text rest head [] end r count most p = absurd (none_some end (sym r.0 ∙ p))
-gives-frame l old new text rest head (item ∷ items) end r count most p =
+    → IsNext l old new text rest head → new.count ≡ old.count + 1 → new.most ≡ old.most → RecordsFrom l old.most (old.count + 1) old.place text items end
+    → new.stage ≡ stage.Records l → FoundGives new rest (Ok head) items end
+gives-frame l old new text rest head [] end r count most p s = absurd (none_some end (sym r.0 ∙ p))
+gives-frame l old new text rest head (item ∷ items) end r count most p s =
     let later = p.2 in
     let at : List ℕ = drop (16 + captured l text) text in
     let moved : RecordsFrom l new.most (new.count + 1) new.place at items end =
     subst (λ k. RecordsFrom l new.most (new.count + 1) k at items end) (sym r.2)
     (subst (λ k. RecordsFrom l new.most (k + 1) (old.place + 16 + captured l text) at items end) (sym count)
     (subst (λ k. RecordsFrom l k (old.count + 1 + 1) (old.place + 16 + captured l text) at items end) (sym most) later)) in
-    (items, ap (λ i. i ∷ items) (p.1 ∙ r.1), (at, r.3, moved))
+    (items, ap (λ i. i ∷ items) (p.1 ∙ r.1), gives-at _ _ new rest items end (sym s) (at, r.3, moved))
 
 -- where none is read, nothing was to be given but that end
-pub gives-ending : (l : Layout) (old new : Window) (text : List ℕ) (rest : Option (List ℕ)) (e : Ending) (items : List Record) (end : Ending)
-    → Reads l old new text rest (Err e) → RecordsFrom l old.most (old.count + 1) old.place text items end → UnlessReadFault e ((items ≡ []) × (end ≡ e))
-gives-ending l old new text rest e [] end r p = unless-map e _ _ (λ q. (refl, some-injective end e (sym p ∙ q))) r
-gives-ending l old new text rest e (item ∷ items) end r p = unless-map e _ _ (λ q. absurd (none_some e (sym p.0 ∙ q))) r
-
--- behind a header
-pub gives-entered : (text : List ℕ) (most : ℕ) (l : Layout) (items : List Record) (end : Ending) → header text ≡ Ok l → Records text most items end
-    → RecordsFrom l most 1 24 (drop 24 text) items end
-gives-entered text most l items end e p = subst (λ h. RecordsBy h most text items end) e p
-
--- at a faulty header
-pub gives-faulty : (text : List ℕ) (most : ℕ) (e : Ending) (items : List Record) (end : Ending) → HeaderIs (header text) (Err e) → Records text most items end
-    → UnlessReadFault e ((items ≡ []) × (end ≡ e))
-gives-faulty text most End items end r p = absurd r
-gives-faulty text most (Cut at) items end r p = absurd r
-gives-faulty text most (Refused f) items end r p = unless-map (Refused f) _ _ (λ q. subst (λ h. RecordsBy h most text items end) q p) r
-
--- what is to be given at a stage that is known
-pub gives-at : (s t : Stage) (w : Window) (known : Option (List ℕ)) (items : List Record) (end : Ending) → s ≡ t → StageGives s w known items end → StageGives t w known items end
-gives-at s t w known items end e p = subst (λ k. StageGives k w known items end) e p
+pub gives-ending : (l : Layout) (old : Window) (text : List ℕ) (e : Ending) (items : List Record) (end : Ending)
+    → UnlessReadFault e (ending l old.most (old.count + 1) old.place text ≡ Some e) → RecordsFrom l old.most (old.count + 1) old.place text items end → UnlessReadFault e ((items ≡ []) × (end ≡ e))
+gives-ending l old text e [] end r p = unless-map e _ _ (λ q. (refl, some-injective end e (sym p ∙ q))) r
+gives-ending l old text e (item ∷ items) end r p = unless-map e _ _ (λ q. absurd (none_some e (sym p.0 ∙ q))) r

@@ -87,12 +87,13 @@ ending-read l most n place a b h text p e m =
     let k = known_text a b h text p e in
     subst (λ t. ending l most n place t ≡ ending_by l.fraction most n place (length t) (fraction l h) (captured l h)) (sym k.2) (ending-append l most n place h k.0 m)
 
--- the captured length and the stamp
+-- the captured length
 pub captured-read : (l : Layout) (a b : Option (List ℕ)) (h text : List ℕ) → Keeps a (prepend_known h b) → a ≡ Some text → 16 ≤ length h → captured l text ≡ captured l h
 captured-read l a b h text p e m =
     let k = known_text a b h text p e in
     ap (captured l) k.2 ∙ number-append l.order 4 8 h k.0 (omega arith)
 
+-- the stamp
 pub stamp-read : (l : Layout) (a b : Option (List ℕ)) (h text : List ℕ) → Keeps a (prepend_known h b) → a ≡ Some text → 16 ≤ length h → stamp l text ≡ stamp l h
 stamp-read l a b h text p e m =
     let k = known_text a b h text p e in

@@ -1,17 +1,31 @@
 -- Small captures, laid out by hand, to try the definitions on.
-use Rattle.std.specs.Prelude.{ℕ, List, [], ◌∷◌}
+use Rattle.std.specs.Prelude.{ℕ, List, [], ◌∷◌, ◌++◌}
 
--- a header: little-endian, nanoseconds, version 2.4, snaplen 262,144, link type 1
-abbrev pub little_header : List ℕ
-little_header =
-    0x4d ∷ 0x3c ∷ 0xb2 ∷ 0xa1 ∷ 2 ∷ 0 ∷ 4 ∷ 0 ∷ 0 ∷ 0 ∷ 0 ∷ 0
-    ∷ 0 ∷ 0 ∷ 0 ∷ 0 ∷ 0 ∷ 0 ∷ 4 ∷ 0 ∷ 1 ∷ 0 ∷ 0 ∷ 0 ∷ []
+-- what stands behind the magic, little-endian: version 2.4, snaplen 262,144, link type 1
+abbrev pub little_fields : List ℕ
+little_fields =
+    2 ∷ 0 ∷ 4 ∷ 0 ∷ 0 ∷ 0 ∷ 0 ∷ 0 ∷ 0 ∷ 0 ∷ 0 ∷ 0 ∷ 0 ∷ 0 ∷ 4 ∷ 0 ∷ 1 ∷ 0 ∷ 0 ∷ 0 ∷ []
 
--- a header: big-endian, microseconds, version 2.4, snaplen 262,144, link type 1 under high bits
-abbrev pub big_header : List ℕ
-big_header =
-    0xa1 ∷ 0xb2 ∷ 0xc3 ∷ 0xd4 ∷ 0 ∷ 2 ∷ 0 ∷ 4 ∷ 0 ∷ 0 ∷ 0 ∷ 0
-    ∷ 0 ∷ 0 ∷ 0 ∷ 0 ∷ 0 ∷ 4 ∷ 0 ∷ 0 ∷ 0xf0 ∷ 0 ∷ 0 ∷ 1 ∷ []
+-- the same, big-endian, the link type under high bits
+abbrev pub big_fields : List ℕ
+big_fields =
+    0 ∷ 2 ∷ 0 ∷ 4 ∷ 0 ∷ 0 ∷ 0 ∷ 0 ∷ 0 ∷ 0 ∷ 0 ∷ 0 ∷ 0 ∷ 4 ∷ 0 ∷ 0 ∷ 0xf0 ∷ 0 ∷ 0 ∷ 1 ∷ []
+
+-- a header: little-endian, microseconds
+abbrev pub little_micros : List ℕ
+little_micros = 0xd4 ∷ 0xc3 ∷ 0xb2 ∷ 0xa1 ∷ little_fields
+
+-- a header: little-endian, nanoseconds
+abbrev pub little_nanos : List ℕ
+little_nanos = 0x4d ∷ 0x3c ∷ 0xb2 ∷ 0xa1 ∷ little_fields
+
+-- a header: big-endian, microseconds
+abbrev pub big_micros : List ℕ
+big_micros = 0xa1 ∷ 0xb2 ∷ 0xc3 ∷ 0xd4 ∷ big_fields
+
+-- a header: big-endian, nanoseconds
+abbrev pub big_nanos : List ℕ
+big_nanos = 0xa1 ∷ 0xb2 ∷ 0x3c ∷ 0x4d ∷ big_fields
 
 -- little-endian: 3 seconds, 5 units, 3 bytes captured of 60, and the bytes
 abbrev pub little_record : List ℕ
@@ -20,6 +34,11 @@ little_record = 3 ∷ 0 ∷ 0 ∷ 0 ∷ 5 ∷ 0 ∷ 0 ∷ 0 ∷ 3 ∷ 0 ∷ 0 �
 -- big-endian: 3 seconds, 5 units, 1 byte captured of 1, and the byte
 abbrev pub big_record : List ℕ
 big_record = 0 ∷ 0 ∷ 0 ∷ 3 ∷ 0 ∷ 0 ∷ 0 ∷ 5 ∷ 0 ∷ 0 ∷ 0 ∷ 1 ∷ 0 ∷ 0 ∷ 0 ∷ 1 ∷ 7 ∷ []
+
+-- little-endian: 3 seconds, a fraction of these four bytes, 1 byte captured of 1, and the byte
+abbrev pub with_fraction : List ℕ → List ℕ
+with_fraction fraction =
+    (3 ∷ 0 ∷ 0 ∷ 0 ∷ []) ++ (fraction ++ (1 ∷ 0 ∷ 0 ∷ 0 ∷ 1 ∷ 0 ∷ 0 ∷ 0 ∷ 7 ∷ []))
 
 -- little-endian: the head of a record with 10^9 units, and 262,145 bytes captured
 abbrev pub faulty_head : List ℕ

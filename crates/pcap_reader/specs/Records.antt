@@ -1,5 +1,9 @@
--- The records of a whole capture, cut from its text (pcap-savefile). Places are bytes from the
--- text's start, stamps are nanoseconds, records count from 1.
+-- The records of a whole capture, cut from its text. Places are bytes from the text's start, stamps
+-- are nanoseconds since 1970-01-01 00:00:00, records count from 1.
+-- From pcap-savefile(5): the head of 16 bytes, its places, and the captured bytes behind it.
+-- This project's profile: a fraction is below a second, at most 262,144 bytes are captured, a
+-- capture has at most `most` bytes; which of several faults is the first, and that nothing comes
+-- behind it.
 use Rattle.std.specs.Prelude.{◌≡◌, ℕ, ◌+◌, ◌*◌, ◌^◌, ◌==◌, nat_lt, if◌then◌else◌, List, [], ◌∷◌, length, take, drop, Option, Some, None, Result, Ok, Err}
 use Rattle.timing_base.specs.Captures.{Record}
 use Rattle.timing_base.specs.declared.capture.PcapFault.{PcapFault}
@@ -10,13 +14,15 @@ use Rattle.pcap_reader.specs.declared.ending.Ending.{Ending}
 use Rattle.pcap_reader.specs.declared.ending.Ending.TheVariants.{End, Cut, Refused}
 use Rattle.pcap_reader.specs.Header.{number, nanos, per_second, header}
 
--- the whole seconds, the fraction and the captured length of the record at the front of a rest
+-- the whole seconds of the record at the front of a rest
 abbrev pub seconds : Layout → List ℕ → ℕ
 seconds layout rest = number layout.order 4 (drop 0 rest)
 
+-- the units of its fraction
 abbrev pub fraction : Layout → List ℕ → ℕ
 fraction layout rest = number layout.order 4 (drop 4 rest)
 
+-- how many of its bytes were captured
 abbrev pub captured : Layout → List ℕ → ℕ
 captured layout rest = number layout.order 4 (drop 8 rest)
 

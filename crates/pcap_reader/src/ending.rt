@@ -12,7 +12,7 @@ pub enum Ending {
     End,
     /// The capture ends within the record that starts at this byte, counted from 0.
     Cut { at: u64 },
-    /// No record can be read on.
+    /// The file header or the next record has this fault, or a read failed (`ReadFault`).
     Refused(PcapFault),
 }
 

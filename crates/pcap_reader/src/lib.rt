@@ -1,4 +1,4 @@
-//! The records of a capture file in the classic pcap layout.
+//! The records of a capture file in the classic pcap layout (pcap-savefile(5)).
 //!
 //! A [`PcapReader`] lends the frames of a source one after the other, from one buffer, and then
 //! says how the capture ends. It takes memory when it is made, and none after that.
@@ -8,7 +8,9 @@
 //! each record   seconds, fraction, captured length, original length (4 each), captured bytes
 //! ```
 //!
-//! Zone, sigfigs, snaplen and the original length are passed over.
+//! Zone, sigfigs, snaplen and the original length are passed over. In this project's profile the
+//! link type is 1, Ethernet, a record has at most 262,144 captured bytes, and a capture at most so
+//! many as its reader is told.
 #![tactic(auto)]
 
 mod ending;
@@ -16,12 +18,10 @@ pub mod laws;
 mod layout;
 mod reader;
 mod stage;
-mod survey;
 mod window;
 
 pub use ending::Ending;
 pub use reader::{PcapReader, Step};
-pub use survey::{Sight, take_all};
 
 #[cfg(test)]
 mod tests;

@@ -3,7 +3,7 @@ ghost use Rattle.timing_base.specs.Captures.{Record};
 
 use crate::ending::Ending;
 use crate::layout::Layout;
-use crate::stage::{Found, Head, Stage};
+use crate::stage::{Head, Stage};
 use crate::window::Window;
 use std::alloc::Global;
 use timing_base::PcapFault;
@@ -12,8 +12,8 @@ use timing_outside::Source;
 /// What a reader comes to next.
 #[derive(Clone, Copy, Debug)]
 pub enum Step<'a> {
-    /// The captured bytes of the next record, lent from the reader's buffer, and when they were
-    /// captured, in nanoseconds.
+    /// The captured bytes of the next record, lent from the reader's buffer, and its stamp, in
+    /// nanoseconds since 1970-01-01 00:00:00.
     Frame { at: u64, bytes: &'a [u8] },
     /// The capture ends after a record.
     End,
@@ -32,11 +32,12 @@ impl<S: Source> PcapReader<S> {
     ghost use Rattle.pcap_reader.specs.Records.{Records};
     ghost use Rattle.std.specs.Io.BufRead.{Rests};
     ghost use Rattle.std.specs.Borrow.{sem};
-    ghost use Rattle.pcap_reader.specs.Readers.{under, answered, most_of, ended, WillGive, Steps};
+    ghost use Rattle.pcap_reader.specs.Readers.{under, answered, most_of, taken, ended, WillGive, Steps};
     ghost use Rattle.pcap_reader.specs.contracts.reader.PcapReader.{the_row};
 
-    /// A reader at the start of its source, for captures of at most `most` bytes. It reads nothing.
-    /// `Err` is want of memory, and hands the source back.
+    /// A reader at the start of its source, for captures of at most `most` bytes. It takes the one
+    /// buffer of 327,696 bytes that the reader ever has, and reads nothing. `Err` is want of
+    /// memory, and hands the source back as it was.
     pub fn start(alloc: Global, source: S, most: u64) -> Result<PcapReader<S>, S>
         requires least { 24 ≤ most }
         requires greatest { most ≤ 2 ^ 40 }
@@ -46,6 +47,7 @@ impl<S: Source> PcapReader<S> {
         ensures source { IfOk result (λ r. under r ≡ source) }
         ensures answered { IfOk result (λ r. answered r ≡ 0) }
         ensures most { IfOk result (λ r. most_of r ≡ most) }
+        ensures taken { IfOk result (λ r. taken r ≡ 0) }
         ensures fresh { IfOk result (λ r. ended r ≡ None) }
         ensures back { IfErr result (λ s. s ≡ source) }
     {
@@ -55,21 +57,34 @@ impl<S: Source> PcapReader<S> {
         }
     }
 
-    /// The next frame, or how the capture ends. After an end or a fault it reads nothing and
-    /// answers the same again.
+    /// The next frame, or how the capture ends. The first of these that holds at a record's place
+    /// is the answer:
+    ///
+    /// - no byte stands there: `End`;
+    /// - fewer than the 16 bytes of a record's head do: `Cut`;
+    /// - the fraction of its stamp is a second or more: `BadStamp`;
+    /// - more than 262,144 bytes were captured: `BadLength`;
+    /// - the record ends past the greatest length of a capture, `most`: `TooLong`;
+    /// - fewer bytes follow its head than were captured: `Cut`;
+    /// - else a frame.
+    ///
+    /// Before the first record stands the file header, whose faults are, in this order, `BadMagic`
+    /// (also where it is not whole), `BadVersion` and `BadLink`. `ReadFault` is the answer,
+    /// whatever stands there, of a call in which a read of the source failed. After an end or a
+    /// fault the reader reads nothing more and answers the same again.
     pub fn next(&mut self) -> Result<Step<'_>, PcapFault>
         // All that holds of the answer and of the reader behind it is a field of `Steps`.
         ensures* after { sem 𝓛 (Rests (the_row S.row) self.entry
             (λ new. Steps S.left S.name S.faults self.old new result)) }
     {
         match self.find() {
-            Found::Frame(head) => Ok(Step::Frame {
+            Ok(head) => Ok(Step::Frame {
                 at: head.at,
                 bytes: self.window.last(head.captured),
             }),
-            Found::Ended(Ending::End) => Ok(Step::End),
-            Found::Ended(Ending::Cut { at }) => Ok(Step::Cut { at }),
-            Found::Ended(Ending::Refused(fault)) => Err(fault),
+            Err(Ending::End) => Ok(Step::End),
+            Err(Ending::Cut { at }) => Ok(Step::Cut { at }),
+            Err(Ending::Refused(fault)) => Err(fault),
         }
     }
 
@@ -83,12 +98,13 @@ impl<S: Source> PcapReader<S> {
 }
 
 impl<S: Source> PcapReader<S> {
-    ghost use Rattle.std.specs.Prelude.{OnErr, MatchResult};
+    ghost use Rattle.std.specs.Prelude.{◌+◌};
     ghost use Rattle.timing_outside.specs.Causes.{Rose};
     ghost use Rattle.pcap_reader.specs.Header.{header};
-    ghost use Rattle.pcap_reader.specs.Records.{UnlessReadFault, OnReadFault, ending, record_of, captured};
-    ghost use Rattle.pcap_reader.specs.Readers.{ahead, HeaderIs, Enters, Finds, FindsNext, Reads, Fits};
-    ghost use Rattle.pcap_reader.specs.Windows.{behind};
+    ghost use Rattle.pcap_reader.specs.Records.{RecordsFrom, OnReadFault};
+    ghost use Rattle.pcap_reader.specs.Readers.{ahead, taken};
+    ghost use Rattle.pcap_reader.specs.Finding.{HeaderIs, FoundGives, FoundCounts, Advances, Finds};
+    ghost use Rattle.pcap_reader.specs.Windows.{Takes};
     ghost use Rattle.pcap_reader.specs.declared.stage.Stage.TheVariants as stage;
 
     /// Reads the file header and lets it go.
@@ -103,6 +119,8 @@ impl<S: Source> PcapReader<S> {
         ensures count { self.new.window.count ≡ self.old.window.count }
         ensures most { self.new.window.most ≡ self.old.window.most }
         ensures stage { IfOk result (λ layout. self.new.window.stage ≡ stage.Records layout) }
+        ensures takes { Takes (S.left self.old.source) (S.left self.new.source) (taken self.old)
+            (taken self.new) }
         ensures name { S.name self.new.source ≡ S.name self.old.source }
         ensures later { S.faults self.old.source ≤ S.faults self.new.source }
         ensures failed { IfErr result (λ e. OnReadFault e
@@ -123,12 +141,16 @@ impl<S: Source> PcapReader<S> {
     /// Reads the next record and lets it go.
     fn read_record(&mut self, layout: Layout) -> Result<Head, Ending>
         requires begun { self.old.window.stage ≡ stage.Records layout }
-        ensures found { (text : List ℕ) → ahead S.left self.old ≡ Some text
-            → Reads layout self.old.window self.new.window text (ahead S.left self.new) result }
-        ensures counts { IfOk result (λ h. Fits h self.old.window self.new.window) }
-        ensures count { OnErr result (self.new.window.count ≡ self.old.window.count) }
+        ensures gives { (text : List ℕ) (items : List Record) (end : _)
+            → ahead S.left self.old ≡ Some text
+            → RecordsFrom layout self.old.window.most (self.old.window.count + 1)
+            self.old.window.place text items end
+            → FoundGives self.new.window (ahead S.left self.new) result items end }
+        ensures counts { FoundCounts self.old.window.count self.new.window result }
         ensures most { self.new.window.most ≡ self.old.window.most }
         ensures stage { self.new.window.stage ≡ self.old.window.stage }
+        ensures takes { Takes (S.left self.old.source) (S.left self.new.source) (taken self.old)
+            (taken self.new) }
         ensures name { S.name self.new.source ≡ S.name self.old.source }
         ensures later { S.faults self.old.source ≤ S.faults self.new.source }
         ensures failed { IfErr result (λ e. OnReadFault e
@@ -153,45 +175,28 @@ impl<S: Source> PcapReader<S> {
         Ok(head)
     }
 
-    /// Reads the file header, or says how all ended.
-    fn enter(&mut self) -> Result<Layout, Ending>
-        requires header { self.old.window.stage ≡ stage.Header }
-        ensures { Enters S.left S.name S.faults self.old self.new result }
-    {
-        match self.read_header() {
-            Ok(layout) => Ok(layout),
-            Err(ending) => {
-                self.window.settle(ending);
-                Err(ending)
-            }
-        }
-    }
-
-    /// Finds the next record, or says how all ended.
-    fn find_record(&mut self, layout: Layout) -> Found
-        requires begun { self.old.window.stage ≡ stage.Records layout }
-        ensures { Finds S.left S.name S.faults self.old self.new result }
-    {
-        match self.read_record(layout) {
-            Ok(head) => Found::Frame(head),
-            Err(ending) => {
-                self.window.settle(ending);
-                Found::Ended(ending)
-            }
-        }
-    }
-
-    /// Finds the next record, or says how all ended.
-    fn find(&mut self) -> Found
-        ensures { FindsNext S.left S.name S.faults self.old self.new result }
+    /// Reads on to the end of the next record, or to how the capture ends.
+    fn advance(&mut self) -> Result<Head, Ending>
+        ensures { Advances S.left S.name S.faults self.old self.new result }
     {
         match self.window.stage {
-            Stage::Header => match self.enter() {
-                Ok(layout) => self.find_record(layout),
-                Err(ending) => Found::Ended(ending),
-            },
-            Stage::Records(layout) => self.find_record(layout),
-            Stage::Ended(ending) => Found::Ended(ending),
+            Stage::Header => {
+                let layout = self.read_header()?;
+                self.read_record(layout)
+            }
+            Stage::Records(layout) => self.read_record(layout),
+            Stage::Ended(ending) => Err(ending),
         }
+    }
+
+    /// Finds the next record, or says how all ended, and keeps that.
+    fn find(&mut self) -> Result<Head, Ending>
+        ensures { Finds S.left S.name S.faults self.old self.new result }
+    {
+        let found = self.advance();
+        if let Err(ending) = found {
+            self.window.settle(ending);
+        }
+        found
     }
 }

@@ -12,16 +12,10 @@ pub enum Stage {
     Ended(Ending),
 }
 
-/// What the head of a record says: the stamp, in nanoseconds, and how many bytes were captured.
+/// What the head of a record says: the stamp, in nanoseconds since 1970-01-01 00:00:00, and how
+/// many bytes were captured.
 #[derive(Clone, Copy, Debug)]
 pub struct Head {
     pub at: u64,
     pub captured: usize,
-}
-
-/// What a reader comes to next: a record that it let go, or how its answers end.
-#[derive(Clone, Copy, Debug)]
-pub enum Found {
-    Frame(Head),
-    Ended(Ending),
 }

@@ -1,6 +1,3 @@
-ghost use Rattle.std.specs.Prelude.{◌≡◌, None, IfOk};
-ghost use Rattle.pcap_reader.specs.Readers.{ended};
-
 use super::*;
 use std::alloc::{AllocError, Global};
 use std::process::Abort;
@@ -27,17 +24,28 @@ const FRAME: [u8; 56] = [
 // How the numbers of a capture stand in it.
 #[derive(Clone, Copy)]
 enum Kind {
+    LittleMicros,
     LittleNanos,
     BigMicros,
+    BigNanos,
 }
 
 impl Kind {
-    // The fields of a header behind its version: zone, sigfigs, snaplen and link type.
-    fn header(self, alloc: Global, minor: u8, link: u32) -> Result<Vec<u8>, AllocError> {
-        let mut out = Vec::new(alloc);
+    fn magic(self) -> [u8; 4] {
         match self {
-            Kind::LittleNanos => out.extend_from_slice(&[0x4d, 0x3c, 0xb2, 0xa1, 2, 0, minor, 0])?,
-            Kind::BigMicros => out.extend_from_slice(&[0xa1, 0xb2, 0xc3, 0xd4, 0, 2, 0, minor])?,
+            Kind::LittleMicros => [0xd4, 0xc3, 0xb2, 0xa1],
+            Kind::LittleNanos => [0x4d, 0x3c, 0xb2, 0xa1],
+            Kind::BigMicros => [0xa1, 0xb2, 0xc3, 0xd4],
+            Kind::BigNanos => [0xa1, 0xb2, 0x3c, 0x4d],
+        }
+    }
+
+    // A file header: the magic, the version, zone, sigfigs, snaplen and link type.
+    fn header(self, alloc: Global, minor: u8, link: u32) -> Result<Vec<u8>, AllocError> {
+        let mut out = Vec::from_slice(alloc, &self.magic())?;
+        match self {
+            Kind::LittleMicros | Kind::LittleNanos => out.extend_from_slice(&[2, 0, minor, 0])?,
+            Kind::BigMicros | Kind::BigNanos => out.extend_from_slice(&[0, 2, 0, minor])?,
         }
         for number in [0, 0, 262_144, link] {
             self.number(&mut out, number)?;
@@ -47,16 +55,16 @@ impl Kind {
 
     fn number(self, out: &mut Vec<u8>, number: u32) -> Result<(), AllocError> {
         match self {
-            Kind::LittleNanos => out.extend_from_slice(&number.to_le_bytes()),
-            Kind::BigMicros => out.extend_from_slice(&number.to_be_bytes()),
+            Kind::LittleMicros | Kind::LittleNanos => out.extend_from_slice(&number.to_le_bytes()),
+            Kind::BigMicros | Kind::BigNanos => out.extend_from_slice(&number.to_be_bytes()),
         }
     }
 
     // A record's head, the stamp in nanoseconds.
     fn head(self, out: &mut Vec<u8>, at: u64, captured: u32) -> Result<(), AllocError> {
         let fraction = match self {
-            Kind::LittleNanos => at % SECOND,
-            Kind::BigMicros => at % SECOND / 1000,
+            Kind::LittleMicros | Kind::BigMicros => at % SECOND / 1000,
+            Kind::LittleNanos | Kind::BigNanos => at % SECOND,
         };
         self.number(out, (at / SECOND % (1 << 32)) as u32)?;
         self.number(out, fraction as u32)?;
@@ -99,9 +107,7 @@ fn open(
     piece: u32,
     fails: &[u32],
     most: u64,
-) -> Result<PcapReader<MemorySource>, OpenFault>
-    ensures { IfOk result (λ r. ended r ≡ None) }
-{
+) -> Result<PcapReader<MemorySource>, OpenFault> {
     let plan = ReadPlan {
         fetch_fails: false,
         piece: piece.max(1),
@@ -120,25 +126,30 @@ fn open(
     }
 }
 
+// The stamp and the length of the next record, or how the records end.
+fn sight(reader: &mut PcapReader<MemorySource>) -> Result<(u64, usize), Ending> {
+    match reader.next() {
+        Ok(Step::Frame { at, bytes }) => Ok((at, bytes.len())),
+        Ok(Step::End) => Err(Ending::End),
+        Ok(Step::Cut { at }) => Err(Ending::Cut { at }),
+        Err(fault) => Err(Ending::Refused(fault)),
+    }
+}
+
 // In whatever pieces this text comes, it has so many records of that capture, and this ending.
 fn has_records(
     rt: &(impl Abort + AllocGlobal),
     text: &[u8],
-    count: usize,
+    count: u8,
     ending: Ending,
 ) -> Result<(), Fail> {
     for piece in PIECES {
         let mut reader = open(rt.alloc(), text, piece, &[], MOST)?;
-        let (sights, end) = take_all(rt.alloc(), &mut reader)?;
-        assert_eq!(rt; end, ending, "in pieces of {piece}");
-        assert_eq!(rt; sights.len(), count, "in pieces of {piece}");
-        for (index, sight) in sights.iter().enumerate() {
-            let want = Sight {
-                at: stamp((index % 256) as u8),
-                length: 56,
-            };
-            assert_eq!(rt; *sight, want, "at record {index}");
+        for index in 0..count {
+            let want = Ok((stamp(index), 56));
+            assert_eq!(rt; sight(&mut reader), want, "at {index} in pieces of {piece}");
         }
+        assert_eq!(rt; sight(&mut reader), Err(ending), "in pieces of {piece}");
     }
     Ok(())
 }
@@ -234,7 +245,13 @@ fn bad_records(rt: HostRuntime) -> Result<(), Fail> {
 #[test]
 fn other_orders(rt: HostRuntime) -> Result<(), Fail> {
     let alloc = rt.alloc();
-    for kind in [Kind::LittleNanos, Kind::BigMicros] {
+    let kinds = [
+        Kind::LittleMicros,
+        Kind::LittleNanos,
+        Kind::BigMicros,
+        Kind::BigNanos,
+    ];
+    for kind in kinds {
         let text = capture(alloc, kind)?;
         has_records(&rt, &text, 41, Ending::End)?;
         for piece in PIECES {
@@ -280,9 +297,12 @@ fn failed_read(rt: HostRuntime) -> Result<(), Fail> {
     let alloc = rt.alloc();
     let text = capture(alloc, Kind::LittleNanos)?;
     let mut reader = open(alloc, &text, 100, &[3], MOST)?;
-    let (sights, end) = take_all(alloc, &mut reader)?;
-    assert_eq!(rt; end, Ending::Refused(PcapFault::ReadFault));
-    assert_eq!(rt; sights.len(), 2);
+    assert_eq!(rt; sight(&mut reader), Ok((stamp(0), 56)));
+    assert_eq!(rt; sight(&mut reader), Ok((stamp(1), 56)));
+    assert_eq!(rt;
+        sight(&mut reader),
+        Err(Ending::Refused(PcapFault::ReadFault))
+    );
     assert_eq!(rt; reader.next().err(), Some(PcapFault::ReadFault));
     assert_eq!(rt; reader.next().err(), Some(PcapFault::ReadFault));
     Ok(())

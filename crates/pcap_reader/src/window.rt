@@ -46,7 +46,7 @@ pub struct Window {
 impl Window {
     ghost use Rattle.std.specs.Io.KnownBytes.{Keeps, IsAtEnd, prepend_known};
     ghost use Rattle.timing_outside.specs.Causes.{HasCause};
-    ghost use Rattle.pcap_reader.specs.Windows.{held, behind, SameRecord, stop_of};
+    ghost use Rattle.pcap_reader.specs.Windows.{held, behind, taken_by, SameRecord, Takes, stop_of};
     ghost use Rattle.pcap_reader.specs.Records.{stamp, captured, OnReadFault};
     ghost use Rattle.pcap_reader.specs.declared.ending.Ending.TheVariants as ending;
 
@@ -55,6 +55,7 @@ impl Window {
         requires least { 24 ≤ most }
         requires greatest { most ≤ 2 ^ 40 }
         ensures held { IfOk result (λ w. held w ≡ []) }
+        ensures taken { IfOk result (λ w. taken_by w ≡ 0) }
         ensures place { IfOk result (λ w. w.place ≡ 0) }
         ensures count { IfOk result (λ w. w.count ≡ 0) }
         ensures most { IfOk result (λ w. w.most ≡ most) }
@@ -99,6 +100,7 @@ impl Window {
         requires held { 24 ≤ length (held self.old) }
         requires first { self.old.place ≡ 0 }
         ensures held { held self.new ≡ drop 24 (held self.old) }
+        ensures taken { taken_by self.new ≡ taken_by self.old }
         ensures place { self.new.place ≡ 24 }
         ensures count { self.new.count ≡ 0 }
         ensures same_count { self.new.count ≡ self.old.count }
@@ -113,9 +115,11 @@ impl Window {
     /// Says how all ended.
     pub fn settle(&mut self, ending: Ending)
         ensures held { held self.new ≡ held self.old }
+        ensures taken { taken_by self.new ≡ taken_by self.old }
         ensures count { self.new.count ≡ self.old.count }
         ensures most { self.new.most ≡ self.old.most }
         ensures stage { self.new.stage ≡ stage.Ended ending }
+        ensures same { self.old.stage ≡ stage.Ended ending → self.new ≡ self.old }
     {
         self.stage = Stage::Ended(ending);
     }
@@ -163,6 +167,7 @@ impl Window {
         requires most { self.old.place + 16 + captured ≤ self.old.most }
         requires begun { is_begun self.old.stage ≡ true }
         ensures held { held self.new ≡ drop (16 + captured) (held self.old) }
+        ensures taken { taken_by self.new ≡ taken_by self.old }
         ensures behind { behind captured self.new ≡ take captured (drop 16 (held self.old)) }
         ensures start { captured ≤ self.new.start }
         ensures place { self.new.place ≡ self.old.place + 16 + captured }
@@ -230,6 +235,8 @@ impl Window {
         ensures name { S.name source.new ≡ S.name source.old }
         ensures cause { HasCause (S.faults source.old) (S.faults source.new) result }
         ensures same { SameRecord self.old self.new }
+        ensures takes { Takes (S.left source.old) (S.left source.new) (taken_by self.old)
+            (taken_by self.new) }
         ensures enough { IfOk result (λ b. IsTrue b → need ≤ length (held self.new)) }
         ensures few { IfOk result (λ b. b ≡ false → length (held self.new) < need) }
         ensures end { IfOk result (λ b. b ≡ false → IsAtEnd (S.left source.new)) }
