@@ -1,4 +1,4 @@
--- A frame laid out by hand, octet by octet, with what may differ in it.
+-- A frame laid out by hand, byte by byte, with what may differ in it.
 use Rattle.std.specs.Prelude.{ℕ, List, [], ◌∷◌, ◌++◌}
 use Rattle.udp_rtp.specs.Frames.{Datagram}
 
@@ -30,7 +30,7 @@ plain_ip = ip 0x45 0x40 0x00 0x11
 abbrev pub udp : ℕ → List ℕ
 udp stated = 0xc3 ∷ 0x50 ∷ 0xc3 ∷ 0x50 ∷ 0x00 ∷ stated ∷ 0x00 ∷ 0x00 ∷ []
 
--- the fixed header of RTP with these first two octets: sequence number 8, timestamp 1800, SSRC 1
+-- the fixed header of RTP with these first two bytes: sequence number 8, timestamp 1800, SSRC 1
 abbrev pub rtp : ℕ → ℕ → List ℕ
 rtp first second =
     first ∷ second ∷ 0x00 ∷ 0x08
@@ -58,4 +58,4 @@ frame_of header = macs ++ (ip_type ++ (header ++ (udp 22 ++ packet)))
 
 -- what goes to 239.0.0.1, port 50000, with this payload
 abbrev pub to_group : List ℕ → Datagram
-to_group octets = record { address = 0xef000001; port = 50000; payload = octets }
+to_group bytes = record { address = 0xef000001; port = 50000; payload = bytes }

@@ -1,17 +1,21 @@
--- Where an Ethernet frame goes: IEEE 802.3, clause 3.2.6 (the type field) and IEEE 802.1Q (the
--- tag), RFC 791, section 3.1 (IPv4), and RFC 768 (UDP).
--- A place is a count of octets from the frame's start; lengths are counts of octets.
+-- Where an Ethernet frame goes. A place is a count of bytes from the frame's start; lengths are
+-- counts of bytes.
+-- From the standards: the places and meanings of the fields, IEEE 802.3, clause 3.2.6 (the type
+-- field), IEEE 802.1Q (the tag), RFC 791, section 3.1 (IPv4) and RFC 768 (UDP).
+-- This project's profile: there is one tag at most, of type 0x8100; a fragment has no target; a
+-- frame that was captured up to its UDP ports has one, its payload empty where the UDP header isn't
+-- whole or its length is below 8. IPv4's total length and the checksums aren't looked at.
 use Rattle.std.specs.Prelude.{ℕ, ◌+◌, ◌-◌, ◌*◌, ◌/◌, ◌%◌, ◌^◌, ◌==◌, ◌&&◌, nat_le, Bool, if◌then◌else◌, List, length, take, drop, slice_index, Option, Some, None}
-use Rattle.udp_rtp.specs.Octets.{number16, number32}
+use Rattle.udp_rtp.specs.Numbers.{number16, number32}
 use Rattle.udp_rtp.specs.declared.datagram.Target.{Target}
 
 -- what a frame carries to an address and a port
 pub record Datagram : Type 0 where
-  -- the IPv4 address of the destination, its first octet highest
+  -- the IPv4 address of the destination, its first byte highest
   pub address : ℕ
   -- the UDP port of the destination
   pub port : ℕ
-  -- the octets of data that the frame still has
+  -- the bytes of data that the frame still has
   pub payload : List ℕ
 
 -- the place e of the IPv4 header: after a type field with 0x0800, and there may be one tag
@@ -22,7 +26,7 @@ ip_place frame =
     else if (number16 frame 12 == 0x8100) && (number16 frame 16 == 0x0800) then Some 18
     else None
 
--- the place u of the UDP header: IHL, the low four bits of octet e, counts words of 32 bits
+-- the place u of the UDP header: IHL, the low four bits of byte e, counts words of 32 bits
 abbrev pub udp_place : List ℕ → ℕ → ℕ
 udp_place frame e = e + 4 * (slice_index frame e % 16)
 
@@ -37,12 +41,12 @@ is_udp_at frame e =
     && (number16 frame (e + 6) % 2 ^ 14 == 0)
     && nat_le (udp_place frame e + 4) (length frame)
 
--- the data of the UDP header at u: its length field counts the eight octets of the header and the
--- data. What the frame no longer has of it isn't there, and no octet counts that the field doesn't.
+-- the data of the UDP header at u: its length field counts the eight bytes of the header and the
+-- data. What the frame no longer has of it isn't there, and no byte counts that the field doesn't.
 abbrev pub payload_at : List ℕ → ℕ → List ℕ
 payload_at frame u = take (number16 frame (u + 4) - 8) (drop (u + 8) frame)
 
--- the destination, which stands in the last four octets of the fixed IPv4 header and in the second
+-- the destination, which stands in the last four bytes of the fixed IPv4 header and in the second
 -- 16 bits of the UDP header, and the data
 abbrev pub datagram_at : List ℕ → ℕ → Datagram
 datagram_at frame e = record {

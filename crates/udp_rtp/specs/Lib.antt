@@ -1,4 +1,4 @@
-pub mod Octets
+pub mod Numbers
 pub mod Frames
 pub mod Reading
 pub mod Flow

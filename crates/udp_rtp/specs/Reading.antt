@@ -1,44 +1,46 @@
--- The reading of a UDP payload as RTP: RFC 3550, section 5.1 (the fixed header) and 5.3.1 (the
--- header extension), and RFC 4175, section 4.2 (the extended sequence number).
--- A place is a count of octets from the payload's start.
+-- The reading of a UDP payload as RTP. A place is a count of bytes from the payload's start.
+-- From the standards: the fields and their places, RFC 3550, section 5.1 (the fixed header) and
+-- 5.3.1 (the header extension), and RFC 4175, section 4.2 (the extended sequence number).
+-- This project's profile: which of several faults is the first; padding, and the bit that tells of
+-- it, aren't looked at.
 use Rattle.std.specs.Prelude.{ℕ, ◌+◌, ◌*◌, ◌^◌, ◌/◌, ◌%◌, ◌==◌, nat_lt, Bool, if◌then◌else◌, List, length, slice_index, Result, Ok, Err}
-use Rattle.udp_rtp.specs.Octets.{number16, number32}
+use Rattle.udp_rtp.specs.Numbers.{number16, number32}
 use Rattle.timing_base.specs.declared.packet.Rtp.{Rtp}
 use Rattle.timing_base.specs.declared.packet.PacketFault.{PacketFault}
 use Rattle.timing_base.specs.declared.packet.PacketFault.TheVariants.{Short, Version}
 
--- where the list of contributing sources ends: CC, the low four bits of octet 0, counts them
+-- where the list of contributing sources ends: CC, the low four bits of byte 0, counts them
 abbrev pub sources_end : List ℕ → ℕ
-sources_end octets = 12 + 4 * (slice_index octets 0 % 16)
+sources_end bytes = 12 + 4 * (slice_index bytes 0 % 16)
 
--- whether a header extension follows: the bit X, the fifth of octet 0 from below
+-- whether a header extension follows: the bit X, the fifth of byte 0 from below
 abbrev pub has_extension : List ℕ → Bool
-has_extension octets = slice_index octets 0 / 16 % 2 == 1
+has_extension bytes = slice_index bytes 0 / 16 % 2 == 1
 
 -- where the RTP payload begins, and with it the extended sequence number: a header extension has
--- four octets, of which the last two count the words of 32 bits that follow
+-- four bytes, of which the last two count the words of 32 bits that follow
 abbrev pub payload_place : List ℕ → ℕ
-payload_place octets =
-    if has_extension octets then
-    sources_end octets + 4 + 4 * number16 octets (sources_end octets + 2)
-    else sources_end octets
+payload_place bytes =
+    if has_extension bytes then
+    sources_end bytes + 4 + 4 * number16 bytes (sources_end bytes + 2)
+    else sources_end bytes
 
 -- the fields of the fixed header, with an extended sequence number at a place
 abbrev pub rtp_at : List ℕ → ℕ → Rtp
-rtp_at octets place = record {
-  number = number16 octets place * 2 ^ 16 + number16 octets 2;
-  stamp = number32 octets 4;
-  marker = nat_lt 127 (slice_index octets 1);
-  pt = slice_index octets 1 % 128;
-  ssrc = number32 octets 8;
+rtp_at bytes place = record {
+  number = number16 bytes place * 2 ^ 16 + number16 bytes 2;
+  stamp = number32 bytes 4;
+  marker = nat_lt 127 (slice_index bytes 1);
+  pt = slice_index bytes 1 % 128;
+  ssrc = number32 bytes 8;
 }
 
 -- the reading of a payload, the first fault first; where the head of a header extension isn't
 -- whole, the extended sequence number isn't there either
 abbrev pub reading : List ℕ → Result Rtp PacketFault
-reading octets =
-    if nat_lt (length octets) 12 then Err Short
-    else if slice_index octets 0 / 64 == 2 then
-    (if nat_lt (length octets) (payload_place octets + 2) then Err Short
-    else Ok (rtp_at octets (payload_place octets)))
+reading bytes =
+    if nat_lt (length bytes) 12 then Err Short
+    else if slice_index bytes 0 / 64 == 2 then
+    (if nat_lt (length bytes) (payload_place bytes + 2) then Err Short
+    else Ok (rtp_at bytes (payload_place bytes)))
     else Err Version

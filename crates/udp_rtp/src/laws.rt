@@ -6,7 +6,7 @@ ghost use Rattle.timing_base.specs.Captures.{Record};
 ghost use Rattle.timing_base.specs.declared.media.Media.{Media};
 ghost use Rattle.timing_base.specs.declared.packet.FlowPacket.{FlowPacket};
 ghost use Rattle.timing_base.specs.declared.packet.PacketFault.TheVariants.{Short, Version};
-ghost use Rattle.udp_rtp.specs.Octets.{number16};
+ghost use Rattle.udp_rtp.specs.Numbers.{number16};
 ghost use Rattle.udp_rtp.specs.Frames.{payload_at, target_of};
 ghost use Rattle.udp_rtp.specs.Reading.{reading};
 ghost use Rattle.udp_rtp.specs.Flow.{flow, flow_packet};

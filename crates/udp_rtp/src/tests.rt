@@ -23,6 +23,9 @@ const FRAME: [u8; 56] = [
     0x00, 0x01, // extended sequence number
 ];
 
+// A tag of VLAN 5 with priority 3.
+const TAG: [u8; 4] = [0x81, 0x00, 0x60, 0x05];
+
 const READ: Rtp = Rtp {
     number: 65_544,
     stamp: 1800,
@@ -76,6 +79,11 @@ fn ignored_frames(rt: HostRuntime) {
     first_fragment[20] = 0x20;
     let mut last_fragment = FRAME;
     last_fragment[21] = 0x01;
+    let mut two_tags = [0; 64];
+    two_tags[..12].copy_from_slice(&FRAME[..12]);
+    two_tags[12..16].copy_from_slice(&TAG);
+    two_tags[16..20].copy_from_slice(&TAG);
+    two_tags[20..].copy_from_slice(&FRAME[12..]);
     let rows = [
         &four_words[..],
         &FRAME[..37],
@@ -85,6 +93,7 @@ fn ignored_frames(rt: HostRuntime) {
         &tcp[..],
         &first_fragment[..],
         &last_fragment[..],
+        &two_tags[..],
     ];
     for frame in rows {
         assert!(rt; target(frame).is_none(), "of {} bytes", frame.len());
@@ -140,19 +149,14 @@ fn big_payload(rt: HostRuntime) {
     assert_eq!(rt; reading_of(&frame), Some(Ok(READ)));
 }
 
+// A tag in front of the type field; the other orders are those of captures.
 #[test]
-fn tagged_frames(rt: HostRuntime) {
+fn other_orders(rt: HostRuntime) {
     let mut tagged = [0; 60];
     tagged[..12].copy_from_slice(&FRAME[..12]);
-    tagged[12..16].copy_from_slice(&[0x81, 0x00, 0x60, 0x05]);
+    tagged[12..16].copy_from_slice(&TAG);
     tagged[16..].copy_from_slice(&FRAME[12..]);
     assert_eq!(rt; reading_of(&tagged), Some(Ok(READ)));
-
-    let mut twice = [0; 64];
-    twice[..16].copy_from_slice(&tagged[..16]);
-    twice[16..20].copy_from_slice(&[0x81, 0x00, 0x00, 0x06]);
-    twice[20..].copy_from_slice(&FRAME[12..]);
-    assert!(rt; target(&twice).is_none());
 }
 
 #[test]
