@@ -1,6 +1,6 @@
 //! The jobs of the commands, by what stands in their words.
 
-ghost use Rattle.std.specs.Prelude.{◌≡◌, IfOk, ◌<◌, ◌≤◌, codes, length};
+ghost use Rattle.std.specs.Prelude.{◌≡◌, IfOk, ◌<◌, ◌≤◌, codes, length, option_map};
 ghost use Rattle.clap.specs.Words.{first_value, found_of};
 ghost use Rattle.timing_words.specs.Answers.{Gives, GivesBy};
 ghost use Rattle.timing_words.specs.Asked as asked;
@@ -88,22 +88,24 @@ fn captures(
     ensures few { IfOk result (λ l. length l ≤ most) }
 {
     match matches.get_raw(NAMES) {
-        Some(names) => file_names(alloc, names, 1, most),
+        Some(names) => file_names(alloc, names, most),
         None => Err(WordFault::Usage),
     }
+}
+
+fn sole_name<'a>(matches: &ArgMatches<'a>) -> Option<&'a str>
+    ensures { option_map (λ s. s.now) result
+        ≡ words.sole (found_stands (found_of matches.now)).names }
+{
+    sole(matches.get_raw(NAMES)?)
 }
 
 fn sole_file(alloc: Global, matches: &ArgMatches<'_>) -> Result<FileName, WordFault>
     ensures { Gives (words.need (words.sole (found_stands (found_of matches.now)).names)
         words.file_name) result }
 {
-    match matches.get_raw(NAMES) {
-        Some(names) => match sole(names) {
-            Some(name) => file_name(alloc, name),
-            None => Err(WordFault::Usage),
-        },
-        None => Err(WordFault::Usage),
-    }
+    let name = sole_name(matches).ok_or(WordFault::Usage)?;
+    file_name(alloc, name)
 }
 
 pub(crate) fn check_job(alloc: Global, matches: &ArgMatches<'_>) -> Result<CheckJob, WordFault>
@@ -182,16 +184,9 @@ fn frames(matches: &ArgMatches<'_>) -> Result<u32, WordFault>
     ensures some { IfOk result (λ n. 2 ≤ n) }
     ensures few { IfOk result (λ n. n ≤ 20000) }
 {
-    match matches.get_raw(NAMES) {
-        Some(names) => match sole(names) {
-            Some(name) => match number(name, 2, 20_000) {
-                Some(frames) => Ok(frames as u32),
-                None => Err(WordFault::Usage),
-            },
-            None => Err(WordFault::Usage),
-        },
-        None => Err(WordFault::Usage),
-    }
+    let name = sole_name(matches).ok_or(WordFault::Usage)?;
+    let frames = number(name, 2, 20_000).ok_or(WordFault::Usage)?;
+    Ok(frames as u32)
 }
 
 pub(crate) fn self_test_job(matches: &ArgMatches<'_>) -> Result<SelfTestJob, WordFault>

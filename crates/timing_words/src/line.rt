@@ -9,7 +9,7 @@ ghost use Rattle.timing_words.specs.Sorts.{sort_of, sorts_of};
 
 use clap::error::ErrorKind;
 use clap::{Arg, ArgAction, ArgMatches, Command, Error};
-use std::alloc::{AllocError as OutOfMemory, Global};
+use std::alloc::{AllocError as OutOfMemory, AllocFailed, Global};
 
 // The id of the names.
 pub(crate) const NAMES: &str = "names";
@@ -29,6 +29,16 @@ impl From<OutOfMemory> for WordFault {
     ghost from_gives = { λ _ e. e ≡ WordFault.OutOfMemory };
 
     fn from(_: OutOfMemory) -> WordFault {
+        WordFault::OutOfMemory
+    }
+}
+
+impl<T: Drop> From<AllocFailed<T>> for WordFault {
+    ghost use Rattle.timing_words.specs.declared.line.WordFault.{WordFault};
+
+    ghost from_gives = { λ _ e. e ≡ WordFault.OutOfMemory };
+
+    fn from(_: AllocFailed<T>) -> WordFault {
         WordFault::OutOfMemory
     }
 }

@@ -1,5 +1,6 @@
 use super::*;
 use std::alloc::{AllocError, Global};
+use std::process::Abort;
 use std::test::Fail;
 use timing_base::{FileName, Items, Request};
 
@@ -121,7 +122,7 @@ fn out_of_range_words(rt: HostRuntime) -> Result<(), Fail> {
     Ok(())
 }
 
-static ROWS: [(&str, &str); 112] = [
+static ROWS: [(&str, &str); 86] = [
     // both forms of an option, in any order, and after names
     ("check|--sdp|p|c", "check p 4 0 false false: c"),
     ("check|--sdp=p|c", "check p 4 0 false false: c"),
@@ -242,6 +243,10 @@ static ROWS: [(&str, &str); 112] = [
         "check p 4 0 false false: c c c c c c c c c c c c c c c c",
     ),
     ("check|--sdp|p|c|c|c|c|c|c|c|c|c|c|c|c|c|c|c|c|c", "Usage"),
+];
+
+// The lines of the commands but `check`.
+static OTHER_ROWS: [(&str, &str); 86] = [
     // verify
     (
         "verify|--sdp|p|--media|1|--type|N|--model|Bucket|--from|20|--to|24|--count|5|--limit|4|c",
@@ -287,6 +292,86 @@ static ROWS: [(&str, &str); 112] = [
         "verify|--sdp|p|--media|1|--type|N|--model|Over|--from|1|--to|1|--count|1|--limit|2",
         "Usage",
     ),
+    (
+        "verify|--sdp|p|--media|1|--type|N|--model|Over|--from|1|--to|2|--count|3|--limit|4|c",
+        "verify p 0 N Over 1 2 3 4 0 false: c",
+    ),
+    (
+        "verify|--media|1|--type|N|--model|Over|--from|1|--to|2|--count|3|--limit|4|c",
+        "Usage",
+    ),
+    (
+        "verify|--sdp|p|--type|N|--model|Over|--from|1|--to|2|--count|3|--limit|4|c",
+        "Usage",
+    ),
+    (
+        "verify|--sdp|p|--media|1|--model|Over|--from|1|--to|2|--count|3|--limit|4|c",
+        "Usage",
+    ),
+    (
+        "verify|--sdp|p|--media|1|--type|N|--from|1|--to|2|--count|3|--limit|4|c",
+        "Usage",
+    ),
+    (
+        "verify|--sdp|p|--media|1|--type|N|--model|Over|--to|2|--count|3|--limit|4|c",
+        "Usage",
+    ),
+    (
+        "verify|--sdp|p|--media|1|--type|N|--model|Over|--from|1|--count|3|--limit|4|c",
+        "Usage",
+    ),
+    (
+        "verify|--sdp|p|--media|1|--type|N|--model|Over|--from|1|--to|2|--limit|4|c",
+        "Usage",
+    ),
+    (
+        "verify|--sdp|p|--media|1|--type|N|--model|Over|--from|18446744073709551616|--to|2|--count|3|--limit|4|c",
+        "Usage",
+    ),
+    (
+        "verify|--sdp|p|--media|1|--type|N|--model|Over|--from|1|--to|18446744073709551616|--count|3|--limit|4|c",
+        "Usage",
+    ),
+    (
+        "verify|--sdp|p|--media|1|--type|N|--model|Over|--from|1|--to|2|--count|18446744073709551616|--limit|4|c",
+        "Usage",
+    ),
+    (
+        "verify|--sdp|p|--media|1|--type|N|--model|Over|--from|1|--to|18446744073709551615|--count|3|--limit|4|c",
+        "verify p 0 N Over 1 18446744073709551615 3 4 0 false: c",
+    ),
+    (
+        "verify|--sdp|p|--media|1|--type|WW|--model|Over|--from|1|--to|2|--count|3|--limit|4|c",
+        "Usage",
+    ),
+    (
+        "verify|--sdp|p|--media|1|--type|N|--model|Linear|--from|1|--to|2|--count|3|--limit|4|c",
+        "Usage",
+    ),
+    (
+        "verify|--sdp|p|--media|1|--type|N|--model|Over|--from|1|--to|2|--count|3|--limit|4|--tai|1001|c",
+        "Usage",
+    ),
+    (
+        "verify|--sdp|p|--media|1|--type|N|--model|Over|--from|1|--to|2|--count|3|--limit|4|--json|c",
+        "Usage",
+    ),
+    (
+        "verify|--sdp|p|--media|1|--type|N|--model|Over|--from|1|--to|2|--count|3|--limit|4|--limit|4|c",
+        "Usage",
+    ),
+    (
+        "verify|--sdp|p|--media|1|--type|N|--model|Over|--from|1|--to|2|--count|3|--limit|4|--joined|c|c|c|c|c|c|c|c|c|c|c|c|c|c|c|c",
+        "verify p 0 N Over 1 2 3 4 0 true: c c c c c c c c c c c c c c c c",
+    ),
+    (
+        "verify|--sdp|p|--media|1|--type|N|--model|Over|--from|1|--to|2|--count|3|--limit|4|--joined|c|c|c|c|c|c|c|c|c|c|c|c|c|c|c|c|c",
+        "Usage",
+    ),
+    (
+        "verify|--sdp|p|--media|1|--type|N|--model|Over|--from|1|--to|2|--count|3|--limit|4|--joined",
+        "Usage",
+    ),
     // verify-report
     (
         "verify-report|--sdp|p|--report|r|c",
@@ -298,33 +383,95 @@ static ROWS: [(&str, &str); 112] = [
     ),
     ("verify-report|--sdp|p|c", "Usage"),
     ("verify-report|--sdp|p|--report|r|--json|c", "Usage"),
+    (
+        "verify-report|--sdp|p|--report|r|c|c|c|c|c|c|c|c|c|c|c|c|c|c|c|c",
+        "report p r 0 false: c c c c c c c c c c c c c c c c",
+    ),
+    (
+        "verify-report|--sdp|p|--report|r|c|c|c|c|c|c|c|c|c|c|c|c|c|c|c|c|c",
+        "Usage",
+    ),
+    ("verify-report|--sdp|p|--report|r", "Usage"),
+    ("verify-report|--report|r|c", "Usage"),
+    ("verify-report|--sdp|p|--report=|c", "Usage"),
+    ("verify-report|--sdp|p|--report|r|--report|r|c", "Usage"),
+    ("verify-report|--sdp|p|--report|r|--tai|1001|c", "Usage"),
+    (
+        "verify-report|--sdp|p|--report|-|-",
+        "report p - 0 false: -",
+    ),
     // selftest
     ("selftest|2", "selftest 2 0"),
     ("selftest|--workers|3|20000", "selftest 20000 3"),
     ("selftest|2|3", "Usage"),
     ("selftest", "Usage"),
     ("selftest|--serial|2", "Usage"),
+    ("selftest|00002|--workers=16", "selftest 2 16"),
+    ("selftest|--workers|17|2", "Usage"),
+    ("selftest|--workers|0|2", "Usage"),
+    ("selftest|+2", "Usage"),
+    ("selftest|-", "Usage"),
+    ("selftest|--sdp|p|2", "Usage"),
+    ("selftest|--|2", "selftest 2 0"),
     // window, shape and skew
     ("window|--sdp|p|--media|3|--tai|1|c", "window p 2 1: c"),
     ("window|--sdp|p|--media|3|c|d", "Usage"),
+    ("window|--sdp|p|--media|64|c", "window p 63 0: c"),
+    ("window|--sdp|p|--media|0|c", "Usage"),
+    ("window|--sdp|p|--media|65|c", "Usage"),
+    ("window|--sdp|p|--media|1|--|-c", "window p 0 0: -c"),
+    ("window|--sdp|p|--media|1", "Usage"),
+    ("window|--sdp|p|c", "Usage"),
+    ("window|--media|1|c", "Usage"),
+    ("window|--sdp|p|--media|1|--tai|1001|c", "Usage"),
+    ("window|--sdp|p|--media|1|--joined|c", "Usage"),
     (
         "shape|--sdp|p|--media|1|--type|NL|--list|c",
         "shape p 0 NL 0 true: c",
     ),
     ("shape|--sdp|p|--media|1|c", "Usage"),
+    (
+        "shape|--tai=1000|c|--type=W|--media=2|--sdp=p",
+        "shape p 1 W 1000 false: c",
+    ),
+    ("shape|--sdp|p|--media|1|--type|w|c", "Usage"),
+    ("shape|--sdp|p|--type|N|c", "Usage"),
+    ("shape|--media|1|--type|N|c", "Usage"),
+    ("shape|--sdp|p|--media|1|--type|N", "Usage"),
+    ("shape|--sdp|p|--media|1|--type|N|c|d", "Usage"),
+    ("shape|--sdp|p|--media|1|--type|N|--list|--list|c", "Usage"),
+    ("shape|--sdp|p|--media|1|--type|N|--list=yes|c", "Usage"),
     ("skew|--sdp|p|--media|1|--pair|2|c", "skew p 0 1: c"),
     ("skew|--sdp|p|--media|1|--pair|2|c|d|e", "Usage"),
+    ("skew|--sdp|p|--media|64|--pair|64|c|d", "skew p 63 63: c d"),
+    ("skew|--sdp|p|--media|1|--pair|0|c", "Usage"),
+    ("skew|--sdp|p|--media|1|--pair|65|c", "Usage"),
+    ("skew|--sdp|p|--media|1|c", "Usage"),
+    ("skew|--sdp|p|--pair|1|c", "Usage"),
+    ("skew|--media|1|--pair|2|c", "Usage"),
+    ("skew|--sdp|p|--media|1|--pair|2", "Usage"),
+    ("skew|--sdp|p|--media|1|--pair|2|--tai|3|c", "Usage"),
 ];
 
-#[test]
-fn lines(rt: HostRuntime) -> Result<(), Fail> {
+// Reads each line, and compares what it is read as.
+fn are_read<R: Abort + AllocGlobal>(rt: &R, rows: &[(&str, &str)]) -> Result<(), Fail> {
     let alloc = rt.alloc();
-    for (line, want) in &ROWS {
+    for (line, want) in rows {
         let words = words_of(alloc, line)?;
         let got = read(alloc, words.as_slice())?;
         assert!(rt; got.as_str() == *want, "{line}: {got}");
     }
     Ok(())
+}
+
+#[test]
+fn lines(rt: HostRuntime) -> Result<(), Fail> {
+    are_read(&rt, &ROWS)
+}
+
+#[test]
+fn lines_of_other_commands(rt: HostRuntime) -> Result<(), Fail> {
+    are_read(&rt, &OTHER_ROWS)
 }
 
 #[test]

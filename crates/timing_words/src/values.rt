@@ -8,7 +8,7 @@ ghost use Rattle.timing_words.specs.Answers.{Gives};
 ghost use Rattle.timing_words.specs.Request as words;
 
 use crate::line::WordFault;
-use std::alloc::{AllocError as OutOfMemory, Global};
+use std::alloc::Global;
 use timing_base::{Broken, FileName, Items, Kind};
 
 fn are_digits(bytes: &[u8]) -> bool
@@ -134,27 +134,24 @@ pub(crate) fn file_name(alloc: Global, text: &str) -> Result<FileName, WordFault
     Ok(FileName::from_text(String::from_str(alloc, text)?))
 }
 
-/// From `least` to `most` names of files.
+/// One to `most` names of files.
 #[tactic(auto, using(crate::proofs::Checks::list_refused))]
 pub(crate) fn file_names(
     alloc: Global,
     names: &[&str],
-    least: usize,
     most: usize,
 ) -> Result<Items<FileName>, WordFault>
-    ensures names { Gives (words.file_names least most (map (λ s. s.now) names.now)) result }
-    ensures some { IfOk result (λ l. least ≤ length l) }
+    ensures names { Gives (words.file_names 1 most (map (λ s. s.now) names.now)) result }
+    ensures some { IfOk result (λ l. 1 ≤ length l) }
     ensures few { IfOk result (λ l. length l ≤ most) }
 {
-    if names.len() < least || most < names.len() {
+    if names.is_empty() || most < names.len() {
         return Err(WordFault::Usage);
     }
     let mut files = Vec::new(alloc);
     for name in names {
         let file = file_name(alloc, name)?;
-        if let Err(error) = files.push(file) {
-            return Err(OutOfMemory::from(error).into());
-        }
+        files.push(file)?;
     }
     Ok(Items::from_vec(files))
 }
