@@ -7,9 +7,10 @@ use Rattle.std.specs.List.{flat_map, range_with_len}
 use Rattle.capture_gen.specs.declared.flaw.Flaw.{Flaw}
 use Rattle.capture_gen.specs.declared.frame.Frame.{Frame}
 use Rattle.capture_gen.specs.Flaws.{flaw_of, is_left_out}
-use Rattle.capture_gen.specs.Heads.{file_header}
+use Rattle.capture_gen.specs.Heads.{file_head}
 use Rattle.capture_gen.specs.Packets.{record_of}
-use Rattle.capture_gen.specs.Capture.{capture, frame_bytes, frame_of, frames_bytes, head_packet, packet_of, packets, packets_of, place_bytes, bytes_of_frame}
+use Rattle.capture_gen.specs.Capture.{capture, frame_of, head_packet, packet_of, packets, packets_of}
+use Rattle.capture_gen.specs.Writing.{bytes_of_frame, frame_bytes, frames_bytes, place_bytes}
 use Rattle.capture_gen.proofs.Lists.{flat_map-flat_map, flat_map-map-filter}
 use Rattle.capture_gen.proofs.Puts.{front_after, front_longer, front_of_pieces, puts_after}
 
@@ -39,10 +40,10 @@ unfolding frames_bytes
 front_of_frames a b c number frames flaw k h p q = front_of_pieces a b c (bytes_of_frame number frames flaw) k frames h p q
 
 -- a capture: its head, its first record, and its frames
-pub capture-parts : (number frames flaw : ℕ) → capture number frames flaw ≡ file_header ++ (record_of (head_packet number) ++ frames_bytes number frames (flaw_of flaw))
+pub capture-parts : (number frames flaw : ℕ) → capture number frames flaw ≡ file_head ++ (record_of (head_packet number) ++ frames_bytes number frames (flaw_of flaw))
 unfolding capture packets frames_bytes frame_bytes
 capture-parts number frames flaw =
-    ap (λ l. file_header ++ (record_of (head_packet number) ++ l)) (flat_map-flat_map record_of (λ k. packets_of (frame_of number frames (flaw_of flaw) k)) (range_with_len 0 frames))
+    ap (λ l. file_head ++ (record_of (head_packet number) ++ l)) (flat_map-flat_map record_of (λ k. packets_of (frame_of number frames (flaw_of flaw) k)) (range_with_len 0 frames))
 
 -- a front of the first piece, or of the second one after the first, is a front of the whole
 pub front_in_head : (a b : Option (List ℕ)) (xs ys zs : List ℕ) → AppendsFront a b xs → AppendsFront a b (xs ++ (ys ++ zs))
@@ -56,8 +57,8 @@ pub puts_third : {T E : Type 0} (a b c d : Option (List ℕ)) (xs ys zs : List �
 puts_third a b c d xs ys zs r p q s = puts_after a b d xs (ys ++ zs) r p (puts_after b c d ys zs r q s)
 
 -- what is written is the capture, where each piece is the right one
-pub parts-capture : (number frames flaw : ℕ) (head first : List ℕ) (f : Flaw) → head ≡ file_header → first ≡ record_of (head_packet number) → f ≡ flaw_of flaw
+pub parts-capture : (number frames flaw : ℕ) (head first : List ℕ) (f : Flaw) → head ≡ file_head → first ≡ record_of (head_packet number) → f ≡ flaw_of flaw
     → head ++ (first ++ frames_bytes number frames f) ≡ capture number frames flaw
 parts-capture number frames flaw head first f e g h =
-    ap (λ xs. xs ++ (first ++ frames_bytes number frames f)) e ∙ ap (λ xs. file_header ++ (xs ++ frames_bytes number frames f)) g
-    ∙ ap (λ x. file_header ++ (record_of (head_packet number) ++ frames_bytes number frames x)) h ∙ sym (capture-parts number frames flaw)
+    ap (λ xs. xs ++ (first ++ frames_bytes number frames f)) e ∙ ap (λ xs. file_head ++ (xs ++ frames_bytes number frames f)) g
+    ∙ ap (λ x. file_head ++ (record_of (head_packet number) ++ frames_bytes number frames x)) h ∙ sym (capture-parts number frames flaw)

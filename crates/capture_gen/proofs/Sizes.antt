@@ -8,7 +8,7 @@ use Rattle.capture_gen.specs.declared.flaw.Flaw.TheVariants.{Clean, Burst, Slow,
 use Rattle.capture_gen.specs.declared.frame.Frame.{Frame}
 use Rattle.capture_gen.specs.declared.packet.Packet.{Packet}
 use Rattle.capture_gen.specs.Flaws.{flaw_of, is_left_out}
-use Rattle.capture_gen.specs.Heads.{file_header}
+use Rattle.capture_gen.specs.Heads.{file_head}
 use Rattle.capture_gen.specs.Packets.{record_of}
 use Rattle.capture_gen.specs.Capture.{capture, frame_of, packet_of, packets, packets_of}
 use Rattle.capture_gen.proofs.Lists.{flat_map-range_more}
@@ -98,4 +98,4 @@ length-packets number frames flaw h =
 pub length-capture : (number frames flaw : ℕ) → 1 ≤ frames → length (capture number frames flaw) ≡ 24 + 72 * (1 + 20 * frames - (if nat_le 3 flaw then 1 else 0))
 unfolding capture
 length-capture number frames flaw h =
-    length-append file_header (flat_map record_of (packets number frames flaw)) ∙ ap (λ n. 24 + n) (length-records (packets number frames flaw) ∙ ap (λ n. 72 * n) (length-packets number frames flaw h))
+    length-append file_head (flat_map record_of (packets number frames flaw)) ∙ ap (λ n. 24 + n) (length-records (packets number frames flaw) ∙ ap (λ n. 72 * n) (length-packets number frames flaw h))

@@ -1,19 +1,19 @@
 -- A capture of one flow of video, 50 frames per second of 20 packets each, made from a number: its
 -- packets by frame and place, and its bytes. Stamps are nanoseconds since 1970-01-01 00:00:00.
-use Rattle.std.specs.Prelude.{ℕ, ◌+◌, ◌-◌, ◌*◌, ◌%◌, ◌^◌, ◌==◌, true, not, if◌then◌else◌, List, [], ◌∷◌, ◌++◌, map}
+use Rattle.std.specs.Prelude.{ℕ, ◌+◌, ◌-◌, ◌*◌, ◌%◌, ◌^◌, ◌==◌, true, not, if◌then◌else◌, List, ◌∷◌, ◌++◌, map}
 use Rattle.std.specs.List.{filter, flat_map, range_with_len}
 use Rattle.capture_gen.specs.declared.flaw.Flaw.{Flaw}
 use Rattle.capture_gen.specs.declared.frame.Frame.{Frame}
 use Rattle.capture_gen.specs.declared.packet.Packet.{Packet}
 use Rattle.capture_gen.specs.Flaws.{flaw_of, spacing, is_bunched, is_left_out, marked_place}
-use Rattle.capture_gen.specs.Heads.{file_header}
+use Rattle.capture_gen.specs.Heads.{file_head}
 use Rattle.capture_gen.specs.Packets.{record_of}
 
 -- the whole second at which frame 0 begins
 abbrev pub start : ℕ → ℕ
 start number = (1600000000 + number % 1000000) * 1000000000
 
--- the packet before frame 0, a millisecond before its begin
+-- the packet before frame 0, a millisecond before its start
 abbrev pub head_packet : ℕ → Packet
 head_packet number = record {
   at = start number - 1000000;
@@ -46,20 +46,4 @@ packets number frames flaw =
 
 -- the bytes of a capture
 unfoldable pub capture : ℕ → ℕ → ℕ → List ℕ
-capture number frames flaw = file_header ++ flat_map record_of (packets number frames flaw)
-
--- the bytes of packet j of a frame, none where it is left out
-abbrev pub place_bytes : Frame → ℕ → List ℕ
-place_bytes f j = if is_left_out f.flaw f.last j then [] else record_of (packet_of f j)
-
--- the bytes of a frame's records
-unfoldable pub frame_bytes : Frame → List ℕ
-frame_bytes f = flat_map record_of (packets_of f)
-
--- the bytes of frame k of a capture
-abbrev pub bytes_of_frame : ℕ → ℕ → Flaw → ℕ → List ℕ
-bytes_of_frame number frames flaw k = frame_bytes (frame_of number frames flaw k)
-
--- the bytes of the records of all frames
-unfoldable pub frames_bytes : ℕ → ℕ → Flaw → List ℕ
-frames_bytes number frames flaw = flat_map (bytes_of_frame number frames flaw) (range_with_len 0 frames)
+capture number frames flaw = file_head ++ flat_map record_of (packets number frames flaw)

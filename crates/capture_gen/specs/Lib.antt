@@ -3,3 +3,4 @@ pub mod Flaws
 pub mod Heads
 pub mod Packets
 pub mod Sdp
+pub mod Writing

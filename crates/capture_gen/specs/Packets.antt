@@ -1,8 +1,8 @@
--- The frame of one RTP packet: Ethernet, IPv4, UDP, RTP and the extended sequence number of ST 2110-20.
+-- The Ethernet frame of one RTP packet: Ethernet, IPv4, UDP, RTP and the extended sequence number of ST 2110-20.
 use Rattle.std.specs.Prelude.{ℕ, ◌+◌, ◌/◌, ◌%◌, Bool, true, false, List, [], ◌∷◌, ◌++◌}
 use Rattle.byteorder.specs.Endian.{big_bytes}
 use Rattle.capture_gen.specs.declared.packet.Packet.{Packet}
-use Rattle.capture_gen.specs.Heads.{record_header}
+use Rattle.capture_gen.specs.Heads.{record_head}
 
 -- Ethernet II: the group's address (RFC 1112, section 6.4), the source, the type IPv4
 abbrev pub ethernet_header : List ℕ
@@ -48,10 +48,10 @@ rtp_header p =
 abbrev pub extended_number : Packet → List ℕ
 extended_number p = big_bytes 2 (p.number / 65536)
 
--- the packet's record: 16 bytes of header, and the 56 bytes of its frame
+-- the packet's record: 16 bytes of head, and the 56 bytes of its Ethernet frame
 unfoldable pub record_of : Packet → List ℕ
 record_of p =
-    record_header p.at 56
+    record_head p.at 56
     ++ ethernet_header ++ ipv4_header ++ udp_header
     ++ rtp_header p
     ++ extended_number p

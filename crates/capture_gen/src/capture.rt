@@ -1,7 +1,8 @@
 ghost use Rattle.std.specs.Prelude.{ℕ, ◌≡◌, ◌≤◌, ◌+◌, ◌-◌, ◌*◌, nat_le, if◌then◌else◌, length};
 ghost use Rattle.timing_outside.specs.Causes.{HasCause};
 ghost use Rattle.timing_outside.specs.Written.{PutsAll};
-ghost use Rattle.capture_gen.specs.Capture.{capture, frames_bytes};
+ghost use Rattle.capture_gen.specs.Capture.{capture};
+ghost use Rattle.capture_gen.specs.Writing.{frames_bytes};
 
 use crate::flaw::Flaw;
 use crate::frame::{Frame, head};
@@ -12,7 +13,8 @@ const FILE_HEAD_LEN: u64 = 24;
 
 const RECORD_LEN: u64 = 72;
 
-/// How many bytes a capture of so many frames has. Flaws 3 and 4 leave one packet out.
+/// How many bytes a capture of so many frames has: 24, and 72 for each packet. Flaws 3 and 4 leave
+/// one packet out.
 pub fn capture_len(frames: u32, flaw: u32) -> u64
     requires some { 1 ≤ frames }
     requires few { frames ≤ 20000 }
@@ -46,15 +48,21 @@ fn put_frames<K: Sink>(number: u64, frames: u32, flaw: Flaw, out: &mut K) -> Res
     Ok(())
 }
 
-/// Writes the capture that is made from this number: a file head, the record of a packet that ends an
-/// earlier frame, and then `frames` frames of 20 packets. After `Err` a front of it that isn't the
-/// whole was written.
+/// Writes the capture that is made from this number: a file head, the record of a packet that ends
+/// a frame before the capture, and then `frames` frames of 20 packets.
 ///
-/// Frame 0 begins 1,600,000,000 seconds and `number` modulo 1,000,000 after 1970, and the packets have
-/// the numbers from `number` on, modulo 2^32. The flaw is 0, none; 1, packets 1 to 4 of the last frame
-/// have the stamp of its packet 0; 2, the packets of a frame stand 1,000,000 ns apart in place of
-/// 960,000; 3, packet 10 of the last frame is left out; 4, packet 19 of the last frame is left out,
-/// and packet 18 has the marker.
+/// Frame 0 starts 1,600,000,000 seconds and `number` modulo 1,000,000 seconds after 1970, and each
+/// other frame 20 ms after the one before. The packet before frame 0 stands 1 ms before its start.
+/// Packet 0 of a frame stands 764,000 ns after its start, and the others 960,000 ns apart. The
+/// packet numbers go from `number` on, modulo 2^32. The RTP timestamp is 0 before frame 0 and
+/// 1,800 (k + 1) in frame k, whatever the stamps. The packet before frame 0 and packet 19 of each
+/// frame have the marker.
+///
+/// The flaw is 0, none; 1, packets 1 to 4 of the last frame have the stamp of its packet 0; 2, the
+/// packets of each frame stand 1,000,000 ns apart; 3, packet 10 of the last frame is left out; 4,
+/// packet 19 of the last frame is left out, and packet 18 has the marker.
+///
+/// `Err` is a write that failed. Then a front of the capture was written, and not the whole.
 pub fn write_capture<K: Sink>(
     number: u64,
     frames: u32,

@@ -12,32 +12,33 @@ const PACKETS: u32 = 20;
 
 const FRAME_NANOSECONDS: u64 = 20_000_000;
 
-/// From a frame's begin to its first packet.
+/// From the start of a frame to its first packet.
 const FIRST_NANOSECONDS: u64 = 764_000;
 
 const FRAME_TICKS: u32 = 1800;
 
-/// The second at which frame 0 begins, in nanoseconds since 1970-01-01 00:00:00.
-fn begin(number: u64) -> u64
+/// The second at which frame 0 starts, in nanoseconds since 1970-01-01 00:00:00.
+fn start(number: u64) -> u64
     ensures { result ≡ start number }
 {
     (1_600_000_000 + number % 1_000_000) * 1_000_000_000
 }
 
-/// The packet number so many packets behind that of a capture's head.
-fn packet_number(number: u64, behind: u32) -> u32
-    ensures { result ≡ (number + behind) % 2 ^ 32 }
+/// The packet number so many packets after the head of a capture.
+fn packet_number(number: u64, after: u32) -> u32
+    ensures { result ≡ (number + after) % 2 ^ 32 }
 {
     let first = (number % (1 << 32)) as u32;
-    first.wrapping_add(behind)
+    first.wrapping_add(after)
 }
 
-/// The packet before frame 0 of the capture that is made from this number. It ends an earlier frame.
+/// The packet before frame 0 of the capture that is made from this number. It ends a frame before
+/// the capture.
 pub fn head(number: u64) -> Packet
     ensures { result ≡ head_packet number }
 {
     Packet {
-        at: begin(number) - 1_000_000,
+        at: start(number) - 1_000_000,
         timestamp: 0,
         marker: true,
         number: packet_number(number, 0),
@@ -58,7 +59,8 @@ pub struct Frame {
 }
 
 impl Frame {
-    ghost use Rattle.capture_gen.specs.Capture.{packet_of, place_bytes, frame_bytes};
+    ghost use Rattle.capture_gen.specs.Capture.{packet_of};
+    ghost use Rattle.capture_gen.specs.Writing.{place_bytes, frame_bytes};
 
     /// The packet at a place of the frame, counted from 0.
     fn packet(&self, place: u32) -> Packet
@@ -72,7 +74,7 @@ impl Frame {
             self.flaw.spacing() * u64::from(place)
         };
         Packet {
-            at: begin(self.number)
+            at: start(self.number)
                 + FRAME_NANOSECONDS * u64::from(self.index)
                 + FIRST_NANOSECONDS
                 + late,

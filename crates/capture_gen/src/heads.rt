@@ -1,5 +1,5 @@
 ghost use Rattle.std.specs.Prelude.{◌≡◌, ◌<◌, ◌*◌, ◌^◌};
-ghost use Rattle.capture_gen.specs.Heads.{file_header, record_header};
+ghost use Rattle.capture_gen.specs.Heads.{file_head, record_head};
 
 use byteorder::{ByteOrder, LittleEndian};
 
@@ -18,7 +18,7 @@ const NANOSECONDS: u64 = 1_000_000_000;
 /// The head of a little-endian classic capture file of Ethernet frames, with nanosecond stamps and
 /// snaplen 262,144.
 pub fn file_head() -> [u8; 24]
-    ensures { result ≡ file_header }
+    ensures { result ≡ file_head }
 {
     let mut head = [0; 24];
     LittleEndian::write_u32(&mut head, MAGIC_NANOSECONDS);
@@ -29,11 +29,11 @@ pub fn file_head() -> [u8; 24]
     head
 }
 
-/// The head of a record in such a file: `at` in nanoseconds since 1970-01-01 00:00:00, and `len` bytes
-/// as the captured and the original length.
+/// The head of a record in such a file: its stamp `at`, in nanoseconds since 1970-01-01 00:00:00,
+/// and `len` bytes as the captured and the original length.
 pub fn record_head(at: u64, len: u32) -> [u8; 16]
     requires { at < 2 ^ 32 * 1000000000 }
-    ensures { result ≡ record_header at len }
+    ensures { result ≡ record_head at len }
 {
     let mut head = [0; 16];
     LittleEndian::write_u32(&mut head, (at / NANOSECONDS) as u32);

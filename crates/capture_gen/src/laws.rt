@@ -1,18 +1,20 @@
-//! The definition of a capture on bytes that were worked by hand. Each function is a theorem: it does
-//! nothing, and its clauses are proved.
+//! The definition of a capture on bytes that were worked by hand. Each function is a theorem: it
+//! does nothing, and its clauses are proved.
 
-ghost use Rattle.std.specs.Prelude.{◌≡◌, ◌++◌, [], ◌∷◌, true, false, length, map, take, drop};
+ghost use Rattle.std.specs.Prelude.{◌≡◌, [], ◌∷◌, true, false, length, map, take, drop};
 ghost use Rattle.capture_gen.specs.Capture.{capture, frame_of, head_packet, packet_of, packets, packets_of};
 ghost use Rattle.capture_gen.specs.Flaws.{flaw_of};
-ghost use Rattle.capture_gen.specs.Heads.{file_header, record_header};
+ghost use Rattle.capture_gen.specs.Heads.{file_head};
 ghost use Rattle.capture_gen.specs.Packets.{extended_number, record_of, rtp_header};
 ghost use Rattle.capture_gen.specs.Sdp.{sdp_text};
 
-/// The file begins with the magic of little-endian nanosecond captures, and its head has 24 bytes. The
-/// session description has 346 bytes.
+/// The file head: the magic of little-endian nanosecond captures, version 2.4, no zone, no sigfigs,
+/// snaplen 262,144, Ethernet. The session description has 346 bytes.
 pub fn file_by_hand()
-    ensures magic { take 4 file_header ≡ 0x4d ∷ 0x3c ∷ 0xb2 ∷ 0xa1 ∷ [] }
-    ensures len { length file_header ≡ 24 }
+    ensures head { file_head
+        ≡ 0x4d ∷ 0x3c ∷ 0xb2 ∷ 0xa1 ∷ 0x02 ∷ 0x00 ∷ 0x04 ∷ 0x00
+        ∷ 0x00 ∷ 0x00 ∷ 0x00 ∷ 0x00 ∷ 0x00 ∷ 0x00 ∷ 0x00 ∷ 0x00
+        ∷ 0x00 ∷ 0x00 ∷ 0x04 ∷ 0x00 ∷ 0x01 ∷ 0x00 ∷ 0x00 ∷ 0x00 ∷ [] }
     ensures sdp { length sdp_text ≡ 346 }
 {}
 
@@ -29,10 +31,10 @@ pub fn record_heads_by_hand()
         ∷ 0x38 ∷ 0x00 ∷ 0x00 ∷ 0x00 ∷ 0x38 ∷ 0x00 ∷ 0x00 ∷ 0x00 ∷ [] }
 {}
 
-/// The frame of the first packet behind the head, made from the number 0: packet number 1, RTP
-/// timestamp 1800, no marker.
+/// The Ethernet frame of the first packet after the head, made from the number 0: packet number 1,
+/// RTP timestamp 1800, no marker.
 #[tactic(auto, unfolding(crate::specs::Packets::record_of))]
-pub fn frame_by_hand()
+pub fn ethernet_frame_by_hand()
     ensures { drop 16 (record_of (packet_of (frame_of 0 2 (flaw_of 0) 0) 0))
         ≡ 0x01 ∷ 0x00 ∷ 0x5e ∷ 0x00 ∷ 0x00 ∷ 0x01
         ∷ 0x02 ∷ 0x00 ∷ 0x00 ∷ 0x00 ∷ 0x00 ∷ 0x01 ∷ 0x08 ∷ 0x00
@@ -50,7 +52,7 @@ pub fn numbers_by_hand()
     ensures marker { take 2 (rtp_header (head_packet 65544)) ≡ 0x80 ∷ 0xe0 ∷ [] }
 {}
 
-/// A capture's packet numbers go on at 0 behind 2^32 - 1.
+/// A capture's packet numbers go on at 0 after 2^32 - 1.
 pub fn numbers_wrap()
     ensures head { (head_packet 4294967295).number ≡ 0xffffffff }
     ensures first { (packet_of (frame_of 4294967295 2 (flaw_of 0) 0) 0).number ≡ 0 }
@@ -60,7 +62,7 @@ pub fn numbers_wrap()
 /// What each flaw changes in the last of two frames made from the number 0, and in the one before.
 #[tactic(auto, unfolding(crate::specs::Capture::packets_of))]
 pub fn flaws_by_hand()
-    // Five packets of the last frame at once, and the next 4,800,000 ns behind them.
+    // Five packets of the last frame at once, and the next 4,800,000 ns after them.
     ensures burst { map (λ p. p.at) (take 6 (packets_of (frame_of 0 2 (flaw_of 1) 1)))
         ≡ 1600000000020764000 ∷ 1600000000020764000 ∷ 1600000000020764000 ∷ 1600000000020764000
         ∷ 1600000000020764000 ∷ 1600000000025564000 ∷ [] }

@@ -1,5 +1,5 @@
-//! Captures of one video flow that are made from a number: 1080p at 50 frames per second, 20 packets
-//! per frame, with a flaw where one is asked for.
+//! Captures of one video flow that are made from a number: 1080p at 50 frames per second, 20
+//! packets per frame, with a flaw where one is asked for.
 //!
 //! A capture is a little-endian classic capture file with nanosecond stamps. Its records are one
 //! packet that ends a frame before the capture, and then the packets of its frames. Nothing here

@@ -3,11 +3,12 @@ ghost use Rattle.std.specs.Prelude.{◌≡◌, ◌<◌, ◌*◌, ◌^◌, ◌++�
 use crate::heads::record_head;
 use byteorder::{BigEndian, ByteOrder};
 
-/// Captured and original length of each frame, in bytes.
-const FRAME_LEN: u32 = 56;
+/// Captured and original length of each packet: its Ethernet frame, in bytes.
+const ETHERNET_LEN: u32 = 56;
 
-/// The headers that all frames share: Ethernet II with the type IPv4 (14 bytes), IPv4 of total length
-/// 42 from 192.0.2.1 to 239.0.0.1 (20 bytes), and UDP of length 22 between ports 50000 (8 bytes).
+/// The headers that all packets share: Ethernet II with the type IPv4 (14 bytes), IPv4 of total
+/// length 42 from 192.0.2.1 to 239.0.0.1 (20 bytes), and UDP of length 22 between ports 50000 (8
+/// bytes).
 const SHARED_HEADERS: [u8; 42] = [
     0x01, 0x00, 0x5e, 0x00, 0x00, 0x01, 0x02, 0x00, 0x00, 0x00, 0x00, 0x01, 0x08, 0x00, 0x45, 0x00,
     0x00, 0x2a, 0x00, 0x00, 0x40, 0x00, 0x40, 0x11, 0x00, 0x00, 0xc0, 0x00, 0x02, 0x01, 0xef, 0x00,
@@ -30,7 +31,8 @@ pub struct Packet {
 impl Packet {
     ghost use Rattle.capture_gen.specs.Packets.{extended_number, record_of, rtp_header};
 
-    /// The RTP header and the extended sequence number (RFC 3550, section 5.1; RFC 4175, section 4.2).
+    /// The RTP header and the extended sequence number (RFC 3550, section 5.1; RFC 4175, section
+    /// 4.2).
     fn rtp(&self) -> [u8; 14]
         ensures { result ≡ rtp_header self.now ++ extended_number self.now }
     {
@@ -51,7 +53,7 @@ impl Packet {
         ensures { result ≡ record_of self.now }
     {
         let mut record = [0; 72];
-        record[..16].copy_from_slice(&record_head(self.at, FRAME_LEN));
+        record[..16].copy_from_slice(&record_head(self.at, ETHERNET_LEN));
         record[16..58].copy_from_slice(&SHARED_HEADERS);
         record[58..].copy_from_slice(&self.rtp());
         record

@@ -5,8 +5,8 @@ use std::process::Abort;
 use std::test::Fail;
 use timing_outside::MemorySink;
 
-// A capture in a sink that has room for it and no more. Asserts what the calls require, since a proof
-// does not follow the rows of a table.
+// A capture in a sink that has room for it and no more. Asserts what the calls require, since a
+// proof does not follow the rows of a table.
 fn made<R: Abort>(
     rt: &R,
     alloc: Global,
@@ -76,8 +76,8 @@ fn lengths(rt: HostRuntime) -> Result<(), Fail> {
     Ok(())
 }
 
-// The checksums are those of examples/plain.sdp and examples/plain.pcap, and of captures that a script
-// in another language made from the documented format.
+// The checksums are those of examples/plain.sdp and examples/plain.pcap, and of captures that a
+// script in another language made from the documented format.
 #[test]
 fn checksums(rt: HostRuntime) -> Result<(), Fail> {
     assert_eq!(rt; adler32(sdp_bytes()), 0x0172_5f81);
@@ -107,7 +107,8 @@ fn first_bytes(rt: HostRuntime) -> Result<(), Fail> {
     let sink = made(&rt, rt.alloc(), 0, 2, 0)?;
     let capture = sink.bytes();
     let rows: [(usize, usize, &[u8]); 7] = [
-        // from byte, to byte, what stands there: the magic, two record heads, the second record's frame
+        // from byte, to byte, what stands there: the magic, two record heads, the Ethernet frame of
+        // the second record
         (0, 4, b"\x4d\x3c\xb2\xa1"),
         (24, 32, b"\xff\x0f\x5e\x5f\xc0\x87\x8b\x3b"),
         (32, 40, b"\x38\x00\x00\x00\x38\x00\x00\x00"),
@@ -155,7 +156,7 @@ fn number_wraps(rt: HostRuntime) -> Result<(), Fail> {
     for (number, expected) in [(1, 0xffff_ffff), (2, 0), (3, 1)] {
         assert_eq!(rt; seen(&rt, sink.bytes(), number).3, expected);
     }
-    // The stamps count from 967,295 seconds behind 1,600,000,000.
+    // Frame 0 starts 967,295 seconds after 1,600,000,000.
     assert_eq!(rt; seen(&rt, sink.bytes(), 2).0, 1_600_967_295);
     Ok(())
 }

@@ -1,6 +1,6 @@
 use Rattle.std.proofs.Common.{arith, subst}
 use Rattle.std.specs.Io.KnownBytes.{Appends}
-use Rattle.capture_gen.specs.Capture.{bytes_of_frame}
+use Rattle.capture_gen.specs.Writing.{bytes_of_frame}
 use Rattle.capture_gen.proofs.Parts.{frames_bytes-all, front_of_frames}
 use Rattle.capture_gen.proofs.Puts.{appends_more, puts_err}
 use Rattle.capture_gen.proofs.capture.put_frames.Goals as goal

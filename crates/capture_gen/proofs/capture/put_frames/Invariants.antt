@@ -1,7 +1,7 @@
 use Rattle.std.proofs.Common.{◌≤◌}
 use Rattle.std.specs.List.{flat_map, range_with_len}
 use Rattle.std.specs.Io.KnownBytes.{Appends}
-use Rattle.capture_gen.specs.Capture.{bytes_of_frame}
+use Rattle.capture_gen.specs.Writing.{bytes_of_frame}
 use Rattle.capture_gen.proofs.capture.put_frames.Given as goal
 
 abbrev pub invariant-loop-index : goal.invariant-loop-index

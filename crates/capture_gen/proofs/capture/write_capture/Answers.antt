@@ -1,6 +1,7 @@
 use Rattle.std.proofs.Common.{refl, ap, ◌∙◌, subst}
 use Rattle.timing_outside.specs.Written.{AppendsFront, PutsAll}
-use Rattle.capture_gen.specs.Capture.{frames_bytes, head_packet}
+use Rattle.capture_gen.specs.Capture.{head_packet}
+use Rattle.capture_gen.specs.Writing.{frames_bytes}
 use Rattle.capture_gen.specs.Flaws.{flaw_of}
 use Rattle.capture_gen.specs.Packets.{record_of}
 use Rattle.capture_gen.proofs.Parts.{parts-capture, front_in_head, front_in_second, puts_third}

@@ -1,6 +1,6 @@
 use Rattle.std.proofs.Common.{arith, refl, sym, subst}
 use Rattle.std.specs.Io.KnownBytes.{Appends}
-use Rattle.capture_gen.specs.Capture.{place_bytes}
+use Rattle.capture_gen.specs.Writing.{place_bytes}
 use Rattle.capture_gen.proofs.Parts.{frame_bytes-places, front_of_frame}
 use Rattle.capture_gen.proofs.Puts.{appends_more, puts_err}
 use Rattle.capture_gen.proofs.frame.Frame.put.Goals as goal

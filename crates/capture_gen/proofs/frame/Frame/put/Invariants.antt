@@ -1,7 +1,7 @@
 use Rattle.std.proofs.Common.{◌≤◌}
 use Rattle.std.specs.List.{flat_map, range_with_len}
 use Rattle.std.specs.Io.KnownBytes.{Appends}
-use Rattle.capture_gen.specs.Capture.{place_bytes}
+use Rattle.capture_gen.specs.Writing.{place_bytes}
 use Rattle.capture_gen.proofs.frame.Frame.put.Given as goal
 
 abbrev pub invariant-loop-place : goal.invariant-loop-place
