@@ -1,3 +1,4 @@
 pub mod Anchors
+pub mod Buffers
 pub mod Floors
 pub mod Ticks

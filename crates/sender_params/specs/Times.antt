@@ -1,6 +1,7 @@
 -- The times of a sender of video (SMPTE ST 2110-21), in nanoseconds, each as the pair of a numerator
 -- and a denominator. m is the video, n the packets of one group: a group is a frame of a progressive
--- picture and a field of an interlaced one. All numbers are this project's profile of the standard.
+-- picture and a field of an interlaced one. Reads start anew with each group, TR_OFFSET after its start.
+-- All numbers are this project's profile of the standard.
 use Rattle.std.specs.Prelude.{◌*◌, ℕ, Bool, cond, nat_le, Option, Some, None}
 use Rattle.timing_base.specs.declared.media.Media.{Media}
 
@@ -30,13 +31,14 @@ active_part m = cond m.interlaced
     (cond (nat_le 1080 m.height) (1080, 1125) (cond (nat_le 576 m.height) (576, 625) (487, 525)))
     (1080, 1125)
 
--- the part of the frame that stands before the first read
+-- the part of T_FRAME from the start of each group to its first read
 abbrev pub offset_part : Media → ℕ × ℕ
 offset_part m = cond m.interlaced
     (cond (nat_le 1080 m.height) (22, 1125) (cond (nat_le 576 m.height) (26, 625) (20, 525)))
     (cond (nat_le 1080 m.height) (43, 1125) (28, 750))
 
--- TR_OFFSET: the part of the frame, or TROFF, which is in microseconds
+-- TR_OFFSET, from the start of each group to its first read: that part of T_FRAME, or TROFF, which is in
+-- microseconds
 abbrev pub offset_by : Media → Option ℕ → ℕ × ℕ
 offset_by m (Some troff) = (1000 * troff, 1)
 offset_by m None = ((offset_part m).0 * (m.q * 1000000000), (offset_part m).1 * m.p)

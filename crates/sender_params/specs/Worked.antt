@@ -1,15 +1,18 @@
--- Videos on which the definitions are tried by hand.
-use Rattle.std.specs.Prelude.{◌≤◌, ◌*◌, ℕ, Bool, true, false, Option, Some, None}
+-- Videos, packets and fails on which the definitions are tried by hand. Stamps are nanoseconds of TAI.
+use Rattle.std.specs.Prelude.{◌≤◌, ◌*◌, ℕ, Bool, true, false, Option, Some, None, List, [], ◌∷◌, replicate}
 use Rattle.std.specs.Option.{ForSome}
 use Rattle.std.proofs.Common.{lit≤, subst}
 use Rattle.timing_base.specs.declared.media.Media.{Media}
 use Rattle.timing_base.specs.declared.media.Kind.TheVariants.{N}
+use Rattle.timing_base.specs.declared.fail.FailProof.{FailProof}
+use Rattle.timing_base.specs.declared.fail.Broken.{Broken}
 
--- what is absent keeps every limit
+-- the option has no number
 abbrev pub IsAbsent : Option ℕ → Type 0
 IsAbsent None = Unit {0}
 IsAbsent (Some _) = ⊥
 
+-- what is absent keeps every limit
 pub absent_keeps : (P : ℕ → Type 0) → ForSome None P
 absent_keeps P = λ x e. absurd (subst IsAbsent e tt)
 
@@ -66,3 +69,15 @@ sd_25_interlaced = video 576 true 25 1 (lit≤ tt) (lit≤ tt) (lit≤ tt) (lit�
 -- 480 lines, interlaced, at 30000/1001 frames per second
 abbrev pub sd_29_97_interlaced : Media
 sd_29_97_interlaced = video 480 true 30000 1001 (lit≤ tt) (lit≤ tt) (lit≤ tt) (lit≤ tt) (lit≤ tt) (lit≤ tt)
+
+-- so many packets at once, 764,000 ns after 1,600,000,000 s: the first read is 444 4/9 ns later
+abbrev pub at_once : ℕ → List ℕ
+at_once count = replicate count 1600000000000764000
+
+-- packets 0 and 1 of a linear sender at 50 with 20 packets per frame
+abbrev pub linear_two : List ℕ
+linear_two = 1600000000000764000 ∷ 1600000000001764000 ∷ []
+
+-- a fail of a model: the first and the last packet, the count over them, and the limit
+abbrev pub fail : Broken → (from to count limit : ℕ) → FailProof
+fail model from to count limit = record { model = model; from = from; to = to; count = count; limit = limit }

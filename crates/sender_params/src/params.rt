@@ -97,7 +97,8 @@ impl Params {
         }
     }
 
-    /// C_MAX of this sender type, in packets. CMAX replaces that of the declared type alone.
+    /// C_MAX of this sender type, in packets, rounded down. CMAX replaces that of the declared type
+    /// alone.
     pub fn c_max(&self, kind: Kind) -> u64
         ensures { result ≡ c_max_of self.now.media self.now.n kind }
     {
@@ -108,7 +109,7 @@ impl Params {
         }
     }
 
-    /// VRX_FULL of this sender type, in packets.
+    /// VRX_FULL of this sender type, in packets, rounded down.
     pub fn vrx_full(&self, kind: Kind) -> u64
         ensures { result ≡ vrx_full_of self.now.media self.now.n kind }
     {
@@ -119,7 +120,8 @@ impl Params {
         }
     }
 
-    /// T_DRAIN in nanoseconds, as numerator and denominator.
+    /// T_DRAIN in nanoseconds, the time from one tick of the bucket's drain to the next, as numerator
+    /// and denominator.
     pub fn drain(&self) -> (u128, u128)
         ensures num { result.0 ≡ (drain_time self.now.media self.now.n).0 }
         ensures den { result.1 ≡ (drain_time self.now.media self.now.n).1 }
@@ -128,7 +130,8 @@ impl Params {
         self.drain.pair()
     }
 
-    /// TR_OFFSET in nanoseconds, as numerator and denominator.
+    /// TR_OFFSET in nanoseconds, the time from the start of each group to its first read, as
+    /// numerator and denominator. TROFF replaces it. A group of an interlaced picture is a field.
     pub fn offset(&self) -> (u128, u128)
         ensures num { result.0 ≡ (offset_time self.now.media).0 }
         ensures den { result.1 ≡ (offset_time self.now.media).1 }
@@ -167,7 +170,8 @@ impl Params {
         (num, u128::from(rules::groups(&self.media)) * den)
     }
 
-    /// T_RS in nanoseconds, of the gapped schedule or the linear one, as numerator and denominator.
+    /// T_RS in nanoseconds, the time from one read to the next in a group, of the gapped schedule or
+    /// the linear one, as numerator and denominator.
     pub fn step(&self, gapped: bool) -> (u128, u128)
         ensures num { result.0 ≡ (read_step self.now.media self.now.n gapped).0 }
         ensures den { result.1 ≡ (read_step self.now.media self.now.n gapped).1 }
@@ -200,7 +204,8 @@ impl Params {
         rules::per_frame(&self.media, self.n)
     }
 
-    /// The ticks of the bucket's drain from `a0` up to `at`, both in nanoseconds of TAI.
+    /// The ticks of the bucket's drain from `a0` up to `at`, both in nanoseconds of TAI: they stand at
+    /// `a0` + T_DRAIN, `a0` + 2 T_DRAIN and so on, and one at the very instant `at` counts.
     pub fn ticks(&self, a0: u64, at: u64) -> u128
         requires order { a0 ≤ at }
         requires small { at < 2 ^ 62 }
@@ -230,7 +235,8 @@ impl Params {
     }
 
     /// The number of the group that is nearest to a first packet at `a0`, in nanoseconds of TAI:
-    /// its distance from the first read of that group is at most half of T_GROUP.
+    /// its distance from the first read of that group is at most half of T_GROUP. Halfway between two
+    /// first reads the later group is taken.
     pub fn anchor(&self, a0: u64) -> i128
         requires { a0 < 2 ^ 62 }
         ensures value { result ≡ anchor_of self.now.media a0 }

@@ -1,6 +1,6 @@
 //! The rules of SMPTE ST 2110-21 for one video.
 
-ghost use Rattle.std.specs.Prelude.{◌≡◌, ◌≤◌, ◌<◌, ◌*◌, ◌/◌, ◌^◌, max, ℕ};
+ghost use Rattle.std.specs.Prelude.{◌≡◌, ◌≤◌, ◌<◌, ◌*◌, ◌/◌, ◌^◌, max};
 ghost use Rattle.sender_params.specs.Limits.{c_max_by_rate, c_max_of, or_declared, vrx_full_of};
 ghost use Rattle.sender_params.specs.Times.{active_part, groups_of};
 ghost use Rattle.sender_params.specs.Times.{offset_part, offset_time, group_time};
@@ -57,7 +57,7 @@ pub fn active(media: &Media) -> Ratio
     }
 }
 
-/// The part of a frame that stands before the first read.
+/// The part of T_FRAME from the start of each group to its first read.
 fn offset_share(media: &Media) -> Ratio
     ensures num { result.num ≡ (offset_part media.now).0 }
     ensures den { result.den ≡ (offset_part media.now).1 }
@@ -74,7 +74,8 @@ fn offset_share(media: &Media) -> Ratio
     }
 }
 
-/// The time from the start of a frame to its first read: TROFF, or a share of the frame.
+/// The time from the start of each group to its first read, in nanoseconds: TROFF, or a part of
+/// T_FRAME.
 pub fn offset(media: &Media) -> Ratio
     ensures num { result.num ≡ (offset_time media.now).0 }
     ensures den { result.den ≡ (offset_time media.now).1 }
@@ -100,7 +101,7 @@ pub fn offset(media: &Media) -> Ratio
     }
 }
 
-/// The time from one read to the next within a group.
+/// The time from one read to the next within a group, in nanoseconds.
 pub fn step(media: &Media, n: u32, gapped: bool) -> Ratio
     requires some { 1 ≤ n }
     requires most { n ≤ 262144 }
@@ -178,14 +179,10 @@ fn bucket_limit(media: &Media, n: u32, kind: Kind) -> u64
 fn declared_limit(declared: Option<Kind>, cmax: Option<u32>, kind: Kind, limit: u64) -> u64
     ensures { result ≡ or_declared declared cmax kind limit }
 {
-    match (declared, kind) {
-        (Some(Kind::N), Kind::N) | (Some(Kind::NL), Kind::NL) | (Some(Kind::W), Kind::W) => {
-            match cmax {
-                Some(most) => u64::from(most),
-                None => limit,
-            }
-        }
-        _ => limit,
+    if declared == Some(kind) {
+        cmax.map_or(limit, u64::from)
+    } else {
+        limit
     }
 }
 
@@ -211,7 +208,7 @@ pub fn vrx_full(media: &Media, n: u32, kind: Kind) -> u64
     }
 }
 
-/// The time from one tick of the drain to the next.
+/// The time from one tick of the drain to the next, in nanoseconds.
 pub fn drain(media: &Media, n: u32) -> Ratio
     requires some { 1 ≤ n }
     requires most { n ≤ 262144 }
