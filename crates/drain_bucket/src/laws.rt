@@ -3,7 +3,7 @@
 
 ghost use Rattle.std.specs.Prelude.{◌≡◌, [], ◌∷◌};
 ghost use Rattle.drain_bucket.specs.Reich.{CountIsLoad};
-ghost use Rattle.drain_bucket.specs.Word.{bucket_of, count_after};
+ghost use Rattle.drain_bucket.specs.Word.{bucket_of};
 ghost use Rattle.sender_params.specs.Worked.{hd_50};
 
 /// The bucket at packet i is the greatest load of an interval that ends there (Reich's formula).
