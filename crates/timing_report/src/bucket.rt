@@ -1,3 +1,5 @@
+//! The report of one flow that was judged by the bucket alone.
+
 ghost use Rattle.std.specs.Prelude.{◌≡◌, ◌++◌, IfOk, string_bytes};
 ghost use Rattle.timing_report.specs.Report.{file_line, bucket_flow_line, bucket_type_line, bucket_status, status_line, bucket_text};
 

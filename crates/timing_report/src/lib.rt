@@ -3,6 +3,7 @@
 #![tactic(auto)]
 
 mod bucket;
+pub mod laws;
 mod status;
 
 pub use bucket::{BucketRow, bucket_report};

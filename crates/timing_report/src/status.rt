@@ -1,3 +1,5 @@
+//! How a run ends: the status of the process, and its line on standard error.
+
 ghost use Rattle.std.specs.Prelude.{◌≡◌, ◌≤◌, ◌+◌, ◌++◌, length, codes};
 ghost use Rattle.std.specs.Fmt.{decimal};
 ghost use Rattle.sdp_reader.specs.Fault.{fault_text};
@@ -21,17 +23,17 @@ pub enum Input {
 /// How a run ended.
 #[derive(Clone, Copy, Debug, PartialEq, Eq)]
 pub enum Status {
-    /// Every flow is judged, and each sender keeps its type.
+    /// The report was printed, and the type N passes in it, whatever type is declared.
     Pass,
-    /// Every flow is judged, and some sender breaks its type.
+    /// The report was printed, and the type N fails in it, whatever type is declared.
     Fail,
     /// The words are no request.
     Usage,
     /// The session description has a fault.
     SdpRefused(SdpFault),
-    /// Some flow has no verdict, or a capture was refused.
+    /// Some flow has no verdict, or a capture was refused. No form that is built ends so.
     NotAllJudged,
-    /// An input couldn't be read.
+    /// This input couldn't be fetched, or a read of it failed.
     ReadFault(Input),
     /// The output couldn't be written whole.
     WriteFault,
@@ -39,7 +41,7 @@ pub enum Status {
     OutOfMemory,
     /// A request that isn't built yet.
     NotBuilt,
-    /// The report isn't in its form.
+    /// The report that is verified isn't in its form. No form that is built ends so.
     ReportRefused,
 }
 
