@@ -8,7 +8,8 @@ use Rattle.sdp_reader.specs.Plain.{stream}
 use Rattle.sdp_reader.specs.Session.{session}
 use Rattle.timing_report.specs.declared.status.Status.{Status}
 use Rattle.timing_report.specs.declared.status.Status.TheVariants as status
-use Rattle.timing_top.specs.Check.{Answers, by_ending, by_flow, JudgesFlow, Names, is_one_run}
+use Rattle.timing_top.specs.Check.{by_ending, by_flow, Names, is_one_run}
+use Rattle.timing_top.specs.Steps.{Answers, JudgesFlow}
 use Rattle.timing_top.specs.Flow.{HasFlow}
 use Rattle.timing_top.specs.declared.report.Report.{Report}
 use Rattle.timing_top.specs.declared.flow.Flow.{Flow}
@@ -37,7 +38,7 @@ answers names media flow sdp capture (Ok report) session_is progressive has j = 
     }
 answers names media flow sdp capture (Err status.NotBuilt) session_is progressive has (inl other) = λ s c told held.
     let f = has c held in
-    by_ending f.items flow.ending f.records other
+    by_ending f.items flow.ending (stream media ∷ [], session_is s told) f.records other
 answers names media flow sdp capture (Err status.NotBuilt) session_is progressive has (inr other) = λ s c told held.
     let f = has c held in
     by_flow media f.items flow.ending (session_is s told) f.records

@@ -14,7 +14,7 @@ use Rattle.drain_bucket.specs.Stands.{CanFollow, IsAfter, StandsFor}
 use Rattle.drain_bucket.specs.Word.{bucket_of}
 use Rattle.drain_bucket.specs.declared.bucket.Bucket.{Bucket}
 use Rattle.drain_bucket.proofs.Prefix.{bucket_of-take, can_follow-take, keeps_bucket, keeps_bucket-counts}
-use Rattle.timing_top.specs.Bucket.{IsBucketRow, IsFirstOver, IsPeak, PassesWhereKept, first_over}
+use Rattle.timing_top.specs.Bucket.{IsBucketRow, IsFirstOver, IsPeak, PassesWhereKept}
 
 -- a judged run has a packet
 pub some_stamps : (run : JudgedRun) → IsGrouped run → 0 < length run.stamps
@@ -54,20 +54,21 @@ count-take params b stamps i few stands =
     (after-take params b stamps i few stands).count ∙ bucket_of-take params.media params.n stamps (i + 1) i (omega arith)
 
 -- the next packet, by its count
-pub first_over-more : (m : Media) (n : ℕ) (stamps : List ℕ) (i : ℕ) (over : Option ℕ) (count limit : ℕ)
+pub first_over-more : (m : Media) (n : ℕ) (stamps : List ℕ) (i : ℕ) (over next : Option ℕ) (count limit : ℕ)
     → limit ≡ c_max_of m n N
     → count ≡ bucket_of m n stamps i
+    → ((x : ℕ) → over ≡ Some x → next ≡ Some x)
+    → (over ≡ None → limit < count → next ≡ Some i)
+    → (over ≡ None → count ≤ limit → next ≡ None)
     → IsFirstOver m n stamps i over
-    → IsFirstOver m n stamps (i + 1) (first_over over i count limit)
-first_over-more m n stamps i (Some x) count limit is_limit is_count h = (omega (arith, h.0), h.1, h.2)
-first_over-more m n stamps i None count limit is_limit is_count h =
-    elim (cases_lt limit count) as (λ _. IsFirstOver m n stamps (i + 1) (first_over None i count limit)) [
-      | inl above ↦
-          let e : first_over None i count limit ≡ Some i = grind arith in
-          subst (IsFirstOver m n stamps (i + 1)) (sym e) (omega arith, omega (arith, is_limit, is_count, above), h)
+    → IsFirstOver m n stamps (i + 1) next
+first_over-more m n stamps i (Some x) next count limit is_limit is_count earlier this none h =
+    subst (IsFirstOver m n stamps (i + 1)) (sym (earlier x refl)) (omega (arith, h.0), h.1, h.2)
+first_over-more m n stamps i None next count limit is_limit is_count earlier this none h =
+    elim (cases_lt limit count) as (λ _. IsFirstOver m n stamps (i + 1) next) [
+      | inl above ↦ subst (IsFirstOver m n stamps (i + 1)) (sym (this refl above)) (omega arith, omega (arith, is_limit, is_count, above), h)
       | inr within ↦
-          let e : first_over None i count limit ≡ None = grind arith in
-          subst (IsFirstOver m n stamps (i + 1)) (sym e) (λ k low. elim (cases_lt k i) as (λ _. bucket_of m n stamps k ≤ c_max_of m n N) [
+          subst (IsFirstOver m n stamps (i + 1)) (sym (none refl within)) (λ k low. elim (cases_lt k i) as (λ _. bucket_of m n stamps k ≤ c_max_of m n N) [
             | inl early ↦ h k early
             | inr late ↦ let same : k ≡ i = omega (arith, late, low) in omega (arith, ap (bucket_of m n stamps) same, is_limit, is_count, within)
           ])

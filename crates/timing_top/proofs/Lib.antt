@@ -3,7 +3,9 @@ pub mod Buckets
 pub mod Completing
 pub mod Flows
 pub mod Medias
+pub mod Ordering
 pub mod Printing
 pub mod Reports
 pub mod Sessions
+pub mod Stamped
 pub mod Taken

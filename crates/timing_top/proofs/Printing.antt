@@ -8,7 +8,8 @@ use Rattle.timing_report.specs.declared.bucket.BucketRow.{BucketRow}
 use Rattle.timing_report.specs.declared.status.Input.{Input}
 use Rattle.timing_report.specs.declared.status.Status.{Status}
 use Rattle.timing_report.specs.declared.status.Status.TheVariants as status
-use Rattle.timing_top.specs.Check.{HasReport, InputRose, Names, OnReadFault, Prints}
+use Rattle.timing_top.specs.Check.{HasReport, InputRose, Names, OnReadFault}
+use Rattle.timing_top.specs.Steps.{Prints}
 use Rattle.timing_top.specs.Printed.{is_printed}
 use Rattle.timing_top.specs.Tasks.{Ends, EndsJudging, ReadFaultRose, Task, judge}
 use Rattle.timing_top.specs.declared.report.Report.{Report}

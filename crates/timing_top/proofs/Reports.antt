@@ -1,5 +1,5 @@
 -- The report of two texts is one.
-use Rattle.std.proofs.Common.{◌≡◌, ◌^◌, ℕ, List, length, Option, Some, None, sym, ap, ◌∙◌, subst, arith, refl, inl, inr}
+use Rattle.std.proofs.Common.{◌≡◌, ◌^◌, ℕ, true, false, not, List, [], ◌∷◌, length, Option, Some, None, Err, sym, ap, ◌∙◌, subst, arith, refl, inl, inr}
 use Rattle.std.proofs.lemmas.Bool.{cases_lt}
 use Rattle.timing_base.specs.Captures.{Record}
 use Rattle.timing_base.specs.Judged.{judged}
@@ -8,6 +8,8 @@ use Rattle.timing_base.specs.declared.judged.RunOutcome.TheVariants.{Judged}
 use Rattle.timing_base.specs.declared.judged.JudgedRun.{JudgedRun}
 use Rattle.timing_base.specs.declared.media.Media.{Media}
 use Rattle.sdp_reader.specs.Plain.{stream}
+use Rattle.sdp_reader.specs.Session.{session}
+use Rattle.sdp_reader.specs.declared.fault.SdpFault.{SdpFault}
 use Rattle.pcap_reader.specs.Header.{header}
 use Rattle.pcap_reader.specs.declared.ending.Ending.TheVariants.{End}
 use Rattle.pcap_reader.proofs.Lists.{only_by}
@@ -15,7 +17,10 @@ use Rattle.udp_rtp.specs.Flow.{flow}
 use Rattle.timing_report.specs.Report.{bucket_status, bucket_text}
 use Rattle.timing_report.specs.declared.bucket.BucketRow.{BucketRow}
 use Rattle.timing_top.specs.Bucket.{IsBucketRow, IsFirstOver, IsPeak}
-use Rattle.timing_top.specs.Complete.{OneReport}
+use Rattle.timing_top.specs.Check.{HasReport, IsUnbuilt, Names, by_ending, by_flow, by_session, is_built, is_one_run}
+use Rattle.timing_top.specs.Complete.{OneAnswer, OneReport}
+use Rattle.timing_report.specs.declared.status.Status.{Status}
+use Rattle.timing_report.specs.declared.status.Status.TheVariants as status
 use Rattle.timing_top.proofs.Medias.{stream-injective}
 
 -- the greatest count is one
@@ -84,3 +89,89 @@ one_report names s c first second ends also p q =
       p.text_is ∙ ap (λ (m : Media). bucket_text names.capture m p.row) media ∙ ap (λ (r : BucketRow). bucket_text names.capture q.media r) rows ∙ sym q.text_is,
       p.status_is ∙ ap bucket_status rows ∙ sym q.status_is,
     )
+
+-- texts that have a report are built
+report_unbuilt : (names : Names) (s c text : List ℕ) (ends : Status) → HasReport names s c text ends → IsUnbuilt names s c → ⊥
+report_unbuilt names s c text ends p (by_session streams e other) =
+    let a = p.session_is in
+    let same : streams ≡ stream p.media ∷ [] = cc in
+    let b : not p.media.interlaced ≡ false = sym (ap is_built same) ∙ other in
+    let d : not p.media.interlaced ≡ true = ap not p.progressive in
+    cc
+report_unbuilt names s c text ends p (by_ending items end accepted r other) =
+    other (sym (only_by (header c) (2 ^ 40) c p.items items End end p.records r).1)
+report_unbuilt names s c text ends p (by_flow media items end e r other) =
+    let a = p.session_is in
+    let streams : stream p.media ≡ stream media = cc in
+    let same = stream-injective p.media media streams in
+    let records = (only_by (header c) (2 ^ 40) c p.items items End end p.records r).0 in
+    let flows : judged (flow p.items p.media) p.media.pt names.tai ≡ judged (flow items media) media.pt names.tai =
+    ap (λ (xs : List Record). judged (flow xs p.media) p.media.pt names.tai) records
+    ∙ ap (λ (m : Media). judged (flow items m) m.pt names.tai) same in
+    let b : is_one_run (judged (flow p.items p.media) p.media.pt names.tai) ≡ true = ap is_one_run p.judged_is in
+    let d : is_one_run (judged (flow p.items p.media) p.media.pt names.tai) ≡ false = ap is_one_run flows ∙ other in
+    cc
+
+-- a description that is refused has no report, and no form that isn't built
+report_refused : (names : Names) (s c text : List ℕ) (ends : Status) (fault : SdpFault) → HasReport names s c text ends → session s ≡ Err fault → ⊥
+report_refused names s c text ends fault p e = let a = p.session_is in cc
+
+unbuilt_refused : (names : Names) (s c : List ℕ) (fault : SdpFault) → IsUnbuilt names s c → session s ≡ Err fault → ⊥
+unbuilt_refused names s c fault (by_session streams a other) e = cc
+unbuilt_refused names s c fault (by_ending items end accepted r other) e = let a = accepted.1 in cc
+unbuilt_refused names s c fault (by_flow media items end a r other) e = cc
+
+same_fault : (s : List ℕ) (x y : SdpFault) → session s ≡ Err x → session s ≡ Err y → status.SdpRefused x ≡ status.SdpRefused y
+same_fault s x y p q = cc
+
+-- the two reports of a pair of answers end alike
+same_end : (names : Names) (s c first second : List ℕ) (x y : Status) → HasReport names s c first x → HasReport names s c second y → x ≡ y
+same_end names s c first second x y p q = (one_report names s c first second x y p q).1
+
+pub one_answer : OneAnswer
+one_answer names s c status.Pass status.Pass p q = refl
+one_answer names s c status.Pass status.Fail p q = same_end names s c p.0 q.0 status.Pass status.Fail p.1 q.1
+one_answer names s c status.Pass (status.SdpRefused g) p q = absurd (report_refused names s c p.0 status.Pass g p.1 q)
+one_answer names s c status.Pass status.NotBuilt p q = absurd (report_unbuilt names s c p.0 status.Pass p.1 q)
+one_answer names s c status.Fail status.Pass p q = same_end names s c p.0 q.0 status.Fail status.Pass p.1 q.1
+one_answer names s c status.Fail status.Fail p q = refl
+one_answer names s c status.Fail (status.SdpRefused g) p q = absurd (report_refused names s c p.0 status.Fail g p.1 q)
+one_answer names s c status.Fail status.NotBuilt p q = absurd (report_unbuilt names s c p.0 status.Fail p.1 q)
+one_answer names s c (status.SdpRefused f) status.Pass p q = absurd (report_refused names s c q.0 status.Pass f q.1 p)
+one_answer names s c (status.SdpRefused f) status.Fail p q = absurd (report_refused names s c q.0 status.Fail f q.1 p)
+one_answer names s c (status.SdpRefused f) (status.SdpRefused g) p q = same_fault s f g p q
+one_answer names s c (status.SdpRefused f) status.NotBuilt p q = absurd (unbuilt_refused names s c f q p)
+one_answer names s c status.NotBuilt status.Pass p q = absurd (report_unbuilt names s c q.0 status.Pass q.1 p)
+one_answer names s c status.NotBuilt status.Fail p q = absurd (report_unbuilt names s c q.0 status.Fail q.1 p)
+one_answer names s c status.NotBuilt (status.SdpRefused g) p q = absurd (unbuilt_refused names s c g p q)
+one_answer names s c status.NotBuilt status.NotBuilt p q = refl
+one_answer names s c status.Pass (status.ReadFault i) p q = absurd q
+one_answer names s c status.Pass status.OutOfMemory p q = absurd q
+one_answer names s c status.Pass status.Usage p q = absurd q
+one_answer names s c status.Pass status.NotAllJudged p q = absurd q
+one_answer names s c status.Pass status.WriteFault p q = absurd q
+one_answer names s c status.Pass status.ReportRefused p q = absurd q
+one_answer names s c status.Fail (status.ReadFault i) p q = absurd q
+one_answer names s c status.Fail status.OutOfMemory p q = absurd q
+one_answer names s c status.Fail status.Usage p q = absurd q
+one_answer names s c status.Fail status.NotAllJudged p q = absurd q
+one_answer names s c status.Fail status.WriteFault p q = absurd q
+one_answer names s c status.Fail status.ReportRefused p q = absurd q
+one_answer names s c (status.SdpRefused f) (status.ReadFault i) p q = absurd q
+one_answer names s c (status.SdpRefused f) status.OutOfMemory p q = absurd q
+one_answer names s c (status.SdpRefused f) status.Usage p q = absurd q
+one_answer names s c (status.SdpRefused f) status.NotAllJudged p q = absurd q
+one_answer names s c (status.SdpRefused f) status.WriteFault p q = absurd q
+one_answer names s c (status.SdpRefused f) status.ReportRefused p q = absurd q
+one_answer names s c status.NotBuilt (status.ReadFault i) p q = absurd q
+one_answer names s c status.NotBuilt status.OutOfMemory p q = absurd q
+one_answer names s c status.NotBuilt status.Usage p q = absurd q
+one_answer names s c status.NotBuilt status.NotAllJudged p q = absurd q
+one_answer names s c status.NotBuilt status.WriteFault p q = absurd q
+one_answer names s c status.NotBuilt status.ReportRefused p q = absurd q
+one_answer names s c (status.ReadFault i) second p q = absurd p
+one_answer names s c status.OutOfMemory second p q = absurd p
+one_answer names s c status.Usage second p q = absurd p
+one_answer names s c status.NotAllJudged second p q = absurd p
+one_answer names s c status.WriteFault second p q = absurd p
+one_answer names s c status.ReportRefused second p q = absurd p

@@ -1,6 +1,6 @@
 -- What the bucket of the network compatibility model (SMPTE ST 2110-21) makes of a judged run, for the type N.
 -- Packets are judged packets, counted from 0.
-use Rattle.std.specs.Prelude.{◌≡◌, ◌≤◌, ◌<◌, ℕ, nat_lt, if◌then◌else◌, List, length, Option, None, Some}
+use Rattle.std.specs.Prelude.{◌≡◌, ◌≤◌, ◌<◌, ℕ, List, length, Option, None, Some}
 use Rattle.timing_base.specs.declared.judged.JudgedRun.{JudgedRun}
 use Rattle.timing_base.specs.declared.media.Kind.TheVariants.{N}
 use Rattle.timing_base.specs.declared.media.Media.{Media}
@@ -34,8 +34,3 @@ pub record IsBucketRow (m : Media) (run : JudgedRun) (row : BucketRow) : Type 0 
   pub peak : IsPeak m run.per_group run.stamps row.peak
   pub over : IsFirstOver m run.per_group run.stamps (length run.stamps) row.over
   pub passes : PassesWhereKept m run.per_group run.stamps row.over
-
--- the first packet over the limit, where this one has the next count
-abbrev pub first_over : Option ℕ → ℕ → ℕ → ℕ → Option ℕ
-first_over (Some i) packet count limit = Some i
-first_over None packet count limit = if nat_lt limit count then Some packet else None

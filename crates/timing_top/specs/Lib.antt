@@ -3,4 +3,5 @@ pub mod Check
 pub mod Complete
 pub mod Flow
 pub mod Printed
+pub mod Steps
 pub mod Tasks

@@ -1,5 +1,5 @@
 -- What a run has to do, and how it ends: what it answers and what stands on the sinks.
-use Rattle.std.specs.Prelude.{◌≡◌, ◌⊎◌, ◌==◌, ℕ, Bool, false, if◌then◌else◌, List, [], ◌∷◌, Option, Some, None, Err}
+use Rattle.std.specs.Prelude.{◌≡◌, ◌⊎◌, ◌==◌, ℕ, Bool, false, ⊤, if◌then◌else◌, List, [], ◌∷◌, Option, Some, None, Err}
 use Rattle.std.specs.Io.KnownBytes.{Appends, Keeps}
 use Rattle.timing_base.specs.declared.job.CheckJob.{CheckJob}
 use Rattle.timing_outside.specs.Causes.{Rose}
@@ -9,7 +9,7 @@ use Rattle.timing_report.specs.Status.{error_line}
 use Rattle.timing_report.specs.declared.status.Status.{Status}
 use Rattle.timing_report.specs.declared.status.Status.TheVariants as status
 use Rattle.timing_words.specs.Asked.{Asked, check, report, self_test, shape, skew, verify, window}
-use Rattle.timing_top.specs.Check.{HasReport, InputRose, IsUnbuilt, Names, OnReadFault}
+use Rattle.timing_top.specs.Check.{HasReport, InputRose, IsUnbuilt, Names, OfDescription, OnReadFault}
 
 -- nothing, since the words are no request; nothing yet, since its form isn't built; or to judge a capture
 pub data Task : Type 0 where
@@ -60,6 +60,12 @@ abbrev pub Ends : Task → (List ℕ → Option (List ℕ)) → (old new : Optio
 Ends no_request texts old new ends = EndsOnly old new status.Usage ends
 Ends not_built texts old new ends = EndsOnly old new status.NotBuilt ends
 Ends (judge names) texts old new ends = EndsJudging names (texts names.sdp) (texts names.capture) old new ends
+
+-- the description is judged first: what an answer says of it, whatever the capture is
+abbrev pub KeepsOrder : Task → (List ℕ → Option (List ℕ)) → Status → Type 0
+KeepsOrder no_request texts ends = ⊤
+KeepsOrder not_built texts ends = ⊤
+KeepsOrder (judge names) texts ends = OfDescription (texts names.sdp) ends
 
 -- a read fault names an input of the task whose count rose
 abbrev pub ReadFaultRose : Task → (before now : List ℕ → ℕ) → Status → Type 0

@@ -1,6 +1,6 @@
-ghost use Rattle.std.specs.Prelude.{◌≡◌};
+ghost use Rattle.std.specs.Prelude.{◌≡◌, ◌≤◌, ◌<◌, ℕ, None, Some};
 ghost use Rattle.timing_base.specs.Grouped.{IsGrouped};
-ghost use Rattle.timing_top.specs.Bucket.{IsBucketRow, first_over};
+ghost use Rattle.timing_top.specs.Bucket.{IsBucketRow};
 
 use drain_bucket::Bucket;
 use sender_params::Params;
@@ -33,7 +33,9 @@ pub fn bucket_row(media: &Media, run: &JudgedRun) -> BucketRow
 
 /// The first packet over the limit, where this one has the next count.
 fn first_over(over: Option<u64>, packet: u64, count: u64, limit: u64) -> Option<u64>
-    ensures { result ≡ first_over over packet count limit }
+    ensures earlier { (i : ℕ) → over ≡ Some i → result ≡ Some i }
+    ensures this { over ≡ None → limit < count → result ≡ Some packet }
+    ensures none { over ≡ None → count ≤ limit → result ≡ None }
 {
     match over {
         None if count > limit => Some(packet),

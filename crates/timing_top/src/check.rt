@@ -2,9 +2,10 @@ ghost use Rattle.std.specs.Prelude.{◌≡◌, ◌≤◌, ◌<◌, ◌^◌, ◌�
 ghost use Rattle.timing_base.specs.Grouped.{IsGrouped};
 ghost use Rattle.timing_outside.specs.Causes.{Rose};
 ghost use Rattle.timing_top.specs.Flow.{IsStamped};
-ghost use Rattle.timing_top.specs.Check.{Answers, InputRose, IsSessionFault, JudgesFlow, JudgesRun, OnReadFault, Prints, is_built, unread};
+ghost use Rattle.timing_top.specs.Check.{InputRose, OnReadFault, is_built};
+ghost use Rattle.timing_top.specs.Steps.{Answers, IsSessionFault, JudgesFlow, JudgesRun, OfDescriptionSoFar, Prints, unread};
 ghost use Rattle.timing_top.specs.Complete.{IsComplete};
-ghost use Rattle.timing_top.specs.Tasks.{Ends, ReadFaultRose, TellsLine, judge, not_built, task_of};
+ghost use Rattle.timing_top.specs.Tasks.{Ends, KeepsOrder, ReadFaultRose, TellsLine, judge, not_built, task_of};
 ghost use Rattle.sdp_reader.specs.Plain.{stream};
 ghost use Rattle.sdp_reader.specs.Session.{session};
 
@@ -118,6 +119,7 @@ fn report_of<H: Shelf>(
 ) -> Result<Report, Status>
     ensures answers { Answers (record { sdp = job.now.sdp; capture = capture.now; tai = job.now.tai })
         (H.text shelf.old job.now.sdp) (H.text shelf.old capture.now) result }
+    ensures order { OfDescriptionSoFar (H.text shelf.old job.now.sdp) result }
     ensures cause { IfErr result (λ e. OnReadFault e
         (InputRose (record { sdp = job.now.sdp; capture = capture.now; tai = job.now.tai })
         (H.faults shelf.old) (H.faults shelf.new))) }
@@ -173,6 +175,7 @@ fn built_capture(job: &CheckJob) -> Option<&FileName>
 /// Does the job, without the line on standard error.
 fn answer<H: Shelf, K: Sink>(alloc: Global, job: &CheckJob, shelf: &mut H, out: &mut K) -> Status
     ensures ends { Ends (task_of job.now) (H.text shelf.old) (K.written out.old) (K.written out.new) result }
+    ensures order { KeepsOrder (task_of job.now) (H.text shelf.old) result }
     ensures read_fault { ReadFaultRose (task_of job.now) (H.faults shelf.old) (H.faults shelf.new) result }
     ensures write_fault { result ≡ Status.WriteFault → Rose (K.faults out.old) (K.faults out.new) }
     ensures texts { (n : List ℕ) → H.text shelf.new n ≡ H.text shelf.old n }
@@ -200,6 +203,7 @@ pub fn check_one<H: Shelf, K: Sink>(
     err: &mut K,
 ) -> Status
     ensures ends { Ends (task_of job.now) (H.text shelf.old) (K.written out.old) (K.written out.new) result }
+    ensures order { KeepsOrder (task_of job.now) (H.text shelf.old) result }
     ensures read_fault { ReadFaultRose (task_of job.now) (H.faults shelf.old) (H.faults shelf.new) result }
     ensures write_fault { result ≡ Status.WriteFault → Rose (K.faults out.old) (K.faults out.new) }
     ensures complete { IsComplete (task_of job.now) (H.text shelf.old) (H.faults shelf.old)

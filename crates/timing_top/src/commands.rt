@@ -3,7 +3,7 @@ ghost use Rattle.timing_outside.specs.Causes.{Rose};
 ghost use Rattle.timing_words.specs.Asked.{asked_of};
 ghost use Rattle.timing_words.specs.Request.{request};
 ghost use Rattle.timing_top.specs.Complete.{IsComplete};
-ghost use Rattle.timing_top.specs.Tasks.{Ends, ReadFaultRose, TellsLine, asked_task, not_built, task_of};
+ghost use Rattle.timing_top.specs.Tasks.{Ends, KeepsOrder, ReadFaultRose, TellsLine, asked_task, not_built, task_of};
 
 use crate::check::{check_one, tell};
 use std::alloc::Global;
@@ -60,6 +60,8 @@ pub fn run<R: Wait + Threads + Sync, H: Shelf, K: Sink, G: Gate>(
 ) -> Status
     ensures ends { Ends (asked_task (request (map string_bytes words.now))) (H.text shelf.old)
         (K.written out.old) (K.written out.new) result }
+    ensures order { KeepsOrder (asked_task (request (map string_bytes words.now)))
+        (H.text shelf.old) result }
     ensures read_fault { ReadFaultRose (asked_task (request (map string_bytes words.now)))
         (H.faults shelf.old) (H.faults shelf.new) result }
     ensures write_fault { result ≡ Status.WriteFault → Rose (K.faults out.old) (K.faults out.new) }

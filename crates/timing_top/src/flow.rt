@@ -9,7 +9,7 @@ use crate::text::TextFault;
 use pcap_reader::{Ending, PcapReader, Step};
 use std::alloc::Global;
 use timing_base::{FlowPacket, Media, PcapFault};
-use timing_outside::{OpenFault, Shelf, Source};
+use timing_outside::{Shelf, Source};
 use udp_rtp::packet_of;
 
 /// The greatest length of a capture, in bytes.
@@ -102,11 +102,7 @@ pub fn fetch_flow<H: Shelf>(
     ensures texts { (n : List ℕ) → H.text shelf.new n ≡ H.text shelf.old n }
     ensures later { (n : List ℕ) → H.faults shelf.old n ≤ H.faults shelf.new n }
 {
-    let source = match shelf.fetch(name) {
-        Ok(source) => source,
-        Err(OpenFault::Failed) => return Err(TextFault::Failed),
-        Err(OpenFault::OutOfMemory) => return Err(TextFault::OutOfMemory),
-    };
+    let source = shelf.fetch(name)?;
     match PcapReader::start(alloc, source, MOST) {
         Ok(mut reader) => {
             let flow = collect(alloc, media, &mut reader);

@@ -7,7 +7,7 @@ use std::str;
 use std::sync::Wait;
 use std::test::Fail;
 use std::thread::Threads;
-use timing_outside::{MemoryShelf, MemorySink, NoGate, ReadPlan};
+use timing_outside::{MemoryShelf, MemorySink, NoGate, ReadPlan, WritePlan};
 use timing_report::{Input, Status};
 
 const CHECK: &str = "check --serial --sdp p.sdp a.pcap";
@@ -27,26 +27,48 @@ const FIRST_STAMP: &[u8] = b"\x00\x10\x5e\x5f\x60\xa8\x0b\x00";
 const SECOND_MEDIA: &str =
     "m=video 50002 RTP/AVP 96\nc=IN IP4 239.0.0.1/32\na=rtpmap:96 raw/90000\na=fmtp:96 sampling=YCbCr-4:2:2; width=1920; height=1080; exactframerate=50; depth=10; TCS=SDR; colorimetry=BT709; PM=2110GPM; SSN=ST2110-20:2017; TP=2110TPN;\n";
 
-// A session description and a capture, how the capture is read, and the room on the two sinks.
+// How a text is read: the bytes of a read, the reads that fail, and whether its fetch does.
+#[derive(Drop)]
+struct Plan {
+    piece: u32,
+    fails: Vec<u32>,
+    fetch_fails: bool,
+}
+
+// A session description and a capture, how they are read, and how is written: the room on the two
+// sinks, the bytes of a write on standard output, and the writes that fail there.
 #[derive(Drop)]
 struct Setting {
     sdp: Vec<u8>,
+    sdp_plan: Plan,
     capture: Vec<u8>,
-    piece: u32,
-    fails: Vec<u32>,
+    plan: Plan,
     room: u64,
     room_for_err: u64,
+    out_piece: u32,
+    out_fails: Vec<u32>,
+}
+
+// Nothing fails, and a read takes 65,536 bytes.
+fn whole(alloc: Global) -> Plan {
+    Plan {
+        piece: 65_536,
+        fails: Vec::new(alloc),
+        fetch_fails: false,
+    }
 }
 
 // A setting with the plain description, nothing that fails, and room for all.
 fn over(alloc: Global, capture: Vec<u8>) -> Result<Setting, AllocError> {
     Ok(Setting {
         sdp: Vec::from_slice(alloc, sdp_bytes())?,
+        sdp_plan: whole(alloc),
         capture,
-        piece: 65_536,
-        fails: Vec::new(alloc),
+        plan: whole(alloc),
         room: 4096,
         room_for_err: 4096,
+        out_piece: 65_536,
+        out_fails: Vec::new(alloc),
     })
 }
 
@@ -102,6 +124,30 @@ fn words_of(alloc: Global, line: &str) -> Result<Vec<String>, AllocError> {
     Ok(words)
 }
 
+// Puts a text on a shelf.
+fn put(
+    rt: &impl Abort,
+    alloc: Global,
+    shelf: &mut MemoryShelf,
+    name: &str,
+    text: &[u8],
+    plan: &Plan,
+) -> Result<(), Fail> {
+    let piece = plan.piece;
+    assert!(rt; 1 <= piece);
+    let plan = ReadPlan {
+        fetch_fails: plan.fetch_fails,
+        piece,
+        fails: Vec::from_slice(alloc, &plan.fails)?,
+    };
+    shelf.put(
+        String::from_str(alloc, name)?,
+        Vec::from_slice(alloc, text)?,
+        plan,
+    )?;
+    Ok(())
+}
+
 // Puts the setting's texts on a shelf, the capture under this name.
 fn shelf_of(
     rt: &impl Abort,
@@ -109,23 +155,16 @@ fn shelf_of(
     setting: &Setting,
     name: &str,
 ) -> Result<MemoryShelf, Fail> {
-    let piece = setting.piece;
-    assert!(rt; 1 <= piece);
     let mut shelf = MemoryShelf::new(alloc);
-    let whole = ReadPlan {
-        fetch_fails: false,
-        piece: 65_536,
-        fails: Vec::new(alloc),
-    };
-    let planned = ReadPlan {
-        fetch_fails: false,
-        piece,
-        fails: Vec::from_slice(alloc, &setting.fails)?,
-    };
-    let sdp = Vec::from_slice(alloc, &setting.sdp)?;
-    let capture = Vec::from_slice(alloc, &setting.capture)?;
-    shelf.put(String::from_str(alloc, "p.sdp")?, sdp, whole)?;
-    shelf.put(String::from_str(alloc, name)?, capture, planned)?;
+    put(
+        rt,
+        alloc,
+        &mut shelf,
+        "p.sdp",
+        &setting.sdp,
+        &setting.sdp_plan,
+    )?;
+    put(rt, alloc, &mut shelf, name, &setting.capture, &setting.plan)?;
     Ok(shelf)
 }
 
@@ -139,7 +178,13 @@ fn runs<R: Abort + AllocGlobal + Wait + Threads + Sync>(
 ) -> Result<(), Fail> {
     let alloc = rt.alloc();
     let words = words_of(alloc, line)?;
-    let mut out = MemorySink::new(alloc, setting.room)?;
+    let out_piece = setting.out_piece;
+    assert!(rt; 1 <= out_piece);
+    let plan = WritePlan {
+        piece: out_piece,
+        fails: Vec::from_slice(alloc, &setting.out_fails)?,
+    };
+    let mut out = MemorySink::with_plan(alloc, setting.room, plan)?;
     let mut err = MemorySink::new(alloc, setting.room_for_err)?;
     let status = run(rt, alloc, &words, shelf, &mut out, &mut err, &NoGate);
     assert_eq!(rt; status, wanted.0, "{line}");
@@ -315,11 +360,21 @@ fn no_capture(rt: HostRuntime) -> Result<(), Fail> {
     Ok(())
 }
 
+// The description is judged before the capture is fetched, whatever the capture is.
 #[test]
 fn sdp_refused(rt: HostRuntime) -> Result<(), Fail> {
-    let setting = without_text(&rt)?;
-    let line = "sdp refused: line 1 NoVersion\n";
-    ends(&rt, CHECK, &setting, (NO_VERSION, "", line))
+    let wanted = (NO_VERSION, "", "sdp refused: line 1 NoVersion\n");
+    let mut setting = without_text(&rt)?;
+    ends(&rt, CHECK, &setting, wanted)?;
+    setting.plan.fails = Vec::from_slice(rt.alloc(), &[1])?;
+    ends(&rt, CHECK, &setting, wanted)?;
+    setting.plan.fetch_fails = true;
+    ends(&rt, CHECK, &setting, wanted)?;
+    let mut shelf = shelf_of(&rt, rt.alloc(), &setting, "b.pcap")?;
+    runs(&rt, CHECK, &setting, &mut shelf, wanted)?;
+    setting = without_text(&rt)?;
+    setting.capture = Vec::from_slice(rt.alloc(), part(&rt, &made(&rt, 0, 0)?, 0, 2914))?;
+    ends(&rt, CHECK, &setting, wanted)
 }
 
 #[test]
@@ -365,22 +420,86 @@ fn missing_capture(rt: HostRuntime) -> Result<(), Fail> {
 }
 
 #[test]
-fn first_small_room(rt: HostRuntime) -> Result<(), Fail> {
+fn fetch_fails(rt: HostRuntime) -> Result<(), Fail> {
     let mut setting = over(rt.alloc(), made(&rt, 0, 0)?)?;
-    setting.room = 10;
+    setting.plan.fetch_fails = true;
+    let fault = Status::ReadFault(Input::Capture(0));
+    ends(&rt, CHECK, &setting, (fault, "", "read fault: capture 1\n"))?;
+    setting.sdp_plan.fetch_fails = true;
+    let fault = Status::ReadFault(Input::Sdp);
+    ends(&rt, CHECK, &setting, (fault, "", "read fault: sdp\n"))
+}
+
+// The description has 346 bytes: with pieces of 100 bytes the fifth read finds its end.
+#[test]
+fn each_read_of_sdp_fails(rt: HostRuntime) -> Result<(), Fail> {
+    let mut setting = over(rt.alloc(), made(&rt, 0, 0)?)?;
+    setting.sdp_plan.piece = 100;
+    let fault = Status::ReadFault(Input::Sdp);
+    for read in 1..6 {
+        setting.sdp_plan.fails = Vec::from_slice(rt.alloc(), &[read])?;
+        ends(&rt, CHECK, &setting, (fault, "", "read fault: sdp\n"))?;
+    }
+    setting.sdp_plan.fails = Vec::from_slice(rt.alloc(), &[6])?;
+    passes(&rt, &setting)
+}
+
+// Of a description that is too large one byte more than the limit is read, and no read comes after it.
+#[test]
+fn sdp_too_large(rt: HostRuntime) -> Result<(), Fail> {
+    let mut setting = over(rt.alloc(), made(&rt, 0, 0)?)?;
+    setting.sdp = Vec::new(rt.alloc());
+    for _ in 0..1_048_577 {
+        setting.sdp.push(b'x')?;
+    }
+    setting.sdp_plan.fails = Vec::from_slice(rt.alloc(), &[18])?;
+    let fault = SdpFault {
+        line: 0,
+        what: SdpCause::TooLarge,
+    };
+    let line = "sdp refused: line 0 TooLarge\n";
+    ends(&rt, CHECK, &setting, (Status::SdpRefused(fault), "", line))
+}
+
+// With less room than the report needs a write fails, and a front of it that is as long as the room is
+// written.
+#[test]
+fn each_room(rt: HostRuntime) -> Result<(), Fail> {
+    let mut setting = over(rt.alloc(), made(&rt, 0, 0)?)?;
+    let text = report(rt.alloc(), "pass, bucket 1 of 4", 0)?;
+    for room in 0..text.len() {
+        setting.room = room as u64;
+        let front = str::from_utf8(part(&rt, text.as_bytes(), 0, room))?;
+        ends(
+            &rt,
+            CHECK,
+            &setting,
+            (Status::WriteFault, front, "write fault\n"),
+        )?;
+    }
+    setting.room = text.len() as u64;
+    passes(&rt, &setting)
+}
+
+#[test]
+fn fourth_write_fails(rt: HostRuntime) -> Result<(), Fail> {
+    let mut setting = over(rt.alloc(), made(&rt, 0, 0)?)?;
+    setting.out_piece = 10;
+    setting.out_fails = Vec::from_slice(rt.alloc(), &[4])?;
+    let front = "ST 2110-21 timing report\nfile ";
     ends(
         &rt,
         CHECK,
         &setting,
-        (Status::WriteFault, "ST 2110-21", "write fault\n"),
+        (Status::WriteFault, front, "write fault\n"),
     )
 }
 
 #[test]
 fn first_failing_read(rt: HostRuntime) -> Result<(), Fail> {
     let mut setting = over(rt.alloc(), made(&rt, 0, 0)?)?;
-    setting.piece = 100;
-    setting.fails = Vec::from_slice(rt.alloc(), &[2])?;
+    setting.plan.piece = 100;
+    setting.plan.fails = Vec::from_slice(rt.alloc(), &[2])?;
     let fault = Status::ReadFault(Input::Capture(0));
     ends(&rt, CHECK, &setting, (fault, "", "read fault: capture 1\n"))
 }
@@ -389,13 +508,13 @@ fn first_failing_read(rt: HostRuntime) -> Result<(), Fail> {
 #[test]
 fn each_read_fails(rt: HostRuntime) -> Result<(), Fail> {
     let mut setting = over(rt.alloc(), made(&rt, 0, 0)?)?;
-    setting.piece = 100;
+    setting.plan.piece = 100;
     let fault = Status::ReadFault(Input::Capture(0));
     for read in 1..32 {
-        setting.fails = Vec::from_slice(rt.alloc(), &[read])?;
+        setting.plan.fails = Vec::from_slice(rt.alloc(), &[read])?;
         ends(&rt, CHECK, &setting, (fault, "", "read fault: capture 1\n"))?;
     }
-    setting.fails = Vec::from_slice(rt.alloc(), &[32])?;
+    setting.plan.fails = Vec::from_slice(rt.alloc(), &[32])?;
     passes(&rt, &setting)
 }
 
@@ -443,6 +562,87 @@ fn cmax_of_declared(rt: HostRuntime) -> Result<(), Fail> {
         "fail at 1, bucket 2 of 1",
         Status::Fail,
     )
+}
+
+// Of a sender whose packets are spread over the whole frame the bucket alone is judged: it passes.
+#[test]
+fn linear_sender(rt: HostRuntime) -> Result<(), Fail> {
+    passes(&rt, &over(rt.alloc(), made(&rt, 0, 2)?)?)
+}
+
+#[test]
+fn compressed_file(rt: HostRuntime) -> Result<(), Fail> {
+    let mut capture = Vec::from_slice(rt.alloc(), b"\x1f\x8b")?;
+    for _ in 0..98 {
+        capture.push(0)?;
+    }
+    let setting = over(rt.alloc(), capture)?;
+    ends(&rt, CHECK, &setting, (Status::NotBuilt, "", "not built\n"))
+}
+
+// Two frames of 4,320 packets at 60000/1001 frames per second behind a marked packet, 37 seconds early:
+// each packet 1,000 ns before its read, which is at (172 + p) / 4,500 of its frame.
+fn usual(rt: &impl Abort, alloc: Global, template: &[u8]) -> Result<Vec<u8>, AllocError> {
+    let mut out = Vec::from_slice(alloc, part(rt, template, 0, 24))?;
+    let start = 1_601_600_000_000_000_000 - 37_000_000_000 - 1_000;
+    usual_packet(
+        rt,
+        part(rt, template, 96, 168),
+        &mut out,
+        start + 172 * 100_100_000 / 27_000 - 1_000_000,
+        0,
+        0,
+        true,
+    )?;
+    for frame in 0..2 {
+        for packet in 0..4320 {
+            let at = start
+                + (u64::from(frame) * 4500 + 172 + u64::from(packet)) * 100_100_000 / 27_000;
+            let number = 1 + frame * 4320 + packet;
+            usual_packet(
+                rt,
+                part(rt, template, 96, 168),
+                &mut out,
+                at,
+                number,
+                1501 * (frame + 1),
+                packet == 4319,
+            )?;
+        }
+    }
+    Ok(out)
+}
+
+// A record like the template, of a packet with this number and RTP timestamp.
+fn usual_packet(
+    rt: &impl Abort,
+    template: &[u8],
+    out: &mut Vec<u8>,
+    at: u64,
+    number: u32,
+    timestamp: u32,
+    marked: bool,
+) -> Result<(), AllocError> {
+    let second = 1_000_000_000;
+    out.extend_from_slice(&((at / second % (1 << 32)) as u32).to_le_bytes())?;
+    out.extend_from_slice(&((at % second) as u32).to_le_bytes())?;
+    out.extend_from_slice(part(rt, template, 8, 59))?;
+    out.push(if marked { 0x80 | 96 } else { 96 })?;
+    out.extend_from_slice(&((number % 65_536) as u16).to_be_bytes())?;
+    out.extend_from_slice(&timestamp.to_be_bytes())?;
+    out.extend_from_slice(part(rt, template, 66, 70))?;
+    out.extend_from_slice(&((number / 65_536) as u16).to_be_bytes())
+}
+
+#[test]
+fn usual_equipment(rt: HostRuntime) -> Result<(), Fail> {
+    let plain = made(&rt, 0, 0)?;
+    let mut setting = over(rt.alloc(), usual(&rt, rt.alloc(), &plain)?)?;
+    setting.sdp = sdp_with(rt.alloc(), "rate=50;", "rate=60000/1001;")?;
+    let text =
+        "ST 2110-21 timing report\nfile 1 end a.pcap\nflow 1.1 239.0.0.1:50000 judged by bucket: 4320 per frame, 2 frames, 8640 packets\n  N pass, bucket 1 of 6\nstatus 0\n";
+    let line = "check --serial --sdp p.sdp --tai 37 a.pcap";
+    ends(&rt, line, &setting, (Status::Pass, text, ""))
 }
 
 #[test]

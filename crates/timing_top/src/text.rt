@@ -16,6 +16,20 @@ pub enum TextFault {
     OutOfMemory,
 }
 
+impl From<OpenFault> for TextFault {
+    ghost use Rattle.timing_top.specs.Steps.{text_fault};
+    ghost use Rattle.std.specs.Prelude.{◌≡◌};
+
+    ghost from_gives = { λ fault e. e ≡ text_fault fault };
+
+    fn from(fault: OpenFault) -> Self {
+        match fault {
+            OpenFault::Failed => TextFault::Failed,
+            OpenFault::OutOfMemory => TextFault::OutOfMemory,
+        }
+    }
+}
+
 impl From<OutOfMemory> for TextFault {
     ghost use Rattle.timing_top.specs.declared.text.TextFault.TheVariants.{OutOfMemory};
     ghost use Rattle.std.specs.Prelude.{◌≡◌};
@@ -81,7 +95,7 @@ pub fn read_front<S: Source>(
 {
     let mut piece = blank(alloc, PIECE)?;
     let mut text = Vec::new(alloc);
-    for _ in 0..u64::MAX {
+    while text.len() < most {
         let room = (most - text.len()).min(piece.len());
         let count = read_more(source, &mut piece, room, &mut text)?;
         if count == 0 {
@@ -104,13 +118,8 @@ pub fn fetch_front<H: Shelf>(
     ensures texts { (n : List ℕ) → H.text shelf.new n ≡ H.text shelf.old n }
     ensures later { (n : List ℕ) → H.faults shelf.old n ≤ H.faults shelf.new n }
 {
-    match shelf.fetch(name) {
-        Ok(mut source) => {
-            let text = read_front(alloc, &mut source, most);
-            shelf.give_back(source);
-            text
-        }
-        Err(OpenFault::Failed) => Err(TextFault::Failed),
-        Err(OpenFault::OutOfMemory) => Err(TextFault::OutOfMemory),
-    }
+    let mut source = shelf.fetch(name)?;
+    let text = read_front(alloc, &mut source, most);
+    shelf.give_back(source);
+    text
 }

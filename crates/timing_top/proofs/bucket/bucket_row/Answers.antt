@@ -1,7 +1,6 @@
-use Rattle.std.proofs.Common.{◌<◌, ◌+◌, length, arith, rules, subst, sym, ◌∙◌}
+use Rattle.std.proofs.Common.{◌<◌, length, arith, rules, subst, sym, ◌∙◌}
 use Rattle.sender_params.specs.Ticks.{NeverFall}
 use Rattle.timing_top.proofs.Buckets.{some_stamps, never_falls, stands-more, count-take, first_over-more, row-of}
-use Rattle.timing_top.specs.Bucket.{IsFirstOver}
 use Rattle.timing_top.proofs.bucket.bucket_row.Goals as goal
 
 pub bounds-stamps-0 : goal.bounds-stamps-0
@@ -26,9 +25,9 @@ loop-i-preserved c =
     record {
       stands = stands;
       origin = c.feed-count.ensures.origin ∙ c.loop-i.invariant.origin;
-      over = subst (IsFirstOver p.media p.n stamps (i + 1)) (sym c.first_over-over.ensures)
-          (first_over-more p.media p.n stamps i c.loop-i.over c.feed-count.result c.c_max-limit.result c.c_max-limit.ensures
-          (c.feed-count.ensures.count ∙ count-take p new stamps i few stands) c.loop-i.invariant.over);
+      over = first_over-more p.media p.n stamps i c.loop-i.over c.first_over-over.result c.feed-count.result c.c_max-limit.result c.c_max-limit.ensures
+          (c.feed-count.ensures.count ∙ count-take p new stamps i few stands) c.first_over-over.ensures.earlier c.first_over-over.ensures.this
+          c.first_over-over.ensures.none c.loop-i.invariant.over;
     }
 
 pub returns : goal.returns
