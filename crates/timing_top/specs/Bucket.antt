@@ -1,5 +1,6 @@
 -- What the bucket of the network compatibility model (SMPTE ST 2110-21) makes of a judged run, for the type N.
--- Packets are judged packets, counted from 0.
+-- m is the video, n the packets of one group, stamps are nanoseconds. Packets are judged packets, counted from 0;
+-- counts and limits are packets.
 use Rattle.std.specs.Prelude.{◌≡◌, ◌≤◌, ◌<◌, ℕ, List, length, Option, None, Some}
 use Rattle.timing_base.specs.declared.judged.JudgedRun.{JudgedRun}
 use Rattle.timing_base.specs.declared.media.Kind.TheVariants.{N}

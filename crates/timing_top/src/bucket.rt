@@ -1,3 +1,5 @@
+//! The bucket's row of a judged run.
+
 ghost use Rattle.std.specs.Prelude.{◌≡◌, ◌≤◌, ◌<◌, ℕ, None, Some};
 ghost use Rattle.timing_base.specs.Grouped.{IsGrouped};
 ghost use Rattle.timing_top.specs.Bucket.{IsBucketRow};

@@ -1,3 +1,5 @@
+//! `check` of one capture on one thread: reading, judging, printing, and why there is no report.
+
 ghost use Rattle.std.specs.Prelude.{◌≡◌, ◌≤◌, ◌<◌, ◌^◌, ◌∷◌, [], false, ℕ, List, Ok, Err, Some, All, IfOk, IfErr, length, map, MatchOption};
 ghost use Rattle.timing_base.specs.Grouped.{IsGrouped};
 ghost use Rattle.timing_outside.specs.Causes.{Rose};

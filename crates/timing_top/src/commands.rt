@@ -1,3 +1,5 @@
+//! From the words of a command line to the job that they ask for.
+
 ghost use Rattle.std.specs.Prelude.{◌≡◌, ◌≤◌, ℕ, List, Some, map, MatchOption, string_bytes};
 ghost use Rattle.timing_outside.specs.Causes.{Rose};
 ghost use Rattle.timing_words.specs.Asked.{asked_of};

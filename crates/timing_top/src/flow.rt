@@ -1,3 +1,5 @@
+//! The flow of one media, taken off a capture.
+
 ghost use Rattle.std.specs.Prelude.{◌≡◌, ◌≤◌, ◌<◌, ◌+◌, ◌*◌, ◌^◌, ℕ, List, None, Some, IfOk, IsErrOf, All, length};
 ghost use Rattle.timing_base.specs.Captures.{Record};
 ghost use Rattle.timing_outside.specs.Causes.{Rose};

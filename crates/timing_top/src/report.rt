@@ -1,3 +1,5 @@
+//! A report before it is printed.
+
 ghost use Rattle.std.specs.Prelude.{◌≡◌, true};
 ghost use Rattle.timing_top.specs.Printed.{is_printed};
 

@@ -1,3 +1,5 @@
+//! Texts that are read whole, up to a limit.
+
 ghost use Rattle.std.specs.Prelude.{◌≡◌, ◌≤◌, ◌<◌, ◌++◌, ℕ, List, Some, IfOk, IsErrOf, length, take, vec_len};
 ghost use Rattle.std.specs.Io.KnownBytes.{Consumes, IsAtEnd};
 ghost use Rattle.timing_outside.specs.Causes.{Rose};
