@@ -1,3 +1,5 @@
+//! Cutting bytes, and the numbers that they spell.
+
 ghost use Rattle.std.specs.Prelude.{◌≡◌, ◌≤◌, ◌<◌, ◌==◌, ℕ, Bool, length, MatchOption, IfSome, ⊤, true, false, ◌+◌, ◌∷◌, []};
 ghost use Rattle.std.specs.Option.{option_copied};
 ghost use Rattle.std.specs.List.{position_or_len, slice_split};

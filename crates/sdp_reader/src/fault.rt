@@ -1,3 +1,5 @@
+//! Why a text is refused, and how it is said.
+
 ghost use Rattle.std.specs.Prelude.{◌≡◌};
 ghost use Rattle.sdp_reader.specs.Fault.{number_of, name_of, comes_before, first_of};
 

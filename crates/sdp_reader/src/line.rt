@@ -1,3 +1,5 @@
+//! The lines of a text, and the faults of single lines.
+
 ghost use Rattle.std.specs.Prelude.{◌≡◌, ◌≤◌, length, map, IfOk, IfSome};
 ghost use Rattle.std.specs.List.{flat_map};
 ghost use Rattle.sdp_reader.specs.Fault.{least};

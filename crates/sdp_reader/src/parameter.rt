@@ -1,3 +1,5 @@
+//! The parameters of a raw part: names, values and their faults.
+
 ghost use Rattle.std.specs.Prelude.{◌≡◌, ◌≤◌, ◌<◌, ◌*◌, ◌++◌, [], length, map, find, IfOk, OnOk, IfSome};
 ghost use Rattle.std.specs.Option.{option_map, option_copied, option_to_list};
 ghost use Rattle.std.specs.List.{flat_map};

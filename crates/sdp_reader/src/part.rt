@@ -1,3 +1,5 @@
+//! Media parts: what each says, and its faults.
+
 ghost use Rattle.std.specs.Prelude.{◌≡◌, ◌+◌, ◌≤◌, ◌<◌, ◌*◌, ◌++◌, [], length, map, find, IfOk, OnOk, IfSome};
 ghost use Rattle.std.specs.Option.{option_map, option_copied, option_and_then};
 ghost use Rattle.std.specs.List.{list_any};

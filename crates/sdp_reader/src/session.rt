@@ -1,3 +1,5 @@
+//! The whole description: its media, or its least fault.
+
 ghost use Rattle.std.specs.Prelude.{◌≡◌, ◌≤◌, [], ◌++◌, length, map, IfOk, OnOk, Err, Ok};
 ghost use Rattle.std.specs.List.{filter_map, flat_map};
 ghost use Rattle.std.specs.Option.{option_map, option_to_list};
