@@ -1,3 +1,5 @@
+//! How the records of a capture end.
+
 ghost use Rattle.std.specs.Prelude.{◌≡◌};
 ghost use Rattle.timing_base.specs.declared.capture.PcapFault.TheVariants as fault;
 ghost use Rattle.pcap_reader.specs.declared.ending.Ending.TheVariants as ending;

@@ -1,3 +1,5 @@
+//! The file header, and how the numbers of a capture are laid out.
+
 ghost use Rattle.std.specs.Prelude.{◌≡◌, ◌≤◌, ◌<◌, ◌+◌, ◌*◌, ◌^◌, length, drop};
 ghost use Rattle.pcap_reader.specs.Header.{number, layout_of, header, per_second, nanos};
 

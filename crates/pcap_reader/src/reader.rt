@@ -1,3 +1,5 @@
+//! The reader, which lends one frame after the other.
+
 ghost use Rattle.std.specs.Prelude.{◌≡◌, ◌≤◌, ◌<◌, ◌^◌, List, ℕ, Some, None, IfOk, IfErr, drop};
 ghost use Rattle.timing_base.specs.Captures.{Record};
 

@@ -1,3 +1,5 @@
+//! How far a reader has come, and what it found.
+
 use crate::ending::Ending;
 use crate::layout::Layout;
 

@@ -1,3 +1,5 @@
+//! The part of a capture that is held in the buffer.
+
 ghost use Rattle.pcap_reader.specs.Stages.{is_begun};
 ghost use Rattle.pcap_reader.specs.declared.stage.Stage.TheVariants as stage;
 ghost use Rattle.std.specs.Prelude.{◌≡◌, ◌≤◌, ◌<◌, ◌+◌, ◌-◌, ◌*◌, ◌^◌, ◌++◌, ℕ, [], IfOk, IfErr, Some, None, IsTrue, true, false, vec_len, length, take, drop};
