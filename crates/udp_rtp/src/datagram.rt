@@ -1,3 +1,5 @@
+//! What a frame carries, and where it goes.
+
 /// Where a frame goes, and the UDP payload that it still has.
 #[derive(Clone, Copy, Debug)]
 pub struct Target<'a> {

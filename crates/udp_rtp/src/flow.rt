@@ -1,3 +1,5 @@
+//! The packets of a media's flow.
+
 ghost use Rattle.std.specs.Prelude.{◌≡◌};
 ghost use Rattle.udp_rtp.specs.Flow.{flow_packet};
 

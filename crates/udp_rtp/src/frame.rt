@@ -1,3 +1,5 @@
+//! Ethernet, IPv4 and UDP headers.
+
 ghost use Rattle.std.specs.Prelude.{◌≡◌, ◌+◌, ◌≤◌, length};
 ghost use Rattle.std.specs.Option.{option_map};
 ghost use Rattle.udp_rtp.specs.Frames.{ip_place, is_udp_at, payload_at, seen, target_of, udp_place};

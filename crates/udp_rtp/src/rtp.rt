@@ -1,3 +1,5 @@
+//! RTP headers.
+
 ghost use Rattle.std.specs.Prelude.{◌≡◌, ◌+◌, ◌≤◌, length};
 ghost use Rattle.std.specs.Option.{SomeIff};
 ghost use Rattle.udp_rtp.specs.Reading.{payload_place, reading};
