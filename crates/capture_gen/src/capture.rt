@@ -1,3 +1,5 @@
+//! A whole capture, written to a sink.
+
 ghost use Rattle.std.specs.Prelude.{ℕ, ◌≡◌, ◌≤◌, ◌+◌, ◌-◌, ◌*◌, nat_le, if◌then◌else◌, length};
 ghost use Rattle.timing_outside.specs.Causes.{HasCause};
 ghost use Rattle.timing_outside.specs.Written.{PutsAll};

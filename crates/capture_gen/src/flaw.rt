@@ -1,3 +1,5 @@
+//! What a made capture has wrong.
+
 ghost use Rattle.std.specs.Prelude.{◌≡◌, ◌≤◌};
 
 /// What a capture has wrong, numbered 0 to 4 in this order.

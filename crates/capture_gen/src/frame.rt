@@ -1,3 +1,5 @@
+//! The packets of a frame of video, and the one before the first frame.
+
 ghost use Rattle.std.specs.Prelude.{◌≡◌, ◌<◌, ◌+◌, ◌%◌, ◌^◌};
 ghost use Rattle.timing_outside.specs.Causes.{HasCause};
 ghost use Rattle.timing_outside.specs.Written.{PutsAll};

@@ -1,3 +1,5 @@
+//! The heads of a capture file and of its records.
+
 ghost use Rattle.std.specs.Prelude.{◌≡◌, ◌<◌, ◌*◌, ◌^◌};
 ghost use Rattle.capture_gen.specs.Heads.{file_head, record_head};
 

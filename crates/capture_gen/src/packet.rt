@@ -1,3 +1,5 @@
+//! One packet, and the bytes of its record.
+
 ghost use Rattle.std.specs.Prelude.{◌≡◌, ◌<◌, ◌*◌, ◌^◌, ◌++◌};
 
 use crate::heads::record_head;

@@ -1,3 +1,5 @@
+//! The session description that goes with the captures.
+
 ghost use Rattle.std.specs.Prelude.{◌≡◌};
 ghost use Rattle.capture_gen.specs.Sdp.{sdp_text};
 
