@@ -2,7 +2,7 @@
 use Rattle.std.proofs.Common.{◌≡◌, ◌≤◌, ◌<◌, ◌+◌, ◌-◌, ℕ, zero, suc, List, length, Option, Some, None, refl, arith, ap, ◌∙◌, subst, add-one, inl, inr}
 use Rattle.timing_base.specs.declared.packet.FlowPacket.{FlowPacket}
 use Rattle.timing_base.specs.declared.packet.PacketFault.{PacketFault}
-use Rattle.timing_base.specs.declared.flows.FirstFault.{FirstFault}
+use Rattle.timing_base.specs.Flows.{FirstFault}
 use Rattle.std.proofs.lemmas.Bool.Decides.{leb_tells}
 use Rattle.timing_base.specs.Flows.{IsFirstFault, fault, first_fault, first_fault_below, earlier_or}
 

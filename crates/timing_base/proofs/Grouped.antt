@@ -7,22 +7,17 @@ use Rattle.std.proofs.lemmas.Bool.Decides.{nat_tests}
 use Rattle.std.proofs.lemmas.List.{length-take, length-drop, length-map, get_or-map}
 use Rattle.std.proofs.lemmas.List.Elements.{All-map, All-nil, All-cons, All-head, All-tail, All-push}
 use Rattle.std.proofs.lemmas.List.Sorted.{IsNonDecreasingBy-take, IsNonDecreasingBy-drop, IsNonDecreasingBy-from_all_adjacent}
+use Rattle.timing_base.specs.Judged.{absent, in_one_run, in_runs, JudgedRun, no_whole_frame, whole_frames, FlowRun, FlowVerdict, stamp_of, judged_run, run_outcome, head_len, run_at, runs_between, runs, judged_runs, refusal, refused_or, judged}
 use Rattle.timing_base.specs.declared.packet.FlowPacket.{FlowPacket}
 use Rattle.timing_base.specs.declared.packet.PacketFault.{PacketFault}
 use Rattle.timing_base.specs.declared.packet.PacketFault.TheVariants.{Short, Version, PayloadType, SecondSource, Number, StampBack, NoMarker, SameStamp, FrameSize, FrameTooLarge}
-use Rattle.timing_base.specs.declared.flows.FirstFault.{FirstFault}
-use Rattle.timing_base.specs.declared.judged.FlowVerdict.TheVariants.{Absent, Run, Runs}
-use Rattle.timing_base.specs.declared.judged.JudgedRun.{JudgedRun}
-use Rattle.timing_base.specs.declared.judged.RunOutcome.TheVariants.{NoWholeFrame, Judged}
-use Rattle.timing_base.specs.declared.judged.FlowRun.{FlowRun}
-use Rattle.timing_base.specs.declared.judged.FlowVerdict.{FlowVerdict}
-use Rattle.timing_base.specs.Flows.{expected_number, packet, fault, first_fault, cuts, markers, last_place, group_len, is_cut, is_stamp_back, is_cut_too_many, order_fault, size_fault, sender_fault}
-use Rattle.timing_base.specs.Judged.{stamp_of, judged_run, run_outcome, head_len, run_at, runs_between, runs, judged_runs, refusal, refused_or, judged}
+use Rattle.timing_base.specs.Flows.{FirstFault}
+use Rattle.timing_base.specs.Flows.{AreStamped, expected_number, packet, fault, first_fault, cuts, markers, last_place, group_len, is_cut, is_stamp_back, is_cut_too_many, order_fault, size_fault, sender_fault}
 use Rattle.timing_base.specs.Grouped.{IsGrouped, IsGroupedOutcome, ExpectsAfterFirst, AreGrouped, IsGroupedVerdict}
-use Rattle.timing_base.specs.Marks.{IsSized, EachSized}
+use Rattle.timing_base.specs.Grouped.{IsSized, EachSized}
 use Rattle.timing_base.proofs.FirstFaults.{no_fault-at}
 use Rattle.timing_base.proofs.Places.{cuts-here, cuts-other}
-use Rattle.timing_base.proofs.Runs.{each_sized, one_sized, all_range, runs-cut, runs-other, start-cut, start-other}
+use Rattle.timing_base.proofs.Between.{each_sized, one_sized, all_range, runs-cut, runs-other, start-cut, start-other}
 use Rattle.timing_base.proofs.Sizes.{first-none, if-none}
 
 -- a packet with no fault is not one cut too many, and does not go back
@@ -58,11 +53,11 @@ rising-map tai packets rise i j d h l =
     let order : (get_or packets i p).at ≤ (get_or packets j p).at = rise i j p h within in
     omega (arith, first, later, order)
 
-early-all : (tai : ℕ) (packets : List FlowPacket) → tai ≤ 1000 → All (λ (p : FlowPacket). p.at < 2 ^ 32 * 10 ^ 9) packets → All (λ at. at < 2 ^ 62) (map (stamp_of tai) packets)
+early-all : (tai : ℕ) (packets : List FlowPacket) → tai ≤ 1000 → AreStamped packets → All (λ at. at < 2 ^ 62) (map (stamp_of tai) packets)
 early-all tai packets h all = All-map (λ at. at < 2 ^ 62) (stamp_of tai) packets (λ k d l. let early = all k d l in omega (arith, early))
 
 -- a judged run of a flow with no fault
-pub run-grouped : (packets : List FlowPacket) (tai from to : ℕ) → to ≤ length packets → length packets < 2 ^ 41 → tai ≤ 1000 → All (λ (p : FlowPacket). p.at < 2 ^ 32 * 10 ^ 9) packets
+pub run-grouped : (packets : List FlowPacket) (tai from to : ℕ) → to ≤ length packets → length packets < 2 ^ 41 → tai ≤ 1000 → AreStamped packets
     → IsNonDecreasingBy (λ (p : FlowPacket). p.at) packets → IsSized to (markers packets from to) → 2 ≤ length (markers packets from to) → IsGrouped (judged_run packets tai from to)
 run-grouped packets tai from to within few h all rise sized two =
     let marks = markers packets from to in
@@ -84,7 +79,7 @@ run-grouped packets tai from to within few h all rise sized two =
       early = early-all tai part h (all_range (λ (p : FlowPacket). p.at < 2 ^ 32 * 10 ^ 9) packets a b all);
     }
 
-outcome-case : (b : Bool) (head : ℕ) (run : JudgedRun) → (b ≡ false → IsGrouped run) → IsGroupedOutcome (if b then NoWholeFrame head else Judged run)
+outcome-case : (b : Bool) (head : ℕ) (run : JudgedRun) → (b ≡ false → IsGrouped run) → IsGroupedOutcome (if b then no_whole_frame head else whole_frames run)
 outcome-case true head run h = tt
 outcome-case false head run h = h refl
 
@@ -92,7 +87,7 @@ not_few : (n : ℕ) → nat_lt n 2 ≡ false → 2 ≤ n
 not_few n e = grind (arith, nat_tests)
 
 -- a run of a flow with no fault
-pub outcome-grouped : (packets : List FlowPacket) (tai from to : ℕ) → to ≤ length packets → length packets < 2 ^ 41 → tai ≤ 1000 → All (λ (p : FlowPacket). p.at < 2 ^ 32 * 10 ^ 9) packets
+pub outcome-grouped : (packets : List FlowPacket) (tai from to : ℕ) → to ≤ length packets → length packets < 2 ^ 41 → tai ≤ 1000 → AreStamped packets
     → IsNonDecreasingBy (λ (p : FlowPacket). p.at) packets → IsSized to (markers packets from to) → IsGroupedOutcome (run_outcome packets tai from to)
 outcome-grouped packets tai from to within few h all rise sized =
     outcome-case (nat_lt (length (markers packets from to)) 2) (head_len (markers packets from to) from to) (judged_run packets tai from to)
@@ -135,7 +130,7 @@ runs-grouped packets tai outcome each =
     subst (All (λ (run : FlowRun). IsGroupedOutcome run.outcome)) (sym (all.are n))
     (All-push (λ (run : FlowRun). IsGroupedOutcome run.outcome) all.done (run_at packets tai (last_place (0 ∷ cuts packets n)) n) all.grouped (outcome (last_place (0 ∷ cuts packets n)) n (omega arith) (each n (omega arith))))
 
-length-runs_between : (packets : List FlowPacket) (tai to from : ℕ) (places : List ℕ) → length (runs_between packets tai to from places) ≡ length places + 1
+pub length-runs_between : (packets : List FlowPacket) (tai to from : ℕ) (places : List ℕ) → length (runs_between packets tai to from places) ≡ length places + 1
 length-runs_between packets tai to from [] = refl
 length-runs_between packets tai to from (cut ∷ rest) = omega (arith, length-runs_between packets tai to cut rest)
 
@@ -153,7 +148,7 @@ later_expected packets tai to from (cut ∷ rest) h all =
     All-cons (λ (run : FlowRun). IsSome run.expected) (run_at packets tai from cut) (runs_between packets tai to cut rest) (some_expected packets tai from cut h)
     (later_expected packets tai to cut rest (All-head (λ (k : ℕ). 0 < k) cut rest all) (All-tail (λ (k : ℕ). 0 < k) cut rest all))
 
-first_expected : (packets : List FlowPacket) (tai to : ℕ) (places : List ℕ) → All (λ k. 0 < k) places → ExpectsAfterFirst (runs_between packets tai to 0 places)
+pub first_expected : (packets : List FlowPacket) (tai to : ℕ) (places : List ℕ) → All (λ k. 0 < k) places → ExpectsAfterFirst (runs_between packets tai to 0 places)
 first_expected packets tai to [] all = (refl, All-nil (λ (run : FlowRun). IsSome run.expected))
 first_expected packets tai to (cut ∷ rest) all = (refl, later_expected packets tai to cut rest (All-head (λ (k : ℕ). 0 < k) cut rest all) (All-tail (λ (k : ℕ). 0 < k) cut rest all))
 
@@ -161,9 +156,9 @@ cut_later : (i : ℕ) (b : Bool) → (nat_lt 0 i && b) ≡ true → 0 < i
 cut_later i b e = grind (arith, nat_tests)
 
 -- the cuts below i are few, and none is at the first packet
-record FewCuts (places : List ℕ) : Type 0 where
-  few : length places ≤ 1024
-  later : All (λ k. 0 < k) places
+pub record FewCuts (places : List ℕ) : Type 0 where
+  pub few : length places ≤ 1024
+  pub later : All (λ k. 0 < k) places
 
 not_many : (n : ℕ) → nat_le 1024 n ≡ false → n < 1024
 not_many n e = grind (arith, nat_tests)
@@ -177,14 +172,14 @@ cuts-case packets pt i true e none before = subst FewCuts (sym (cuts-here packet
 }
 cuts-case packets pt i false e none before = subst FewCuts (sym (cuts-other packets i e)) before
 
-few_cuts : (packets : List FlowPacket) (pt : ℕ) → first_fault packets pt ≡ None → (i : ℕ) → i ≤ length packets → FewCuts (cuts packets i)
+pub few_cuts : (packets : List FlowPacket) (pt : ℕ) → first_fault packets pt ≡ None → (i : ℕ) → i ≤ length packets → FewCuts (cuts packets i)
 few_cuts packets pt e zero h = record { few = omega arith; later = All-nil (λ (k : ℕ). 0 < k) }
 few_cuts packets pt e (suc i) h =
     let next = cuts-case packets pt i (is_cut packets i) refl (no_fault-at packets pt (length packets) i e (omega arith)) (few_cuts packets pt e i (omega arith)) in
     rw add-one at next
 
 runs-case : (packets : List FlowPacket) (tai : ℕ) (b : Bool) → (b ≡ true → IsGroupedOutcome (run_outcome packets tai 0 (length packets))) → (b ≡ false → AreGrouped (runs packets tai))
-    → IsGroupedVerdict (if b then Run (run_outcome packets tai 0 (length packets)) else Runs (runs packets tai))
+    → IsGroupedVerdict (if b then in_one_run (run_outcome packets tai 0 (length packets)) else in_runs (runs packets tai))
 runs-case packets tai true one many = one refl
 runs-case packets tai false one many = many refl
 
@@ -207,13 +202,13 @@ refusal-grouped rec (FrameSize want got) = tt
 refusal-grouped rec FrameTooLarge = tt
 
 -- a flow with no fault and no cut
-pub one-grouped : (packets : List FlowPacket) (pt tai : ℕ) → length packets < 2 ^ 41 → tai ≤ 1000 → All (λ (p : FlowPacket). p.at < 2 ^ 32 * 10 ^ 9) packets → first_fault packets pt ≡ None
+pub one-grouped : (packets : List FlowPacket) (pt tai : ℕ) → length packets < 2 ^ 41 → tai ≤ 1000 → AreStamped packets → first_fault packets pt ≡ None
     → length (cuts packets (length packets)) ≡ 0 → IsGroupedOutcome (run_outcome packets tai 0 (length packets))
 one-grouped packets pt tai few h all e none =
     outcome-grouped packets tai 0 (length packets) (omega arith) few h all (stamps_rise packets pt e) (one_sized packets pt e none)
 
 -- a flow with no fault and a cut
-pub many-grouped : (packets : List FlowPacket) (pt tai : ℕ) → length packets < 2 ^ 41 → tai ≤ 1000 → All (λ (p : FlowPacket). p.at < 2 ^ 32 * 10 ^ 9) packets → first_fault packets pt ≡ None
+pub many-grouped : (packets : List FlowPacket) (pt tai : ℕ) → length packets < 2 ^ 41 → tai ≤ 1000 → AreStamped packets → first_fault packets pt ≡ None
     → 0 < length (cuts packets (length packets)) → AreGrouped (runs packets tai)
 many-grouped packets pt tai few h all e some =
     let n = length packets in
@@ -226,7 +221,7 @@ many-grouped packets pt tai few h all e some =
     }
 
 -- a flow with no fault
-pub unfaulted-grouped : (packets : List FlowPacket) (pt tai : ℕ) → length packets < 2 ^ 41 → tai ≤ 1000 → All (λ (p : FlowPacket). p.at < 2 ^ 32 * 10 ^ 9) packets → first_fault packets pt ≡ None
+pub unfaulted-grouped : (packets : List FlowPacket) (pt tai : ℕ) → length packets < 2 ^ 41 → tai ≤ 1000 → AreStamped packets → first_fault packets pt ≡ None
     → IsGroupedVerdict (judged_runs packets tai)
 unfaulted-grouped packets pt tai few h all e =
     runs-case packets tai (length (cuts packets (length packets)) == 0)
@@ -237,11 +232,11 @@ refused-case : (packets : List FlowPacket) (first : Option FirstFault) (verdict 
 refused-case packets (Some first) verdict h = refusal-grouped _ first.fault
 refused-case packets None verdict h = h refl
 
-judged-case : (b : Bool) (verdict : FlowVerdict) → IsGroupedVerdict verdict → IsGroupedVerdict (if b then Absent else verdict)
+judged-case : (b : Bool) (verdict : FlowVerdict) → IsGroupedVerdict verdict → IsGroupedVerdict (if b then absent else verdict)
 judged-case true verdict h = tt
 judged-case false verdict h = h
 
 -- what is judged of a flow
-pub judged-grouped : (packets : List FlowPacket) (pt tai : ℕ) → length packets < 2 ^ 41 → tai ≤ 1000 → All (λ (p : FlowPacket). p.at < 2 ^ 32 * 10 ^ 9) packets → IsGroupedVerdict (judged packets pt tai)
+pub judged-grouped : (packets : List FlowPacket) (pt tai : ℕ) → length packets < 2 ^ 41 → tai ≤ 1000 → AreStamped packets → IsGroupedVerdict (judged packets pt tai)
 judged-grouped packets pt tai few h all =
     judged-case (length packets == 0) _ (refused-case packets (first_fault packets pt) (judged_runs packets tai) (unfaulted-grouped packets pt tai few h all))

@@ -1,6 +1,6 @@
+pub mod Between
 pub mod FirstFaults
 pub mod Grouped
+pub mod Numerals
 pub mod Places
-pub mod Runs
 pub mod Sizes
-pub mod Standings

@@ -6,7 +6,7 @@ use Rattle.std.proofs.lemmas.Bool.Decides.{nat_tests}
 use Rattle.timing_base.specs.declared.packet.FlowPacket.{FlowPacket}
 use Rattle.timing_base.specs.declared.packet.PacketFault.{PacketFault}
 use Rattle.timing_base.specs.Flows.{last_place, is_cut, cuts, markers, markers_before, run_start, has_marker, group_len, place_in_group, fault, fault_if, first_of, is_other_size, is_too_large, size_fault, order_fault, sender_fault}
-use Rattle.timing_base.specs.Marks.{IsSized}
+use Rattle.timing_base.specs.Grouped.{IsSized}
 use Rattle.timing_base.proofs.Places.{last_place-push, run_start-other, run_start-cut, markers-here, markers-other, places-none}
 
 -- a run that starts here has no group yet

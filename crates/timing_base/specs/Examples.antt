@@ -1,18 +1,23 @@
 -- Small flows for examples that are worked by hand. The payload type is 96, and the source is 7.
 use Rattle.std.specs.Prelude.{ℕ, Bool, true, false, List, [], ◌∷◌, Ok, Err}
+use Rattle.timing_base.specs.Captures.{Record}
 use Rattle.timing_base.specs.declared.packet.FlowPacket.{FlowPacket}
 use Rattle.timing_base.specs.declared.packet.PacketFault.{PacketFault}
 
 -- a packet by record, stamp, packet number, RTP timestamp and marker
 abbrev pub sent : ℕ → ℕ → ℕ → ℕ → Bool → FlowPacket
-sent rec at number stamp marker = record { rec = rec; at = at; rtp = Ok record { number = number; stamp = stamp; marker = marker; pt = 96; ssrc = 7 } }
+sent rec at number timestamp marker = record { rec = rec; at = at; rtp = Ok record { number = number; timestamp = timestamp; marker = marker; pt = 96; ssrc = 7 } }
 
 -- the same from another source, and with another payload type
 abbrev pub sent_by : ℕ → ℕ → ℕ → ℕ → ℕ → Bool → FlowPacket
-sent_by ssrc rec at number stamp marker = record { rec = rec; at = at; rtp = Ok record { number = number; stamp = stamp; marker = marker; pt = 96; ssrc = ssrc } }
+sent_by ssrc rec at number timestamp marker = record { rec = rec; at = at; rtp = Ok record { number = number; timestamp = timestamp; marker = marker; pt = 96; ssrc = ssrc } }
 
 abbrev pub sent_as : ℕ → ℕ → ℕ → ℕ → ℕ → Bool → FlowPacket
-sent_as pt rec at number stamp marker = record { rec = rec; at = at; rtp = Ok record { number = number; stamp = stamp; marker = marker; pt = pt; ssrc = 7 } }
+sent_as pt rec at number timestamp marker = record { rec = rec; at = at; rtp = Ok record { number = number; timestamp = timestamp; marker = marker; pt = pt; ssrc = 7 } }
+
+-- a record of a capture, without bytes
+abbrev pub captured : (number stamp : ℕ) → Record
+captured number stamp = record { number = number; stamp = stamp; bytes = [] }
 
 -- a packet that was not read
 abbrev pub unread : ℕ → ℕ → PacketFault → FlowPacket

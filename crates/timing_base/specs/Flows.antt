@@ -4,11 +4,11 @@
 -- each gap in the packet numbers, is this project's profile.
 -- Packets count from 0 here. A stamp is the capture's, in nanoseconds; a timestamp is that of RTP, in ticks
 -- of 90 kHz, and one for all packets of a frame or field.
-use Rattle.std.specs.Prelude.{◌≡◌, ◌<◌, ℕ, zero, suc, Bool, false, not, ◌&&◌, ◌||◌, ◌+◌, ◌-◌, ◌%◌, ◌^◌, ◌==◌, nat_lt, nat_le, if◌then◌else◌, List, [], ◌∷◌, ◌++◌, length, slice_index, slice_index_or, Option, Some, None, Result, Ok, Err}
+use Rattle.std.specs.Prelude.{◌≡◌, ◌<◌, ℕ, zero, suc, Bool, false, not, ◌&&◌, ◌||◌, ◌+◌, ◌-◌, ◌%◌, ◌^◌, ◌==◌, nat_lt, nat_le, if◌then◌else◌, List, [], ◌∷◌, ◌++◌, length, slice_index, slice_index_or, Option, Some, None, Result, Ok, Err, All}
+use Rattle.timing_base.specs.Captures.{IsStamp}
 use Rattle.timing_base.specs.declared.packet.Rtp.{Rtp}
 use Rattle.timing_base.specs.declared.packet.FlowPacket.{FlowPacket}
 use Rattle.timing_base.specs.declared.packet.PacketFault.{PacketFault}
-use Rattle.timing_base.specs.declared.flows.FirstFault.{FirstFault}
 use Rattle.timing_base.specs.declared.packet.PacketFault.TheVariants.{Short, PayloadType, SecondSource, Number, StampBack, NoMarker, SameStamp, FrameSize, FrameTooLarge}
 
 -- the places from one on and below another at which the test holds, rising
@@ -22,7 +22,11 @@ last_place xs = slice_index xs (length xs - 1)
 
 -- what is read of a packet that was not read
 abbrev pub no_rtp : Rtp
-no_rtp = record { number = 0; stamp = 0; marker = false; pt = 0; ssrc = 0 }
+no_rtp = record { number = 0; timestamp = 0; marker = false; pt = 0; ssrc = 0 }
+
+-- the stamps of the flow are of the kind that captures hold
+abbrev pub AreStamped : List FlowPacket → Type 0
+AreStamped packets = All (λ p. IsStamp p.at) packets
 
 -- a packet past the end of a flow
 abbrev pub no_packet : FlowPacket
@@ -103,7 +107,7 @@ goes_on packets i = nat_lt 0 i && not (is_cut packets i)
 
 -- the RTP timestamp is that of the packet before
 abbrev pub has_same_timestamp : List FlowPacket → ℕ → Bool
-has_same_timestamp packets i = (rtp packets i).stamp == (rtp packets (i - 1)).stamp
+has_same_timestamp packets i = (rtp packets i).timestamp == (rtp packets (i - 1)).timestamp
 
 -- a new RTP timestamp, and the packet before had no marker
 abbrev pub lacks_marker : List FlowPacket → ℕ → Bool
@@ -169,6 +173,11 @@ fault_within most_cuts most_group packets pt i =
 -- a flow has at most 1,024 cuts, and a group at most 262,144 packets
 abbrev pub fault : List FlowPacket → ℕ → ℕ → Option PacketFault
 fault packets pt i = fault_within 1024 262144 packets pt i
+
+-- the first fault of a flow: its packet, counted from 0, and what it is
+pub record FirstFault : Type 0 where
+  pub index : ℕ
+  pub fault : PacketFault
 
 -- the fault of packet n, where no packet below n has one
 abbrev pub earlier_or : Option FirstFault → ℕ → Option PacketFault → Option FirstFault

@@ -5,14 +5,41 @@ use Rattle.std.specs.Prelude.{ℕ, ◌+◌, ◌-◌, ◌*◌, ◌^◌, ◌==◌,
 use Rattle.timing_base.specs.declared.packet.FlowPacket.{FlowPacket}
 use Rattle.timing_base.specs.declared.packet.PacketFault.{PacketFault}
 use Rattle.timing_base.specs.declared.packet.PacketFault.TheVariants.{Number}
-use Rattle.timing_base.specs.declared.flows.FirstFault.{FirstFault}
-use Rattle.timing_base.specs.declared.judged.JudgedRun.{JudgedRun}
-use Rattle.timing_base.specs.declared.judged.RunOutcome.{RunOutcome}
-use Rattle.timing_base.specs.declared.judged.RunOutcome.TheVariants.{NoWholeFrame, Judged}
-use Rattle.timing_base.specs.declared.judged.FlowRun.{FlowRun}
-use Rattle.timing_base.specs.declared.judged.FlowVerdict.{FlowVerdict}
-use Rattle.timing_base.specs.declared.judged.FlowVerdict.TheVariants.{Absent, Refused, Gap, Run, Runs}
-use Rattle.timing_base.specs.Flows.{packet, rtp, expected_number, cuts, markers, last_place, group_len, first_fault}
+use Rattle.timing_base.specs.Flows.{FirstFault, packet, rtp, expected_number, cuts, markers, last_place, group_len, first_fault}
+
+-- the judged packets of a run
+pub record JudgedRun : Type 0 where
+  -- the packets of each group
+  pub n : ℕ
+  pub groups : ℕ
+  -- the packets before and after the judged ones
+  pub head : ℕ
+  pub tail : ℕ
+  -- when each judged packet came, in nanoseconds of TAI
+  pub stamps : List ℕ
+
+-- what is judged of one run: nothing, where it has fewer than two markers; its head goes up to and including the first,
+-- or is the whole run
+pub data RunOutcome : Type 0 where
+  no_whole_frame : (head : ℕ) → RunOutcome
+  whole_frames : JudgedRun → RunOutcome
+
+-- a run between two cuts
+pub record FlowRun : Type 0 where
+  -- the record and the number of its first packet
+  pub rec : ℕ
+  pub number : ℕ
+  -- the number that would have gone on from the run before; none for the first run
+  pub expected : Option ℕ
+  pub outcome : RunOutcome
+
+-- what is judged of a flow
+pub data FlowVerdict : Type 0 where
+  absent : FlowVerdict
+  refused : (rec : ℕ) (fault : PacketFault) → FlowVerdict
+  gap : (rec expected got : ℕ) → FlowVerdict
+  in_one_run : RunOutcome → FlowVerdict
+  in_runs : List FlowRun → FlowVerdict
 
 -- when a packet came, with so many seconds added
 abbrev pub stamp_of : ℕ → FlowPacket → ℕ
@@ -25,7 +52,7 @@ head_len marks from to = if length marks == 0 then to - from else slice_index ma
 -- a run of two markers and more: its packets after the first marker and up to the last are judged
 abbrev pub judged_run : List FlowPacket → ℕ → ℕ → ℕ → JudgedRun
 judged_run packets tai from to = let marks = markers packets from to in record {
-  per_group = group_len marks;
+  n = group_len marks;
   groups = length marks - 1;
   head = head_len marks from to;
   tail = to - (last_place marks + 1);
@@ -35,8 +62,8 @@ judged_run packets tai from to = let marks = markers packets from to in record {
 -- the packets from one place on and below another, as a run
 abbrev pub run_outcome : List FlowPacket → ℕ → ℕ → ℕ → RunOutcome
 run_outcome packets tai from to =
-    if nat_lt (length (markers packets from to)) 2 then NoWholeFrame (head_len (markers packets from to) from to)
-    else Judged (judged_run packets tai from to)
+    if nat_lt (length (markers packets from to)) 2 then no_whole_frame (head_len (markers packets from to) from to)
+    else whole_frames (judged_run packets tai from to)
 
 -- the number that the run has to start with, where it is not the first
 abbrev pub expected_at : List FlowPacket → ℕ → Option ℕ
@@ -62,8 +89,8 @@ runs packets tai = runs_between packets tai (length packets) 0 (cuts packets (le
 
 -- one gap too many is told as a gap, each other fault as itself
 abbrev pub refusal : ℕ → PacketFault → FlowVerdict
-refusal rec (Number expected got) = Gap rec expected got
-refusal rec fault = Refused rec fault
+refusal rec (Number expected got) = gap rec expected got
+refusal rec fault = refused rec fault
 
 -- a flow with a fault is not judged
 abbrev pub refused_or : List FlowPacket → Option FirstFault → FlowVerdict → FlowVerdict
@@ -73,9 +100,9 @@ refused_or packets None verdict = verdict
 -- a flow with no fault: one run, or the runs between its cuts
 abbrev pub judged_runs : List FlowPacket → ℕ → FlowVerdict
 judged_runs packets tai =
-    if length (cuts packets (length packets)) == 0 then Run (run_outcome packets tai 0 (length packets)) else Runs (runs packets tai)
+    if length (cuts packets (length packets)) == 0 then in_one_run (run_outcome packets tai 0 (length packets)) else in_runs (runs packets tai)
 
 -- what is judged of the packets of one media with this payload type, with so many seconds added to the stamps
 abbrev pub judged : List FlowPacket → ℕ → ℕ → FlowVerdict
 judged packets pt tai =
-    if length packets == 0 then Absent else refused_or packets (first_fault packets pt) (judged_runs packets tai)
+    if length packets == 0 then absent else refused_or packets (first_fault packets pt) (judged_runs packets tai)

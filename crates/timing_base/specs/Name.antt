@@ -1,12 +1,11 @@
--- The names of files that a command line may give.
-use Rattle.std.specs.Prelude.{◌≤◌, ◌≢◌, ℕ, List, length, All}
+-- The names of files that a command line may give. This project's profile.
+use Rattle.std.specs.Prelude.{ℕ, ◌==◌, ◌&&◌, nat_le, Bool, not, List, length}
+use Rattle.std.specs.List.{list_all}
 
 -- a byte that a name may hold: no control character
-abbrev pub IsNameByte : ℕ → Type 0
-IsNameByte b = (32 ≤ b) × (b ≢ 127)
+abbrev pub is_name_byte : ℕ → Bool
+is_name_byte b = nat_le 32 b && not (b == 127)
 
 -- 1 to 4,096 such bytes
-pub record IsFileName (name : List ℕ) : Type 0 where
-  pub some : 1 ≤ length name
-  pub few : length name ≤ 4096
-  pub plain : All IsNameByte name
+abbrev pub is_file_name : List ℕ → Bool
+is_file_name name = nat_le 1 (length name) && (nat_le (length name) 4096 && list_all is_name_byte name)

@@ -1,3 +1,5 @@
+//! How the records of a capture end.
+
 /// Why the records of a capture file end before the file does, numbered 1 to 7 in this order.
 #[derive(Clone, Copy, Debug, PartialEq, Eq)]
 pub enum PcapFault {
@@ -15,4 +17,17 @@ pub enum PcapFault {
     BadLength { rec: u64 },
     /// The records go on past the greatest length of a capture.
     TooLong,
+}
+
+/// How the records of a capture end.
+#[derive(Clone, Copy, Debug, PartialEq, Eq)]
+pub enum FileNote {
+    /// The capture ends after a record.
+    End,
+    /// The capture ends within the record that starts at this byte, counted from 0.
+    Cut { at: u64 },
+    /// The file header or the next record has this fault, or a read failed (`ReadFault`).
+    Refused(PcapFault),
+    /// Memory ran out before the end, which no report tells.
+    Stopped,
 }

@@ -1,3 +1,5 @@
+//! The intervals of packets that break a model.
+
 /// The model that a sender breaks.
 #[derive(Clone, Copy, Debug, PartialEq, Eq)]
 pub enum Broken {

@@ -1,8 +1,10 @@
-ghost use Rattle.std.specs.Prelude.{◌≡◌, ◌≤◌, ◌<◌, false, length};
+//! What a command line asks for.
 
 use crate::fail::FailProof;
-use crate::list::{FileName, Items};
+use crate::list::Items;
 use crate::media::Kind;
+use crate::name::FileName;
+use std::marker::Model;
 
 /// Judge the flows of captures.
 #[derive(Debug, Drop)]
@@ -19,10 +21,16 @@ pub struct CheckJob {
     pub json: bool,
     /// Whether the captures are one capture, in their order.
     pub joined: bool,
-    ghost captures_some: { 1 ≤ length captures },
-    ghost captures_few: { length captures ≤ 16 },
-    ghost workers_few: { workers ≤ 16 },
-    ghost tai_most: { tai ≤ 1000 },
+}
+
+impl Model for CheckJob {
+    ghost use Rattle.timing_base.specs.Jobs.{CheckJob as Seen, IsCheckJob};
+
+    ghost Value = { Seen };
+
+    ghost view = { λ job. record { sdp = job.sdp; captures = job.captures; workers = job.workers; tai = job.tai; json = job.json; joined = job.joined } };
+
+    ghost invariant = { λ job. IsCheckJob (record { sdp = job.sdp; captures = job.captures; workers = job.workers; tai = job.tai; json = job.json; joined = job.joined }) };
 }
 
 /// Confirm one fail from the capture alone.
@@ -38,11 +46,16 @@ pub struct VerifyJob {
     /// The capture files: one, or 1 to 16 that are joined.
     pub captures: Items<FileName>,
     pub joined: bool,
-    ghost media_few: { media < 64 },
-    ghost tai_most: { tai ≤ 1000 },
-    ghost captures_some: { 1 ≤ length captures },
-    ghost captures_few: { length captures ≤ 16 },
-    ghost alone: { joined ≡ false → length captures ≡ 1 },
+}
+
+impl Model for VerifyJob {
+    ghost use Rattle.timing_base.specs.Jobs.{VerifyJob as Seen, IsVerifyJob};
+
+    ghost Value = { Seen };
+
+    ghost view = { λ job. record { sdp = job.sdp; media = job.media; kind = job.kind; proof = job.proof; tai = job.tai; captures = job.captures; joined = job.joined } };
+
+    ghost invariant = { λ job. IsVerifyJob (record { sdp = job.sdp; media = job.media; kind = job.kind; proof = job.proof; tai = job.tai; captures = job.captures; joined = job.joined }) };
 }
 
 /// Confirm each fail of a JSON report from the captures alone.
@@ -55,9 +68,16 @@ pub struct ReportJob {
     /// The capture files, 1 to 16.
     pub captures: Items<FileName>,
     pub joined: bool,
-    ghost tai_most: { tai ≤ 1000 },
-    ghost captures_some: { 1 ≤ length captures },
-    ghost captures_few: { length captures ≤ 16 },
+}
+
+impl Model for ReportJob {
+    ghost use Rattle.timing_base.specs.Jobs.{ReportJob as Seen, IsReportJob};
+
+    ghost Value = { Seen };
+
+    ghost view = { λ job. record { sdp = job.sdp; report = job.report; tai = job.tai; captures = job.captures; joined = job.joined } };
+
+    ghost invariant = { λ job. IsReportJob (record { sdp = job.sdp; report = job.report; tai = job.tai; captures = job.captures; joined = job.joined }) };
 }
 
 /// Run the analyser over captures that it makes itself.
@@ -67,9 +87,18 @@ pub struct SelfTestJob {
     pub frames: u32,
     /// The number of workers, 0 to 16; 0 is one thread for all.
     pub workers: u32,
-    ghost frames_some: { 2 ≤ frames },
-    ghost frames_few: { frames ≤ 20000 },
-    ghost workers_few: { workers ≤ 16 },
+}
+
+impl Model for SelfTestJob {
+    ghost use Rattle.timing_base.specs.Jobs.{SelfTestJob as Seen, IsSelfTestJob};
+
+    ghost Value = { Seen };
+
+    ghost view = { λ job. record { frames = job.frames; workers = job.workers } };
+
+    ghost invariant = { λ job. IsSelfTestJob (record { frames = job.frames; workers = job.workers }) };
+
+    ghost inverse = { λ job. record { frames = job.frames; workers = job.workers } };
 }
 
 /// One flow of one capture.
@@ -81,8 +110,16 @@ pub struct FlowJob {
     /// Seconds that are added to the stamps of the capture, 0 to 1,000.
     pub tai: u64,
     pub capture: FileName,
-    ghost media_few: { media < 64 },
-    ghost tai_most: { tai ≤ 1000 },
+}
+
+impl Model for FlowJob {
+    ghost use Rattle.timing_base.specs.Jobs.{FlowJob as Seen, IsFlowJob};
+
+    ghost Value = { Seen };
+
+    ghost view = { λ job. record { sdp = job.sdp; media = job.media; tai = job.tai; capture = job.capture } };
+
+    ghost invariant = { λ job. IsFlowJob (record { sdp = job.sdp; media = job.media; tai = job.tai; capture = job.capture }) };
 }
 
 /// Delay the packets of a flow until they keep a sender type's limits.
@@ -92,6 +129,14 @@ pub struct ShapeJob {
     pub kind: Kind,
     /// Whether the delays are listed, in place of the shaped capture.
     pub list: bool,
+}
+
+impl Model for ShapeJob {
+    ghost use Rattle.timing_base.specs.Jobs.{ShapeJob as Seen};
+
+    ghost Value = { Seen };
+
+    ghost view = { λ job. record { flow = job.flow; kind = job.kind; list = job.list } };
 }
 
 /// Compare two flows by packet number.
@@ -104,10 +149,16 @@ pub struct SkewJob {
     pub pair: u32,
     /// The capture of the first flow and that of the second, or one with both.
     pub captures: Items<FileName>,
-    ghost media_few: { media < 64 },
-    ghost pair_few: { pair < 64 },
-    ghost captures_some: { 1 ≤ length captures },
-    ghost captures_few: { length captures ≤ 2 },
+}
+
+impl Model for SkewJob {
+    ghost use Rattle.timing_base.specs.Jobs.{SkewJob as Seen, IsSkewJob};
+
+    ghost Value = { Seen };
+
+    ghost view = { λ job. record { sdp = job.sdp; media = job.media; pair = job.pair; captures = job.captures } };
+
+    ghost invariant = { λ job. IsSkewJob (record { sdp = job.sdp; media = job.media; pair = job.pair; captures = job.captures }) };
 }
 
 /// What a command line asks for.

@@ -1,15 +1,17 @@
 //! What holds of the definitions themselves, and the definitions on flows worked by hand. Each
 //! function is a theorem: it does nothing, and its clauses are proved.
 
-ghost use Rattle.std.specs.Prelude.{◌≡◌, ◌<◌, ◌≤◌, ◌*◌, ◌+◌, ◌^◌, ◌++◌, ◌∷◌, [], ℕ, List, Some, None, true, false, length, All};
+ghost use Rattle.std.specs.Prelude.{◌≡◌, ◌<◌, ◌≤◌, ◌*◌, ◌+◌, ◌^◌, ◌++◌, ◌∷◌, [], ℕ, List, Some, None, true, false, length, codes, replicate};
 ghost use Rattle.timing_base.specs.declared.packet.FlowPacket.{FlowPacket};
-ghost use Rattle.timing_base.specs.declared.flows.FirstFault.{FirstFault};
-ghost use Rattle.timing_base.specs.Flows.{cuts, fault, fault_within, first_fault, IsFirstFault, run_start, markers, markers_before};
-ghost use Rattle.timing_base.specs.Judged.{judged};
+ghost use Rattle.timing_base.specs.Flows.{AreStamped, FirstFault, cuts, fault, fault_within, first_fault, IsFirstFault, run_start, markers, markers_before};
+ghost use Rattle.timing_base.specs.Judged.{absent, refused, gap, in_one_run, in_runs, no_whole_frame, whole_frames, judged};
 ghost use Rattle.timing_base.specs.Grouped.{IsGroupedVerdict};
-ghost use Rattle.timing_base.specs.Examples.{sent, sent_by, sent_as, unread, two_groups, equal_low_halves};
+ghost use Rattle.timing_base.specs.Captures.{joined};
+ghost use Rattle.timing_base.specs.Name.{is_file_name};
+ghost use Rattle.timing_base.specs.Routes.{route};
+ghost use Rattle.timing_base.specs.Targets.{address_text};
+ghost use Rattle.timing_base.specs.Examples.{captured, sent, sent_by, sent_as, unread, two_groups, equal_low_halves};
 
-use crate::judged::{FlowVerdict, RunOutcome};
 use crate::packet::PacketFault;
 
 /// The first fault of a flow is that of its least faulty packet, and a flow has none exactly where
@@ -26,7 +28,7 @@ pub fn first_fault_is_least()
 /// alone has no expected number.
 pub fn judged_is_grouped()
     ensures { (packets : List FlowPacket) (pt tai : ℕ) → length packets < 2 ^ 41 → tai ≤ 1000
-        → All (λ p. p.at < 2 ^ 32 * 10 ^ 9) packets → IsGroupedVerdict (judged packets pt tai) }
+        → AreStamped packets → IsGroupedVerdict (judged packets pt tai) }
 {}
 
 /// Worked by hand: the places of cuts and markers, and of the start of a run.
@@ -44,14 +46,14 @@ pub fn places_by_hand()
 /// Worked by hand: the faults of a packet by itself, and by the first packet.
 pub fn sender_faults_by_hand()
     ensures short { judged (unread 9 0 PacketFault.Short ∷ []) 96 0
-        ≡ FlowVerdict.Refused 9 PacketFault.Short }
+        ≡ refused 9 PacketFault.Short }
     ensures version { judged (sent 1 0 6 0 true ∷ unread 2 0 PacketFault.Version ∷ []) 96 0
-        ≡ FlowVerdict.Refused 2 PacketFault.Version }
+        ≡ refused 2 PacketFault.Version }
     ensures payload { judged (sent_as 97 1 0 6 0 true ∷ []) 96 0
-        ≡ FlowVerdict.Refused 1 PacketFault.PayloadType }
+        ≡ refused 1 PacketFault.PayloadType }
     ensures source { judged (sent 1 0 6 0 true ∷ sent_by 8 2 0 7 1 true
         ∷ sent 3 0 8 2 true ∷ []) 96 0
-        ≡ FlowVerdict.Refused 2 PacketFault.SecondSource }
+        ≡ refused 2 PacketFault.SecondSource }
 
     // The third packet has the source of the second, and not of the first.
     ensures source_of_first { fault (sent 1 0 6 0 true ∷ sent_by 8 2 0 7 1 true
@@ -64,30 +66,30 @@ pub fn order_faults_by_hand()
         ∷ sent 3 0 4 2 true ∷ []) 96 2 ≡ Some (PacketFault.Number 3 4) }
     ensures first_cut { fault_within 1 9 (sent 1 0 0 0 true ∷ sent 2 0 2 1 true ∷ []) 96 1 ≡ None }
     ensures stamp_back { judged (sent 1 100 6 0 true ∷ sent 2 99 7 1 true ∷ []) 96 3
-        ≡ FlowVerdict.Refused 2 (PacketFault.StampBack 100 99) }
+        ≡ refused 2 (PacketFault.StampBack 100 99) }
     ensures equal_stamps { fault (sent 1 100 6 0 true ∷ sent 2 100 7 1 true ∷ []) 96 1 ≡ None }
     ensures stamp_back_at_cut { judged (sent 1 100 6 0 true ∷ sent 2 99 8 1 true ∷ []) 96 0
-        ≡ FlowVerdict.Refused 2 (PacketFault.StampBack 100 99) }
+        ≡ refused 2 (PacketFault.StampBack 100 99) }
     ensures no_marker { judged (sent 1 0 6 0 false ∷ sent 2 0 7 1 true ∷ []) 96 0
-        ≡ FlowVerdict.Refused 2 PacketFault.NoMarker }
+        ≡ refused 2 PacketFault.NoMarker }
     ensures no_marker_at_cut { fault (sent 1 0 6 0 false ∷ sent 2 0 8 1 true ∷ []) 96 1 ≡ None }
     ensures same_stamp { judged (sent 1 0 6 0 true ∷ sent 2 0 7 0 false ∷ []) 96 0
-        ≡ FlowVerdict.Refused 2 PacketFault.SameStamp }
+        ≡ refused 2 PacketFault.SameStamp }
     ensures same_stamp_at_cut { fault (sent 1 0 6 0 true ∷ sent 2 0 8 0 false ∷ []) 96 1 ≡ None }
 {}
 
 /// Worked by hand: the faults by the group, for groups of at most three packets where it says so.
 pub fn size_faults_by_hand()
     ensures short { judged (sent 1 0 6 0 true ∷ sent 2 0 7 1 false ∷ sent 3 0 8 1 true
-        ∷ sent 4 0 9 2 true ∷ []) 96 0 ≡ FlowVerdict.Refused 4 (PacketFault.FrameSize 2 1) }
+        ∷ sent 4 0 9 2 true ∷ []) 96 0 ≡ refused 4 (PacketFault.FrameSize 2 1) }
     ensures long { judged (sent 1 0 6 0 true ∷ sent 2 0 7 1 false ∷ sent 3 0 8 1 true
         ∷ sent 4 0 9 2 false ∷ sent 5 0 10 2 false ∷ sent 6 0 11 2 true ∷ []) 96 0
-        ≡ FlowVerdict.Refused 6 (PacketFault.FrameSize 2 3) }
+        ≡ refused 6 (PacketFault.FrameSize 2 3) }
 
     // A tail can't be longer than a group, though no marker has come.
     ensures long_tail { judged (sent 1 0 6 0 true ∷ sent 2 0 7 1 false ∷ sent 3 0 8 1 true
         ∷ sent 4 0 9 2 false ∷ sent 5 0 10 2 false ∷ sent 6 0 11 2 false ∷ []) 96 0
-        ≡ FlowVerdict.Refused 6 (PacketFault.FrameSize 2 3) }
+        ≡ refused 6 (PacketFault.FrameSize 2 3) }
     ensures full_tail { first_fault (sent 1 0 6 0 true ∷ sent 2 0 7 1 false ∷ sent 3 0 8 1 true
         ∷ sent 4 0 9 2 false ∷ sent 5 0 10 2 false ∷ []) 96 ≡ None }
 
@@ -106,25 +108,25 @@ pub fn size_faults_by_hand()
 /// Worked by hand: of two faults at one packet the first in the order of [`PacketFault`] is told.
 pub fn first_of_two_by_hand()
     ensures payload { judged (sent_by 8 1 0 6 0 true ∷ sent_as 97 2 0 7 1 true ∷ []) 96 0
-        ≡ FlowVerdict.Refused 2 PacketFault.PayloadType }
+        ≡ refused 2 PacketFault.PayloadType }
     ensures source { judged (sent 1 100 6 0 true ∷ sent_by 8 2 99 7 1 true ∷ []) 96 0
-        ≡ FlowVerdict.Refused 2 PacketFault.SecondSource }
+        ≡ refused 2 PacketFault.SecondSource }
     ensures number { fault_within 1 9 (sent 1 100 0 0 true ∷ sent 2 100 2 1 true
         ∷ sent 3 99 4 2 true ∷ []) 96 2 ≡ Some (PacketFault.Number 3 4) }
     ensures stamp_back { judged (sent 1 100 6 0 false ∷ sent 2 99 7 1 true ∷ []) 96 0
-        ≡ FlowVerdict.Refused 2 (PacketFault.StampBack 100 99) }
+        ≡ refused 2 (PacketFault.StampBack 100 99) }
     ensures no_marker { judged (sent 1 0 6 0 true ∷ sent 2 0 7 1 false ∷ sent 3 0 8 1 true
         ∷ sent 4 0 9 2 false ∷ sent 5 0 10 2 false ∷ sent 6 0 11 3 false ∷ []) 96 0
-        ≡ FlowVerdict.Refused 6 PacketFault.NoMarker }
+        ≡ refused 6 PacketFault.NoMarker }
     ensures same_stamp { judged (sent 1 0 6 0 true ∷ sent 2 0 7 1 false ∷ sent 3 0 8 1 true
-        ∷ sent 4 0 9 1 true ∷ []) 96 0 ≡ FlowVerdict.Refused 4 PacketFault.SameStamp }
+        ∷ sent 4 0 9 1 true ∷ []) 96 0 ≡ refused 4 PacketFault.SameStamp }
 {}
 
 /// Worked by hand: flows of one run, with head and tail, and with no whole group.
 pub fn runs_by_hand()
-    ensures absent { judged [] 96 0 ≡ FlowVerdict.Absent }
-    ensures one_run { judged two_groups 96 1 ≡ FlowVerdict.Run (RunOutcome.Judged record {
-      per_group = 2;
+    ensures absent { judged [] 96 0 ≡ absent }
+    ensures one_run { judged two_groups 96 1 ≡ in_one_run (whole_frames record {
+      n = 2;
       groups = 2;
       head = 1;
       tail = 1;
@@ -132,38 +134,105 @@ pub fn runs_by_hand()
     }) }
     ensures long_head { judged (sent 1 5 6 0 false ∷ sent 2 6 7 0 true
         ∷ sent 3 7 8 1 true ∷ []) 96 0
-        ≡ FlowVerdict.Run (RunOutcome.Judged record {
-          per_group = 1;
+        ≡ in_one_run (whole_frames record {
+          n = 1;
           groups = 1;
           head = 2;
           tail = 0;
           stamps = 7 ∷ [];
         }) }
     ensures no_marker { judged (sent 1 0 6 0 false ∷ sent 2 0 7 0 false ∷ []) 96 0
-        ≡ FlowVerdict.Run (RunOutcome.NoWholeFrame 2) }
+        ≡ in_one_run (no_whole_frame 2) }
     ensures one_marker { judged (sent 1 0 6 0 true ∷ sent 2 0 7 1 false ∷ []) 96 0
-        ≡ FlowVerdict.Run (RunOutcome.NoWholeFrame 1) }
+        ≡ in_one_run (no_whole_frame 1) }
 {}
 
 /// Worked by hand: flows of two runs.
 pub fn cut_flows_by_hand()
-    ensures equal_low_halves { judged equal_low_halves 96 0 ≡ FlowVerdict.Runs (
-        record { rec = 1; number = 6; expected = None; outcome = RunOutcome.NoWholeFrame 1 }
-        ∷ record { rec = 3; number = 65544; expected = Some 8; outcome = RunOutcome.NoWholeFrame 1 }
+    ensures equal_low_halves { judged equal_low_halves 96 0 ≡ in_runs (
+        record { rec = 1; number = 6; expected = None; outcome = no_whole_frame 1 }
+        ∷ record { rec = 3; number = 65544; expected = Some 8; outcome = no_whole_frame 1 }
         ∷ []) }
     ensures judged_first { judged (two_groups ++ sent 7 70 13 104 false ∷ []) 96 0
-        ≡ FlowVerdict.Runs (record {
+        ≡ in_runs (record {
           rec = 1;
           number = 6;
           expected = None;
-          outcome = RunOutcome.Judged record {
-            per_group = 2;
+          outcome = whole_frames record {
+            n = 2;
             groups = 2;
             head = 1;
             tail = 1;
             stamps = 20 ∷ 30 ∷ 40 ∷ 50 ∷ [];
           };
         }
-        ∷ record { rec = 7; number = 13; expected = Some 12; outcome = RunOutcome.NoWholeFrame 1 }
+        ∷ record { rec = 7; number = 13; expected = Some 12; outcome = no_whole_frame 1 }
         ∷ []) }
+{}
+
+/// Worked by hand: the second run is judged too, with its own head and tail, and a second is added
+/// to its stamps as to those of the first.
+pub fn second_run_by_hand()
+    ensures { judged (two_groups ++ sent 7 70 20 104 true ∷ sent 8 80 21 105 false
+        ∷ sent 9 90 22 105 true ∷ sent 10 100 23 106 false ∷ []) 96 1
+        ≡ in_runs (record {
+          rec = 1;
+          number = 6;
+          expected = None;
+          outcome = whole_frames record {
+            n = 2;
+            groups = 2;
+            head = 1;
+            tail = 1;
+            stamps = 1000000020 ∷ 1000000030 ∷ 1000000040 ∷ 1000000050 ∷ [];
+          };
+        }
+        ∷ record {
+          rec = 7;
+          number = 20;
+          expected = Some 12;
+          outcome = whole_frames record {
+            n = 2;
+            groups = 1;
+            head = 1;
+            tail = 1;
+            stamps = 1000000080 ∷ 1000000090 ∷ [];
+          };
+        }
+        ∷ []) }
+{}
+
+/// Worked by hand: three captures with two records, none and one are one capture with three records.
+pub fn joined_by_hand()
+    ensures three { joined ((captured 1 10 ∷ captured 2 20 ∷ []) ∷ [] ∷ (captured 1 5 ∷ []) ∷ [])
+        ≡ captured 1 10 ∷ captured 2 20 ∷ captured 3 5 ∷ [] }
+    ensures alone { joined ((captured 1 10 ∷ []) ∷ []) ≡ captured 1 10 ∷ [] }
+    ensures none { joined [] ≡ [] }
+{}
+
+/// Worked by hand: media 1 of capture 2, of three media in each capture, is flow 7.
+pub fn routes_by_hand()
+    ensures four { route (record { file = 2; media = 1 }) 3 4 ≡ 3 }
+    ensures seven { route (record { file = 2; media = 1 }) 3 7 ≡ 0 }
+    ensures one { route (record { file = 2; media = 1 }) 3 1 ≡ 0 }
+{}
+
+/// Worked by hand: the first octet of an address is its highest.
+#[tactic(auto, using(crate::proofs::Numerals::written_out))]
+pub fn targets_by_hand()
+    ensures text { address_text 4009754625 50000 ≡ codes "239.0.0.1:50000" }
+    ensures octets { address_text 16909060 9 ≡ codes "1.2.3.4:9" }
+    ensures least { address_text 0 1 ≡ codes "0.0.0.0:1" }
+    ensures greatest { address_text 4294967295 65535 ≡ codes "255.255.255.255:65535" }
+{}
+
+/// Worked by hand: a name has no control character, and 1 byte at least.
+pub fn names_by_hand()
+    ensures empty { is_file_name [] ≡ false }
+    ensures space { is_file_name (32 ∷ []) ≡ true }
+    ensures control { is_file_name (31 ∷ []) ≡ false }
+    ensures tilde { is_file_name (97 ∷ 126 ∷ []) ≡ true }
+    ensures delete { is_file_name (97 ∷ 127 ∷ []) ≡ false }
+    ensures longest { is_file_name (replicate 4096 97) ≡ true }
+    ensures too_long { is_file_name (replicate 4097 97) ≡ false }
 {}

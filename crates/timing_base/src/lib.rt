@@ -1,32 +1,37 @@
-//! The words that the analyser's crates share: media and sessions, packets and their faults, fails,
-//! and the jobs that a command line asks for. Beside this plain data, what is judged of a flow:
-//! [`first_fault`] and [`judge_flow`] compute it.
+//! The words that the analyser's crates share: media and sessions, records of captures, packets and
+//! their faults, what is judged of a flow, rows of the report, and the jobs that a command line asks
+//! for. Here stand the definitions of a flow's faults, cuts and judged packets; the crates that find
+//! them stand above.
 //!
-//! Media, sessions, jobs and file names have the limits of their quantities in their types; the other
-//! types hold any values. What `judge_flow` answers keeps its limits by a clause.
+//! Media, sessions, jobs, file names, judged runs and runs between gaps keep the limits of their
+//! quantities in their types; the other types hold any values.
 //!
-//! Files, media and frames count from 0 here and from 1 in printed text; the records of a capture
-//! count from 1 everywhere.
+//! Files, media, frames and judged packets count from 0 here, and files, media and runs from 1 in
+//! printed text; the records of a capture count from 1 everywhere.
 #![tactic(auto)]
 
 mod capture;
 mod fail;
-mod flows;
 mod job;
-mod judged;
+mod key;
 pub mod laws;
 mod list;
 mod media;
+mod name;
 mod packet;
+mod row;
+mod target;
 
-pub use capture::PcapFault;
+pub use capture::{FileNote, PcapFault};
 pub use fail::{Broken, FailProof};
-pub use flows::{FirstFault, first_fault};
 pub use job::{CheckJob, FlowJob, ReportJob, Request, SelfTestJob, ShapeJob, SkewJob, VerifyJob};
-pub use judged::{FlowRun, FlowVerdict, JudgedRun, RunOutcome, judge_flow};
-pub use list::{FileName, Items};
+pub use key::{FlowKey, route};
+pub use list::Items;
 pub use media::{Kind, Media, Session};
+pub use name::FileName;
 pub use packet::{FlowPacket, PacketFault, Rtp};
+pub use row::{Judged, KindVerdict, Row, Run, RunVerdict, Runs, Unjudged, Verdict};
+pub use target::Target;
 
 #[cfg(test)]
 mod tests;

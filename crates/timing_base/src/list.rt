@@ -1,4 +1,6 @@
-ghost use Rattle.std.specs.Prelude.{◌≡◌, ℕ, List, length, string_bytes};
+//! Lists of values.
+
+ghost use Rattle.std.specs.Prelude.{◌≡◌, List, length};
 
 use std::marker::Model;
 
@@ -43,43 +45,5 @@ impl<T> Items<T> {
         ensures { result ≡ values.items }
     {
         Items { values }
-    }
-}
-
-/// The name of a file in the words: 1 to 4,096 bytes, none below 32 and none 127. Contracts see its
-/// bytes.
-#[derive(Debug, Drop)]
-pub struct FileName {
-    text: String,
-}
-
-impl Model for FileName {
-    ghost use Rattle.std.specs.Prelude.{List, ℕ, string_bytes};
-    ghost use Rattle.timing_base.specs.Name.{IsFileName};
-
-    ghost Value = { List ℕ };
-
-    ghost view = { λ name. string_bytes name.text };
-
-    ghost invariant = { λ name. IsFileName (string_bytes name.text) };
-}
-
-impl FileName {
-    ghost use Rattle.timing_base.specs.Name.{IsFileName};
-
-    /// The name with this text.
-    pub fn from_text(text: String) -> FileName
-        requires { IsFileName (string_bytes text) }
-        ensures { result ≡ string_bytes text }
-    {
-        FileName { text }
-    }
-
-    /// The text of the name.
-    pub fn as_str(&self) -> &str
-        ensures text { result.now ≡ self.now }
-        ensures within { IsFileName self.now }
-    {
-        self.text.as_str()
     }
 }

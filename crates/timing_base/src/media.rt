@@ -1,7 +1,10 @@
-ghost use Rattle.std.specs.Prelude.{◌≤◌, ◌*◌, length};
-ghost use Rattle.std.specs.Option.{ForSome};
+//! Sender types, video streams and sessions.
+
+ghost use Rattle.std.specs.Prelude.{◌≡◌};
 
 use crate::list::Items;
+use crate::target::Target;
+use std::marker::Model;
 
 /// A sender type of SMPTE ST 2110-21.
 #[derive(Clone, Copy, Debug, PartialEq, Eq)]
@@ -41,26 +44,87 @@ pub struct Media {
     pub troff: Option<u32>,
     /// The bucket's limit that the description gives for the declared type (CMAX), in packets.
     pub cmax: Option<u32>,
-    ghost port_some: { 1 ≤ port },
-    ghost pt_most: { pt ≤ 127 },
-    ghost width_some: { 1 ≤ width },
-    ghost width_most: { width ≤ 32767 },
-    ghost height_some: { 1 ≤ height },
-    ghost height_most: { height ≤ 32767 },
-    ghost p_some: { 1 ≤ p },
-    ghost p_most: { p ≤ 240 * q },
-    ghost q_some: { 1 ≤ q },
-    ghost q_most: { q ≤ 1001 },
-    ghost troff_most: { ForSome troff (λ x. x ≤ 1000000) },
-    ghost cmax_some: { ForSome cmax (λ x. 1 ≤ x) },
-    ghost cmax_most: { ForSome cmax (λ x. x ≤ 65535) },
 }
 
-/// The video streams of a session description, in its order: 1 to 64.
+impl Model for Media {
+    ghost use Rattle.timing_base.specs.Media.{Media as Seen, IsMedia};
+
+    ghost Value = { Seen };
+
+    ghost view = { λ m. record {
+      line = m.line;
+      address = m.address;
+      port = m.port;
+      pt = m.pt;
+      width = m.width;
+      height = m.height;
+      interlaced = m.interlaced;
+      p = m.p;
+      q = m.q;
+      declared = m.declared;
+      troff = m.troff;
+      cmax = m.cmax;
+    } };
+
+    ghost invariant = { λ m. IsMedia (record {
+      line = m.line;
+      address = m.address;
+      port = m.port;
+      pt = m.pt;
+      width = m.width;
+      height = m.height;
+      interlaced = m.interlaced;
+      p = m.p;
+      q = m.q;
+      declared = m.declared;
+      troff = m.troff;
+      cmax = m.cmax;
+    }) };
+
+    ghost inverse = { λ m. record {
+      line = m.line;
+      address = m.address;
+      port = m.port;
+      pt = m.pt;
+      width = m.width;
+      height = m.height;
+      interlaced = m.interlaced;
+      p = m.p;
+      q = m.q;
+      declared = m.declared;
+      troff = m.troff;
+      cmax = m.cmax;
+    } };
+}
+
+impl Media {
+    ghost use Rattle.timing_base.specs.Targets.{target_of};
+
+    /// Where the packets go.
+    pub fn target(&self) -> Target
+        ensures { result ≡ target_of self.now }
+    {
+        Target {
+            address: self.address,
+            port: self.port,
+        }
+    }
+}
+
+/// The video streams of a session description, in its order: 1 to 64. Contracts see their list.
 #[derive(Debug, Drop)]
 pub struct Session {
     /// The media, counted from 0.
     pub media: Items<Media>,
-    ghost some: { 1 ≤ length media },
-    ghost few: { length media ≤ 64 },
+}
+
+impl Model for Session {
+    ghost use Rattle.std.specs.Prelude.{List};
+    ghost use Rattle.timing_base.specs.Media.{Media as Seen, IsSession};
+
+    ghost Value = { List Seen };
+
+    ghost view = { λ session. session.media };
+
+    ghost invariant = { λ session. IsSession session.media };
 }

@@ -1,3 +1,5 @@
+//! The packets of a flow, and their faults.
+
 /// What the analyser reads of one RTP packet of video (RFC 3550, section 5.1; RFC 4175, section
 /// 4.2).
 #[derive(Clone, Copy, Debug, PartialEq, Eq)]
@@ -6,7 +8,7 @@ pub struct Rtp {
     /// its low half.
     pub number: u32,
     /// The RTP timestamp, in ticks of 90 kHz.
-    pub stamp: u32,
+    pub timestamp: u32,
     /// Whether this is the last packet of its frame or field.
     pub marker: bool,
     /// The payload type; a packet has 7 bits for it.

@@ -5,14 +5,11 @@ use Rattle.std.specs.Prelude.{◌==◌, cond, All, slice_index, slice_range}
 use Rattle.std.proofs.lemmas.Grind.{common_steps}
 use Rattle.std.proofs.lemmas.Bool.Decides.{leb_tells}
 use Rattle.std.proofs.lemmas.List.Elements.{All-take, All-drop}
+use Rattle.timing_base.specs.Judged.{FlowRun, runs_between, run_at, refusal, judged, refused_or, judged_runs, FlowVerdict, absent}
 use Rattle.timing_base.specs.declared.packet.FlowPacket.{FlowPacket}
-use Rattle.timing_base.specs.declared.flows.FirstFault.{FirstFault}
-use Rattle.timing_base.specs.declared.judged.FlowRun.{FlowRun}
+use Rattle.timing_base.specs.Flows.{FirstFault}
 use Rattle.timing_base.specs.Flows.{is_cut, packet, places, fault, first_fault, cuts, markers, last_place}
-use Rattle.timing_base.specs.Judged.{runs_between, run_at, refusal, judged, refused_or, judged_runs}
-use Rattle.timing_base.specs.declared.judged.FlowVerdict.{FlowVerdict}
-use Rattle.timing_base.specs.declared.judged.FlowVerdict.TheVariants.{Absent}
-use Rattle.timing_base.specs.Marks.{IsSized, EachSized}
+use Rattle.timing_base.specs.Grouped.{IsSized, EachSized}
 use Rattle.timing_base.proofs.Places.{places-here, places-other, places-none, cuts-here, cuts-other, run_start-cut, run_start-other}
 use Rattle.timing_base.proofs.FirstFaults.{no_fault-at, first_fault-is}
 use Rattle.timing_base.proofs.Sizes.{sized-nil, sized-enter, sized-next}
@@ -85,7 +82,7 @@ judged-refused packets pt tai x d r some e is =
     let same : get_or packets x.index d ≡ packet packets x.index = grind (arith, common_steps, first.within) in
     is ∙ (ap (λ (p : FlowPacket). refusal p.rec x.fault) same
     ∙ (sym (ap (λ f. refused_or packets f (judged_runs packets tai)) e)
-    ∙ ap (λ b. cond b Absent (refused_or packets (first_fault packets pt) (judged_runs packets tai))) (sym some)))
+    ∙ ap (λ b. cond b absent (refused_or packets (first_fault packets pt) (judged_runs packets tai))) (sym some)))
 
 no_cut-start : (xs : List ℕ) → length xs ≡ 0 → last_place (0 ∷ xs) ≡ 0
 no_cut-start [] e = refl

@@ -1,0 +1,18 @@
+-- Where the packets of a media go, and how it is written.
+use Rattle.std.specs.Prelude.{ℕ, ◌/◌, ◌%◌, ◌^◌, List, ◌++◌, codes}
+use Rattle.std.specs.Fmt.{decimal}
+use Rattle.timing_base.specs.Media.{Media}
+use Rattle.timing_base.specs.declared.target.Target.{Target}
+
+-- the four octets of an address and a port, as `239.0.0.1:50000`
+abbrev pub address_text : ℕ → ℕ → List ℕ
+address_text address port = decimal (address / 2 ^ 24) ++ (codes "." ++ (decimal (address / 2 ^ 16 % 2 ^ 8) ++ (codes "."
+    ++ (decimal (address / 2 ^ 8 % 2 ^ 8) ++ (codes "." ++ (decimal (address % 2 ^ 8) ++ (codes ":" ++ decimal port)))))))
+
+-- a target in that form
+abbrev pub target_text : Target → List ℕ
+target_text target = address_text target.address target.port
+
+-- the target of a media
+abbrev pub target_of : Media → Target
+target_of media = record { address = media.address; port = media.port }

@@ -1,0 +1,43 @@
+//! Names of files.
+
+ghost use Rattle.std.specs.Prelude.{◌≡◌, string_bytes, true};
+
+use std::marker::Model;
+
+/// The name of a file in the words: 1 to 4,096 bytes, none below 32 and none 127. Contracts see its
+/// bytes.
+#[derive(Debug, Drop)]
+pub struct FileName {
+    text: String,
+}
+
+impl Model for FileName {
+    ghost use Rattle.std.specs.Prelude.{◌≡◌, List, ℕ, string_bytes, true};
+    ghost use Rattle.timing_base.specs.Name.{is_file_name};
+
+    ghost Value = { List ℕ };
+
+    ghost view = { λ name. string_bytes name.text };
+
+    ghost invariant = { λ name. is_file_name (string_bytes name.text) ≡ true };
+}
+
+impl FileName {
+    ghost use Rattle.timing_base.specs.Name.{is_file_name};
+
+    /// The name with this text.
+    pub fn from_text(text: String) -> FileName
+        requires { is_file_name (string_bytes text) ≡ true }
+        ensures { result ≡ string_bytes text }
+    {
+        FileName { text }
+    }
+
+    /// The text of the name.
+    pub fn as_str(&self) -> &str
+        ensures text { result.now ≡ self.now }
+        ensures within { is_file_name self.now ≡ true }
+    {
+        self.text.as_str()
+    }
+}

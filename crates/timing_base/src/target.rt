@@ -1,0 +1,24 @@
+//! Where packets go.
+
+use std::fmt;
+
+/// Where the packets of a media go: an IPv4 address and a UDP port. Its text is as `239.0.0.1:50000`.
+#[derive(Clone, Copy, Debug, PartialEq, Eq, PartialOrd, Ord)]
+pub struct Target {
+    /// The IPv4 address, its first octet highest.
+    pub address: u32,
+    /// The UDP port.
+    pub port: u16,
+}
+
+impl fmt::Display for Target {
+    ghost use Rattle.std.specs.Prelude.{Some};
+    ghost use Rattle.timing_base.specs.Targets.{target_text};
+
+    ghost output = { λ target. Some (target_text target) };
+
+    fn fmt<W: fmt::Write>(&self, f: &mut fmt::Formatter<W>) -> fmt::Result {
+        let [a, b, c, d] = self.address.to_be_bytes();
+        write!(f, "{a}.{b}.{c}.{d}:{}", self.port)
+    }
+}
