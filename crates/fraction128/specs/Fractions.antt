@@ -1,6 +1,6 @@
 -- Exact fractions of whole numbers. A fraction is `num / den`, and its denominator is above 0
 -- wherever one is used; a fraction that isn't below 0 is also written as the pair of the two.
-use Rattle.std.specs.Prelude.{ℕ, ℤ, pos, negsuc, ◌*◌, ◌/◌, ◌+ℤ◌, ◌-ℤ◌, ◌*ℤ◌, ◌≤ℤ◌, ◌<ℤ◌, Bool, int_le}
+use Rattle.std.specs.Prelude.{ℕ, ℤ, pos, negsuc, ◌*◌, ◌/◌, ◌+ℤ◌, ◌-ℤ◌, ◌*ℤ◌, ◌≤ℤ◌, ◌<ℤ◌, Bool, not, int_le}
 
 -- num / den
 pub record Fraction : Type 0 where
@@ -47,3 +47,7 @@ Below x y = (x.num *ℤ pos y.den) <ℤ (y.num *ℤ pos x.den)
 -- whether x is at most y
 abbrev pub at_most : Fraction → Fraction → Bool
 at_most x y = int_le (x.num *ℤ pos y.den) (y.num *ℤ pos x.den)
+
+-- whether x is less than y
+abbrev pub below : Fraction → Fraction → Bool
+below x y = not (at_most y x)

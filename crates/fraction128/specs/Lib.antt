@@ -1,1 +1,4 @@
+-- what is promised
+pub mod Clocks
 pub mod Fractions
+pub mod Instants

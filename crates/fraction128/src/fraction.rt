@@ -1,4 +1,4 @@
-//! The calls.
+//! Floors and comparisons.
 
 ghost use Rattle.std.specs.Prelude.{◌≢◌, ◌≡◌, ◌≤◌, ◌<◌, ◌*◌, ◌/◌, ◌^◌, ◌↔◌, IsTrue};
 ghost use Rattle.std.specs.Prelude.{ℤ, pos, ◌≤ℤ◌, ◌*ℤ◌, FitsSigned};
@@ -50,23 +50,5 @@ pub fn at_or_before_signed(a: i128, p: u128, b: i128, q: u128) -> bool
         (false, true) => false,
         (true, false) => true,
         (true, true) => b.unsigned_abs() * p <= a.unsigned_abs() * q,
-    }
-}
-
-/// `x / den`, rounded down, by way of a number that is mostly near it: no 128-bit division is made
-/// where `near` is at most the answer and `x` less than 2^64 above `near * den`.
-pub fn floor_near(x: u128, den: u64, near: u64) -> u128
-    requires { den ≢ 0 }
-    ensures { result ≡ x / den }
-{
-    let reached = near as u128 * den as u128;
-    if x < reached {
-        return x / den as u128;
-    }
-    let rest = x - reached;
-    if rest < 1 << 64 {
-        near as u128 + (rest as u64 / den) as u128
-    } else {
-        x / den as u128
     }
 }

@@ -4,8 +4,6 @@ use super::*;
 #[test]
 fn floors(rt: HostRuntime) {
     assert_eq!(rt; floor_of(3_840_000, 11, 10_000_000), 4);
-    assert_eq!(rt; floor_near(42_240_000, 10_000_000, 3), 4);
-    assert_eq!(rt; floor_near(42_240_000, 10_000_000, 9), 4);
     assert_eq!(rt; floor_signed(7, 2), 3);
     assert_eq!(rt; floor_signed(-7, 2), -4);
 }
@@ -17,4 +15,28 @@ fn comparisons(rt: HostRuntime) {
     assert!(rt; at_or_before_signed(-1, 2, -1, 3));
     assert!(rt; !at_or_before_signed(1, 3, -1, 2));
     assert!(rt; at_or_before_signed(-1, 3, 0, 2));
+}
+
+// The same ticks, each counted once: none before the first, two steps, and leaps over the others.
+#[test]
+fn instants(rt: HostRuntime) {
+    let line = Line::of(10_000_000, 11);
+    let mut clock = Clock::start(&line, 7);
+    let rows = [
+        // stamp, instants since the stamp before
+        (7, 0),
+        (909_097, 0),
+        (909_098, 1),
+        (2_727_279, 1),
+        (2_727_280, 1),
+        (10_000_006, 7),
+        (10_000_007, 1),
+        (20_000_000_000_007, 21_999_989),
+        (20_000_000_909_097, 0),
+        (20_000_000_909_098, 1),
+    ];
+    for (t, count) in rows {
+        assert!(rt; t < 1 << 62);
+        assert_eq!(rt; clock.advance(&line, t), count, "at {t}");
+    }
 }
