@@ -1,3 +1,4 @@
+-- what is promised
 pub mod Causes
 pub mod Counts
 pub mod Files

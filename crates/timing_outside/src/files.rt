@@ -65,6 +65,8 @@ where
 
     ghost text = { λ _ _. None };
 
+    ghost lacks = { λ _ _. ⊥ };
+
     ghost faults = { λ s _. shelf_faults s };
 
     /// Opens the file of this name. Each error of the system is counted, and answered as `Failed`,

@@ -114,6 +114,8 @@ impl Shelf for MemoryShelf {
 
     ghost text = { λ s n. bytes_of s n };
 
+    ghost lacks = { λ s n. plan_of s n ≡ None };
+
     ghost faults = { λ s n. count_of s n };
 
     /// Fails exactly where the name isn't there or its plan says so.
@@ -121,6 +123,8 @@ impl Shelf for MemoryShelf {
         ensures named { IfOk result (λ s. name_of s ≡ name.now) }
         ensures whole { IfOk result (λ s. Some (left_of s) ≡ bytes_of self.old name.now) }
         ensures fresh { IfOk result (λ s. faults_of s ≡ 0) }
+        ensures missing { plan_of self.old name.now ≡ None → IsErrOf result OpenFault.Failed }
+        ensures lacks { (n : List ℕ) → plan_of self.old n ≡ None → plan_of self.new n ≡ None }
         ensures texts { (n : List ℕ) → bytes_of self.new n ≡ bytes_of self.old n }
         ensures later { (n : List ℕ) → count_of self.old n ≤ count_of self.new n }
         ensures failed { IsErrOf result OpenFault.Failed
@@ -143,6 +147,7 @@ impl Shelf for MemoryShelf {
     fn give_back(&mut self, source: MemorySource)
         ensures raised { 0 < faults_of source
             → Rose (count_of self.old (name_of source)) (count_of self.new (name_of source)) }
+        ensures lacks { (n : List ℕ) → plan_of self.old n ≡ None → plan_of self.new n ≡ None }
         ensures texts { (n : List ℕ) → bytes_of self.new n ≡ bytes_of self.old n }
         ensures later { (n : List ℕ) → count_of self.old n ≤ count_of self.new n }
 

@@ -32,6 +32,9 @@ pub trait Shelf {
     /// The text of a name, where told.
     ghost text: { Self → List ℕ → Option (List ℕ) };
 
+    /// The shelf says that it has no text of this name.
+    ghost lacks: { Self → List ℕ → Type 0 };
+
     /// How often this name has failed. It never falls, and one at the end of 64 bits counts as
     /// risen.
     ghost faults: { Self → List ℕ → ℕ };
@@ -39,12 +42,15 @@ pub trait Shelf {
     /// A source at the start of the text of this name, of which no read has failed. Fetching a name
     /// again gives the same text.
     ///
-    /// `Failed` comes only where the count of this name rose; no count is tied to `OutOfMemory`.
-    /// After either the texts are as they were.
+    /// `Failed` comes only where the count of this name rose, and of a name that the shelf says it
+    /// lacks it is the answer; no count is tied to `OutOfMemory`. After either the texts are as they
+    /// were.
     fn fetch(&mut self, name: &str) -> Result<Self::Source, OpenFault>
         ensures named { IfOk result (λ s. Self.Source.name s ≡ name.now) }
         ensures whole { IfOk result (λ s. Self.Source.left s ≡ text self.old name.now) }
         ensures fresh { IfOk result (λ s. Self.Source.faults s ≡ 0) }
+        ensures missing { lacks self.old name.now → IsErrOf result OpenFault.Failed }
+        ensures lacks { (n : List ℕ) → lacks self.old n → lacks self.new n }
         ensures texts { (n : List ℕ) → text self.new n ≡ text self.old n }
         ensures later { (n : List ℕ) → faults self.old n ≤ faults self.new n }
         ensures failed { IsErrOf result OpenFault.Failed
@@ -56,6 +62,7 @@ pub trait Shelf {
         ensures raised { 0 < Self.Source.faults source
             → Rose (faults self.old (Self.Source.name source))
             (faults self.new (Self.Source.name source)) }
+        ensures lacks { (n : List ℕ) → lacks self.old n → lacks self.new n }
         ensures texts { (n : List ℕ) → text self.new n ≡ text self.old n }
         ensures later { (n : List ℕ) → faults self.old n ≤ faults self.new n };
 }

@@ -69,6 +69,8 @@ impl Shelf for SteadyShelf {
 
     ghost text = { λ s n. Some (bytes_of s n) };
 
+    ghost lacks = { λ s n. ⊥ };
+
     ghost faults = { λ s n. 0 };
 
     /// Never answers that the outside failed.

@@ -1,3 +1,5 @@
+//! The calls with memory at hand, and files that are not there.
+
 use super::*;
 use std::alloc::{AllocError, Global};
 use std::process::Abort;
