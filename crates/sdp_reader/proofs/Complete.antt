@@ -12,8 +12,8 @@ use Rattle.sdp_reader.specs.declared.parameter.Name.TheVariants.{Width, Height, 
 use Rattle.sdp_reader.specs.declared.parameter.Rate.{Rate}
 use Rattle.sdp_reader.specs.Fault.{first_of, least}
 use Rattle.sdp_reader.specs.Lines.{TextLine, at}
-use Rattle.sdp_reader.specs.Parameters.{Item, row_of, is_of, unless, cause_of, at_most_one, item_faults, repeated_faults, value_within, value_rate, item_named}
-use Rattle.sdp_reader.specs.Parts.{RawPart, address_of, connection_faults, is_missing, part_faults, good_address, number_named, stream_with, media_of}
+use Rattle.sdp_reader.specs.Parameters.{Item, row_of, is_of, unless, cause_of, at_most_one, item_faults, repeated_faults, value_size, value_rate, item_named}
+use Rattle.sdp_reader.specs.Parts.{RawPart, address_of, connection_faults, is_missing, part_faults, good_address, media_with, media_of}
 use Rattle.sdp_reader.proofs.Least.{least-append}
 
 some_of : (t : Bool) (f g : SdpFault) → cond t (Some g) (Some f) ≡ None → ⊥
@@ -65,11 +65,11 @@ unless-none : (fits : Bool) (cause : SdpCause) → unless fits cause ≡ None �
 unless-none true cause h = refl
 unless-none false cause h = absurd (cc)
 
-width_fits : (n : Name) (i : Item) → (row_of n == 0) ≡ true → cause_of n i ≡ None → is_some (value_within 1 32767 i) ≡ true
+width_fits : (n : Name) (i : Item) → (row_of n == 0) ≡ true → cause_of n i ≡ None → is_some (value_size i) ≡ true
 width_fits Width i e h = unless-none _ _ h
 width_fits _ i e h = absurd (cc)
 
-height_fits : (n : Name) (i : Item) → (row_of n == 1) ≡ true → cause_of n i ≡ None → is_some (value_within 1 32767 i) ≡ true
+height_fits : (n : Name) (i : Item) → (row_of n == 1) ≡ true → cause_of n i ≡ None → is_some (value_size i) ≡ true
 height_fits Height i e h = unless-none _ _ h
 height_fits _ i e h = absurd (cc)
 
@@ -86,7 +86,7 @@ value_stands p f (Some i) s h fits = fits i h.0 h.1
 
 all_stand : (line : ℕ) (video : Video) (items : List Item) (a w h : Option ℕ) (r : Option Rate)
     → is_some a ≡ true → is_some w ≡ true → is_some h ≡ true → is_some r ≡ true
-    → is_some (option_and_then (λ x. option_and_then (λ y. option_and_then (λ z. option_map (stream_with line video items x y z) r) h) w) a) ≡ true
+    → is_some (option_and_then (λ x. option_and_then (λ y. option_and_then (λ z. option_map (media_with line video items x y z) r) h) w) a) ≡ true
 all_stand line video items None w h r p q s t = absurd (cc)
 all_stand line video items (Some a) None h r p q s t = absurd (cc)
 all_stand line video items (Some a) (Some w) None r p q s t = absurd (cc)
@@ -106,8 +106,8 @@ media_stands r h =
     let second = append-none (at r.line MissingParameter (is_missing r.items)) (flat_map item_faults r.items ++ repeated_faults r.items) first.1 in
     let third = append-none (flat_map item_faults r.items) (repeated_faults r.items) second.1 in
     let missing = none_of_three (is_none (item_named Width r.items)) (is_none (item_named Height r.items)) (is_none (item_named ExactFrameRate r.items)) (at-none r.line MissingParameter (is_missing r.items) second.0) in
-    all_stand r.line (record { port = r.port; format = r.format }) r.items (good_address r) (number_named Width 1 32767 r.items) (number_named Height 1 32767 r.items) (option_and_then value_rate (item_named ExactFrameRate r.items))
+    all_stand r.line r.video r.items (good_address r) (option_and_then value_size (item_named Width r.items)) (option_and_then value_size (item_named Height r.items)) (option_and_then value_rate (item_named ExactFrameRate r.items))
     (connected r.line r.connection first.0)
-    (value_stands (is_of 0) (value_within 1 32767) (item_named Width r.items) missing.0 (find-fits (is_of 0) r.items third.0) (λ i. width_fits i.name i))
-    (value_stands (is_of 1) (value_within 1 32767) (item_named Height r.items) missing.1 (find-fits (is_of 1) r.items third.0) (λ i. height_fits i.name i))
+    (value_stands (is_of 0) value_size (item_named Width r.items) missing.0 (find-fits (is_of 0) r.items third.0) (λ i. width_fits i.name i))
+    (value_stands (is_of 1) value_size (item_named Height r.items) missing.1 (find-fits (is_of 1) r.items third.0) (λ i. height_fits i.name i))
     (value_stands (is_of 2) value_rate (item_named ExactFrameRate r.items) missing.2 (find-fits (is_of 2) r.items third.0) (λ i. rate_fits i.name i))

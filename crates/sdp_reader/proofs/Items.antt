@@ -20,16 +20,10 @@ items-step h c new old o xs piece after a b e =
     ∙ ap (λ l. old ++ l) (sym (filter_map-cons h o piece (slice_split (λ x. x == c) after) b))
     ∙ ap (λ l. old ++ filter_map h l) (sym e)
 
-append_nil : {A : Type 0} (xs : List A) → xs ++ [] ≡ xs
+-- nothing is added
+pub append_nil : {A : Type 0} (xs : List A) → xs ++ [] ≡ xs
 append_nil [] = refl
 append_nil (x ∷ xs) = ap (λ l. x ∷ l) (append_nil xs)
-
--- the last piece
-pub items-last : {Y : Type 0} (h : List ℕ → Option Y) (c : ℕ) (new old : List Y) (o : Option Y) (xs : List ℕ)
-    → new ≡ old ++ option_to_list o → o ≡ h xs → slice_split (λ x. x == c) xs ≡ xs ∷ []
-    → new ≡ old ++ filter_map h (slice_split (λ x. x == c) xs)
-items-last h c new old o xs a b e =
-    a ∙ ap (λ l. old ++ l) (sym (ap (filter_map h) e ∙ filter_map-cons h o xs [] b ∙ append_nil (option_to_list o)))
 
 -- one item more in front
 pub take-push : {A B : Type 0} (g : A → B) (xs : List A) (i : ℕ) (d : A) → i < length xs → map g (take (i + 1) xs) ≡ map g (take i xs) ++ g (get_or xs i d) ∷ []

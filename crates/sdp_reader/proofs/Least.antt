@@ -7,7 +7,8 @@ use Rattle.sdp_reader.specs.declared.fault.SdpCause.TheVariants.{NotText, NoVers
 use Rattle.sdp_reader.specs.declared.fault.SdpFault.{SdpFault}
 use Rattle.sdp_reader.specs.Fault.{number_of, comes_before, first_of, least}
 
-first_of-none : (a : Option SdpFault) → first_of a None ≡ a
+-- nothing after
+pub first_of-none : (a : Option SdpFault) → first_of a None ≡ a
 first_of-none None = refl
 first_of-none (Some f) = refl
 

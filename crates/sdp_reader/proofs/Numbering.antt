@@ -1,5 +1,5 @@
 -- Cutting lines off the front of a text, one by one.
-use Rattle.std.proofs.Common.{◌≡◌, ◌≢◌, ◌<◌, ◌==◌, ◌+◌, ◌-◌, ℕ, true, false, cond, List, [], ◌∷◌, ◌++◌, length, take, get_or, arith, refl, sym, ap, ◌∙◌, append_assoc, take_all}
+use Rattle.std.proofs.Common.{◌≡◌, ◌≢◌, ◌<◌, ◌==◌, ◌+◌, ◌-◌, ℕ, false, cond, List, [], ◌∷◌, ◌++◌, length, take, get_or, arith, refl, sym, ap, ◌∙◌, append_assoc, take_all}
 use Rattle.std.specs.List.{slice_split}
 use Rattle.std.proofs.lemmas.List.Splits.{length-slice_split}
 use Rattle.std.proofs.lemmas.Grind.{common_steps}
@@ -46,16 +46,3 @@ numbered-line done n xs piece after h =
     let some : 0 < length (slice_split (λ x. x == 10) after) = omega (arith, length-slice_split (λ x. x == 10) after) in
     append_assoc done (record { number = n; text = trim_end (without_cr piece) } ∷ []) (numbered (n + 1) (slice_split (λ x. x == 10) after))
     ∙ ap (λ l. done ++ l) (sym (ap (numbered n) h ∙ more n piece (slice_split (λ x. x == 10) after) some))
-
--- the last piece, empty or not
-pub numbered-end : (done : List TextLine) (n : ℕ) (xs : List ℕ) → slice_split (λ x. x == 10) xs ≡ xs ∷ [] → length xs ≡ 0
-    → done ≡ done ++ numbered n (slice_split (λ x. x == 10) xs)
-numbered-end done n xs h e =
-    let b : (length xs == 0) ≡ true = grind (arith, common_steps) in
-    grind (arith, common_steps)
-
-pub numbered-last : (done : List TextLine) (n : ℕ) (xs : List ℕ) → slice_split (λ x. x == 10) xs ≡ xs ∷ [] → length xs ≢ 0
-    → done ++ record { number = n; text = trim_end xs } ∷ [] ≡ done ++ numbered n (slice_split (λ x. x == 10) xs)
-numbered-last done n xs h e =
-    let b : (length xs == 0) ≡ false = grind (arith, common_steps) in
-    ap (λ l. done ++ l) (sym (ap (numbered n) h ∙ ap (λ t. cond t [] (record { number = n; text = trim_end xs } ∷ [])) b))

@@ -1,6 +1,7 @@
 -- Those that come after one like them, told one by one with a history.
 use Rattle.std.proofs.Common.{◌≡◌, ◌<◌, ◌+◌, ◌||◌, ℕ, Bool, true, false, cond, List, [], ◌∷◌, ◌++◌, Option, Some, None, map, length, take, drop, get_or, refl, sym, ap, ◌∙◌}
 use Rattle.std.specs.List.{flat_map, list_any}
+use Rattle.std.proofs.lemmas.Grind.{take_at_read}
 use Rattle.sdp_reader.specs.declared.fault.SdpCause.{SdpCause}
 use Rattle.sdp_reader.specs.declared.fault.SdpFault.{SdpFault}
 use Rattle.sdp_reader.specs.Fault.{first_of, least}
@@ -71,6 +72,18 @@ repeats_after-none line cause alike xs =
     least-repeats_after line cause alike [] xs ∙ ap (λ t. first_of t (least (repeats line cause alike xs))) (none_passes line cause xs)
 
 -- one more
+repeats_after-next : {A : Type 0} (line : A → ℕ) (cause : SdpCause) (alike : A → A → Bool) (fault r s : Option SdpFault)
+    (earlier later : List A) (x : A) (b : Bool)
+    → r ≡ first_of fault s → s ≡ least (at (line x) cause b) → b ≡ list_any (λ e. alike e x) earlier
+    → first_of r (least (repeats_after line cause alike (earlier ++ x ∷ []) later)) ≡ first_of fault (least (repeats_after line cause alike earlier (x ∷ later)))
+repeats_after-next line cause alike fault r s earlier later x b p q e =
+    let here = at (line x) cause (list_any (λ e. alike e x) earlier) in
+    let rest = repeats_after line cause alike (earlier ++ x ∷ []) later in
+    ap (λ t. first_of t (least rest)) (p ∙ ap (first_of fault) (q ∙ ap (λ t. least (at (line x) cause t)) e))
+    ∙ first_of-assoc fault (least here) (least rest)
+    ∙ ap (first_of fault) (sym (least-append here rest))
+
+-- one more of a list that is walked
 pub repeats_after-step : {A B : Type 0} (line : B → ℕ) (cause : SdpCause) (alike : B → B → Bool) (g : A → B)
     (fault r s : Option SdpFault) (xs : List A) (i : ℕ) (d : A) (b : Bool)
     → r ≡ first_of fault s → s ≡ least (at (line (g (get_or xs i d))) cause b)
@@ -78,13 +91,18 @@ pub repeats_after-step : {A B : Type 0} (line : B → ℕ) (cause : SdpCause) (a
     → first_of r (least (repeats_after line cause alike (map g (take (i + 1) xs)) (map g (drop (i + 1) xs))))
     ≡ first_of fault (least (repeats_after line cause alike (map g (take i xs)) (map g (drop i xs))))
 repeats_after-step line cause alike g fault r s xs i d b p q e h =
-    let x = g (get_or xs i d) in
-    let earlier = map g (take i xs) in
-    let later = map g (drop (i + 1) xs) in
-    let here = at (line x) cause (list_any (λ e. alike e x) earlier) in
-    let rest = repeats_after line cause alike (earlier ++ x ∷ []) later in
-    ap (λ l. first_of r (least (repeats_after line cause alike l later))) (take-push g xs i d h)
-    ∙ ap (λ t. first_of t (least rest)) (p ∙ ap (first_of fault) (q ∙ ap (λ t. least (at (line x) cause t)) e))
-    ∙ first_of-assoc fault (least here) (least rest)
-    ∙ ap (first_of fault) (sym (least-append here rest))
-    ∙ ap (λ l. first_of fault (least (repeats_after line cause alike earlier (map g l)))) (sym (at_front xs i d h))
+    ap (λ l. first_of r (least (repeats_after line cause alike l (map g (drop (i + 1) xs))))) (take-push g xs i d h)
+    ∙ repeats_after-next line cause alike fault r s (map g (take i xs)) (map g (drop (i + 1) xs)) (g (get_or xs i d)) b p q e
+    ∙ ap (λ l. first_of fault (least (repeats_after line cause alike (map g (take i xs)) (map g l)))) (sym (at_front xs i d h))
+
+-- the same, of the list itself
+pub repeats_after-walk : {A : Type 0} (line : A → ℕ) (cause : SdpCause) (alike : A → A → Bool)
+    (fault r s : Option SdpFault) (xs : List A) (i : ℕ) (d : A) (b : Bool)
+    → r ≡ first_of fault s → s ≡ least (at (line (get_or xs i d)) cause b)
+    → b ≡ list_any (λ e. alike e (get_or xs i d)) (take i xs) → i < length xs
+    → first_of r (least (repeats_after line cause alike (take (i + 1) xs) (drop (i + 1) xs)))
+    ≡ first_of fault (least (repeats_after line cause alike (take i xs) (drop i xs)))
+repeats_after-walk line cause alike fault r s xs i d b p q e h =
+    ap (λ l. first_of r (least (repeats_after line cause alike l (drop (i + 1) xs)))) (take_at_read xs i d h).1
+    ∙ repeats_after-next line cause alike fault r s (take i xs) (drop (i + 1) xs) (get_or xs i d) b p q e
+    ∙ ap (λ l. first_of fault (least (repeats_after line cause alike (take i xs) l))) (sym (at_front xs i d h))

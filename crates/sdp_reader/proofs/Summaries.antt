@@ -1,61 +1,60 @@
 -- What is kept of raw parts is what the definitions say of them.
-use Rattle.std.proofs.Common.{◌≡◌, ◌<◌, ◌==◌, ◌+◌, ◌&&◌, ◌||◌, ℕ, Bool, true, false, cond, arith, List, [], ◌∷◌, ◌++◌, Option, Some, None, map, length, take, drop, get_or, refl, sym, ap, ◌∙◌, append_assoc}
+use Rattle.std.proofs.Common.{◌≡◌, ◌<◌, ◌==◌, ◌+◌, ◌&&◌, ◌||◌, ℕ, Bool, true, false, cond, arith, List, [], ◌∷◌, ◌++◌, Option, Some, None, map, length, take, drop, get_or, refl, sym, ap, ◌∙◌, subst, append_assoc}
 use Rattle.std.specs.Option.{option_to_list, option_map, option_and_then, is_some}
-use Rattle.std.specs.List.{filter_map, list_any}
+use Rattle.std.specs.List.{filter_map, flat_map, list_any}
 use Rattle.std.specs.BTreeSet.{BTreeSet}
 use Rattle.std.specs.Ordering.{nat_cmp, ordering_then, is_eq}
-use Rattle.std.proofs.lemmas.List.{map-append}
-use Rattle.std.proofs.lemmas.Grind.{common_steps}
+use Rattle.std.proofs.lemmas.Grind.{common_steps, take_at_read}
+use Rattle.timing_base.specs.Media.{Media}
+use Rattle.timing_base.specs.declared.target.Target.{Target}
 use Rattle.sdp_reader.specs.declared.fault.SdpCause.TheVariants.{SameTarget}
 use Rattle.sdp_reader.specs.declared.fault.SdpFault.{SdpFault}
 use Rattle.sdp_reader.specs.declared.line.Video.{Video}
+use Rattle.sdp_reader.specs.declared.part.Destination.{Destination}
+use Rattle.sdp_reader.specs.declared.part.Kept.{Kept}
 use Rattle.sdp_reader.specs.declared.part.Reading.{Reading}
-use Rattle.sdp_reader.specs.declared.part.Target.{Target}
 use Rattle.sdp_reader.specs.Fault.{first_of, least}
 use Rattle.sdp_reader.specs.Lines.{TextLine, at, media_fields, video_of}
 use Rattle.sdp_reader.specs.Parameters.{Item, parameters}
-use Rattle.sdp_reader.specs.Parts.{own_lines, parts, connection_line, counting, address_of, is_raw_map, raw_part, raw_with, raw_of, faults_at, Stream, stream_of}
-use Rattle.sdp_reader.specs.Plain.{stream}
-use Rattle.sdp_reader.specs.Session.{Destination, target_at, is_same, are_same, have_one_target}
-use Rattle.sdp_reader.specs.Summary.{Summary, summary, summary_of, target, first_fault, target_cmp, has, TakesTarget}
-use Rattle.sdp_reader.proofs.Items.{filter_map-cons, take-push, list_any-push}
-use Rattle.sdp_reader.proofs.Least.{first_of-assoc, at_front}
-use Rattle.sdp_reader.proofs.Repeats.{repeats_after, repeats_after-step}
+use Rattle.sdp_reader.specs.Parts.{RawPart, own_lines, parts, connection_line, counting, address_of, is_raw_map, raw_part, raw_with, raw_of, faults_at, part_faults, media_from, media_of}
+use Rattle.sdp_reader.specs.Session.{destination_of, target_at, is_same, are_same, have_one_target}
+use Rattle.sdp_reader.specs.Summary.{reading_of, Keeps, Adds, target_cmp, has, TakesTarget}
+use Rattle.sdp_reader.proofs.Items.{append_nil, filter_map-cons, list_any-push}
+use Rattle.sdp_reader.proofs.Least.{first_of-assoc, first_of-none, least-append, at_front}
+use Rattle.sdp_reader.proofs.Repeats.{repeats_after, repeats_after-walk}
 
 -- a raw part that was read
-pub raw_summary : (r : Reading) (session : Option TextLine) (line : ℕ) (body : List TextLine) (video : Video)
-    (connection : Option TextLine) (address : Option ℕ) (items : List Item)
+pub raw_reading : (session : Option TextLine) (line : ℕ) (body : List TextLine) (video : Video)
+    (connection : Option TextLine) (address : Option ℕ) (items : List Item) (target : Option Target) (fault : Option SdpFault) (media : Option Media)
     → connection ≡ counting (connection_line body) session
     → address ≡ option_and_then address_of connection
     → items ≡ parameters video.format body
-    → r.line ≡ line
-    → r.target ≡ target_at address video.port
-    → r.fault ≡ least (faults_at line connection items)
-    → option_map stream r.media ≡ stream_of line video address items
-    → summary r ≡ summary_of (raw_part session line body video)
-raw_summary r session line body video connection address items c a p l t f m =
+    → target ≡ target_at address video.port
+    → fault ≡ least (faults_at line connection items)
+    → media ≡ media_from line video address items
+    → record { destination = record { line = line; target = target }; fault = fault; media = media } ≡ reading_of (raw_part session line body video)
+raw_reading session line body video connection address items target fault media c a p t f m =
     let good : address ≡ option_and_then address_of (counting (connection_line body) session) = a ∙ ap (option_and_then address_of) c in
-    let line_is : r.line ≡ line = l in
-    let target_is : r.target ≡ target_at (option_and_then address_of (counting (connection_line body) session)) video.port =
+    let target_is : target ≡ target_at (option_and_then address_of (counting (connection_line body) session)) video.port =
     t ∙ ap (λ o. target_at o video.port) good in
-    let fault_is : r.fault ≡ least (faults_at line (counting (connection_line body) session) (parameters video.format body)) =
+    let fault_is : fault ≡ least (faults_at line (counting (connection_line body) session) (parameters video.format body)) =
     f ∙ ap (λ o. least (faults_at line o items)) c ∙ ap (λ o. least (faults_at line (counting (connection_line body) session) o)) p in
-    let media_is : option_map stream r.media ≡ stream_of line video (option_and_then address_of (counting (connection_line body) session)) (parameters video.format body) =
-    m ∙ ap (λ o. stream_of line video o items) good ∙ ap (λ o. stream_of line video (option_and_then address_of (counting (connection_line body) session)) o) p in
-    λ i. record { target = record { line = line_is i; target = target_is i }; fault = fault_is i; media = media_is i }
+    let media_is : media ≡ media_from line video (option_and_then address_of (counting (connection_line body) session)) (parameters video.format body) =
+    m ∙ ap (λ o. media_from line video o items) good ∙ ap (λ o. media_from line video (option_and_then address_of (counting (connection_line body) session)) o) p in
+    λ i. record { destination = record { line = line; target = target_is i }; fault = fault_is i; media = media_is i }
 
 -- a part that is a raw one
-pub part_summary : (s : Summary) (session : Option TextLine) (head : TextLine) (own body : List TextLine) (video : Video)
+pub part_reading : (s : Reading) (session : Option TextLine) (head : TextLine) (own body : List TextLine) (video : Video)
     → option_and_then video_of (media_fields head) ≡ Some video
     → body ≡ own
     → list_any (is_raw_map video.format) body ≡ true
-    → s ≡ summary_of (raw_part session head.number body video)
-    → Some s ≡ option_map summary_of (raw_of session (record { head = head; body = own }))
-part_summary s session head own body video v b r e =
+    → s ≡ reading_of (raw_part session head.number body video)
+    → Some s ≡ option_map reading_of (raw_of session (record { head = head; body = own }))
+part_reading s session head own body video v b r e =
     ap Some e
-    ∙ sym (ap (λ o. option_map summary_of (option_and_then (raw_with session head.number own) o)) v
-    ∙ ap (λ l. option_map summary_of (raw_with session head.number l video)) (sym b)
-    ∙ ap (λ t. option_map summary_of (cond t (Some (raw_part session head.number body video)) None)) r)
+    ∙ sym (ap (λ o. option_map reading_of (option_and_then (raw_with session head.number own) o)) v
+    ∙ ap (λ l. option_map reading_of (raw_with session head.number l video)) (sym b)
+    ∙ ap (λ t. option_map reading_of (cond t (Some (raw_part session head.number body video)) None)) r)
 
 -- what the part gives that a line begins, if it begins one
 parts-head : (session : Option TextLine) (l : TextLine) (ls : List TextLine) (m : Option (List ℕ)) → media_fields l ≡ m
@@ -67,55 +66,51 @@ parts-head session l ls (Some fields) e =
     (record { head = l; body = own_lines ls }) (parts ls)
     (ap (λ m. option_and_then (raw_with session l.number (own_lines ls)) (option_and_then video_of m)) (sym e))
 
-map-option : {A B : Type 0} (f : A → B) (o : Option A) → map f (option_to_list o) ≡ option_to_list (option_map f o)
-map-option f None = refl
-map-option f (Some x) = refl
+-- what is read, if anything is, is kept
+keeps-step : (old new : Kept) (r : Option Reading) (o : Option RawPart) (left all : List RawPart)
+    → Adds old r new → r ≡ option_map reading_of o → Keeps old (option_to_list o ++ left) all → Keeps new left all
+keeps-step old new r None left all a e k = record {
+  destinations =
+      ap (λ t. t ++ map destination_of left) (a.destinations ∙ ap (λ t. old.destinations.items ++ option_to_list (option_map (λ x. x.destination) t)) e ∙ append_nil old.destinations.items)
+      ∙ k.destinations;
+  fault =
+      ap (λ t. first_of t (least (flat_map part_faults left))) (a.fault ∙ ap (λ t. first_of old.fault (option_and_then (λ x. x.fault) t)) e ∙ first_of-none old.fault)
+      ∙ k.fault;
+  media =
+      ap (λ t. t ++ filter_map media_of left) (a.media ∙ ap (λ t. old.media.items ++ option_to_list (option_and_then (λ x. x.media) t)) e ∙ append_nil old.media.items)
+      ∙ k.media;
+}
+keeps-step old new r (Some p) left all a e k = record {
+  destinations =
+      ap (λ t. t ++ map destination_of left) (a.destinations ∙ ap (λ t. old.destinations.items ++ option_to_list (option_map (λ x. x.destination) t)) e)
+      ∙ append_assoc old.destinations.items (destination_of p ∷ []) (map destination_of left)
+      ∙ k.destinations;
+  fault =
+      ap (λ t. first_of t (least (flat_map part_faults left))) (a.fault ∙ ap (λ t. first_of old.fault (option_and_then (λ x. x.fault) t)) e)
+      ∙ first_of-assoc old.fault (least (part_faults p)) (least (flat_map part_faults left))
+      ∙ ap (first_of old.fault) (sym (least-append (part_faults p) (flat_map part_faults left)))
+      ∙ k.fault;
+  media =
+      ap (λ t. t ++ filter_map media_of left) (a.media ∙ ap (λ t. old.media.items ++ option_to_list (option_and_then (λ x. x.media) t)) e)
+      ∙ append_assoc old.media.items (option_to_list (media_of p)) (filter_map media_of left)
+      ∙ ap (λ t. old.media.items ++ t) (sym (filter_map-cons media_of (media_of p) p left refl))
+      ∙ k.media;
+}
 
 -- one line more
-pub parts-step : (session : Option TextLine) (new old : List Summary) (o : Option Summary) (l : TextLine) (ls : List TextLine)
-    → new ≡ old ++ option_to_list o
-    → o ≡ option_map summary_of (raw_of session (record { head = l; body = own_lines ls }))
-    → new ++ map summary_of (filter_map (raw_of session) (parts ls)) ≡ old ++ map summary_of (filter_map (raw_of session) (parts (l ∷ ls)))
-parts-step session new old o l ls n e =
-    let raw = raw_of session (record { head = l; body = own_lines ls }) in
-    let later = filter_map (raw_of session) (parts ls) in
-    ap (λ t. t ++ map summary_of later) (n ∙ ap (λ t. old ++ option_to_list t) e)
-    ∙ append_assoc old (option_to_list (option_map summary_of raw)) (map summary_of later)
-    ∙ ap (λ t. old ++ (t ++ map summary_of later)) (sym (map-option summary_of raw))
-    ∙ ap (λ t. old ++ t) (sym (map-append summary_of (option_to_list raw) later))
-    ∙ ap (λ t. old ++ map summary_of t) (sym (parts-head session l ls (media_fields l) refl))
-
--- the same, for the lines of the code
-pub lines-step : {A : Type 0} (g : A → TextLine) (session : Option TextLine) (new old : List Summary) (o : Option Summary) (xs : List A) (i : ℕ) (d : A) (rest : List A)
-    → new ≡ old ++ option_to_list o
-    → o ≡ option_map summary_of (raw_of session (record { head = g (get_or xs i d); body = own_lines (map g rest) }))
+pub keeps-line : {A : Type 0} (g : A → TextLine) (session : Option TextLine) (old new : Kept) (r : Option Reading) (xs : List A) (i : ℕ) (d : A) (rest : List A) (all : List RawPart)
+    → Adds old r new
+    → r ≡ option_map reading_of (raw_of session (record { head = g (get_or xs i d); body = own_lines (map g rest) }))
     → rest ≡ drop (i + 1) xs
     → i < length xs
-    → new ++ map summary_of (filter_map (raw_of session) (parts (map g (drop (i + 1) xs)))) ≡ old ++ map summary_of (filter_map (raw_of session) (parts (map g (drop i xs))))
-lines-step g session new old o xs i d rest n e r h =
-    parts-step session new old o (g (get_or xs i d)) (map g (drop (i + 1) xs)) n
-    (e ∙ ap (λ t. option_map summary_of (raw_of session (record { head = g (get_or xs i d); body = own_lines (map g t) }))) r)
-    ∙ ap (λ t. old ++ map summary_of (filter_map (raw_of session) (parts (map g t)))) (sym (at_front xs i d h))
-
--- one part's fault more
-pub first_fault-step : (fault r : Option SdpFault) (xs : List Reading) (i : ℕ) (d : Reading)
-    → r ≡ first_of fault (get_or xs i d).fault → i < length xs
-    → first_of r (first_fault (map summary (drop (i + 1) xs))) ≡ first_of fault (first_fault (map summary (drop i xs)))
-first_fault-step fault r xs i d e h =
-    ap (λ t. first_of t (first_fault (map summary (drop (i + 1) xs)))) e
-    ∙ first_of-assoc fault (get_or xs i d).fault (first_fault (map summary (drop (i + 1) xs)))
-    ∙ ap (λ t. first_of fault (first_fault (map summary t))) (sym (at_front xs i d h))
-
--- one part's media more
-pub media-step : (new old : List Stream) (xs : List Reading) (i : ℕ) (d : Reading)
-    → new ≡ old ++ option_to_list (option_map stream (get_or xs i d).media) → i < length xs
-    → new ++ filter_map (λ s. s.media) (map summary (drop (i + 1) xs)) ≡ old ++ filter_map (λ s. s.media) (map summary (drop i xs))
-media-step new old xs i d e h =
-    let later = map summary (drop (i + 1) xs) in
-    ap (λ t. t ++ filter_map (λ s. s.media) later) e
-    ∙ append_assoc old (option_to_list (option_map stream (get_or xs i d).media)) (filter_map (λ s. s.media) later)
-    ∙ ap (λ t. old ++ t) (sym (filter_map-cons (λ s. s.media) (option_map stream (get_or xs i d).media) (summary (get_or xs i d)) later refl))
-    ∙ ap (λ t. old ++ filter_map (λ s. s.media) (map summary t)) (sym (at_front xs i d h))
+    → Keeps old (filter_map (raw_of session) (parts (map g (drop i xs)))) all
+    → Keeps new (filter_map (raw_of session) (parts (map g (drop (i + 1) xs)))) all
+keeps-line g session old new r xs i d rest all a e s h k =
+    let l = g (get_or xs i d) in
+    let later = map g (drop (i + 1) xs) in
+    keeps-step old new r (raw_of session (record { head = l; body = own_lines later })) (filter_map (raw_of session) (parts later)) all a
+    (e ∙ ap (λ t. option_map reading_of (raw_of session (record { head = l; body = own_lines (map g t) }))) s)
+    (subst (λ t. Keeps old t all) (ap (λ t. filter_map (raw_of session) (parts (map g t))) (at_front xs i d h) ∙ parts-head session l later (media_fields l) refl) k)
 
 -- the targets that earlier parts have
 abbrev pub AreSeen : BTreeSet Target → List Destination → Type 0
@@ -144,18 +139,18 @@ seen_next old new (Some t) taken earlier line h s = λ q.
     h.1 q ∙ ap (λ b. b || has old q) (is_eq-cmp t q) ∙ ap (λ b. is_same t q || b) (s q) ∙ sym (list_any-push (λ e. are_same (Some q) e.target) earlier (record { line = line; target = Some t }))
 
 -- one target more
-pub seen-step : (old new : BTreeSet Target) (taken : Bool) (xs : List Reading) (i : ℕ) (d : Reading)
+pub seen-step : (old new : BTreeSet Target) (taken : Bool) (xs : List Destination) (i : ℕ) (d : Destination)
     → TakesTarget old new (get_or xs i d).target taken → i < length xs
-    → AreSeen old (map target (take i xs)) → AreSeen new (map target (take (i + 1) xs))
+    → AreSeen old (take i xs) → AreSeen new (take (i + 1) xs)
 seen-step old new taken xs i d h l s = λ q.
-    seen_next old new (get_or xs i d).target taken (map target (take i xs)) (get_or xs i d).line h s q
-    ∙ ap (list_any (λ e. are_same (Some q) e.target)) (sym (take-push target xs i d l))
+    seen_next old new (get_or xs i d).target taken (take i xs) (get_or xs i d).line h s q
+    ∙ ap (list_any (λ e. are_same (Some q) e.target)) (sym (take_at_read xs i d l).1)
 
-pub target-step : (fault r s : Option SdpFault) (old new : BTreeSet Target) (taken : Bool) (xs : List Reading) (i : ℕ) (d : Reading)
+pub target-step : (fault r s : Option SdpFault) (old new : BTreeSet Target) (taken : Bool) (xs : List Destination) (i : ℕ) (d : Destination)
     → r ≡ first_of fault s → s ≡ least (at (get_or xs i d).line SameTarget taken)
-    → TakesTarget old new (get_or xs i d).target taken → i < length xs → AreSeen old (map target (take i xs))
-    → first_of r (least (repeats_after (λ part. part.line) SameTarget have_one_target (map target (take (i + 1) xs)) (map target (drop (i + 1) xs))))
-    ≡ first_of fault (least (repeats_after (λ part. part.line) SameTarget have_one_target (map target (take i xs)) (map target (drop i xs))))
+    → TakesTarget old new (get_or xs i d).target taken → i < length xs → AreSeen old (take i xs)
+    → first_of r (least (repeats_after (λ part. part.line) SameTarget have_one_target (take (i + 1) xs) (drop (i + 1) xs)))
+    ≡ first_of fault (least (repeats_after (λ part. part.line) SameTarget have_one_target (take i xs) (drop i xs)))
 target-step fault r s old new taken xs i d p q h l a =
-    repeats_after-step (λ part. part.line) SameTarget have_one_target target fault r s xs i d taken p q
-    (taken_is old new (get_or xs i d).target taken (map target (take i xs)) h a) l
+    repeats_after-walk (λ part. part.line) SameTarget have_one_target fault r s xs i d taken p q
+    (taken_is old new (get_or xs i d).target taken (take i xs) h a) l

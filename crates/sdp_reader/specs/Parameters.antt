@@ -5,8 +5,8 @@ use Rattle.std.specs.Prelude.{ℕ, ◌*◌, ◌==◌, ◌&&◌, Bool, true, fals
 use Rattle.std.specs.Option.{option_and_then}
 use Rattle.std.specs.List.{slice_split, filter_map, flat_map}
 use Rattle.std.specs.Str.{bytes_eq, str_eq_ignore_ascii_case}
-use Rattle.timing_base.specs.declared.Kind.{Kind}
-use Rattle.timing_base.specs.declared.Kind.TheVariants.{N, NL, W}
+use Rattle.timing_base.specs.declared.media.Kind.{Kind}
+use Rattle.timing_base.specs.declared.media.Kind.TheVariants.{N, NL, W}
 use Rattle.sdp_reader.specs.Bytes.{before, after, holds, after_prefix, trim_end, trim_start, number, number_within}
 use Rattle.sdp_reader.specs.Lines.{TextLine, at, repeats}
 use Rattle.sdp_reader.specs.declared.fault.SdpCause.{SdpCause}
@@ -89,6 +89,18 @@ parameters format body = flat_map (λ l. items_of l.number (list_of format l)) b
 abbrev pub value_within : ℕ → ℕ → Item → Option ℕ
 value_within low high item = option_and_then (number_within low high) item.value
 
+-- the value, as a width or a height
+abbrev pub value_size : Item → Option ℕ
+value_size item = value_within 1 32767 item
+
+-- the value, as an offset (TROFF)
+abbrev pub value_offset : Item → Option ℕ
+value_offset item = value_within 0 1000000 item
+
+-- the value, as a limit of packets or of bytes (CMAX, MAXUDP)
+abbrev pub value_limit : Item → Option ℕ
+value_limit item = value_within 1 65535 item
+
 -- a rate of p / q frames per second, at most 240
 abbrev pub rate_at : Option ℕ → Option ℕ → Option Rate
 rate_at None q = None
@@ -128,15 +140,15 @@ udp_cause (Some n) = if nat_lt 1460 n then Some ExtendedUdp else None
 
 -- BadParameter, BadRate: the parameter hasn't its form. Segmented, ExtendedUdp: it has
 abbrev pub cause_of : Name → Item → Option SdpCause
-cause_of Width item = unless (is_some (value_within 1 32767 item)) BadParameter
-cause_of Height item = unless (is_some (value_within 1 32767 item)) BadParameter
+cause_of Width item = unless (is_some (value_size item)) BadParameter
+cause_of Height item = unless (is_some (value_size item)) BadParameter
 cause_of ExactFrameRate item = unless (is_some (value_rate item)) BadRate
 cause_of Interlace item = unless (is_none item.value) BadParameter
 cause_of Segmentation item = if is_none item.value then Some Segmented else Some BadParameter
 cause_of Tp item = unless (is_some (value_kind item)) BadParameter
-cause_of Troff item = unless (is_some (value_within 0 1000000 item)) BadParameter
-cause_of Cmax item = unless (is_some (value_within 1 65535 item)) BadParameter
-cause_of MaxUdp item = udp_cause (value_within 1 65535 item)
+cause_of Troff item = unless (is_some (value_offset item)) BadParameter
+cause_of Cmax item = unless (is_some (value_limit item)) BadParameter
+cause_of MaxUdp item = udp_cause (value_limit item)
 
 -- the cause, where there is one, on the line
 abbrev pub at_most_one : ℕ → Option SdpCause → List SdpFault

@@ -6,10 +6,10 @@ use Rattle.std.specs.Prelude.{ℕ, ◌+◌, ◌*◌, ◌&&◌, ◌||◌, Bool, t
 use Rattle.std.specs.Option.{option_and_then, option_map}
 use Rattle.std.specs.List.{list_any, flat_map}
 use Rattle.std.specs.Str.{str_eq_ignore_ascii_case}
-use Rattle.timing_base.specs.declared.Kind.{Kind}
+use Rattle.timing_base.specs.Media.{Media}
 use Rattle.sdp_reader.specs.Bytes.{before, after, holds, after_prefix, digits_of, within, number}
 use Rattle.sdp_reader.specs.Lines.{TextLine, at, media_fields, video_of}
-use Rattle.sdp_reader.specs.Parameters.{Item, is_the, parameters, value_within, value_rate, value_kind, item_named, item_faults, repeated_faults}
+use Rattle.sdp_reader.specs.Parameters.{Item, is_the, parameters, value_size, value_offset, value_limit, value_rate, value_kind, item_named, item_faults, repeated_faults}
 use Rattle.sdp_reader.specs.declared.fault.SdpCause.TheVariants.{NoConnection, BadAddress, MissingParameter}
 use Rattle.sdp_reader.specs.declared.fault.SdpFault.{SdpFault}
 use Rattle.sdp_reader.specs.declared.line.Video.{Video}
@@ -87,8 +87,7 @@ is_raw_map format l = is_raw_map_at format (after_prefix (codes "a=rtpmap:") l.t
 pub record RawPart : Type 0 where
   -- the line that begins it
   pub line : ℕ
-  pub port : ℕ
-  pub format : ℕ
+  pub video : Video
   -- the connection that counts
   pub connection : Option TextLine
   pub items : List Item
@@ -97,8 +96,7 @@ pub record RawPart : Type 0 where
 abbrev pub raw_part : Option TextLine → ℕ → List TextLine → Video → RawPart
 raw_part session line body video = record {
   line = line;
-  port = video.port;
-  format = video.format;
+  video = video;
   connection = counting (connection_line body) session;
   items = parameters video.format body;
 }
@@ -140,28 +138,9 @@ part_faults r = faults_at r.line r.connection r.items
 abbrev pub good_address : RawPart → Option ℕ
 good_address r = option_and_then address_of r.connection
 
--- a video stream
-pub record Stream : Type 0 where
-  pub line : ℕ
-  pub address : ℕ
-  pub port : ℕ
-  pub pt : ℕ
-  pub width : ℕ
-  pub height : ℕ
-  pub interlaced : Bool
-  pub p : ℕ
-  pub q : ℕ
-  pub declared : Option Kind
-  pub troff : Option ℕ
-  pub cmax : Option ℕ
-
--- the number of the item of a name
-abbrev pub number_named : Name → ℕ → ℕ → List Item → Option ℕ
-number_named name low high items = option_and_then (value_within low high) (item_named name items)
-
 -- the stream with these sizes and this rate
-abbrev pub stream_with : ℕ → Video → List Item → ℕ → ℕ → ℕ → Rate → Stream
-stream_with line video items address width height rate = record {
+abbrev pub media_with : ℕ → Video → List Item → ℕ → ℕ → ℕ → Rate → Media
+media_with line video items address width height rate = record {
   line = line;
   address = address;
   port = video.port;
@@ -172,19 +151,19 @@ stream_with line video items address width height rate = record {
   p = rate.p;
   q = rate.q;
   declared = option_and_then value_kind (item_named Tp items);
-  troff = number_named Troff 0 1000000 items;
-  cmax = number_named Cmax 1 65535 items;
+  troff = option_and_then value_offset (item_named Troff items);
+  cmax = option_and_then value_limit (item_named Cmax items);
 }
 
 -- the stream of a part, where it has all that a stream has to have
-abbrev pub stream_of : ℕ → Video → Option ℕ → List Item → Option Stream
-stream_of line video address items =
-    option_and_then (λ a. option_and_then (λ w. option_and_then (λ h. option_map (stream_with line video items a w h)
+abbrev pub media_from : ℕ → Video → Option ℕ → List Item → Option Media
+media_from line video address items =
+    option_and_then (λ a. option_and_then (λ w. option_and_then (λ h. option_map (media_with line video items a w h)
     (option_and_then value_rate (item_named ExactFrameRate items)))
-    (number_named Height 1 32767 items))
-    (number_named Width 1 32767 items))
+    (option_and_then value_size (item_named Height items)))
+    (option_and_then value_size (item_named Width items)))
     address
 
 -- the stream of a raw part
-abbrev pub media_of : RawPart → Option Stream
-media_of r = stream_of r.line (record { port = r.port; format = r.format }) (good_address r) r.items
+abbrev pub media_of : RawPart → Option Media
+media_of r = media_from r.line r.video (good_address r) r.items

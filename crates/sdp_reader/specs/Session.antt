@@ -3,13 +3,15 @@
 use Rattle.std.specs.Prelude.{ℕ, ◌==◌, ◌&&◌, nat_lt, Bool, true, false, if◌then◌else◌, List, [], ◌∷◌, ◌++◌, length, drop, map, Option, Some, None, Result, Ok, Err}
 use Rattle.std.specs.Option.{option_map}
 use Rattle.std.specs.List.{flat_map, filter_map}
+use Rattle.timing_base.specs.Media.{Media}
+use Rattle.timing_base.specs.declared.target.Target.{Target}
 use Rattle.sdp_reader.specs.Fault.{least, IsAmong}
 use Rattle.sdp_reader.specs.Lines.{TextLine, lines, at, repeats, line_faults, version_faults}
-use Rattle.sdp_reader.specs.Parts.{parts, own_lines, connection_line, RawPart, raw_of, good_address, part_faults, Stream, media_of}
+use Rattle.sdp_reader.specs.Parts.{parts, own_lines, connection_line, RawPart, raw_of, good_address, part_faults, media_of}
 use Rattle.sdp_reader.specs.declared.fault.SdpCause.{SdpCause}
 use Rattle.sdp_reader.specs.declared.fault.SdpCause.TheVariants.{SameTarget, TooManyMedia, NoVideo, TooLarge}
 use Rattle.sdp_reader.specs.declared.fault.SdpFault.{SdpFault}
-use Rattle.sdp_reader.specs.declared.part.Target.{Target}
+use Rattle.sdp_reader.specs.declared.part.Destination.{Destination}
 
 -- the raw parts, in order
 abbrev pub raw_parts : List TextLine → List RawPart
@@ -19,14 +21,9 @@ raw_parts ls = filter_map (raw_of (connection_line (own_lines ls))) (parts ls)
 abbrev pub target_at : Option ℕ → ℕ → Option Target
 target_at address port = option_map (λ a. record { address = a; port = port }) address
 
--- a part's first line, and where its packets go
-pub record Destination : Type 0 where
-  pub line : ℕ
-  pub target : Option Target
-
--- the first line and the target of a raw part
-abbrev pub target_of : RawPart → Destination
-target_of r = record { line = r.line; target = target_at (good_address r) r.port }
+-- the first line of a raw part, and where its packets go
+abbrev pub destination_of : RawPart → Destination
+destination_of r = record { line = r.line; target = target_at (good_address r) r.video.port }
 
 -- the same address and port
 abbrev pub is_same : Target → Target → Bool
@@ -57,7 +54,7 @@ too_many_faults ts = first_too_many (drop 64 ts)
 
 -- the causes 5 to 14, of these raw parts
 abbrev pub raw_faults : List RawPart → List SdpFault
-raw_faults rs = flat_map part_faults rs ++ (target_faults (map target_of rs) ++ too_many_faults (map target_of rs))
+raw_faults rs = flat_map part_faults rs ++ (target_faults (map destination_of rs) ++ too_many_faults (map destination_of rs))
 
 -- all faults, each on its line
 abbrev pub faults : List TextLine → List SdpFault
@@ -68,19 +65,19 @@ abbrev pub StandsOn : SdpCause → List TextLine → ℕ → Type 0
 StandsOn cause ls line = IsAmong (record { line = line; what = cause }) (faults ls)
 
 -- where no line has a fault: NoVideo, or the streams of the raw parts in order
-abbrev pub streams : List RawPart → Result (List Stream) SdpFault
+abbrev pub streams : List RawPart → Result (List Media) SdpFault
 streams [] = Err (record { line = 0; what = NoVideo })
 streams (r ∷ rs) = Ok (filter_map media_of (r ∷ rs))
 
 -- the first fault, or where there is none the rest
-abbrev pub unless_fault : Option SdpFault → Result (List Stream) SdpFault → Result (List Stream) SdpFault
+abbrev pub unless_fault : Option SdpFault → Result (List Media) SdpFault → Result (List Media) SdpFault
 unless_fault (Some fault) rest = Err fault
 unless_fault None rest = rest
 
 -- the answer for the lines of a text that isn't too large
-abbrev pub answer : List TextLine → Result (List Stream) SdpFault
+abbrev pub answer : List TextLine → Result (List Media) SdpFault
 answer ls = unless_fault (least (faults ls)) (streams (raw_parts ls))
 
 -- the session of a text: the video streams, or the first fault
-abbrev pub session : List ℕ → Result (List Stream) SdpFault
+abbrev pub session : List ℕ → Result (List Media) SdpFault
 session bytes = if nat_lt 1048576 (length bytes) then Err (record { line = 0; what = TooLarge }) else answer (lines bytes)

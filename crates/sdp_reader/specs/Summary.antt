@@ -1,38 +1,32 @@
--- What is kept of a raw part once its lines are read.
-use Rattle.std.specs.Prelude.{◌≡◌, ◌||◌, Bool, false, List, [], ◌∷◌, Option, Some, None}
+-- What is kept of raw parts once their lines are read.
+use Rattle.std.specs.Prelude.{◌≡◌, ◌||◌, Bool, false, List, ◌++◌, map, Option, Some, None}
+use Rattle.std.specs.Option.{option_map, option_and_then, option_to_list}
+use Rattle.std.specs.List.{filter_map, flat_map}
 use Rattle.std.specs.declared.cmp.Ordering.{Ordering}
 use Rattle.std.specs.Ordering.{nat_cmp, ordering_then, is_eq}
 use Rattle.std.specs.BTreeSet.{BTreeSet, contains}
-use Rattle.std.specs.Option.{option_map}
+use Rattle.timing_base.specs.declared.target.Target.{Target}
 use Rattle.sdp_reader.specs.Fault.{first_of, least}
-use Rattle.sdp_reader.specs.Parts.{RawPart, Stream, media_of, part_faults}
-use Rattle.sdp_reader.specs.Plain.{stream}
-use Rattle.sdp_reader.specs.Session.{Destination, target_of}
-use Rattle.sdp_reader.specs.declared.fault.SdpFault.{SdpFault}
+use Rattle.sdp_reader.specs.Parts.{RawPart, media_of, part_faults}
+use Rattle.sdp_reader.specs.Session.{destination_of}
+use Rattle.sdp_reader.specs.declared.part.Kept.{Kept}
 use Rattle.sdp_reader.specs.declared.part.Reading.{Reading}
-use Rattle.sdp_reader.specs.declared.part.Target.{Target}
 
--- a raw part's target, its first fault and its stream
-pub record Summary : Type 0 where
-  pub target : Destination
-  pub fault : Option SdpFault
-  pub media : Option Stream
+-- a raw part as it is read: where its packets go, its first fault and its stream
+abbrev pub reading_of : RawPart → Reading
+reading_of r = record { destination = destination_of r; fault = least (part_faults r); media = media_of r }
 
--- those of a raw part, as they are defined
-abbrev pub summary_of : RawPart → Summary
-summary_of r = record { target = target_of r; fault = least (part_faults r); media = media_of r }
+-- what is kept, and what is left to be read, are those of all raw parts
+pub record Keeps (kept : Kept) (left all : List RawPart) : Type 0 where
+  pub destinations : kept.destinations.items ++ map destination_of left ≡ map destination_of all
+  pub fault : first_of kept.fault (least (flat_map part_faults left)) ≡ least (flat_map part_faults all)
+  pub media : kept.media.items ++ filter_map media_of left ≡ filter_map media_of all
 
--- what the code keeps
-abbrev pub summary : Reading → Summary
-summary r = record {
-  target = record { line = r.line; target = r.target };
-  fault = r.fault;
-  media = option_map stream r.media;
-}
-
--- the target that the code keeps
-abbrev pub target : Reading → Destination
-target r = record { line = r.line; target = r.target }
+-- a reading, where there is one, is kept after the others
+pub record Adds (old : Kept) (reading : Option Reading) (new : Kept) : Type 0 where
+  pub destinations : new.destinations.items ≡ old.destinations.items ++ option_to_list (option_map (λ r. r.destination) reading)
+  pub fault : new.fault ≡ first_of old.fault (option_and_then (λ r. r.fault) reading)
+  pub media : new.media.items ≡ old.media.items ++ option_to_list (option_and_then (λ r. r.media) reading)
 
 -- targets in order: by address, then by port
 abbrev pub target_cmp : Target → Target → Ordering
@@ -47,8 +41,3 @@ abbrev pub TakesTarget : BTreeSet Target → BTreeSet Target → Option Target �
 TakesTarget old new None taken = (taken ≡ false) × ((q : Target) → has new q ≡ has old q)
 TakesTarget old new (Some t) taken =
     (taken ≡ has old t) × ((q : Target) → has new q ≡ (is_eq (target_cmp t q) || has old q))
-
--- the first fault of some parts
-abbrev pub first_fault : List Summary → Option SdpFault
-first_fault [] = None
-first_fault (s ∷ ss) = first_of s.fault (first_fault ss)

@@ -1,8 +1,8 @@
 //! Cutting bytes, and the numbers that they spell.
 
-ghost use Rattle.std.specs.Prelude.{◌≡◌, ◌≤◌, ◌<◌, ◌==◌, ℕ, Bool, length, MatchOption, IfSome, ⊤, true, false, ◌+◌, ◌∷◌, []};
+ghost use Rattle.std.specs.Prelude.{◌≡◌, ◌≤◌, ◌<◌, ◌==◌, length, MatchOption, IfSome, ⊤, true, false, ◌+◌, ◌∷◌, []};
 ghost use Rattle.std.specs.Option.{option_copied};
-ghost use Rattle.std.specs.List.{position_or_len, slice_split};
+ghost use Rattle.std.specs.List.{slice_split};
 ghost use Rattle.std.specs.Str.{bytes_eq, str_eq_ignore_ascii_case};
 ghost use Rattle.sdp_reader.specs.Bytes.{before, after, holds, after_prefix, trim_end, trim_start, is_blank, digits_of, number, number_within};
 

@@ -4,7 +4,6 @@ ghost use Rattle.std.specs.Prelude.{◌≡◌};
 ghost use Rattle.sdp_reader.specs.Fault.{number_of, name_of, comes_before, first_of};
 
 use std::alloc::AllocError;
-use std::error::Error;
 use std::fmt;
 
 /// Why a text is no session description of video streams. The numbers 1 to 15 and 17 of the causes
@@ -51,8 +50,8 @@ pub enum SdpCause {
 }
 
 impl SdpCause {
-    /// The number of the cause. Of two causes on one line that with the smaller number is told.
-    pub fn number(self) -> u32
+    // The number of the cause. Of two causes on one line that with the smaller number is told.
+    fn number(self) -> u32
         ensures { result ≡ number_of self }
     {
         match self {
@@ -100,17 +99,6 @@ impl SdpCause {
     }
 }
 
-impl fmt::Display for SdpCause {
-    ghost use Rattle.std.specs.Prelude.{Some};
-    ghost use Rattle.sdp_reader.specs.Fault.{name_of};
-
-    ghost output = { λ cause. Some (name_of cause) };
-
-    fn fmt<W: fmt::Write>(&self, f: &mut fmt::Formatter<W>) -> fmt::Result {
-        f.write_str(self.name())
-    }
-}
-
 /// A fault of a session description: the line that has to be mended, and why.
 #[derive(Clone, Copy, Debug, PartialEq, Eq)]
 pub struct SdpFault {
@@ -126,8 +114,7 @@ impl fmt::Display for SdpFault {
     ghost output = { λ fault. Some (fault_text fault) };
 
     fn fmt<W: fmt::Write>(&self, f: &mut fmt::Formatter<W>) -> fmt::Result {
-        let what = self.what;
-        write!(f, "line {} {what}", self.line)
+        write!(f, "line {} {}", self.line, self.what.name())
     }
 }
 
@@ -157,22 +144,6 @@ pub enum SdpError {
     /// Memory ran out; nothing is said of the text.
     OutOfMemory,
 }
-
-impl fmt::Display for SdpError {
-    ghost use Rattle.std.specs.Prelude.{Some};
-    ghost use Rattle.sdp_reader.specs.Error.{error_text};
-
-    ghost output = { λ error. Some (error_text error) };
-
-    fn fmt<W: fmt::Write>(&self, f: &mut fmt::Formatter<W>) -> fmt::Result {
-        match self {
-            SdpError::Refused(fault) => write!(f, "sdp refused: {fault}"),
-            SdpError::OutOfMemory => f.write_str("out of memory"),
-        }
-    }
-}
-
-impl Error for SdpError {}
 
 impl From<AllocError> for SdpError {
     ghost use Rattle.sdp_reader.specs.declared.fault.SdpError.TheVariants.{OutOfMemory};

@@ -3,7 +3,7 @@
 ghost use Rattle.std.specs.Prelude.{◌≡◌, ◌≤◌, length, map, IfOk, IfSome};
 ghost use Rattle.std.specs.List.{flat_map};
 ghost use Rattle.sdp_reader.specs.Fault.{least};
-ghost use Rattle.sdp_reader.specs.Lines.{lines, without_cr, at, is_not_text, is_bad_line, is_well_begun, is_bad_media, line_faults, version_faults, media_fields, is_video, video_of};
+ghost use Rattle.sdp_reader.specs.Lines.{lines, without_cr, at, is_not_text, is_bad_line, is_bad_media, line_faults, version_faults, media_fields, is_video, video_of};
 ghost use Rattle.sdp_reader.specs.Plain.{plain};
 
 use crate::bytes::{cut, field, is_same, number_within, strip, trim_end};

@@ -1,10 +1,10 @@
 //! The parameters of a raw part: names, values and their faults.
 
-ghost use Rattle.std.specs.Prelude.{◌≡◌, ◌≤◌, ◌<◌, ◌*◌, ◌++◌, [], length, map, find, IfOk, OnOk, IfSome};
-ghost use Rattle.std.specs.Option.{option_map, option_copied, option_to_list};
+ghost use Rattle.std.specs.Prelude.{◌≡◌, ◌≤◌, ◌<◌, ◌*◌, ◌++◌, [], map, IfOk, OnOk, IfSome};
+ghost use Rattle.std.specs.Option.{option_map, option_to_list};
 ghost use Rattle.std.specs.List.{flat_map};
 ghost use Rattle.sdp_reader.specs.Fault.{least};
-ghost use Rattle.sdp_reader.specs.Parameters.{table_name, row_of, item_at, items_of, list_of, parameters, value_within, is_the, udp_cause, value_rate, value_kind, rate_of, kind_of, unless, cause_of, item_faults, repeated_faults, item_named};
+ghost use Rattle.sdp_reader.specs.Parameters.{table_name, row_of, item_at, items_of, list_of, parameters, value_within, value_size, value_offset, value_limit, is_the, udp_cause, value_rate, value_kind, rate_of, kind_of, unless, cause_of, item_faults, repeated_faults, item_named};
 ghost use Rattle.sdp_reader.specs.Bytes.{number};
 ghost use Rattle.sdp_reader.specs.Plain.{plain, plain_item};
 
@@ -140,12 +140,38 @@ fn kind_of(text: &[u8]) -> Option<Kind>
 
 impl Parameter<'_> {
     // The value, as a number in a range.
-    pub(crate) fn number(&self, low: u32, high: u32) -> Option<u32>
+    fn number(&self, low: u32, high: u32) -> Option<u32>
         ensures value { result ≡ value_within low high (plain_item self.now) }
         ensures low { IfSome result (λ n. low ≤ n) }
         ensures high { IfSome result (λ n. n ≤ high) }
     {
         number_within(low, high, self.value?)
+    }
+
+    // The value, as a width or a height.
+    pub(crate) fn size(&self) -> Option<u32>
+        ensures value { result ≡ value_size (plain_item self.now) }
+        ensures some { IfSome result (λ n. 1 ≤ n) }
+        ensures most { IfSome result (λ n. n ≤ 32767) }
+    {
+        self.number(1, 32_767)
+    }
+
+    // The value, as an offset in microseconds.
+    pub(crate) fn offset(&self) -> Option<u32>
+        ensures value { result ≡ value_offset (plain_item self.now) }
+        ensures most { IfSome result (λ n. n ≤ 1000000) }
+    {
+        self.number(0, 1_000_000)
+    }
+
+    // The value, as a limit of packets or of bytes.
+    pub(crate) fn limit(&self) -> Option<u32>
+        ensures value { result ≡ value_limit (plain_item self.now) }
+        ensures some { IfSome result (λ n. 1 ≤ n) }
+        ensures most { IfSome result (λ n. n ≤ 65535) }
+    {
+        self.number(1, 65_535)
     }
 
     // The value, as a frame rate.
@@ -172,15 +198,15 @@ impl Parameter<'_> {
     {
         let bad = SdpCause::BadParameter;
         match self.name {
-            Name::Width | Name::Height => unless(self.number(1, 32_767).is_some(), bad),
+            Name::Width | Name::Height => unless(self.size().is_some(), bad),
             Name::ExactFrameRate => unless(self.rate().is_some(), SdpCause::BadRate),
             Name::Interlace => unless(self.value.is_none(), bad),
             Name::Segmentation if self.value.is_none() => Some(SdpCause::Segmented),
             Name::Segmentation => Some(bad),
             Name::Tp => unless(self.kind().is_some(), bad),
-            Name::Troff => unless(self.number(0, 1_000_000).is_some(), bad),
-            Name::Cmax => unless(self.number(1, 65_535).is_some(), bad),
-            Name::MaxUdp => udp_cause(self.number(1, 65_535)),
+            Name::Troff => unless(self.offset().is_some(), bad),
+            Name::Cmax => unless(self.limit().is_some(), bad),
+            Name::MaxUdp => udp_cause(self.limit()),
         }
     }
 

@@ -1,16 +1,16 @@
 //! Media parts: what each says, and its faults.
 
-ghost use Rattle.std.specs.Prelude.{◌≡◌, ◌+◌, ◌≤◌, ◌<◌, ◌*◌, ◌++◌, [], length, map, find, IfOk, OnOk, IfSome};
-ghost use Rattle.std.specs.Option.{option_map, option_copied, option_and_then};
+ghost use Rattle.std.specs.Prelude.{◌≡◌, ◌+◌, ◌≤◌, ◌<◌, ◌*◌, map, IfOk, OnOk, IfSome};
+ghost use Rattle.std.specs.Option.{option_map, option_and_then};
 ghost use Rattle.std.specs.List.{list_any};
 ghost use Rattle.sdp_reader.specs.Fault.{least};
 ghost use Rattle.sdp_reader.specs.Bytes.{after};
 ghost use Rattle.sdp_reader.specs.Lines.{media_fields, video_of};
-ghost use Rattle.sdp_reader.specs.Parameters.{value_kind, value_rate, item_named, parameters};
-ghost use Rattle.sdp_reader.specs.Parts.{own_lines, connection_line, octet, is_ttl, address_from, address_at, address_of, is_raw_map, raw_part, raw_of, counting, connection_faults, faults_at, is_missing, number_named, stream_of, stream_with};
-ghost use Rattle.sdp_reader.specs.Plain.{plain, plain_item, stream};
+ghost use Rattle.sdp_reader.specs.Parameters.{value_size, value_offset, value_limit, value_kind, value_rate, item_named, parameters};
+ghost use Rattle.sdp_reader.specs.Parts.{own_lines, connection_line, octet, is_ttl, address_from, address_at, address_of, is_raw_map, raw_part, raw_of, counting, connection_faults, faults_at, is_missing, media_from};
+ghost use Rattle.sdp_reader.specs.Plain.{plain, plain_item};
 ghost use Rattle.sdp_reader.specs.Session.{target_at};
-ghost use Rattle.sdp_reader.specs.Summary.{summary, summary_of};
+ghost use Rattle.sdp_reader.specs.Summary.{reading_of};
 
 use crate::bytes::{cut, digits_of, field, is_same_word, strip};
 use crate::fault::{SdpCause, SdpFault, first_of};
@@ -19,23 +19,50 @@ use crate::parameter::{
     Name, Parameter, Rate, is_the, item_fault, item_named, parameters, repeated_fault,
 };
 use std::alloc::{AllocError, Global};
-use timing_base::{Kind, Media};
+use timing_base::{Kind, Media, Target};
 
-// Where packets go: an IPv4 address, the first octet highest, and a UDP port.
-#[derive(Clone, Copy, Debug, PartialEq, Eq, PartialOrd, Ord)]
-pub(crate) struct Target {
-    pub address: u32,
-    pub port: u16,
+// A part's first line, and where its packets go, if it has a good address.
+#[derive(Clone, Copy, Debug)]
+pub(crate) struct Destination {
+    pub line: u32,
+    pub target: Option<Target>,
 }
 
-// What is kept of a raw part once its lines are read.
+// A raw part as it is read.
 #[derive(Clone, Copy, Debug)]
 pub(crate) struct Reading {
-    pub line: u32,
-    // Where the part has a good address.
-    pub target: Option<Target>,
+    pub destination: Destination,
+    // The first of the part's own faults.
     pub fault: Option<SdpFault>,
+    // The stream, where the part has all that one has to have.
     pub media: Option<Media>,
+}
+
+// What is kept of the raw parts, in order.
+#[derive(Debug, Drop)]
+pub(crate) struct Kept {
+    pub destinations: Vec<Destination>,
+    // The first of the faults that parts have by themselves.
+    pub fault: Option<SdpFault>,
+    pub media: Vec<Media>,
+}
+
+impl Kept {
+    ghost use Rattle.sdp_reader.specs.Summary.{Adds};
+
+    // Keeps a reading, where there is one.
+    pub(crate) fn add(&mut self, reading: Option<Reading>) -> Result<(), AllocError>
+        ensures { OnOk result (Adds self.old reading self.new) }
+    {
+        if let Some(reading) = reading {
+            self.destinations.push(reading.destination)?;
+            self.fault = first_of(self.fault, reading.fault);
+            if let Some(media) = reading.media {
+                self.media.push(media)?;
+            }
+        }
+        Ok(())
+    }
 }
 
 // The lines before the first that begins a media part.
@@ -164,13 +191,33 @@ fn is_missing(items: &[Parameter]) -> bool
         || item_named(Name::ExactFrameRate, items).is_none()
 }
 
-// The number of the first parameter of a name.
-fn number_named(name: Name, low: u32, high: u32, items: &[Parameter]) -> Option<u32>
-    ensures value { result ≡ number_named name low high (map plain_item items.now) }
-    ensures low { IfSome result (λ n. low ≤ n) }
-    ensures high { IfSome result (λ n. n ≤ high) }
+// The size that the first parameter of a name gives.
+fn size_named(name: Name, items: &[Parameter]) -> Option<u32>
+    ensures value { result
+        ≡ option_and_then value_size (item_named name (map plain_item items.now)) }
+    ensures some { IfSome result (λ n. 1 ≤ n) }
+    ensures most { IfSome result (λ n. n ≤ 32767) }
 {
-    item_named(name, items)?.number(low, high)
+    item_named(name, items)?.size()
+}
+
+// The offset of the first parameter TROFF, in microseconds.
+fn troff_named(items: &[Parameter]) -> Option<u32>
+    ensures value { result
+        ≡ option_and_then value_offset (item_named Name.Troff (map plain_item items.now)) }
+    ensures most { IfSome result (λ n. n ≤ 1000000) }
+{
+    item_named(Name::Troff, items)?.offset()
+}
+
+// The limit of the first parameter CMAX, in packets.
+fn cmax_named(items: &[Parameter]) -> Option<u32>
+    ensures value { result
+        ≡ option_and_then value_limit (item_named Name.Cmax (map plain_item items.now)) }
+    ensures some { IfSome result (λ n. 1 ≤ n) }
+    ensures most { IfSome result (λ n. n ≤ 65535) }
+{
+    item_named(Name::Cmax, items)?.limit()
 }
 
 // The sender type of the first parameter TP.
@@ -196,16 +243,16 @@ fn rate_named(items: &[Parameter]) -> Option<Rate>
 fn media_of(line: u32, video: Video, address: Option<u32>, items: &[Parameter]) -> Option<Media>
     requires port { 1 ≤ video.port }
     requires format { video.format ≤ 127 }
-    ensures { option_map stream result ≡ stream_of line video address (map plain_item items.now) }
+    ensures { result ≡ media_from line video address (map plain_item items.now) }
 {
     let address = address?;
-    let width = number_named(Name::Width, 1, 32_767, items)?;
-    let height = number_named(Name::Height, 1, 32_767, items)?;
+    let width = size_named(Name::Width, items)?;
+    let height = size_named(Name::Height, items)?;
     let rate = rate_named(items)?;
     let interlaced = item_named(Name::Interlace, items).is_some();
     let declared = kind_named(items);
-    let troff = number_named(Name::Troff, 0, 1_000_000, items);
-    let cmax = number_named(Name::Cmax, 1, 65_535, items);
+    let troff = troff_named(items);
+    let cmax = cmax_named(items);
     Some(Media {
         line,
         address,
@@ -232,16 +279,16 @@ fn read_raw<'a>(
 ) -> Result<Reading, AllocError>
     requires port { 1 ≤ video.port }
     requires format { video.format ≤ 127 }
-    ensures { IfOk result (λ r. summary r ≡ summary_of (raw_part
+    ensures { IfOk result (λ r. r ≡ reading_of (raw_part
         (option_map plain session.entry) line (map plain body.now) video)) }
 {
     let items = parameters(alloc, video.format, body)?;
     let list = items.as_slice();
     let connection = counting(connection_line(body), session);
     let address = good_address(connection);
+    let target = target_at(address, video.port);
     Ok(Reading {
-        line,
-        target: target_at(address, video.port),
+        destination: Destination { line, target },
         fault: raw_fault(line, connection, list),
         media: media_of(line, video, address, list),
     })
@@ -291,7 +338,7 @@ pub(crate) fn read_part<'a>(
     head: &Line<'a>,
     rest: &[Line<'a>],
 ) -> Result<Option<Reading>, AllocError>
-    ensures { IfOk result (λ r. option_map summary r ≡ option_map summary_of (raw_of
+    ensures { IfOk result (λ r. r ≡ option_map reading_of (raw_of
         (option_map plain session.entry)
         (record { head = plain head.now; body = own_lines (map plain rest.now) }))) }
 {
