@@ -10,9 +10,9 @@ use Rattle.timing_base.specs.declared.capture.PcapFault.TheVariants as fault
 use Rattle.pcap_reader.specs.declared.layout.Layout.{Layout}
 use Rattle.pcap_reader.specs.declared.layout.Order.{Order}
 use Rattle.pcap_reader.specs.declared.layout.Order.TheVariants.{Big, Little}
-use Rattle.pcap_reader.specs.declared.ending.Ending.TheVariants.{End, Cut}
+use Rattle.timing_base.specs.declared.capture.FileNote.TheVariants.{End, Cut}
 use Rattle.pcap_reader.specs.Header.{number, nanos, layout_of, header_by, header}
-use Rattle.pcap_reader.specs.Records.{seconds, fraction, captured, stamp, ending_by, ending}
+use Rattle.pcap_reader.specs.Records.{seconds, fraction, captured, stamp, note_by, note_at}
 
 -- a text that is known stands in what is held and what is left
 pub known_text : (a b : Option (List ℕ)) (h text : List ℕ) → Keeps a (prepend_known h b) → a ≡ Some text → (y : List ℕ) × (b ≡ Some y) × (text ≡ h ++ y)
@@ -50,24 +50,24 @@ header-append h y m =
     ∙ ap (λ n. header_by (layout_of n) h) (big_from-append 4 h y (omega arith)) ∙ sym (header-long h m)
 
 -- at the end of the text
-pub ending-none : (l : Layout) (most n place : ℕ) (rest : List ℕ) → length rest ≡ 0 → ending l most n place rest ≡ Some End
-ending-none l most n place rest m = grind (arith, nat_tests)
+pub note_at-none : (l : Layout) (most n place : ℕ) (rest : List ℕ) → length rest ≡ 0 → note_at l most n place rest ≡ Some End
+note_at-none l most n place rest m = grind (arith, nat_tests)
 
 -- within the head of a record
-pub ending-short : (l : Layout) (most n place : ℕ) (rest : List ℕ) → 0 < length rest → length rest < 16 → ending l most n place rest ≡ Some (Cut place)
-ending-short l most n place rest p m = grind (arith, nat_tests)
+pub note_at-short : (l : Layout) (most n place : ℕ) (rest : List ℕ) → 0 < length rest → length rest < 16 → note_at l most n place rest ≡ Some (Cut place)
+note_at-short l most n place rest p m = grind (arith, nat_tests)
 
-ending-long : (l : Layout) (most n place : ℕ) (rest : List ℕ) → 16 ≤ length rest
-    → ending l most n place rest ≡ ending_by l.fraction most n place (length rest) (fraction l rest) (captured l rest)
-ending-long l most n place rest m = grind (arith, nat_tests)
+note_at-long : (l : Layout) (most n place : ℕ) (rest : List ℕ) → 16 ≤ length rest
+    → note_at l most n place rest ≡ note_by l.fraction most n place (length rest) (fraction l rest) (captured l rest)
+note_at-long l most n place rest m = grind (arith, nat_tests)
 
 -- behind the head of a record
-pub ending-append : (l : Layout) (most n place : ℕ) (h y : List ℕ) → 16 ≤ length h
-    → ending l most n place (h ++ y) ≡ ending_by l.fraction most n place (length (h ++ y)) (fraction l h) (captured l h)
-ending-append l most n place h y m =
-    ending-long l most n place (h ++ y) (omega (arith, length-append h y))
-    ∙ ap (λ k. ending_by l.fraction most n place (length (h ++ y)) k (captured l (h ++ y))) (number-append l.order 4 4 h y (omega arith))
-    ∙ ap (λ k. ending_by l.fraction most n place (length (h ++ y)) (fraction l h) k) (number-append l.order 4 8 h y (omega arith))
+pub note_at-append : (l : Layout) (most n place : ℕ) (h y : List ℕ) → 16 ≤ length h
+    → note_at l most n place (h ++ y) ≡ note_by l.fraction most n place (length (h ++ y)) (fraction l h) (captured l h)
+note_at-append l most n place h y m =
+    note_at-long l most n place (h ++ y) (omega (arith, length-append h y))
+    ∙ ap (λ k. note_by l.fraction most n place (length (h ++ y)) k (captured l (h ++ y))) (number-append l.order 4 4 h y (omega arith))
+    ∙ ap (λ k. note_by l.fraction most n place (length (h ++ y)) (fraction l h) k) (number-append l.order 4 8 h y (omega arith))
 
 -- the header of a text whose first bytes are held
 pub header-read : (a b : Option (List ℕ)) (h text : List ℕ) → Keeps a (prepend_known h b) → a ≡ Some text → 24 ≤ length h → header text ≡ header h
@@ -81,11 +81,11 @@ ahead-let_go a b h h2 text n p e m r =
     ap (prepend_known h2) k.1 ∙ ap (λ l. Some l) (ap (λ l. l ++ k.0) r ∙ sym (drop-append-le n h k.0 m) ∙ ap (drop n) (sym k.2))
 
 -- what stands in the way of the record of a text whose first bytes are held
-pub ending-read : (l : Layout) (most n place : ℕ) (a b : Option (List ℕ)) (h text : List ℕ) → Keeps a (prepend_known h b) → a ≡ Some text → 16 ≤ length h
-    → ending l most n place text ≡ ending_by l.fraction most n place (length text) (fraction l h) (captured l h)
-ending-read l most n place a b h text p e m =
+pub note_at-read : (l : Layout) (most n place : ℕ) (a b : Option (List ℕ)) (h text : List ℕ) → Keeps a (prepend_known h b) → a ≡ Some text → 16 ≤ length h
+    → note_at l most n place text ≡ note_by l.fraction most n place (length text) (fraction l h) (captured l h)
+note_at-read l most n place a b h text p e m =
     let k = known_text a b h text p e in
-    subst (λ t. ending l most n place t ≡ ending_by l.fraction most n place (length t) (fraction l h) (captured l h)) (sym k.2) (ending-append l most n place h k.0 m)
+    subst (λ t. note_at l most n place t ≡ note_by l.fraction most n place (length t) (fraction l h) (captured l h)) (sym k.2) (note_at-append l most n place h k.0 m)
 
 -- the captured length
 pub captured-read : (l : Layout) (a b : Option (List ℕ)) (h text : List ℕ) → Keeps a (prepend_known h b) → a ≡ Some text → 16 ≤ length h → captured l text ≡ captured l h

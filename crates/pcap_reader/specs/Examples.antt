@@ -1,5 +1,5 @@
 -- Small captures, laid out by hand, to try the definitions on.
-use Rattle.std.specs.Prelude.{ℕ, List, [], ◌∷◌, ◌++◌}
+use Rattle.std.specs.Prelude.{ℕ, ◌+◌, List, [], ◌∷◌, ◌++◌, take, drop}
 
 -- what stands behind the magic, little-endian: version 2.4, snaplen 262,144, link type 1
 abbrev pub little_fields : List ℕ
@@ -35,15 +35,38 @@ little_record = 3 ∷ 0 ∷ 0 ∷ 0 ∷ 5 ∷ 0 ∷ 0 ∷ 0 ∷ 3 ∷ 0 ∷ 0 �
 abbrev pub big_record : List ℕ
 big_record = 0 ∷ 0 ∷ 0 ∷ 3 ∷ 0 ∷ 0 ∷ 0 ∷ 5 ∷ 0 ∷ 0 ∷ 0 ∷ 1 ∷ 0 ∷ 0 ∷ 0 ∷ 1 ∷ 7 ∷ []
 
--- little-endian: 3 seconds, a fraction of these four bytes, 1 byte captured of 1, and the byte
-abbrev pub with_fraction : List ℕ → List ℕ
-with_fraction fraction =
-    (3 ∷ 0 ∷ 0 ∷ 0 ∷ []) ++ (fraction ++ (1 ∷ 0 ∷ 0 ∷ 0 ∷ 1 ∷ 0 ∷ 0 ∷ 0 ∷ 7 ∷ []))
+-- a text with another byte at a place
+abbrev pub changed : ℕ → ℕ → List ℕ → List ℕ
+changed place byte text = take place text ++ (byte ∷ drop (place + 1) text)
 
--- little-endian: the head of a record with 10^9 units, and 262,145 bytes captured
-abbrev pub faulty_head : List ℕ
-faulty_head = 0 ∷ 0 ∷ 0 ∷ 0 ∷ 0 ∷ 0xca ∷ 0x9a ∷ 0x3b ∷ 1 ∷ 0 ∷ 4 ∷ 0 ∷ 0 ∷ 0 ∷ 0 ∷ 0 ∷ []
+-- little-endian: the head of a record at 3 seconds with these four bytes as its fraction and these
+-- four as its captured length
+abbrev pub head : List ℕ → List ℕ → List ℕ
+head fraction captured = (3 ∷ 0 ∷ 0 ∷ 0 ∷ []) ++ (fraction ++ (captured ++ (60 ∷ 0 ∷ 0 ∷ 0 ∷ [])))
 
--- little-endian: the head of a record with 262,145 bytes captured
-abbrev pub long_head : List ℕ
-long_head = 0 ∷ 0 ∷ 0 ∷ 0 ∷ 0 ∷ 0 ∷ 0 ∷ 0 ∷ 1 ∷ 0 ∷ 4 ∷ 0 ∷ 0 ∷ 0 ∷ 0 ∷ 0 ∷ []
+-- little-endian numbers: 0, 1, 262,144 and 262,145
+abbrev pub zero_bytes : List ℕ
+zero_bytes = 0 ∷ 0 ∷ 0 ∷ 0 ∷ []
+
+abbrev pub one_byte : List ℕ
+one_byte = 1 ∷ 0 ∷ 0 ∷ 0 ∷ []
+
+abbrev pub most_bytes : List ℕ
+most_bytes = 0 ∷ 0 ∷ 4 ∷ 0 ∷ []
+
+abbrev pub too_many_bytes : List ℕ
+too_many_bytes = 1 ∷ 0 ∷ 4 ∷ 0 ∷ []
+
+-- little-endian: a million microseconds less one, and a million; a milliard nanoseconds less one, and
+-- a milliard
+abbrev pub last_micro : List ℕ
+last_micro = 0x3f ∷ 0x42 ∷ 0x0f ∷ 0 ∷ []
+
+abbrev pub million : List ℕ
+million = 0x40 ∷ 0x42 ∷ 0x0f ∷ 0 ∷ []
+
+abbrev pub last_nano : List ℕ
+last_nano = 0xff ∷ 0xc9 ∷ 0x9a ∷ 0x3b ∷ []
+
+abbrev pub milliard : List ℕ
+milliard = 0 ∷ 0xca ∷ 0x9a ∷ 0x3b ∷ []

@@ -1,70 +1,74 @@
--- What a reader's own functions promise each other: the header that one reads, the record that one
--- reads, and what the search for the next record finds.
-use Rattle.std.specs.Prelude.{◌≡◌, ◌≤◌, ◌<◌, ℕ, ◌+◌, ◌*◌, ◌^◌, List, [], ◌∷◌, Option, Some, None, Result, Ok, Err, IfOk, IfErr, MatchResult}
-use Rattle.timing_base.specs.Captures.{Record}
+-- What a reader's own functions promise each other: the bytes that one holds, the header that one
+-- reads, the record that one reads, and what the search for the next record finds.
+use Rattle.std.specs.Prelude.{◌≡◌, ◌≤◌, ◌<◌, ℕ, ◌+◌, List, ◌∷◌, length, Bool, false, IsTrue, Option, None, Result, Ok, Err, IfOk, IfErr}
+use Rattle.std.specs.Io.KnownBytes.{Keeps, IsAtEnd}
+use Rattle.timing_base.specs.Captures.{Record, IsStamp}
 use Rattle.timing_base.specs.declared.capture.PcapFault.{PcapFault}
+use Rattle.timing_base.specs.declared.capture.PcapFault.TheVariants.{ReadFault}
+use Rattle.timing_base.specs.declared.capture.FileNote.{FileNote}
+use Rattle.timing_base.specs.declared.capture.FileNote.TheVariants.{Refused}
 use Rattle.timing_outside.specs.Causes.{Rose}
 use Rattle.pcap_reader.specs.declared.layout.Layout.{Layout}
-use Rattle.pcap_reader.specs.declared.ending.Ending.{Ending}
-use Rattle.pcap_reader.specs.declared.ending.Ending.TheVariants.{End, Cut, Refused}
 use Rattle.pcap_reader.specs.declared.window.Window.{Window}
 use Rattle.pcap_reader.specs.declared.reader.PcapReader.{PcapReader}
 use Rattle.pcap_reader.specs.declared.stage.Head.{Head}
 use Rattle.pcap_reader.specs.Records.{UnlessReadFault, OnReadFault}
-use Rattle.pcap_reader.specs.Windows.{behind, Takes}
-use Rattle.pcap_reader.specs.Readers.{under, answered, most_of, taken, ended, ahead, StageGives, WillGive}
+use Rattle.pcap_reader.specs.Windows.{held_bytes, last_bytes, SameRecord, Takes}
+use Rattle.pcap_reader.specs.Readers.{under, frame_count, most_of, taken_count, end_note, ahead, GivesNote, StageGives, WillGive}
+
+-- what stays of a reader, and what is gone from its source
+pub record Moves {S : Type 0} (left : S → Option (List ℕ)) (name : S → List ℕ) (faults : S → ℕ)
+    (old new : PcapReader S) : Type 0 where
+  pub takes : Takes (left (under old)) (left (under new)) (taken_count old) (taken_count new)
+  pub same_most : most_of new ≡ most_of old
+  pub same_name : name (under new) ≡ name (under old)
+  pub later : faults (under old) ≤ faults (under new)
+
+-- where the answer is that a read failed, the source's count of faults rose
+abbrev pub OnRose : {A S : Type 0} → (S → ℕ) → (old new : PcapReader S) → Result A FileNote → Type 0
+OnRose faults old new result =
+    IfErr result (λ told. OnReadFault told (Rose (faults (under old)) (faults (under new))))
+
+-- so many bytes are held, or the source has no more, or a read failed
+pub record Holds {S : Type 0} (left : S → Option (List ℕ)) (name : S → List ℕ) (faults : S → ℕ)
+    (need : ℕ) (old new : PcapReader S) (result : Result Bool FileNote) : Type 0 where
+  pub bytes : Keeps (ahead left old) (ahead left new)
+  pub same : SameRecord old.window new.window
+  pub moves : Moves left name faults old new
+  pub failed : OnRose faults old new result
+  pub fault : IfErr result (λ note. note ≡ Refused ReadFault)
+  pub enough : IfOk result (λ b. IsTrue b → need ≤ length (held_bytes new.window))
+  pub few : IfOk result (λ b. b ≡ false → length (held_bytes new.window) < need)
+  pub end : IfOk result (λ b. b ≡ false → IsAtEnd (left new.source))
 
 -- what the header of a text is, or how all ends with it
-abbrev pub HeaderIs : Result Layout PcapFault → Result Layout Ending → Type 0
+abbrev pub HeaderIs : Result Layout PcapFault → Result Layout FileNote → Type 0
 HeaderIs header (Ok layout) = header ≡ Ok layout
-HeaderIs header (Err End) = ⊥
-HeaderIs header (Err (Cut at)) = ⊥
 HeaderIs header (Err (Refused fault)) = UnlessReadFault (Refused fault) (header ≡ Err fault)
+HeaderIs header (Err note) = ⊥
 
--- a record is the first of what was to be given, or there was only that end
-abbrev pub FoundGives : Window → Option (List ℕ) → Result Head Ending → List Record → Ending
+-- a record is the first of what was to be given, or there was only that note
+abbrev pub FoundGives : Window → Option (List ℕ) → Result Head FileNote → List Record → FileNote
     → Type 0
-FoundGives new known (Ok head) items end =
+FoundGives new known (Ok head) items note =
     (later : List Record)
     × (items
-    ≡ record { number = new.count; stamp = head.at; bytes = behind head.captured new } ∷ later)
-    × StageGives new.stage new known later end
-FoundGives new known (Err e) items end = UnlessReadFault e ((items ≡ []) × (end ≡ e))
+    ≡ record { number = new.count; stamp = head.at; bytes = last_bytes head.captured new } ∷ later)
+    × StageGives new.stage new known later note
+FoundGives new known (Err told) items note = GivesNote told items note
 
 -- a record is within the limits, stands behind what is held, and was counted, or none was
-abbrev pub FoundCounts : (before : ℕ) → (new : Window) → Result Head Ending → Type 0
+abbrev pub FoundCounts : (before : ℕ) → (new : Window) → Result Head FileNote → Type 0
 FoundCounts before new (Ok head) =
-    (head.at < 2 ^ 32 * 10 ^ 9) × (head.captured ≤ 262144) × (head.captured ≤ new.start)
+    IsStamp head.at × (head.captured ≤ 262144) × (head.captured ≤ new.start)
     × (new.count ≡ before + 1)
-FoundCounts before new (Err e) = new.count ≡ before
+FoundCounts before new (Err told) = new.count ≡ before
 
--- what a reader comes to next, before an end is settled
-pub record Advances {S : Type 0} (left : S → Option (List ℕ)) (name : S → List ℕ) (faults : S → ℕ)
-    (old new : PcapReader S) (result : Result Head Ending) : Type 0 where
-  pub gives : (items : List Record) (end : Ending) → WillGive left old items end
-      → FoundGives new.window (ahead left new) result items end
-  pub goes_on : IfOk result (λ _. ended new ≡ None)
-  -- after an end nothing is taken, and that is the answer
-  pub again : (end : Ending) → ended old ≡ Some end → (new ≡ old) × (result ≡ Err end)
-  pub counts : FoundCounts (answered old) new.window result
-  pub takes : Takes (left (under old)) (left (under new)) (taken old) (taken new)
-  pub same_most : most_of new ≡ most_of old
-  pub same_name : name (under new) ≡ name (under old)
-  pub later : faults (under old) ≤ faults (under new)
-  pub failed : ended old ≡ None
-      → IfErr result (λ e. OnReadFault e (Rose (faults (under old)) (faults (under new))))
-
--- what a reader finds, after which it knows how all ended
+-- what a reader finds
 pub record Finds {S : Type 0} (left : S → Option (List ℕ)) (name : S → List ℕ) (faults : S → ℕ)
-    (old new : PcapReader S) (result : Result Head Ending) : Type 0 where
-  pub gives : (items : List Record) (end : Ending) → WillGive left old items end
-      → FoundGives new.window (ahead left new) result items end
-  pub tells : MatchResult result (λ _. ended new ≡ None) (λ e. ended new ≡ Some e)
-  pub again : (end : Ending) → ended old ≡ Some end → new ≡ old
-  pub counts : FoundCounts (answered old) new.window result
-  pub takes : Takes (left (under old)) (left (under new)) (taken old) (taken new)
-  pub same_most : most_of new ≡ most_of old
-  pub same_name : name (under new) ≡ name (under old)
-  pub later : faults (under old) ≤ faults (under new)
-  pub failed : ended old ≡ None
-      → IfErr result (λ e. OnReadFault e (Rose (faults (under old)) (faults (under new))))
+    (old new : PcapReader S) (result : Result Head FileNote) : Type 0 where
+  pub gives : (items : List Record) (note : FileNote) → WillGive left old items note
+      → FoundGives new.window (ahead left new) result items note
+  pub counts : FoundCounts (frame_count old) new.window result
+  pub moves : Moves left name faults old new
+  pub failed : end_note old ≡ None → OnRose faults old new result

@@ -1,7 +1,10 @@
+-- what is promised
 pub mod Header
-pub mod Records
-pub mod Windows
 pub mod Readers
-pub mod Finding
+pub mod Records
 pub mod Stages
+pub mod Windows
+-- captures that are worked by hand
 pub mod Examples
+-- these only serve proofs
+pub mod Finding

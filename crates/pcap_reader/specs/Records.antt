@@ -4,14 +4,14 @@
 -- This project's profile: a fraction is below a second, at most 262,144 bytes are captured, a
 -- capture has at most `most` bytes; which of several faults is the first, and that nothing comes
 -- behind it.
-use Rattle.std.specs.Prelude.{◌≡◌, ℕ, ◌+◌, ◌*◌, ◌^◌, ◌==◌, nat_lt, if◌then◌else◌, List, [], ◌∷◌, length, take, drop, Option, Some, None, Result, Ok, Err}
+use Rattle.std.specs.Prelude.{◌≡◌, ◌≢◌, ⊤, ℕ, ◌+◌, ◌*◌, ◌^◌, ◌==◌, nat_lt, if◌then◌else◌, List, [], ◌∷◌, length, take, drop, Option, Some, None, Result, Ok, Err}
 use Rattle.timing_base.specs.Captures.{Record}
 use Rattle.timing_base.specs.declared.capture.PcapFault.{PcapFault}
 use Rattle.timing_base.specs.declared.capture.PcapFault.TheVariants.{ReadFault, BadStamp, BadLength, TooLong}
 use Rattle.pcap_reader.specs.declared.layout.Fraction.{Fraction}
 use Rattle.pcap_reader.specs.declared.layout.Layout.{Layout}
-use Rattle.pcap_reader.specs.declared.ending.Ending.{Ending}
-use Rattle.pcap_reader.specs.declared.ending.Ending.TheVariants.{End, Cut, Refused}
+use Rattle.timing_base.specs.declared.capture.FileNote.{FileNote}
+use Rattle.timing_base.specs.declared.capture.FileNote.TheVariants.{End, Cut, Refused, Stopped}
 use Rattle.pcap_reader.specs.Header.{number, nanos, per_second, header}
 
 -- the whole seconds of the record at the front of a rest
@@ -32,8 +32,8 @@ stamp layout rest = seconds layout rest * 10 ^ 9 + fraction layout rest * nanos 
 
 -- what stands in the way of a record whose head is there: the fraction, the captured length, the
 -- greatest length of a capture, or the end of the text after `long` bytes
-abbrev pub ending_by : Fraction → (most number place long fraction captured : ℕ) → Option Ending
-ending_by unit most number place long fraction captured =
+abbrev pub note_by : Fraction → (most number place long fraction captured : ℕ) → Option FileNote
+note_by unit most number place long fraction captured =
     if nat_lt fraction (per_second unit) then
     (if nat_lt 262144 captured then Some (Refused (BadLength number))
     else if nat_lt most (place + 16 + captured) then Some (Refused TooLong)
@@ -42,11 +42,11 @@ ending_by unit most number place long fraction captured =
     else Some (Refused (BadStamp number))
 
 -- why no record stands at the front of this rest, which begins at `place` of the text
-abbrev pub ending : Layout → (most number place : ℕ) → List ℕ → Option Ending
-ending layout most number place rest =
+abbrev pub note_at : Layout → (most number place : ℕ) → List ℕ → Option FileNote
+note_at layout most number place rest =
     if length rest == 0 then Some End
     else if nat_lt (length rest) 16 then Some (Cut place)
-    else ending_by layout.fraction most number place (length rest)
+    else note_by layout.fraction most number place (length rest)
     (fraction layout rest) (captured layout rest)
 
 -- the record at the front of a rest
@@ -58,28 +58,38 @@ record_of layout number rest = record {
 }
 
 -- the rest from `place` is these records, the first with this number, and then ends so
-abbrev pub RecordsFrom : Layout → (most number place : ℕ) → List ℕ → List Record → Ending → Type 0
-RecordsFrom layout most number place rest [] end = ending layout most number place rest ≡ Some end
-RecordsFrom layout most number place rest (item ∷ items) end =
-    (ending layout most number place rest ≡ None) × (item ≡ record_of layout number rest)
+abbrev pub RecordsFrom : Layout → (most number place : ℕ) → List ℕ → List Record → FileNote → Type 0
+RecordsFrom layout most number place rest [] note = note_at layout most number place rest ≡ Some note
+RecordsFrom layout most number place rest (item ∷ items) note =
+    (note_at layout most number place rest ≡ None) × (item ≡ record_of layout number rest)
     × RecordsFrom layout most (number + 1) (place + 16 + captured layout rest)
-    (drop (16 + captured layout rest) rest) items end
+    (drop (16 + captured layout rest) rest) items note
 
 -- the text after a header is these records, and then ends so; a faulty header has no records
-abbrev pub RecordsBy : Result Layout PcapFault → (most : ℕ) → List ℕ → List Record → Ending → Type 0
-RecordsBy (Ok layout) most text items end = RecordsFrom layout most 1 24 (drop 24 text) items end
-RecordsBy (Err fault) most text items end = (items ≡ []) × (end ≡ Refused fault)
+abbrev pub RecordsBy : Result Layout PcapFault → (most : ℕ) → List ℕ → List Record → FileNote → Type 0
+RecordsBy (Ok layout) most text items note = RecordsFrom layout most 1 24 (drop 24 text) items note
+RecordsBy (Err fault) most text items note = (items ≡ []) × (note ≡ Refused fault)
 
 -- the text of a capture is these records, and then ends so, for a reader of at most `most` bytes
-abbrev pub Records : (text : List ℕ) → (most : ℕ) → List Record → Ending → Type 0
-Records text most items end = RecordsBy (header text) most text items end
+abbrev pub Records : (text : List ℕ) → (most : ℕ) → List Record → FileNote → Type 0
+Records text most items note = RecordsBy (header text) most text items note
 
--- of an ending that is no failed read
-abbrev pub UnlessReadFault : Ending → Type 0 → Type 0
+-- the texts of captures are these records, each ending so; a capture has at most 2^40 bytes
+abbrev pub AreRecords : (texts : List (List ℕ)) → List (List Record) → List FileNote → Type 0
+AreRecords [] [] [] = ⊤
+AreRecords (text ∷ texts) (items ∷ files) (note ∷ notes) = Records text (2 ^ 40) items note × AreRecords texts files notes
+AreRecords texts files notes = ⊥
+
+-- of a note that is no failed read
+abbrev pub UnlessReadFault : FileNote → Type 0 → Type 0
 UnlessReadFault (Refused ReadFault) P = Unit {0}
-UnlessReadFault end P = P
+UnlessReadFault note P = P
 
 -- of a failed read
-abbrev pub OnReadFault : Ending → Type 0 → Type 0
+abbrev pub OnReadFault : FileNote → Type 0 → Type 0
 OnReadFault (Refused ReadFault) P = P
-OnReadFault end P = Unit {0}
+OnReadFault note P = Unit {0}
+
+-- a note that a reader gives: it takes no memory, so it is never stopped for want of it
+abbrev pub IsGiven : FileNote → Type 0
+IsGiven note = note ≢ Stopped

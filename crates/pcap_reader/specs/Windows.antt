@@ -1,21 +1,21 @@
 -- What a window holds of a capture. Places and lengths are counts of bytes.
 use Rattle.std.specs.Prelude.{◌≡◌, ℕ, ◌+◌, ◌-◌, List, length, take, drop, ⊤, Option, Some, None}
 use Rattle.pcap_reader.specs.declared.layout.Layout.{Layout}
-use Rattle.pcap_reader.specs.declared.ending.Ending.{Ending}
-use Rattle.pcap_reader.specs.Records.{ending_by, fraction, captured}
+use Rattle.timing_base.specs.declared.capture.FileNote.{FileNote}
+use Rattle.pcap_reader.specs.Records.{note_by, fraction, captured}
 use Rattle.pcap_reader.specs.declared.window.Window.{Window}
 
 -- the bytes that were read and not let go
-abbrev pub held : Window → List ℕ
-held w = take (w.filled - w.start) (drop w.start w.buf.items)
+abbrev pub held_bytes : Window → List ℕ
+held_bytes w = take (w.filled - w.start) (drop w.start w.buf.items)
 
 -- the last n bytes that were let go
-abbrev pub behind : ℕ → Window → List ℕ
-behind n w = take n (drop (w.start - n) w.buf.items)
+abbrev pub last_bytes : ℕ → Window → List ℕ
+last_bytes n w = take n (drop (w.start - n) w.buf.items)
 
 -- how many bytes were taken from the source: those that were let go, and those that are held
-abbrev pub taken_by : Window → ℕ
-taken_by w = w.place + length (held w)
+abbrev pub taken_length : Window → ℕ
+taken_length w = w.place + length (held_bytes w)
 
 -- where the source tells its bytes, so many more are taken as it has fewer left
 abbrev pub Takes : (old new : Option (List ℕ)) → (before now : ℕ) → Type 0
@@ -31,7 +31,7 @@ pub record SameRecord (old new : Window) : Type 0 where
   pub stage : new.stage ≡ old.stage
 
 -- what stands in the way of the record at the front, in a text that goes on for `long` bytes
-abbrev pub stop_of : Layout → Window → (long : ℕ) → Option Ending
-stop_of layout w long =
-    ending_by layout.fraction w.most (w.count + 1) w.place long
-    (fraction layout (held w)) (captured layout (held w))
+abbrev pub front_note : Layout → Window → (long : ℕ) → Option FileNote
+front_note layout w long =
+    note_by layout.fraction w.most (w.count + 1) w.place long
+    (fraction layout (held_bytes w)) (captured layout (held_bytes w))

@@ -1,26 +1,34 @@
 //! What holds of the definition of a capture's records, for every text. Each function is a theorem:
 //! it does nothing, and its clause is proved.
 
-ghost use Rattle.std.specs.Prelude.{◌≡◌, ◌^◌, ◌+◌, ◌*◌, ℕ, List, [], ◌∷◌, ◌++◌, take, drop, Ok, Err};
+ghost use Rattle.std.specs.Prelude.{◌≡◌, ◌≢◌, ◌^◌, ◌+◌, ◌*◌, ℕ, List, [], ◌∷◌, ◌++◌, take, drop, Ok, Err};
 ghost use Rattle.timing_base.specs.Captures.{Record};
-ghost use Rattle.timing_base.specs.declared.capture.PcapFault.TheVariants.{BadMagic, BadVersion, BadLink, BadStamp, BadLength, TooLong};
-ghost use Rattle.pcap_reader.specs.declared.ending.Ending.{Ending};
-ghost use Rattle.pcap_reader.specs.declared.ending.Ending.TheVariants.{End, Cut, Refused};
+ghost use Rattle.timing_base.specs.declared.capture.PcapFault.TheVariants.{ReadFault, BadMagic, BadVersion, BadLink, BadStamp, BadLength, TooLong};
+ghost use Rattle.timing_base.specs.declared.capture.FileNote.{FileNote};
+ghost use Rattle.timing_base.specs.declared.capture.FileNote.TheVariants.{End, Cut, Refused, Stopped};
 ghost use Rattle.pcap_reader.specs.Records.{Records};
-ghost use Rattle.pcap_reader.specs.Examples.{little_micros, little_nanos, big_micros, big_nanos, little_record, big_record, with_fraction, faulty_head, long_head};
+ghost use Rattle.pcap_reader.specs.Examples.{little_micros, little_nanos, big_micros, big_nanos, little_record, big_record, changed, head, zero_bytes, one_byte, most_bytes, too_many_bytes, last_micro, million, last_nano, milliard};
 
-/// Each text has a list of records and an ending.
+/// Each text has a list of records and a note of how they end.
 pub fn some_list()
     ensures { (text : List ℕ) (most : ℕ)
-        → (items : List Record) × (end : Ending) × Records text most items end }
+        → (items : List Record) × (end : FileNote) × Records text most items end }
 {}
 
 /// It has no other.
 pub fn only_list()
-    ensures items { (text : List ℕ) (most : ℕ) (xs ys : List Record) (d e : Ending)
+    ensures items { (text : List ℕ) (most : ℕ) (xs ys : List Record) (d e : FileNote)
         → Records text most xs d → Records text most ys e → xs ≡ ys }
-    ensures ending { (text : List ℕ) (most : ℕ) (xs ys : List Record) (d e : Ending)
+    ensures note { (text : List ℕ) (most : ℕ) (xs ys : List Record) (d e : FileNote)
         → Records text most xs d → Records text most ys e → d ≡ e }
+{}
+
+/// A text ends neither for want of memory nor by a failed read.
+pub fn ends_by_itself()
+    ensures memory { (text : List ℕ) (most : ℕ) (items : List Record) (note : FileNote)
+        → Records text most items note → note ≢ Stopped }
+    ensures read { (text : List ℕ) (most : ℕ) (items : List Record) (note : FileNote)
+        → Records text most items note → note ≢ Refused ReadFault }
 {}
 
 /// Worked by hand: whole captures, in all orders and units.
@@ -37,10 +45,13 @@ pub fn worked_whole()
         ∷ record { number = 2; stamp = 3000005000; bytes = 7 ∷ [] } ∷ []) End }
 
     // Fractions of 999,999 microseconds and of 999,999,999 nanoseconds.
-    ensures last_micro { Records (little_micros ++ with_fraction (0x3f ∷ 0x42 ∷ 0x0f ∷ 0 ∷ []))
-        41 (record { number = 1; stamp = 3999999000; bytes = 7 ∷ [] } ∷ []) End }
-    ensures last_nano { Records (little_nanos ++ with_fraction (0xff ∷ 0xc9 ∷ 0x9a ∷ 0x3b ∷ []))
-        41 (record { number = 1; stamp = 3999999999; bytes = 7 ∷ [] } ∷ []) End }
+    ensures last_micro { Records (little_micros ++ (head last_micro one_byte ++ 7 ∷ [])) 41
+        (record { number = 1; stamp = 3999999000; bytes = 7 ∷ [] } ∷ []) End }
+    ensures last_nano { Records (little_nanos ++ (head last_nano one_byte ++ 7 ∷ [])) 41
+        (record { number = 1; stamp = 3999999999; bytes = 7 ∷ [] } ∷ []) End }
+
+    // Of the link type, 0xf0000001 here, the low 16 bits alone count.
+    ensures high_link { Records (changed 23 0xf0 little_nanos) 24 [] End }
 {}
 
 /// Worked by hand: captures that are cut.
@@ -48,25 +59,39 @@ pub fn worked_cut()
     ensures in_head { Records (little_nanos ++ take 15 little_record) (2 ^ 40) [] (Cut 24) }
     ensures in_bytes { Records (little_nanos ++ (little_record ++ take 18 little_record)) (2 ^ 40)
         (record { number = 1; stamp = 3000000005; bytes = 7 ∷ 8 ∷ 9 ∷ [] } ∷ []) (Cut 43) }
+
+    // A record may have 262,144 captured bytes; here they are missing.
+    ensures most_bytes { Records (little_nanos ++ head zero_bytes most_bytes) (24 + 16 + 262144) []
+        (Cut 24) }
 {}
 
 /// Worked by hand: captures that are refused, each at the first of its faults.
 pub fn worked_refused()
     ensures short { Records (take 23 little_nanos) (2 ^ 40) [] (Refused BadMagic) }
     ensures magic { Records (drop 1 little_nanos ++ little_record) (2 ^ 40) [] (Refused BadMagic) }
-    ensures version { Records (take 4 little_nanos ++ (0 ∷ drop 5 little_nanos))
-        (2 ^ 40) [] (Refused BadVersion) }
-    ensures minor { Records (take 6 little_nanos ++ (3 ∷ drop 7 little_nanos))
-        (2 ^ 40) [] (Refused BadVersion) }
-    ensures link { Records (take 20 little_nanos ++ (101 ∷ drop 21 little_nanos))
-        (2 ^ 40) [] (Refused BadLink) }
-    ensures stamp { Records (little_nanos ++ faulty_head) 24 [] (Refused (BadStamp 1)) }
-    ensures micros { Records (little_micros ++ with_fraction (0x40 ∷ 0x42 ∷ 0x0f ∷ 0 ∷ []))
-        (2 ^ 40) [] (Refused (BadStamp 1)) }
-    ensures length { Records (little_nanos ++ (little_record ++ long_head)) 43
+    ensures major { Records (changed 4 0 little_nanos) (2 ^ 40) [] (Refused BadVersion) }
+    ensures minor { Records (changed 6 3 little_nanos) (2 ^ 40) [] (Refused BadVersion) }
+
+    // Link types 101 and 257, of which the low byte is 1; and two faults at once.
+    ensures link { Records (changed 20 101 little_nanos) (2 ^ 40) [] (Refused BadLink) }
+    ensures second_byte { Records (changed 21 1 little_nanos) (2 ^ 40) [] (Refused BadLink) }
+    ensures version_and_link { Records (changed 6 3 (changed 20 101 little_nanos)) (2 ^ 40) []
+        (Refused BadVersion) }
+
+    // A whole second in the fraction, alone and with 262,145 captured bytes, and those alone.
+    ensures nanos { Records (little_nanos ++ head milliard one_byte) 24 [] (Refused (BadStamp 1)) }
+    ensures micros { Records (little_micros ++ head million one_byte) (2 ^ 40) []
+        (Refused (BadStamp 1)) }
+    ensures fraction_and_length { Records (little_nanos ++ head milliard too_many_bytes) 24 []
+        (Refused (BadStamp 1)) }
+    ensures length { Records (little_nanos ++ (little_record ++ head zero_bytes too_many_bytes)) 43
         (record { number = 1; stamp = 3000000005; bytes = 7 ∷ 8 ∷ 9 ∷ [] } ∷ [])
         (Refused (BadLength 2)) }
+
+    // A record that ends at byte 43 is within a greatest length of 43, as above, and not of 42.
     ensures long { Records (little_nanos ++ little_record) 42 [] (Refused TooLong) }
-    ensures long_before_cut { Records (little_nanos ++ take 18 little_record)
-        42 [] (Refused TooLong) }
+    ensures long_before_cut { Records (little_nanos ++ take 18 little_record) 42 []
+        (Refused TooLong) }
+    ensures most_bytes_too_long { Records (little_nanos ++ head zero_bytes most_bytes)
+        (24 + 16 + 262143) [] (Refused TooLong) }
 {}

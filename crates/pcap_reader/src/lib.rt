@@ -13,14 +13,12 @@
 //! many as its reader is told.
 #![tactic(auto)]
 
-mod ending;
 pub mod laws;
 mod layout;
 mod reader;
 mod stage;
 mod window;
 
-pub use ending::Ending;
 pub use reader::{PcapReader, Step};
 
 #[cfg(test)]

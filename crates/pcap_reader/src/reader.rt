@@ -1,14 +1,17 @@
 //! The reader, which lends one frame after the other.
 
-ghost use Rattle.std.specs.Prelude.{◌≡◌, ◌≤◌, ◌<◌, ◌^◌, List, ℕ, Some, None, IfOk, IfErr, drop};
+ghost use Rattle.std.specs.Prelude.{◌≡◌, ◌≤◌, ◌^◌, List, ℕ, Some, None, Err, IfOk, IfErr, MatchResult, drop};
+ghost use Rattle.std.specs.Option.{ForSome};
 ghost use Rattle.timing_base.specs.Captures.{Record};
+ghost use Rattle.timing_base.specs.declared.capture.PcapFault.TheVariants as fault;
+ghost use Rattle.timing_base.specs.declared.capture.FileNote.TheVariants as file_note;
+ghost use Rattle.pcap_reader.specs.Records.{IsGiven};
 
-use crate::ending::Ending;
 use crate::layout::Layout;
 use crate::stage::{Head, Stage};
 use crate::window::Window;
 use std::alloc::Global;
-use timing_base::PcapFault;
+use timing_base::{FileNote, PcapFault};
 use timing_outside::Source;
 
 /// What a reader comes to next.
@@ -34,7 +37,7 @@ impl<S: Source> PcapReader<S> {
     ghost use Rattle.pcap_reader.specs.Records.{Records};
     ghost use Rattle.std.specs.Io.BufRead.{Rests};
     ghost use Rattle.std.specs.Borrow.{sem};
-    ghost use Rattle.pcap_reader.specs.Readers.{under, answered, most_of, taken, ended, WillGive, Steps};
+    ghost use Rattle.pcap_reader.specs.Readers.{under, frame_count, most_of, taken_count, end_note, WillGive, Steps};
     ghost use Rattle.pcap_reader.specs.contracts.reader.PcapReader.{the_row};
 
     /// A reader at the start of its source, for captures of at most `most` bytes. It takes the one
@@ -43,14 +46,14 @@ impl<S: Source> PcapReader<S> {
     pub fn start(alloc: Global, source: S, most: u64) -> Result<PcapReader<S>, S>
         requires least { 24 ≤ most }
         requires greatest { most ≤ 2 ^ 40 }
-        ensures gives { IfOk result (λ r. (text : List ℕ) (items : List Record) (end : _)
-            → S.left source ≡ Some text → Records text most items end
-            → WillGive S.left r items end) }
+        ensures gives { IfOk result (λ r. (text : List ℕ) (items : List Record) (note : _)
+            → S.left source ≡ Some text → Records text most items note
+            → WillGive S.left r items note) }
         ensures source { IfOk result (λ r. under r ≡ source) }
-        ensures answered { IfOk result (λ r. answered r ≡ 0) }
+        ensures count { IfOk result (λ r. frame_count r ≡ 0) }
         ensures most { IfOk result (λ r. most_of r ≡ most) }
-        ensures taken { IfOk result (λ r. taken r ≡ 0) }
-        ensures fresh { IfOk result (λ r. ended r ≡ None) }
+        ensures taken { IfOk result (λ r. taken_count r ≡ 0) }
+        ensures fresh { IfOk result (λ r. end_note r ≡ None) }
         ensures back { IfErr result (λ s. s ≡ source) }
     {
         match Window::new(alloc, most) {
@@ -84,10 +87,20 @@ impl<S: Source> PcapReader<S> {
                 at: head.at,
                 bytes: self.window.last(head.captured),
             }),
-            Err(Ending::End) => Ok(Step::End),
-            Err(Ending::Cut { at }) => Ok(Step::Cut { at }),
-            Err(Ending::Refused(fault)) => Err(fault),
+            Err(FileNote::End) => Ok(Step::End),
+            Err(FileNote::Cut { at }) => Ok(Step::Cut { at }),
+            Err(FileNote::Refused(fault)) => Err(fault),
+            Err(FileNote::Stopped) => unreachable!(),
         }
+    }
+
+    /// How the records ended, where they have: what the last answer of `next` said, if it was no
+    /// frame. A reader takes no memory, so it is never `Stopped`.
+    pub fn note(&self) -> Option<FileNote>
+        ensures note { result ≡ end_note self.now }
+        ensures given { ForSome result IsGiven }
+    {
+        self.window.note()
     }
 
     /// The source, with what it has left.
@@ -101,16 +114,40 @@ impl<S: Source> PcapReader<S> {
 
 impl<S: Source> PcapReader<S> {
     ghost use Rattle.std.specs.Prelude.{◌+◌};
-    ghost use Rattle.timing_outside.specs.Causes.{Rose};
     ghost use Rattle.pcap_reader.specs.Header.{header};
-    ghost use Rattle.pcap_reader.specs.Records.{RecordsFrom, OnReadFault};
-    ghost use Rattle.pcap_reader.specs.Readers.{ahead, taken};
-    ghost use Rattle.pcap_reader.specs.Finding.{HeaderIs, FoundGives, FoundCounts, Advances, Finds};
-    ghost use Rattle.pcap_reader.specs.Windows.{Takes};
+    ghost use Rattle.pcap_reader.specs.Records.{RecordsFrom};
+    ghost use Rattle.pcap_reader.specs.Readers.{ahead, end_note};
+    ghost use Rattle.pcap_reader.specs.Finding.{Holds, HeaderIs, FoundGives, FoundCounts, Moves, OnRose, Finds};
     ghost use Rattle.pcap_reader.specs.declared.stage.Stage.TheVariants as stage;
 
+    /// Holds so many bytes, and answers whether there are so many. It reads only where fewer are
+    /// held.
+    #[inline]
+    fn hold(&mut self, need: usize) -> Result<bool, FileNote>
+        requires need { need ≤ 262160 }
+        requires most { self.old.window.place + need ≤ self.old.window.most + 16 }
+        ensures { Holds S.left S.name S.faults need self.old self.new result }
+    {
+        if self.window.len() >= need {
+            return Ok(true);
+        }
+        self.fill(need)
+    }
+
+    /// Moves what is held to the front of the buffer, and reads until so many bytes are held.
+    #[cold]
+    fn fill(&mut self, need: usize) -> Result<bool, FileNote>
+        requires need { need ≤ 262160 }
+        requires most { self.old.window.place + need ≤ self.old.window.most + 16 }
+        ensures { Holds S.left S.name S.faults need self.old self.new result }
+    {
+        self.window
+            .fill(&mut self.source, need)
+            .map_err(|_| FileNote::Refused(PcapFault::ReadFault))
+    }
+
     /// Reads the file header and lets it go.
-    fn read_header(&mut self) -> Result<Layout, Ending>
+    fn read_header(&mut self) -> Result<Layout, FileNote>
         requires first { self.old.window.place ≡ 0 }
         ensures header { (text : List ℕ) → ahead S.left self.old ≡ Some text
             → HeaderIs (header text) result }
@@ -119,57 +156,50 @@ impl<S: Source> PcapReader<S> {
         ensures place { IfOk result (λ _. self.new.window.place ≡ 24) }
         ensures first { IfOk result (λ _. self.new.window.count ≡ 0) }
         ensures count { self.new.window.count ≡ self.old.window.count }
-        ensures most { self.new.window.most ≡ self.old.window.most }
         ensures stage { IfOk result (λ layout. self.new.window.stage ≡ stage.Records layout) }
-        ensures takes { Takes (S.left self.old.source) (S.left self.new.source) (taken self.old)
-            (taken self.new) }
-        ensures name { S.name self.new.source ≡ S.name self.old.source }
-        ensures later { S.faults self.old.source ≤ S.faults self.new.source }
-        ensures failed { IfErr result (λ e. OnReadFault e
-            (Rose (S.faults self.old.source) (S.faults self.new.source))) }
+        ensures moves { Moves S.left S.name S.faults self.old self.new }
+        ensures failed { OnRose S.faults self.old self.new result }
+        ensures given { IfErr result IsGiven }
     {
-        if !self.window.fill(&mut self.source, 24)? {
-            return Err(Ending::Refused(PcapFault::BadMagic));
+        if !self.hold(24)? {
+            return Err(FileNote::Refused(PcapFault::BadMagic));
         }
         match Layout::read_header(self.window.peek()) {
             Ok(layout) => {
                 self.window.pass_header(layout);
                 Ok(layout)
             }
-            Err(fault) => Err(Ending::Refused(fault)),
+            Err(fault) => Err(FileNote::Refused(fault)),
         }
     }
 
     /// Reads the next record and lets it go.
-    fn read_record(&mut self, layout: Layout) -> Result<Head, Ending>
+    #[inline(always)]
+    fn read_record(&mut self, layout: Layout) -> Result<Head, FileNote>
         requires begun { self.old.window.stage ≡ stage.Records layout }
-        ensures gives { (text : List ℕ) (items : List Record) (end : _)
+        ensures gives { (text : List ℕ) (items : List Record) (note : _)
             → ahead S.left self.old ≡ Some text
             → RecordsFrom layout self.old.window.most (self.old.window.count + 1)
-            self.old.window.place text items end
-            → FoundGives self.new.window (ahead S.left self.new) result items end }
+            self.old.window.place text items note
+            → FoundGives self.new.window (ahead S.left self.new) result items note }
         ensures counts { FoundCounts self.old.window.count self.new.window result }
-        ensures most { self.new.window.most ≡ self.old.window.most }
         ensures stage { self.new.window.stage ≡ self.old.window.stage }
-        ensures takes { Takes (S.left self.old.source) (S.left self.new.source) (taken self.old)
-            (taken self.new) }
-        ensures name { S.name self.new.source ≡ S.name self.old.source }
-        ensures later { S.faults self.old.source ≤ S.faults self.new.source }
-        ensures failed { IfErr result (λ e. OnReadFault e
-            (Rose (S.faults self.old.source) (S.faults self.new.source))) }
+        ensures moves { Moves S.left S.name S.faults self.old self.new }
+        ensures failed { OnRose S.faults self.old self.new result }
+        ensures given { IfErr result IsGiven }
     {
-        if !self.window.fill(&mut self.source, 16)? {
+        if !self.hold(16)? {
             return Err(if self.window.len() == 0 {
-                Ending::End
+                FileNote::End
             } else {
-                Ending::Cut {
+                FileNote::Cut {
                     at: self.window.place,
                 }
             });
         }
         let head = self.window.head(layout)?;
-        if !self.window.fill(&mut self.source, 16 + head.captured)? {
-            return Err(Ending::Cut {
+        if !self.hold(16 + head.captured)? {
+            return Err(FileNote::Cut {
                 at: self.window.place,
             });
         }
@@ -178,8 +208,13 @@ impl<S: Source> PcapReader<S> {
     }
 
     /// Reads on to the end of the next record, or to how the capture ends.
-    fn advance(&mut self) -> Result<Head, Ending>
-        ensures { Advances S.left S.name S.faults self.old self.new result }
+    fn advance(&mut self) -> Result<Head, FileNote>
+        ensures finds { Finds S.left S.name S.faults self.old self.new result }
+        ensures goes_on { IfOk result (λ _. end_note self.new ≡ None) }
+        // After an end nothing is taken, and that is the answer.
+        ensures same { (note : _) → end_note self.old ≡ Some note → self.new ≡ self.old }
+        ensures again { (note : _) → end_note self.old ≡ Some note → result ≡ Err note }
+        ensures given { IfErr result IsGiven }
     {
         match self.window.stage {
             Stage::Header => {
@@ -187,17 +222,21 @@ impl<S: Source> PcapReader<S> {
                 self.read_record(layout)
             }
             Stage::Records(layout) => self.read_record(layout),
-            Stage::Ended(ending) => Err(ending),
+            Stage::Ended(note) => Err(note),
         }
     }
 
     /// Finds the next record, or says how all ended, and keeps that.
-    fn find(&mut self) -> Result<Head, Ending>
-        ensures { Finds S.left S.name S.faults self.old self.new result }
+    fn find(&mut self) -> Result<Head, FileNote>
+        ensures finds { Finds S.left S.name S.faults self.old self.new result }
+        ensures tells { MatchResult result (λ _. end_note self.new ≡ None)
+            (λ note. end_note self.new ≡ Some note) }
+        ensures again { (note : _) → end_note self.old ≡ Some note → self.new ≡ self.old }
+        ensures given { IfErr result IsGiven }
     {
         let found = self.advance();
-        if let Err(ending) = found {
-            self.window.settle(ending);
+        if let Err(note) = found {
+            self.window.settle(note);
         }
         found
     }

@@ -1,7 +1,7 @@
 //! How far a reader has come, and what it found.
 
-use crate::ending::Ending;
 use crate::layout::Layout;
+use timing_base::FileNote;
 
 /// How far a reader has come.
 #[derive(Clone, Copy, Debug)]
@@ -10,8 +10,8 @@ pub enum Stage {
     Header,
     /// At a record.
     Records(Layout),
-    /// All was answered, and ended so.
-    Ended(Ending),
+    /// All was answered, and the records ended so.
+    Ended(FileNote),
 }
 
 /// What the head of a record says: the stamp, in nanoseconds since 1970-01-01 00:00:00, and how

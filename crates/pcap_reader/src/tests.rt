@@ -1,8 +1,10 @@
+//! Captures in pieces, reads that fail, and the largest record.
+
 use super::*;
 use std::alloc::{AllocError, Global};
 use std::process::Abort;
 use std::test::Fail;
-use timing_base::PcapFault;
+use timing_base::{FileNote, PcapFault};
 use timing_outside::{MemoryShelf, MemorySource, OpenFault, ReadPlan, Shelf};
 
 const MOST: u64 = 1 << 40;
@@ -127,21 +129,21 @@ fn open(
 }
 
 // The stamp and the length of the next record, or how the records end.
-fn sight(reader: &mut PcapReader<MemorySource>) -> Result<(u64, usize), Ending> {
+fn sight(reader: &mut PcapReader<MemorySource>) -> Result<(u64, usize), FileNote> {
     match reader.next() {
         Ok(Step::Frame { at, bytes }) => Ok((at, bytes.len())),
-        Ok(Step::End) => Err(Ending::End),
-        Ok(Step::Cut { at }) => Err(Ending::Cut { at }),
-        Err(fault) => Err(Ending::Refused(fault)),
+        Ok(Step::End) => Err(FileNote::End),
+        Ok(Step::Cut { at }) => Err(FileNote::Cut { at }),
+        Err(fault) => Err(FileNote::Refused(fault)),
     }
 }
 
-// In whatever pieces this text comes, it has so many records of that capture, and this ending.
+// In whatever pieces this text comes, it has so many records of that capture, and this note.
 fn has_records(
     rt: &(impl Abort + AllocGlobal),
     text: &[u8],
     count: u8,
-    ending: Ending,
+    note: FileNote,
 ) -> Result<(), Fail> {
     for piece in PIECES {
         let mut reader = open(rt.alloc(), text, piece, &[], MOST)?;
@@ -149,7 +151,9 @@ fn has_records(
             let want = Ok((stamp(index), 56));
             assert_eq!(rt; sight(&mut reader), want, "at {index} in pieces of {piece}");
         }
-        assert_eq!(rt; sight(&mut reader), Err(ending), "in pieces of {piece}");
+        assert_eq!(rt; reader.note(), None, "in pieces of {piece}");
+        assert_eq!(rt; sight(&mut reader), Err(note), "in pieces of {piece}");
+        assert_eq!(rt; reader.note(), Some(note), "in pieces of {piece}");
     }
     Ok(())
 }
@@ -207,13 +211,13 @@ fn bad_headers(rt: HostRuntime) -> Result<(), Fail> {
     let link = Kind::LittleNanos.header(alloc, 4, 101)?;
     let high = Kind::LittleNanos.header(alloc, 4, 0xf000_0001)?;
     let rows = [
-        (short, Ending::Refused(PcapFault::BadMagic)),
-        (version, Ending::Refused(PcapFault::BadVersion)),
-        (link, Ending::Refused(PcapFault::BadLink)),
-        (high, Ending::End),
+        (short, FileNote::Refused(PcapFault::BadMagic)),
+        (version, FileNote::Refused(PcapFault::BadVersion)),
+        (link, FileNote::Refused(PcapFault::BadLink)),
+        (high, FileNote::End),
     ];
-    for (text, ending) in &rows {
-        has_records(&rt, text, 0, *ending)?;
+    for (text, note) in &rows {
+        has_records(&rt, text, 0, *note)?;
     }
     Ok(())
 }
@@ -232,13 +236,13 @@ fn bad_records(rt: HostRuntime) -> Result<(), Fail> {
         &rt,
         &stamped,
         0,
-        Ending::Refused(PcapFault::BadStamp { rec: 1 }),
+        FileNote::Refused(PcapFault::BadStamp { rec: 1 }),
     )?;
     has_records(
         &rt,
         &long,
         0,
-        Ending::Refused(PcapFault::BadLength { rec: 1 }),
+        FileNote::Refused(PcapFault::BadLength { rec: 1 }),
     )
 }
 
@@ -253,7 +257,7 @@ fn other_orders(rt: HostRuntime) -> Result<(), Fail> {
     ];
     for kind in kinds {
         let text = capture(alloc, kind)?;
-        has_records(&rt, &text, 41, Ending::End)?;
+        has_records(&rt, &text, 41, FileNote::End)?;
         for piece in PIECES {
             let mut reader = open(alloc, &text, piece, &[], MOST)?;
             for index in 0..41 {
@@ -279,7 +283,7 @@ fn cut_capture(rt: HostRuntime) -> Result<(), Fail> {
         &rt,
         text.get(..2914).unwrap_or(&[]),
         40,
-        Ending::Cut { at: 2904 },
+        FileNote::Cut { at: 2904 },
     )
 }
 
@@ -288,7 +292,7 @@ fn compressed_file(rt: HostRuntime) -> Result<(), Fail> {
     let mut text = [0; 100];
     text[0] = 0x1f;
     text[1] = 0x8b;
-    has_records(&rt, &text, 0, Ending::Refused(PcapFault::BadMagic))
+    has_records(&rt, &text, 0, FileNote::Refused(PcapFault::BadMagic))
 }
 
 // After a failed read nothing is read, though the source would go on.
@@ -301,7 +305,7 @@ fn failed_read(rt: HostRuntime) -> Result<(), Fail> {
     assert_eq!(rt; sight(&mut reader), Ok((stamp(1), 56)));
     assert_eq!(rt;
         sight(&mut reader),
-        Err(Ending::Refused(PcapFault::ReadFault))
+        Err(FileNote::Refused(PcapFault::ReadFault))
     );
     assert_eq!(rt; reader.next().err(), Some(PcapFault::ReadFault));
     assert_eq!(rt; reader.next().err(), Some(PcapFault::ReadFault));

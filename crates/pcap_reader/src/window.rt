@@ -1,14 +1,16 @@
 //! The part of a capture that is held in the buffer.
 
-ghost use Rattle.pcap_reader.specs.Stages.{is_begun};
+ghost use Rattle.timing_base.specs.Captures.{IsStamp};
+ghost use Rattle.std.specs.Option.{ForSome};
+ghost use Rattle.pcap_reader.specs.Stages.{is_begun, stage_note};
+ghost use Rattle.pcap_reader.specs.Records.{IsGiven};
 ghost use Rattle.pcap_reader.specs.declared.stage.Stage.TheVariants as stage;
 ghost use Rattle.std.specs.Prelude.{◌≡◌, ◌≤◌, ◌<◌, ◌+◌, ◌-◌, ◌*◌, ◌^◌, ◌++◌, ℕ, [], IfOk, IfErr, Some, None, IsTrue, true, false, vec_len, length, take, drop};
 
-use crate::ending::Ending;
 use crate::layout::Layout;
 use crate::stage::{Head, Stage};
 use std::alloc::{AllocError, Global};
-use timing_base::PcapFault;
+use timing_base::{FileNote, PcapFault};
 use timing_outside::{Failed, Source};
 
 /// A whole record of the greatest length, and then a whole read.
@@ -43,21 +45,22 @@ pub struct Window {
     ghost inside: { place ≤ most },
     ghost few: { 16 * count ≤ place },
     ghost taken: { place + (filled - start) ≤ most + 16 },
+    ghost given: { ForSome (stage_note stage) IsGiven },
 }
 
 impl Window {
     ghost use Rattle.std.specs.Io.KnownBytes.{Keeps, IsAtEnd, prepend_known};
     ghost use Rattle.timing_outside.specs.Causes.{HasCause};
-    ghost use Rattle.pcap_reader.specs.Windows.{held, behind, taken_by, SameRecord, Takes, stop_of};
+    ghost use Rattle.pcap_reader.specs.Windows.{held_bytes, last_bytes, taken_length, SameRecord, Takes, front_note};
     ghost use Rattle.pcap_reader.specs.Records.{stamp, captured, OnReadFault};
-    ghost use Rattle.pcap_reader.specs.declared.ending.Ending.TheVariants as ending;
+    ghost use Rattle.timing_base.specs.declared.capture.FileNote.TheVariants as file_note;
 
     /// A window at the start of a capture.
     pub fn new(alloc: Global, most: u64) -> Result<Window, AllocError>
         requires least { 24 ≤ most }
         requires greatest { most ≤ 2 ^ 40 }
-        ensures held { IfOk result (λ w. held w ≡ []) }
-        ensures taken { IfOk result (λ w. taken_by w ≡ 0) }
+        ensures held { IfOk result (λ w. held_bytes w ≡ []) }
+        ensures taken { IfOk result (λ w. taken_length w ≡ 0) }
         ensures place { IfOk result (λ w. w.place ≡ 0) }
         ensures count { IfOk result (λ w. w.count ≡ 0) }
         ensures most { IfOk result (λ w. w.most ≡ most) }
@@ -75,16 +78,27 @@ impl Window {
         })
     }
 
+    /// How all ended, where it has.
+    pub fn note(&self) -> Option<FileNote>
+        ensures note { result ≡ stage_note self.now.stage }
+        ensures given { ForSome result IsGiven }
+    {
+        match self.stage {
+            Stage::Header | Stage::Records(_) => None,
+            Stage::Ended(note) => Some(note),
+        }
+    }
+
     /// How many bytes are held.
     pub fn len(&self) -> usize
-        ensures { result ≡ length (held self.now) }
+        ensures { result ≡ length (held_bytes self.now) }
     {
         self.filled - self.start
     }
 
     /// What is held.
     pub fn peek(&self) -> &[u8]
-        ensures { result.now ≡ held self.now }
+        ensures { result.now ≡ held_bytes self.now }
     {
         &self.buf[self.start..self.filled]
     }
@@ -92,17 +106,17 @@ impl Window {
     /// The bytes that were let go last.
     pub fn last(&self, count: usize) -> &[u8]
         requires { count ≤ self.now.start }
-        ensures { result.now ≡ behind count self.now }
+        ensures { result.now ≡ last_bytes count self.now }
     {
         &self.buf[self.start - count..self.start]
     }
 
     /// Lets the file header go.
     pub fn pass_header(&mut self, layout: Layout)
-        requires held { 24 ≤ length (held self.old) }
+        requires held { 24 ≤ length (held_bytes self.old) }
         requires first { self.old.place ≡ 0 }
-        ensures held { held self.new ≡ drop 24 (held self.old) }
-        ensures taken { taken_by self.new ≡ taken_by self.old }
+        ensures held { held_bytes self.new ≡ drop 24 (held_bytes self.old) }
+        ensures taken { taken_length self.new ≡ taken_length self.old }
         ensures place { self.new.place ≡ 24 }
         ensures count { self.new.count ≡ 0 }
         ensures same_count { self.new.count ≡ self.old.count }
@@ -115,32 +129,34 @@ impl Window {
     }
 
     /// Says how all ended.
-    pub fn settle(&mut self, ending: Ending)
-        ensures held { held self.new ≡ held self.old }
-        ensures taken { taken_by self.new ≡ taken_by self.old }
+    pub fn settle(&mut self, note: FileNote)
+        requires { IsGiven note }
+        ensures held { held_bytes self.new ≡ held_bytes self.old }
+        ensures taken { taken_length self.new ≡ taken_length self.old }
         ensures count { self.new.count ≡ self.old.count }
         ensures most { self.new.most ≡ self.old.most }
-        ensures stage { self.new.stage ≡ stage.Ended ending }
-        ensures same { self.old.stage ≡ stage.Ended ending → self.new ≡ self.old }
+        ensures stage { self.new.stage ≡ stage.Ended note }
+        ensures same { self.old.stage ≡ stage.Ended note → self.new ≡ self.old }
     {
-        self.stage = Stage::Ended(ending);
+        self.stage = Stage::Ended(note);
     }
 
     /// Looks at the head of the record at the front of what is held. The first fault wins: the
     /// fraction, the captured length, the greatest length of a capture.
-    pub fn head(&self, layout: Layout) -> Result<Head, Ending>
-        requires { 16 ≤ length (held self.now) }
-        ensures stamp { IfOk result (λ h. h.at ≡ stamp layout (held self.now)) }
-        ensures captured { IfOk result (λ h. h.captured ≡ captured layout (held self.now)) }
-        ensures below { IfOk result (λ h. h.at < 2 ^ 32 * 10 ^ 9) }
+    pub fn head(&self, layout: Layout) -> Result<Head, FileNote>
+        requires { 16 ≤ length (held_bytes self.now) }
+        ensures stamp { IfOk result (λ h. h.at ≡ stamp layout (held_bytes self.now)) }
+        ensures captured { IfOk result (λ h. h.captured ≡ captured layout (held_bytes self.now)) }
+        ensures below { IfOk result (λ h. IsStamp h.at) }
         ensures few { IfOk result (λ h. h.captured ≤ 262144) }
         ensures most { IfOk result (λ h. self.now.place + 16 + h.captured ≤ self.now.most) }
         ensures whole { IfOk result (λ h. (long : ℕ) → 16 + h.captured ≤ long
-            → stop_of layout self.now long ≡ None) }
+            → front_note layout self.now long ≡ None) }
         ensures cut { IfOk result (λ h. (long : ℕ) → long < 16 + h.captured
-            → stop_of layout self.now long ≡ Some (ending.Cut self.now.place)) }
-        ensures faulty { IfErr result (λ e. (long : ℕ) → stop_of layout self.now long ≡ Some e) }
+            → front_note layout self.now long ≡ Some (file_note.Cut self.now.place)) }
+        ensures faulty { IfErr result (λ e. (long : ℕ) → front_note layout self.now long ≡ Some e) }
         ensures read { IfErr result (λ e. OnReadFault e ⊥) }
+        ensures given { IfErr result IsGiven }
     {
         let bytes = self.peek();
         let seconds = layout.order.read_u32(bytes, 0);
@@ -148,13 +164,13 @@ impl Window {
         let captured = layout.order.read_u32(bytes, 8);
         let rec = self.count + 1;
         if fraction >= layout.fraction.per_second() {
-            return Err(Ending::Refused(PcapFault::BadStamp { rec }));
+            return Err(FileNote::Refused(PcapFault::BadStamp { rec }));
         }
         if captured > MOST_CAPTURED {
-            return Err(Ending::Refused(PcapFault::BadLength { rec }));
+            return Err(FileNote::Refused(PcapFault::BadLength { rec }));
         }
         if self.place + 16 + u64::from(captured) > self.most {
-            return Err(Ending::Refused(PcapFault::TooLong));
+            return Err(FileNote::Refused(PcapFault::TooLong));
         }
         let nanos = layout.fraction.to_nanos(fraction);
         Ok(Head {
@@ -165,12 +181,12 @@ impl Window {
 
     /// Lets a record with so many captured bytes go, which still stand behind what is held.
     pub fn pass_record(&mut self, captured: usize)
-        requires held { 16 + captured ≤ length (held self.old) }
+        requires held { 16 + captured ≤ length (held_bytes self.old) }
         requires most { self.old.place + 16 + captured ≤ self.old.most }
         requires begun { is_begun self.old.stage ≡ true }
-        ensures held { held self.new ≡ drop (16 + captured) (held self.old) }
-        ensures taken { taken_by self.new ≡ taken_by self.old }
-        ensures behind { behind captured self.new ≡ take captured (drop 16 (held self.old)) }
+        ensures held { held_bytes self.new ≡ drop (16 + captured) (held_bytes self.old) }
+        ensures taken { taken_length self.new ≡ taken_length self.old }
+        ensures behind { last_bytes captured self.new ≡ take captured (drop 16 (held_bytes self.old)) }
         ensures start { captured ≤ self.new.start }
         ensures place { self.new.place ≡ self.old.place + 16 + captured }
         ensures count { self.new.count ≡ self.old.count + 1 }
@@ -185,7 +201,7 @@ impl Window {
 
     /// Moves what is held to the front of the buffer.
     fn compact(&mut self)
-        ensures bytes { held self.new ≡ held self.old }
+        ensures bytes { held_bytes self.new ≡ held_bytes self.old }
         ensures start { self.new.start ≡ 0 }
         ensures filled { self.new.filled ≡ self.old.filled - self.old.start }
         ensures same { SameRecord self.old self.new }
@@ -212,8 +228,8 @@ impl Window {
     fn read_more<S: Source>(&mut self, source: &mut S) -> Result<usize, Failed>
         requires room { self.old.filled + 65536 ≤ 327696 }
         requires taken { self.old.place + (self.old.filled - self.old.start) < self.old.most + 16 }
-        ensures bytes { Keeps (prepend_known (held self.old) (S.left source.old))
-            (prepend_known (held self.new) (S.left source.new)) }
+        ensures bytes { Keeps (prepend_known (held_bytes self.old) (S.left source.old))
+            (prepend_known (held_bytes self.new) (S.left source.new)) }
         ensures name { S.name source.new ≡ S.name source.old }
         ensures cause { HasCause (S.faults source.old) (S.faults source.new) result }
         ensures start { self.new.start ≡ self.old.start }
@@ -227,25 +243,22 @@ impl Window {
         Ok(got)
     }
 
-    /// Holds so many bytes, and answers whether there are so many. It reads only where fewer are
-    /// held.
+    /// Moves what is held to the front of the buffer, reads until so many bytes are held, and
+    /// answers whether there are so many.
     pub fn fill<S: Source>(&mut self, source: &mut S, need: usize) -> Result<bool, Failed>
         requires need { need ≤ 262160 }
         requires most { self.old.place + need ≤ self.old.most + 16 }
-        ensures bytes { Keeps (prepend_known (held self.old) (S.left source.old))
-            (prepend_known (held self.new) (S.left source.new)) }
+        ensures bytes { Keeps (prepend_known (held_bytes self.old) (S.left source.old))
+            (prepend_known (held_bytes self.new) (S.left source.new)) }
         ensures name { S.name source.new ≡ S.name source.old }
         ensures cause { HasCause (S.faults source.old) (S.faults source.new) result }
         ensures same { SameRecord self.old self.new }
-        ensures takes { Takes (S.left source.old) (S.left source.new) (taken_by self.old)
-            (taken_by self.new) }
-        ensures enough { IfOk result (λ b. IsTrue b → need ≤ length (held self.new)) }
-        ensures few { IfOk result (λ b. b ≡ false → length (held self.new) < need) }
+        ensures takes { Takes (S.left source.old) (S.left source.new) (taken_length self.old)
+            (taken_length self.new) }
+        ensures enough { IfOk result (λ b. IsTrue b → need ≤ length (held_bytes self.new)) }
+        ensures few { IfOk result (λ b. b ≡ false → length (held_bytes self.new) < need) }
         ensures end { IfOk result (λ b. b ≡ false → IsAtEnd (S.left source.new)) }
     {
-        if self.filled - self.start >= need {
-            return Ok(true);
-        }
         self.compact();
         while self.filled < need {
             let got = self.read_more(source)?;
