@@ -1,5 +1,6 @@
 -- A frame laid out by hand, byte by byte, with what may differ in it.
 use Rattle.std.specs.Prelude.{ℕ, List, [], ◌∷◌, ◌++◌}
+use Rattle.timing_base.specs.declared.target.Target.{Target}
 use Rattle.udp_rtp.specs.Frames.{Datagram}
 
 -- the destination and the source of the Ethernet header
@@ -56,6 +57,10 @@ packet = rtp 0x80 0x60 ++ extended
 abbrev pub frame_of : List ℕ → List ℕ
 frame_of header = macs ++ (ip_type ++ (header ++ (udp 22 ++ packet)))
 
--- what goes to 239.0.0.1, port 50000, with this payload
+-- 239.0.0.1, port 50000
+abbrev pub group : Target
+group = record { address = 0xef000001; port = 50000 }
+
+-- what goes there with this payload
 abbrev pub to_group : List ℕ → Datagram
-to_group bytes = record { address = 0xef000001; port = 50000; payload = bytes }
+to_group bytes = record { target = group; payload = bytes }

@@ -1,22 +1,28 @@
--- The flow of a media: of the records of a capture those that go to its address and port.
-use Rattle.std.specs.Prelude.{ℕ, ◌==◌, ◌&&◌, if◌then◌else◌, List, filter_map, Option, Some, None}
+-- The flow of a media: of the records of a capture those that go to its target, an address and a port.
+use Rattle.std.specs.Prelude.{ℕ, Bool, ◌==◌, ◌&&◌, if◌then◌else◌, List, filter_map, Option, Some, None}
 use Rattle.timing_base.specs.Captures.{Record}
-use Rattle.timing_base.specs.declared.media.Media.{Media}
+use Rattle.timing_base.specs.Media.{Media}
+use Rattle.timing_base.specs.Targets.{target_of}
 use Rattle.timing_base.specs.declared.packet.FlowPacket.{FlowPacket}
-use Rattle.udp_rtp.specs.Frames.{Datagram, target_of}
+use Rattle.timing_base.specs.declared.target.Target.{Target}
+use Rattle.udp_rtp.specs.Frames.{Datagram, datagram_of}
 use Rattle.udp_rtp.specs.Reading.{reading}
+
+-- whether two targets are one: the same address and the same port
+abbrev pub is_same_target : Target → Target → Bool
+is_same_target a b = (a.address == b.address) && (a.port == b.port)
 
 -- the packet that the record of a datagram is of a media's flow, if it goes there
 abbrev pub datagram_packet : Media → ℕ → ℕ → Option Datagram → Option FlowPacket
 datagram_packet media number stamp None = None
 datagram_packet media number stamp (Some d) =
-    if (d.address == media.address) && (d.port == media.port) then
+    if is_same_target d.target (target_of media) then
     Some (record { rec = number; at = stamp; rtp = reading d.payload })
     else None
 
 -- the packet that a record is of a media's flow, if its target is the media's
 abbrev pub flow_packet : Media → Record → Option FlowPacket
-flow_packet media r = datagram_packet media r.number r.stamp (target_of r.bytes)
+flow_packet media r = datagram_packet media r.number r.stamp (datagram_of r.bytes)
 
 -- the flow of a media: the records whose target is the media's, in order, each as its packet
 abbrev pub flow : List Record → Media → List FlowPacket

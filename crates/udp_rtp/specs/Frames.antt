@@ -2,19 +2,17 @@
 -- counts of bytes.
 -- From the standards: the places and meanings of the fields, IEEE 802.3, clause 3.2.6 (the type
 -- field), IEEE 802.1Q (the tag), RFC 791, section 3.1 (IPv4) and RFC 768 (UDP).
--- This project's profile: there is one tag at most, of type 0x8100; a fragment has no target; a
+-- This project's profile: there is one tag at most, of type 0x8100; a fragment has no datagram; a
 -- frame that was captured up to its UDP ports has one, its payload empty where the UDP header isn't
 -- whole or its length is below 8. IPv4's total length and the checksums aren't looked at.
 use Rattle.std.specs.Prelude.{ℕ, ◌+◌, ◌-◌, ◌*◌, ◌/◌, ◌%◌, ◌^◌, ◌==◌, ◌&&◌, nat_le, Bool, if◌then◌else◌, List, length, take, drop, slice_index, Option, Some, None}
+use Rattle.timing_base.specs.declared.target.Target.{Target}
 use Rattle.udp_rtp.specs.Numbers.{number16, number32}
-use Rattle.udp_rtp.specs.declared.datagram.Target.{Target}
 
--- what a frame carries to an address and a port
+-- what a frame carries to a target
 pub record Datagram : Type 0 where
-  -- the IPv4 address of the destination, its first byte highest
-  pub address : ℕ
-  -- the UDP port of the destination
-  pub port : ℕ
+  -- the address and the port of the destination
+  pub target : Target
   -- the bytes of data that the frame still has
   pub payload : List ℕ
 
@@ -50,8 +48,10 @@ payload_at frame u = take (number16 frame (u + 4) - 8) (drop (u + 8) frame)
 -- 16 bits of the UDP header, and the data
 abbrev pub datagram_at : List ℕ → ℕ → Datagram
 datagram_at frame e = record {
-  address = number32 frame (e + 16);
-  port = number16 frame (udp_place frame e + 2);
+  target = record {
+    address = number32 frame (e + 16);
+    port = number16 frame (udp_place frame e + 2);
+  };
   payload = payload_at frame (udp_place frame e);
 }
 
@@ -60,10 +60,6 @@ abbrev pub datagram_from : List ℕ → Option ℕ → Option Datagram
 datagram_from frame None = None
 datagram_from frame (Some e) = if is_udp_at frame e then Some (datagram_at frame e) else None
 
--- the target of a frame, where it has one
-abbrev pub target_of : List ℕ → Option Datagram
-target_of frame = datagram_from frame (ip_place frame)
-
--- what is seen of a target that was answered
-abbrev pub seen : Target → Datagram
-seen target = record { address = target.address; port = target.port; payload = target.payload.now }
+-- the datagram of a frame, where it has one
+abbrev pub datagram_of : List ℕ → Option Datagram
+datagram_of frame = datagram_from frame (ip_place frame)

@@ -1,5 +1,7 @@
-pub mod Numbers
-pub mod Frames
-pub mod Reading
+-- what is promised
 pub mod Flow
+pub mod Frames
+pub mod Numbers
+pub mod Reading
+-- frames and payloads that are worked by hand
 pub mod Examples

@@ -29,7 +29,7 @@ payload_place bytes =
 abbrev pub rtp_at : List ℕ → ℕ → Rtp
 rtp_at bytes place = record {
   number = number16 bytes place * 2 ^ 16 + number16 bytes 2;
-  stamp = number32 bytes 4;
+  timestamp = number32 bytes 4;
   marker = nat_lt 127 (slice_index bytes 1);
   pt = slice_index bytes 1 % 128;
   ssrc = number32 bytes 8;

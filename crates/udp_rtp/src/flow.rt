@@ -3,26 +3,24 @@
 ghost use Rattle.std.specs.Prelude.{◌≡◌};
 ghost use Rattle.udp_rtp.specs.Flow.{flow_packet};
 
-use crate::frame::target;
+use crate::frame::datagram;
 use crate::rtp::read_rtp;
 use timing_base::{FlowPacket, Media};
 
-/// The packet that a frame is of a media's flow, if the frame's target is the media's address and
-/// port.
+/// The packet that a frame is of a media's flow, if the frame's target is the media's.
 ///
 /// `rec` is the number of the frame's record, counted from 1, and `at` its stamp in nanoseconds.
 pub fn packet_of(media: &Media, rec: u64, at: u64, frame: &[u8]) -> Option<FlowPacket>
     ensures { result
         ≡ flow_packet media.now (record { number = rec; stamp = at; bytes = frame.now }) }
 {
-    let target = target(frame)?;
-    if target.address == media.address && target.port == media.port {
-        Some(FlowPacket {
-            rec,
-            at,
-            rtp: read_rtp(target.payload),
-        })
-    } else {
-        None
+    let datagram = datagram(frame)?;
+    if datagram.target != media.target() {
+        return None;
     }
+    Some(FlowPacket {
+        rec,
+        at,
+        rtp: read_rtp(datagram.payload),
+    })
 }

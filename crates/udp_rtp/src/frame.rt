@@ -1,24 +1,25 @@
 //! Ethernet, IPv4 and UDP headers.
 
-ghost use Rattle.std.specs.Prelude.{◌≡◌, ◌+◌, ◌≤◌, length};
-ghost use Rattle.std.specs.Option.{option_map};
-ghost use Rattle.udp_rtp.specs.Frames.{ip_place, is_udp_at, payload_at, seen, target_of, udp_place};
+ghost use Rattle.std.specs.Prelude.{◌≡◌, ◌+◌, ◌≤◌, IfSome, length};
+ghost use Rattle.udp_rtp.specs.Frames.{datagram_of, ip_place, is_udp_at, payload_at, udp_place};
 
-use crate::datagram::Target;
+use crate::udp::Datagram;
 use byteorder::{BigEndian, ByteOrder};
+use timing_base::Target;
 
 // The type field of IPv4 (IEEE 802.3; RFC 894), and of a tag (IEEE 802.1Q).
 const IPV4: u16 = 0x0800;
 
 const TAG: u16 = 0x8100;
 
-// The least length of a frame with a target: Ethernet 14, IPv4 20, and the ports 4.
+// The least length of a frame with a datagram: Ethernet 14, IPv4 20, and the ports 4.
 const LEAST: usize = 38;
 
 /// Where the IPv4 header of a frame stands, if it has one behind at most one tag.
 fn ip_header(frame: &[u8]) -> Option<usize>
     requires { 18 ≤ length frame.now }
-    ensures { result ≡ ip_place frame.now }
+    ensures place { result ≡ ip_place frame.now }
+    ensures few { IfSome result (λ ip. ip ≤ 18) }
 {
     let kind = BigEndian::read_u16(&frame[12..]);
     if kind == IPV4 {
@@ -43,7 +44,7 @@ fn payload(frame: &[u8], udp: usize) -> &[u8]
     &data[..stated.saturating_sub(8).min(data.len())]
 }
 
-/// The target of an Ethernet frame: what it carries to a UDP port over IPv4. `None` for any other
+/// The datagram of an Ethernet frame: what it carries to a UDP port over IPv4. `None` for any other
 /// frame.
 ///
 /// ```text
@@ -60,19 +61,16 @@ fn payload(frame: &[u8], udp: usize) -> &[u8]
 ///
 /// The type is 0x0800 (IPv4), behind one tag of IEEE 802.1Q or none; version 4 and protocol 17
 /// (UDP); the header has 5 words at least, and the frame is no fragment (RFC 791, section 3.1). A
-/// frame that was captured up to its ports has a target; the payload ends where the UDP length (RFC
+/// frame that was captured up to its ports has a datagram; the payload ends where the UDP length (RFC
 /// 768) or the frame ends, and is empty where that is before it begins. Checksums, the IPv4 length,
 /// padding after the datagram, and the tag's control are passed over.
-pub fn target(frame: &[u8]) -> Option<Target<'_>>
-    ensures { option_map seen result ≡ target_of frame.now }
+pub fn datagram(frame: &[u8]) -> Option<Datagram<'_>>
+    ensures { result ≡ datagram_of frame.now }
 {
     if frame.len() < LEAST {
         return None;
     }
     let ip = ip_header(frame)?;
-    if frame.len() < ip + 24 {
-        return None;
-    }
     let first = frame[ip];
     let udp = ip + 4 * usize::from(first % 16);
     if first / 16 != 4
@@ -83,9 +81,11 @@ pub fn target(frame: &[u8]) -> Option<Target<'_>>
     {
         return None;
     }
-    Some(Target {
-        address: BigEndian::read_u32(&frame[ip + 16..]),
-        port: BigEndian::read_u16(&frame[udp + 2..]),
+    Some(Datagram {
+        target: Target {
+            address: BigEndian::read_u32(&frame[ip + 16..]),
+            port: BigEndian::read_u16(&frame[udp + 2..]),
+        },
         payload: payload(frame, udp),
     })
 }

@@ -1,16 +1,17 @@
 //! What holds of the definitions themselves. Each function is a theorem: it does nothing, and its
 //! clauses are proved.
 
-ghost use Rattle.std.specs.Prelude.{◌≡◌, ◌+◌, ◌++◌, [], ◌∷◌, ℕ, true, false, List, min, length, take, drop};
+ghost use Rattle.std.specs.Prelude.{◌≡◌, ◌+◌, ◌++◌, [], ◌∷◌, ℕ, true, false, List, min, length, take, drop, replicate};
 ghost use Rattle.timing_base.specs.Captures.{Record};
-ghost use Rattle.timing_base.specs.declared.media.Media.{Media};
+ghost use Rattle.timing_base.specs.Media.{Media};
+ghost use Rattle.timing_base.specs.Targets.{target_of};
 ghost use Rattle.timing_base.specs.declared.packet.FlowPacket.{FlowPacket};
 ghost use Rattle.timing_base.specs.declared.packet.PacketFault.TheVariants.{Short, Version};
 ghost use Rattle.udp_rtp.specs.Numbers.{number16};
-ghost use Rattle.udp_rtp.specs.Frames.{payload_at, target_of};
+ghost use Rattle.udp_rtp.specs.Frames.{datagram_of, payload_at};
 ghost use Rattle.udp_rtp.specs.Reading.{reading};
 ghost use Rattle.udp_rtp.specs.Flow.{flow, flow_packet};
-ghost use Rattle.udp_rtp.specs.Examples.{macs, ip_type, tag, ip, plain_ip, udp, rtp, extended, source, extension, packet, frame_of, to_group};
+ghost use Rattle.udp_rtp.specs.Examples.{macs, ip_type, tag, ip, plain_ip, udp, rtp, extended, source, extension, packet, frame_of, group, to_group};
 
 /// The flow of records and one more is their flow and then that of the one alone, which is one
 /// packet or none.
@@ -31,67 +32,89 @@ pub fn payload_ends_with_the_first()
         ≡ drop (u + 8) (take (min (length frame) (u + number16 frame (u + 4))) frame) }
 {}
 
-/// Frames worked by hand that have a target.
-pub fn targets_by_hand()
-    ensures plain { target_of (frame_of plain_ip) ≡ Some (to_group packet) }
+/// Frames worked by hand that have a datagram.
+pub fn datagrams_by_hand()
+    ensures plain { datagram_of (frame_of plain_ip) ≡ Some (to_group packet) }
 
-    // One tag; one word of IPv4 options; fragments may be forbidden or not.
-    ensures tagged { target_of (macs ++ tag ++ ip_type ++ plain_ip ++ udp 22 ++ packet)
+    // The source's port is another one, 5000.
+    ensures other_source { datagram_of
+        (macs ++ ip_type ++ plain_ip ++ (0x13 ∷ 0x88 ∷ drop 2 (udp 22)) ++ packet)
         ≡ Some (to_group packet) }
-    ensures options { target_of (frame_of (ip 0x46 0x40 0 17 ++ source)) ≡ Some (to_group packet) }
-    ensures allowed { target_of (frame_of (ip 0x45 0x00 0 17)) ≡ Some (to_group packet) }
+
+    // One tag; one word of IPv4 options; fragments may be forbidden or not, and the reserved flag
+    // may be set.
+    ensures tagged { datagram_of (macs ++ tag ++ ip_type ++ plain_ip ++ udp 22 ++ packet)
+        ≡ Some (to_group packet) }
+    ensures options { datagram_of (frame_of (ip 0x46 0x40 0 17 ++ source)) ≡ Some (to_group packet) }
+    ensures allowed { datagram_of (frame_of (ip 0x45 0x00 0 17)) ≡ Some (to_group packet) }
+
+    ensures reserved { datagram_of (frame_of (ip 0x45 0x80 0 17)) ≡ Some (to_group packet) }
 
     // The UDP length ends the payload after 12 bytes, and after none; it says more than there is.
-    ensures twelve { target_of (macs ++ ip_type ++ plain_ip ++ udp 20 ++ packet)
+    ensures twelve { datagram_of (macs ++ ip_type ++ plain_ip ++ udp 20 ++ packet)
         ≡ Some (to_group (rtp 0x80 0x60)) }
-    ensures eight { target_of (macs ++ ip_type ++ plain_ip ++ udp 8 ++ packet)
+    ensures eight { datagram_of (macs ++ ip_type ++ plain_ip ++ udp 8 ++ packet)
         ≡ Some (to_group []) }
-    ensures seven { target_of (macs ++ ip_type ++ plain_ip ++ udp 7 ++ packet)
+    ensures seven { datagram_of (macs ++ ip_type ++ plain_ip ++ udp 7 ++ packet)
         ≡ Some (to_group []) }
-    ensures cut_54 { target_of (take 54 (frame_of plain_ip)) ≡ Some (to_group (rtp 0x80 0x60)) }
+    ensures cut_54 { datagram_of (take 54 (frame_of plain_ip)) ≡ Some (to_group (rtp 0x80 0x60)) }
 
     // The frame ends in the UDP header, and right after its ports.
-    ensures cut_41 { target_of (take 41 (frame_of plain_ip)) ≡ Some (to_group []) }
-    ensures cut_38 { target_of (take 38 (frame_of plain_ip)) ≡ Some (to_group []) }
+    ensures cut_41 { datagram_of (take 41 (frame_of plain_ip)) ≡ Some (to_group []) }
+    ensures cut_38 { datagram_of (take 38 (frame_of plain_ip)) ≡ Some (to_group []) }
+    ensures tagged_42 { datagram_of (take 42 (macs ++ tag ++ ip_type ++ plain_ip ++ udp 22))
+        ≡ Some (to_group []) }
 {}
 
 /// Frames worked by hand that have none.
-pub fn no_targets_by_hand()
-    ensures cut_37 { target_of (take 37 (frame_of plain_ip)) ≡ None }
-    ensures options_cut { target_of (take 41 (frame_of (ip 0x46 0x40 0 17 ++ source))) ≡ None }
-    ensures empty { target_of [] ≡ None }
+pub fn no_datagrams_by_hand()
+    ensures cut_37 { datagram_of (take 37 (frame_of plain_ip)) ≡ None }
+    ensures tagged_41 { datagram_of (take 41 (macs ++ tag ++ ip_type ++ plain_ip ++ udp 22))
+        ≡ None }
+    ensures options_cut { datagram_of (take 41 (frame_of (ip 0x46 0x40 0 17 ++ source))) ≡ None }
+    ensures empty { datagram_of [] ≡ None }
 
     // IPv6 by its type; another type behind a tag; two tags.
-    ensures ipv6 { target_of (macs ++ (0x86 ∷ 0xdd ∷ []) ++ plain_ip ++ udp 22 ++ packet) ≡ None }
-    ensures tagged { target_of (macs ++ tag ++ (0x86 ∷ 0xdd ∷ []) ++ plain_ip ++ udp 22 ++ packet)
+    ensures ipv6 { datagram_of (macs ++ (0x86 ∷ 0xdd ∷ []) ++ plain_ip ++ udp 22 ++ packet) ≡ None }
+    ensures tagged { datagram_of (macs ++ tag ++ (0x86 ∷ 0xdd ∷ []) ++ plain_ip ++ udp 22 ++ packet)
         ≡ None }
-    ensures two_tags { target_of (macs ++ tag ++ tag ++ ip_type ++ plain_ip ++ udp 22 ++ packet)
+    ensures two_tags { datagram_of (macs ++ tag ++ tag ++ ip_type ++ plain_ip ++ udp 22 ++ packet)
         ≡ None }
 
     // Version 6, a header of four words, and TCP.
-    ensures version { target_of (frame_of (ip 0x65 0x40 0 17)) ≡ None }
-    ensures words { target_of (frame_of (ip 0x44 0x40 0 17)) ≡ None }
-    ensures protocol { target_of (frame_of (ip 0x45 0x40 0 6)) ≡ None }
+    ensures version { datagram_of (frame_of (ip 0x65 0x40 0 17)) ≡ None }
+    ensures words { datagram_of (frame_of (ip 0x44 0x40 0 17)) ≡ None }
+    ensures protocol { datagram_of (frame_of (ip 0x45 0x40 0 6)) ≡ None }
 
     // The first fragment of several, and later ones.
-    ensures first { target_of (frame_of (ip 0x45 0x20 0 17)) ≡ None }
-    ensures later { target_of (frame_of (ip 0x45 0x00 1 17)) ≡ None }
-    ensures last { target_of (frame_of (ip 0x45 0x10 0 17)) ≡ None }
+    ensures first { datagram_of (frame_of (ip 0x45 0x20 0 17)) ≡ None }
+    ensures later { datagram_of (frame_of (ip 0x45 0x00 1 17)) ≡ None }
+    ensures last { datagram_of (frame_of (ip 0x45 0x10 0 17)) ≡ None }
 {}
 
 /// Payloads worked by hand: RTP packet 65,544 of frame 1800, of source 1 and payload type 96.
 pub fn readings_by_hand()
     ensures plain { reading packet
-        ≡ Ok (record { number = 65544; stamp = 1800; marker = false; pt = 96; ssrc = 1 }) }
+        ≡ Ok (record { number = 65544; timestamp = 1800; marker = false; pt = 96; ssrc = 1 }) }
     ensures marker { reading (rtp 0x80 0xe0 ++ extended)
-        ≡ Ok (record { number = 65544; stamp = 1800; marker = true; pt = 96; ssrc = 1 }) }
+        ≡ Ok (record { number = 65544; timestamp = 1800; marker = true; pt = 96; ssrc = 1 }) }
 
     // Padding is passed over, and so are one contributing source, an extension of one word, and
     // both.
     ensures padding { reading (rtp 0xa0 0x60 ++ extended) ≡ reading packet }
     ensures sources { reading (rtp 0x81 0x60 ++ source ++ extended) ≡ reading packet }
     ensures extension { reading (rtp 0x90 0x60 ++ extension ++ extended) ≡ reading packet }
+    ensures most_sources { reading (rtp 0x8f 0x60 ++ replicate 60 0x11 ++ extended)
+        ≡ reading packet }
     ensures both { reading (rtp 0x91 0x60 ++ source ++ extension ++ extended) ≡ reading packet }
+
+    // An extension of 256 words: both bytes of its length count.
+    ensures long_extension { reading
+        (rtp 0x90 0x60 ++ (0xbe ∷ 0xde ∷ 1 ∷ 0 ∷ []) ++ replicate 1024 0x51 ++ extended)
+        ≡ reading packet }
+    ensures long_extension_cut { reading
+        (rtp 0x90 0x60 ++ (0xbe ∷ 0xde ∷ 1 ∷ 0 ∷ []) ++ replicate 1023 0x51 ++ extended)
+        ≡ Err Short }
 
     // Fewer than 12 bytes are short whatever the version says.
     ensures eleven { reading (take 11 (rtp 0x40 0x60)) ≡ Err Short }
@@ -110,7 +133,7 @@ pub fn readings_by_hand()
 /// Three records worked by hand: the second goes to another port than the media's, and the third
 /// ends after its ports.
 pub fn flow_by_hand()
-    ensures { (media : Media) → media.address ≡ 0xef000001 → media.port ≡ 50000
+    ensures { (media : Media) → target_of media ≡ group
         → flow (record { number = 7; stamp = 100; bytes = frame_of plain_ip }
         ∷ record {
           number = 8;

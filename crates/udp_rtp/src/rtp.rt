@@ -57,7 +57,7 @@ pub fn read_rtp(bytes: &[u8]) -> Result<Rtp, PacketFault>
     let low = BigEndian::read_u16(&bytes[2..]);
     Ok(Rtp {
         number: u32::from(high) * 65_536 + u32::from(low),
-        stamp: BigEndian::read_u32(&bytes[4..]),
+        timestamp: BigEndian::read_u32(&bytes[4..]),
         marker: bytes[1] > 127,
         pt: bytes[1] % 128,
         ssrc: BigEndian::read_u32(&bytes[8..]),

@@ -1,3 +1,5 @@
+//! Frames and payloads laid out by hand, and the flow of records.
+
 ghost use Rattle.std.specs.Prelude.{◌≡◌, map, IfOk};
 ghost use Rattle.udp_rtp.specs.Flow.{flow};
 
@@ -28,7 +30,7 @@ const TAG: [u8; 4] = [0x81, 0x00, 0x60, 0x05];
 
 const READ: Rtp = Rtp {
     number: 65_544,
-    stamp: 1800,
+    timestamp: 1800,
     marker: true,
     pt: 96,
     ssrc: 1,
@@ -56,11 +58,10 @@ fn reading_of(frame: &[u8]) -> Option<Result<Rtp, PacketFault>> {
 
 #[test]
 fn shows_each_part(rt: HostRuntime) {
-    let Some(seen) = target(&FRAME) else {
-        panic!(rt; "no target");
+    let Some(seen) = datagram(&FRAME) else {
+        panic!(rt; "no datagram");
     };
-    assert_eq!(rt; seen.address, 0xef00_0001);
-    assert_eq!(rt; seen.port, 50_000);
+    assert_eq!(rt; seen.target, MEDIA.target());
     assert!(rt; seen.payload == &FRAME[42..]);
     assert_eq!(rt; read_rtp(seen.payload), Ok(READ));
 }
@@ -96,7 +97,7 @@ fn ignored_frames(rt: HostRuntime) {
         &two_tags[..],
     ];
     for frame in rows {
-        assert!(rt; target(frame).is_none(), "of {} bytes", frame.len());
+        assert!(rt; datagram(frame).is_none(), "of {} bytes", frame.len());
     }
 }
 
@@ -142,8 +143,8 @@ fn big_payload(rt: HostRuntime) {
     frame[17] = 0xda;
     frame[38] = 0x04; // UDP length 1222
     frame[39] = 0xc6;
-    let Some(seen) = target(&frame) else {
-        panic!(rt; "no target");
+    let Some(seen) = datagram(&frame) else {
+        panic!(rt; "no datagram");
     };
     assert_eq!(rt; seen.payload.len(), 22);
     assert_eq!(rt; reading_of(&frame), Some(Ok(READ)));
