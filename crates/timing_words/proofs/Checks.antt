@@ -1,16 +1,16 @@
 -- Numbers and the names of files, as the code tests them.
 use Rattle.std.proofs.Common.{◌≡◌, ◌∙◌, ◌&&◌, ◌<◌, ◌≤◌, ◌^◌, Bool, true, false, cond, refl, sym, ap, ap₂, List, [], ◌∷◌, ◌++◌, map, length, Some, None, ℕ, Result, Ok, Err, zero, suc, arith}
-use Rattle.std.specs.Prelude.{nat_le, nat_lt, not, ◌==◌}
+use Rattle.std.specs.Prelude.{nat_le, nat_lt}
 use Rattle.std.specs.Borrow.{Bor}
 use Rattle.std.specs.Char.{is_ascii_digit}
-use Rattle.std.specs.List.{All, list_all, slice_index_or}
+use Rattle.std.specs.List.{list_all, slice_index_or}
 use Rattle.std.specs.Result.{OkIff, result_ok}
 use Rattle.std.specs.Str.Parse.{ParsesUnsigned, digits_value}
-use Rattle.std.proofs.lemmas.Bool.{eq-eqb, leb-true, le-leb, lt-ltb, ltb-true}
+use Rattle.std.proofs.lemmas.Bool.{leb-true, le-leb, lt-ltb, ltb-true}
 use Rattle.std.proofs.lemmas.Str.Parse.{IsDigitsTest, numerals_by_value, parse_digits}
-use Rattle.timing_base.specs.Name.{IsFileName, IsNameByte}
+use Rattle.timing_base.specs.Name.{is_file_name}
 use Rattle.timing_words.specs.Line.{Text}
-use Rattle.timing_words.specs.Request.{file_name, file_names, is_file_name, is_name_byte, is_numeral, passing, written}
+use Rattle.timing_words.specs.Request.{file_name, file_names, is_numeral, passing, written}
 
 pub both_true : (a b : Bool) → (a && b) ≡ true → (a ≡ true) × (b ≡ true)
 both_true true b e = (refl, e)
@@ -56,32 +56,6 @@ written_is {E} t r numeral parses =
 
 -- ---- names of files
 
-is_plain : (b : ℕ) → is_name_byte b ≡ true → IsNameByte b
-is_plain b e =
-    let k = both_true (nat_le 32 b) (not (b == 127)) e in (
-      leb-true 32 b k.0,
-      λ same.
-          let yes : (b == 127) ≡ true = eq-eqb b 127 same in
-          let bad : not true ≡ true = ap not (sym yes) ∙ k.1 in
-          cc,
-    )
-
-all_plain : (bs : Text) → list_all is_name_byte bs ≡ true → All IsNameByte bs
-all_plain [] e k d lt = absurd (omega arith)
-all_plain (b ∷ bs) e zero d lt = is_plain b (both_true _ _ e).0
-all_plain (b ∷ bs) e (suc k) d lt = all_plain bs (both_true _ _ e).1 k d (omega arith)
-
--- a text that passes is a name
-pub name_is : (t : Text) → is_file_name t ≡ true → IsFileName t
-name_is t e =
-    let first = both_true (nat_le 1 (length t)) _ e in
-    let second = both_true (nat_le (length t) 4096) (list_all is_name_byte t) first.1 in
-    record {
-      some = leb-true 1 (length t) first.0;
-      few = leb-true (length t) 4096 second.0;
-      plain = all_plain t second.1;
-    }
-
 -- what `file_name` gives
 pub name_given : (t n : Text) → file_name t ≡ Some n → (is_file_name t ≡ true) × (n ≡ t)
 name_given t n e = go (is_file_name t) refl e
@@ -119,12 +93,12 @@ passes_more (u ∷ us) t all e =
     let k = both_true (is_file_name u) (list_all is_file_name us) all in
     and_true (is_file_name u) (list_all is_file_name (us ++ t ∷ [])) k.0 (passes_more us t k.1 e)
 
-pub list_refused : (xs : List (Bor Text)) (i : ℕ) (d : Bor Text) (least most : ℕ) → file_name (slice_index_or xs i d).now ≡ None → i < length xs
-    → file_names least most (map (λ s. s.now) xs) ≡ None
-list_refused xs i d least most e lt =
+pub list_refused : (xs : List (Bor Text)) (i : ℕ) (d : Bor Text) (most : ℕ) → file_name (slice_index_or xs i d).now ≡ None → i < length xs
+    → file_names most (map (λ s. s.now) xs) ≡ None
+list_refused xs i d most e lt =
     let bad = names_refused xs i d lt (name_refused (slice_index_or xs i d).now e) in
-    ap (λ b. passing (nat_le least (length (map (λ (s : Bor Text). s.now) xs)) && (nat_le (length (map (λ (s : Bor Text). s.now) xs)) most && b)) (map (λ s. s.now) xs)) bad
-    ∙ go (nat_le least (length (map (λ (s : Bor Text). s.now) xs))) (nat_le (length (map (λ (s : Bor Text). s.now) xs)) most)
+    ap (λ b. passing (nat_le 1 (length (map (λ (s : Bor Text). s.now) xs)) && (nat_le (length (map (λ (s : Bor Text). s.now) xs)) most && b)) (map (λ s. s.now) xs)) bad
+    ∙ go (nat_le 1 (length (map (λ (s : Bor Text). s.now) xs))) (nat_le (length (map (λ (s : Bor Text). s.now) xs)) most)
   where
     go : (a b : Bool) → passing (a && (b && false)) (map (λ (s : Bor Text). s.now) xs) ≡ None
     go true true = refl

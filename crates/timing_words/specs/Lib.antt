@@ -1,6 +1,9 @@
-pub mod Answers
-pub mod Asked
-pub mod Clap
-pub mod Line
+-- what is promised
 pub mod Request
+pub mod Line
+pub mod Answers
+-- lines that are worked by hand
+pub mod Examples
+-- these only serve proofs
+pub mod Clap
 pub mod Sorts

@@ -1,19 +1,23 @@
 -- What the words of a command line ask for: each command's options, flags and names, their ranges,
 -- and which of them may be missing or may not stand together. This project's profile.
 -- Media count from 1 in the words and from 0 in the jobs; `--tai` is in seconds.
-use Rattle.std.specs.Prelude.{ℕ, ◌==◌, ◌&&◌, ◌-◌, ◌^◌, Bool, true, false, not, List, [], ◌∷◌, length, codes}
-use Rattle.std.specs.Prelude.{Option, Some, None, option_map, if◌then◌else◌, nat_le, nat_lt}
+use Rattle.std.specs.Prelude.{ℕ, ◌&&◌, ◌-◌, ◌^◌, Bool, true, false, List, [], ◌∷◌, length, codes}
+use Rattle.std.specs.Prelude.{◌++◌, map, Option, Some, None, option_map, if◌then◌else◌, nat_le, nat_lt}
 use Rattle.std.specs.List.{list_all}
 use Rattle.std.specs.Char.{is_ascii_digit}
 use Rattle.std.specs.Str.{bytes_eq}
 use Rattle.std.specs.Str.Parse.{digits_value}
+use Rattle.timing_base.specs.Jobs.{CheckJob, FlowJob, ReportJob, SelfTestJob, ShapeJob, SkewJob, VerifyJob}
+use Rattle.timing_base.specs.Name.{is_file_name}
 use Rattle.timing_base.specs.declared.fail.Broken.{Broken}
 use Rattle.timing_base.specs.declared.fail.Broken.TheVariants as broken
 use Rattle.timing_base.specs.declared.fail.FailProof.{FailProof}
+use Rattle.timing_base.specs.declared.job.Request.{Request}
+use Rattle.timing_base.specs.declared.job.Request.TheVariants as asks
 use Rattle.timing_base.specs.declared.media.Kind.{Kind}
 use Rattle.timing_base.specs.declared.media.Kind.TheVariants as kind
-use Rattle.timing_words.specs.Asked.{Asked, Check, Flow, Report, SelfTest, Shape, Skew, Verify}
-use Rattle.timing_words.specs.Asked.{check, report, self_test, shape, skew, verify, window}
+use Rattle.timing_words.specs.declared.command.Command.{Command}
+use Rattle.timing_words.specs.declared.command.Command.TheVariants as command
 use Rattle.timing_words.specs.Line.{Sort, Stands, Text, line, stands}
 
 -- ---- values
@@ -41,35 +45,27 @@ written text =
 abbrev pub number : ℕ → ℕ → Text → Option ℕ
 number low high text = need (written text) (λ n. passing (nat_le low n && nat_le n high) n)
 
--- no control character
-abbrev pub is_name_byte : ℕ → Bool
-is_name_byte b = nat_le 32 b && not (b == 127)
-
--- 1 to 4,096 bytes, none of them a control character
-abbrev pub is_file_name : Text → Bool
-is_file_name text = nat_le 1 (length text) && (nat_le (length text) 4096 && list_all is_name_byte text)
-
+-- the name of a file
 abbrev pub file_name : Text → Option Text
 file_name text = passing (is_file_name text) text
 
--- from least to most names of files
-abbrev pub file_names : ℕ → ℕ → List Text → Option (List Text)
-file_names least most names =
-    passing (nat_le least (length names) && (nat_le (length names) most && list_all is_file_name names)) names
+-- one to most names of files
+abbrev pub file_names : ℕ → List Text → Option (List Text)
+file_names most names =
+    passing (nat_le 1 (length names) && (nat_le (length names) most && list_all is_file_name names)) names
 
+-- what a table has for a text
+abbrev pub chosen : {A : Type 0} → List (Text × A) → Text → Option A
+chosen [] text = None
+chosen ((n, a) ∷ rows) text = if bytes_eq text n then Some a else chosen rows text
+
+-- a sender type by its name
 abbrev pub kind_named : Text → Option Kind
-kind_named text =
-    if bytes_eq text (codes "N") then Some kind.N
-    else if bytes_eq text (codes "NL") then Some kind.NL
-    else if bytes_eq text (codes "W") then Some kind.W
-    else None
+kind_named = chosen ((codes "N", kind.N) ∷ (codes "NL", kind.NL) ∷ (codes "W", kind.W) ∷ [])
 
+-- a model that a sender breaks, by its name
 abbrev pub model_named : Text → Option Broken
-model_named text =
-    if bytes_eq text (codes "Bucket") then Some broken.Bucket
-    else if bytes_eq text (codes "Over") then Some broken.Over
-    else if bytes_eq text (codes "Empty") then Some broken.Empty
-    else None
+model_named = chosen ((codes "Bucket", broken.Bucket) ∷ (codes "Over", broken.Over) ∷ (codes "Empty", broken.Empty) ∷ [])
 
 -- a media of the words, counted from 0
 abbrev pub media : Text → Option ℕ
@@ -109,23 +105,24 @@ given n l f = need (l.value n) f
 
 -- ---- commands
 
-abbrev pub an_option : Text → Sort
-an_option n = record { name = n; valued = true }
+-- options with these names, and flags with those
+abbrev pub takes : List Text → List Text → List Sort
+takes options flags = map (λ n. record { name = n; valued = true }) options
+    ++ map (λ n. record { name = n; valued = false }) flags
 
-abbrev pub a_flag : Text → Sort
-a_flag n = record { name = n; valued = false }
-
--- `check`
+-- what `check` takes
 abbrev pub check_sorts : List Sort
-check_sorts = an_option (codes "sdp") ∷ an_option (codes "workers") ∷ a_flag (codes "serial")
-    ∷ an_option (codes "tai") ∷ a_flag (codes "json") ∷ a_flag (codes "joined") ∷ []
+check_sorts = takes
+    (codes "sdp" ∷ codes "workers" ∷ codes "tai" ∷ [])
+    (codes "serial" ∷ codes "json" ∷ codes "joined" ∷ [])
 
-abbrev pub check_asked : Stands → Option Check
+-- and what it asks for
+abbrev pub check_asked : Stands → Option CheckJob
 check_asked l =
     need (given (codes "sdp") l file_name) (λ sdp.
     need (check_workers (l.value (codes "workers")) (l.flag (codes "serial"))) (λ workers.
     need (tai (l.value (codes "tai"))) (λ seconds.
-    need (file_names 1 16 l.names) (λ captures.
+    need (file_names 16 l.names) (λ captures.
     Some (record {
       sdp = sdp;
       captures = captures;
@@ -135,12 +132,12 @@ check_asked l =
       joined = l.flag (codes "joined");
     })))))
 
--- `verify`, with one capture, or as many as `check` takes where they are joined
+-- what `verify` takes
 abbrev pub verify_sorts : List Sort
-verify_sorts = an_option (codes "sdp") ∷ an_option (codes "media") ∷ an_option (codes "type")
-    ∷ an_option (codes "model") ∷ an_option (codes "from") ∷ an_option (codes "to")
-    ∷ an_option (codes "count") ∷ an_option (codes "limit") ∷ an_option (codes "tai")
-    ∷ a_flag (codes "joined") ∷ []
+verify_sorts = takes
+    (codes "sdp" ∷ codes "media" ∷ codes "type" ∷ codes "model"
+    ∷ codes "from" ∷ codes "to" ∷ codes "count" ∷ codes "limit" ∷ codes "tai" ∷ [])
+    (codes "joined" ∷ [])
 
 -- the fail that is to be confirmed
 abbrev pub proof_asked : Stands → Option FailProof
@@ -152,14 +149,15 @@ proof_asked l =
     need (given (codes "limit") l count) (λ limit.
     Some (record { model = model; from = from; to = to; count = counted; limit = limit }))))))
 
-abbrev pub verify_asked : Stands → Option Verify
+-- what `verify` asks for, with one capture, or as many as `check` takes where they are joined
+abbrev pub verify_asked : Stands → Option VerifyJob
 verify_asked l =
     need (given (codes "sdp") l file_name) (λ sdp.
     need (given (codes "media") l media) (λ m.
     need (given (codes "type") l kind_named) (λ k.
     need (proof_asked l) (λ proof.
     need (tai (l.value (codes "tai"))) (λ seconds.
-    need (file_names 1 (if l.flag (codes "joined") then 16 else 1) l.names) (λ captures.
+    need (file_names (if l.flag (codes "joined") then 16 else 1) l.names) (λ captures.
     Some (record {
       sdp = sdp;
       media = m;
@@ -170,37 +168,32 @@ verify_asked l =
       joined = l.flag (codes "joined");
     })))))))
 
--- `verify-report`
+-- what `verify-report` takes
 abbrev pub report_sorts : List Sort
-report_sorts = an_option (codes "sdp") ∷ an_option (codes "report") ∷ an_option (codes "tai")
-    ∷ a_flag (codes "joined") ∷ []
+report_sorts = takes (codes "sdp" ∷ codes "report" ∷ codes "tai" ∷ []) (codes "joined" ∷ [])
 
-abbrev pub report_asked : Stands → Option Report
+-- and what it asks for
+abbrev pub report_asked : Stands → Option ReportJob
 report_asked l =
     need (given (codes "sdp") l file_name) (λ sdp.
     need (given (codes "report") l file_name) (λ rep.
     need (tai (l.value (codes "tai"))) (λ seconds.
-    need (file_names 1 16 l.names) (λ captures.
-    Some (record {
-      sdp = sdp;
-      report = rep;
-      tai = seconds;
-      captures = captures;
-      joined = l.flag (codes "joined");
-    })))))
+    need (file_names 16 l.names) (λ captures.
+    Some (record { sdp = sdp; report = rep; tai = seconds; captures = captures; joined = l.flag (codes "joined") })))))
 
--- `selftest`, whose one name is the number of frames
+-- what `selftest` takes
 abbrev pub self_test_sorts : List Sort
-self_test_sorts = an_option (codes "workers") ∷ []
+self_test_sorts = takes (codes "workers" ∷ []) []
 
-abbrev pub self_test_asked : Stands → Option SelfTest
+-- and what it asks for: its one name is the number of frames
+abbrev pub self_test_asked : Stands → Option SelfTestJob
 self_test_asked l =
     need (need (sole l.names) (number 2 20000)) (λ frames.
     need (test_workers (l.value (codes "workers"))) (λ workers.
     Some (record { frames = frames; workers = workers })))
 
--- one flow of one capture
-abbrev pub flow_asked : Stands → Option Flow
+-- one flow of one capture, as `window` and `shape` ask for it
+abbrev pub flow_asked : Stands → Option FlowJob
 flow_asked l =
     need (given (codes "sdp") l file_name) (λ sdp.
     need (given (codes "media") l media) (λ m.
@@ -208,53 +201,69 @@ flow_asked l =
     need (need (sole l.names) file_name) (λ capture.
     Some (record { sdp = sdp; media = m; tai = seconds; capture = capture })))))
 
--- `window`
+-- what `window` takes
 abbrev pub window_sorts : List Sort
-window_sorts = an_option (codes "sdp") ∷ an_option (codes "media") ∷ an_option (codes "tai") ∷ []
+window_sorts = takes (codes "sdp" ∷ codes "media" ∷ codes "tai" ∷ []) []
 
--- `shape`
+-- what `shape` takes
 abbrev pub shape_sorts : List Sort
-shape_sorts = an_option (codes "sdp") ∷ an_option (codes "media") ∷ an_option (codes "type")
-    ∷ an_option (codes "tai") ∷ a_flag (codes "list") ∷ []
+shape_sorts = takes (codes "sdp" ∷ codes "media" ∷ codes "type" ∷ codes "tai" ∷ []) (codes "list" ∷ [])
 
-abbrev pub shape_asked : Stands → Option Shape
+-- and what it asks for
+abbrev pub shape_asked : Stands → Option ShapeJob
 shape_asked l =
     need (flow_asked l) (λ flow.
     need (given (codes "type") l kind_named) (λ k.
     Some (record { flow = flow; kind = k; list = l.flag (codes "list") })))
 
--- `skew`
+-- what `skew` takes
 abbrev pub skew_sorts : List Sort
-skew_sorts = an_option (codes "sdp") ∷ an_option (codes "media") ∷ an_option (codes "pair") ∷ []
+skew_sorts = takes (codes "sdp" ∷ codes "media" ∷ codes "pair" ∷ []) []
 
-abbrev pub skew_asked : Stands → Option Skew
+-- and what it asks for
+abbrev pub skew_asked : Stands → Option SkewJob
 skew_asked l =
     need (given (codes "sdp") l file_name) (λ sdp.
     need (given (codes "media") l media) (λ first.
     need (given (codes "pair") l media) (λ second.
-    need (file_names 1 2 l.names) (λ captures.
+    need (file_names 2 l.names) (λ captures.
     Some (record { sdp = sdp; media = first; pair = second; captures = captures })))))
 
 -- ---- the whole line
 
--- what the words after a command ask for, by what the command takes
-abbrev pub asked_by : {A : Type 0} → List Sort → (Stands → Option A) → List Text → Option A
-asked_by sorts asked words = need (line sorts words) (λ ps. asked (stands ps))
+-- the command with this name
+abbrev pub command_named : Text → Option Command
+command_named = chosen (
+    (codes "check", command.Check) ∷ (codes "verify", command.Verify) ∷ (codes "verify-report", command.VerifyReport)
+    ∷ (codes "selftest", command.SelfTest) ∷ (codes "window", command.Window) ∷ (codes "shape", command.Shape)
+    ∷ (codes "skew", command.Skew) ∷ [])
 
--- what a command asks for
-abbrev pub command : Text → List Text → Option Asked
-command c words =
-    if bytes_eq c (codes "check") then option_map check (asked_by check_sorts check_asked words)
-    else if bytes_eq c (codes "verify") then option_map verify (asked_by verify_sorts verify_asked words)
-    else if bytes_eq c (codes "verify-report") then option_map report (asked_by report_sorts report_asked words)
-    else if bytes_eq c (codes "selftest") then option_map self_test (asked_by self_test_sorts self_test_asked words)
-    else if bytes_eq c (codes "window") then option_map window (asked_by window_sorts flow_asked words)
-    else if bytes_eq c (codes "shape") then option_map shape (asked_by shape_sorts shape_asked words)
-    else if bytes_eq c (codes "skew") then option_map skew (asked_by skew_sorts skew_asked words)
-    else None
+-- the options and flags that a command takes
+abbrev pub sorts : Command → List Sort
+sorts command.Check = check_sorts
+sorts command.Verify = verify_sorts
+sorts command.VerifyReport = report_sorts
+sorts command.SelfTest = self_test_sorts
+sorts command.Window = window_sorts
+sorts command.Shape = shape_sorts
+sorts command.Skew = skew_sorts
+
+-- what a command asks for, by what stands in its line
+abbrev pub asked : Command → Stands → Option Request
+asked command.Check l = option_map asks.Check (check_asked l)
+asked command.Verify l = option_map asks.Verify (verify_asked l)
+asked command.VerifyReport l = option_map asks.VerifyReport (report_asked l)
+asked command.SelfTest l = option_map asks.SelfTest (self_test_asked l)
+asked command.Window l = option_map asks.Window (flow_asked l)
+asked command.Shape l = option_map asks.Shape (shape_asked l)
+asked command.Skew l = option_map asks.Skew (skew_asked l)
+
+-- what the words after a command ask for
+abbrev pub asked_by : Command → List Text → Option Request
+asked_by c words = need (line (sorts c) words) (λ ps. asked c (stands ps))
 
 -- what the words of a command line ask for, the first of them the command; none where they are no
 -- request
-abbrev pub request : List Text → Option Asked
+abbrev pub request : List Text → Option Request
 request [] = None
-request (c ∷ words) = command c words
+request (w ∷ words) = need (command_named w) (λ c. asked_by c words)

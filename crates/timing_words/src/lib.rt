@@ -5,6 +5,7 @@
 //! how many names there may be and all ranges are tested here.
 #![tactic(auto)]
 
+mod command;
 mod jobs;
 pub mod laws;
 mod line;

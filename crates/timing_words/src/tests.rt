@@ -1,3 +1,5 @@
+//! Lines of words and what they are read as, worked by hand.
+
 use super::*;
 use std::alloc::{AllocError, Global};
 use std::process::Abort;

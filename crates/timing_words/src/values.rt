@@ -1,9 +1,10 @@
 //! The values of options, and the names.
 
-ghost use Rattle.std.specs.Prelude.{◌≡◌, ◌≤◌, ◌<◌, IfOk, length, map};
-ghost use Rattle.std.specs.Option.{IfSome, option_map};
+ghost use Rattle.std.specs.Prelude.{◌≡◌, ◌≤◌, ◌<◌, IfErr, IfOk, None, Some, length, map};
+ghost use Rattle.std.specs.Option.{option_map};
 ghost use Rattle.std.specs.Char.{is_ascii_digit};
 ghost use Rattle.std.specs.List.{list_all};
+ghost use Rattle.timing_base.specs.Name.{is_file_name, is_name_byte};
 ghost use Rattle.timing_words.specs.Answers.{Gives};
 ghost use Rattle.timing_words.specs.Request as words;
 
@@ -34,91 +35,100 @@ fn written(text: &str) -> Option<u64>
 }
 
 /// The number from `low` to `high` that one to twenty digits write.
-pub(crate) fn number(text: &str, low: u64, high: u64) -> Option<u64>
-    ensures value { result ≡ words.number low high text.now }
-    ensures least { IfSome result (λ n. low ≤ n) }
-    ensures most { IfSome result (λ n. n ≤ high) }
+pub(crate) fn number(text: &str, low: u64, high: u64) -> Result<u64, WordFault>
+    ensures value { Gives (words.number low high text.now) result }
+    ensures least { IfOk result (λ n. low ≤ n) }
+    ensures most { IfOk result (λ n. n ≤ high) }
 {
-    let n = written(text)?;
-    if low <= n && n <= high { Some(n) } else { None }
+    match written(text) {
+        Some(n) if low <= n && n <= high => Ok(n),
+        _ => Err(WordFault::Usage),
+    }
+}
+
+/// A count, or the number of a packet.
+pub(crate) fn count(text: &str) -> Result<u64, WordFault>
+    ensures { Gives (words.count text.now) result }
+{
+    number(text, 0, u64::MAX)
 }
 
 /// A media, counted from 1 in the text and from 0 in the answer.
-pub(crate) fn media(text: &str) -> Option<u32>
-    ensures value { result ≡ words.media text.now }
-    ensures few { IfSome result (λ n. n < 64) }
+pub(crate) fn media(text: &str) -> Result<u32, WordFault>
+    ensures value { Gives (words.media text.now) result }
+    ensures few { IfOk result (λ n. n < 64) }
 {
     let n = number(text, 1, 64)?;
-    Some((n - 1) as u32)
+    Ok((n - 1) as u32)
 }
 
 /// A sender type by its name.
-pub(crate) fn kind_named(text: &str) -> Option<Kind>
-    ensures { result ≡ words.kind_named text.now }
+pub(crate) fn kind_named(text: &str) -> Result<Kind, WordFault>
+    ensures { Gives (words.kind_named text.now) result }
 {
     match text {
-        "N" => Some(Kind::N),
-        "NL" => Some(Kind::NL),
-        "W" => Some(Kind::W),
-        _ => None,
+        "N" => Ok(Kind::N),
+        "NL" => Ok(Kind::NL),
+        "W" => Ok(Kind::W),
+        _ => Err(WordFault::Usage),
     }
 }
 
 /// A model that a sender breaks, by its name.
-pub(crate) fn model_named(text: &str) -> Option<Broken>
-    ensures { result ≡ words.model_named text.now }
+pub(crate) fn model_named(text: &str) -> Result<Broken, WordFault>
+    ensures { Gives (words.model_named text.now) result }
 {
     match text {
-        "Bucket" => Some(Broken::Bucket),
-        "Over" => Some(Broken::Over),
-        "Empty" => Some(Broken::Empty),
-        _ => None,
+        "Bucket" => Ok(Broken::Bucket),
+        "Over" => Ok(Broken::Over),
+        "Empty" => Ok(Broken::Empty),
+        _ => Err(WordFault::Usage),
     }
 }
 
 /// The seconds that are added to stamps.
-pub(crate) fn tai(text: Option<&str>) -> Option<u64>
-    ensures value { result ≡ words.tai (option_map (λ s. s.now) text.entry) }
-    ensures most { IfSome result (λ n. n ≤ 1000) }
+pub(crate) fn tai(text: Option<&str>) -> Result<u64, WordFault>
+    ensures value { Gives (words.tai (option_map (λ s. s.now) text.entry)) result }
+    ensures most { IfOk result (λ n. n ≤ 1000) }
 {
     match text {
         Some(text) => number(text, 0, 1000),
-        None => Some(0),
+        None => Ok(0),
     }
 }
 
 /// The workers of `check`, 0 for one thread.
-pub(crate) fn check_workers(text: Option<&str>, serial: bool) -> Option<u32>
-    ensures value { result ≡ words.check_workers (option_map (λ s. s.now) text.entry) serial }
-    ensures few { IfSome result (λ n. n ≤ 16) }
+pub(crate) fn check_workers(text: Option<&str>, serial: bool) -> Result<u32, WordFault>
+    ensures value { Gives (words.check_workers (option_map (λ s. s.now) text.entry) serial) result }
+    ensures few { IfOk result (λ n. n ≤ 16) }
 {
     match (text, serial) {
-        (None, false) => Some(4),
-        (None, true) => Some(0),
-        (Some(text), false) => Some(number(text, 1, 16)? as u32),
-        (Some(_), true) => None,
+        (None, false) => Ok(4),
+        (None, true) => Ok(0),
+        (Some(text), false) => Ok(number(text, 1, 16)? as u32),
+        (Some(_), true) => Err(WordFault::Usage),
     }
 }
 
 /// The workers of `selftest`, 0 for one thread.
-pub(crate) fn test_workers(text: Option<&str>) -> Option<u32>
-    ensures value { result ≡ words.test_workers (option_map (λ s. s.now) text.entry) }
-    ensures few { IfSome result (λ n. n ≤ 16) }
+pub(crate) fn test_workers(text: Option<&str>) -> Result<u32, WordFault>
+    ensures value { Gives (words.test_workers (option_map (λ s. s.now) text.entry)) result }
+    ensures few { IfOk result (λ n. n ≤ 16) }
 {
     match text {
-        Some(text) => Some(number(text, 1, 16)? as u32),
-        None => Some(0),
+        Some(text) => Ok(number(text, 1, 16)? as u32),
+        None => Ok(0),
     }
 }
 
 fn are_plain(bytes: &[u8]) -> bool
-    ensures { result ≡ list_all words.is_name_byte bytes.now }
+    ensures { result ≡ list_all is_name_byte bytes.now }
 {
     bytes.iter().all(|b| 32 <= *b && *b != 127)
 }
 
 fn is_file_name(text: &str) -> bool
-    ensures { result ≡ words.is_file_name text.now }
+    ensures { result ≡ is_file_name text.now }
 {
     let bytes = text.as_bytes();
     1 <= bytes.len() && bytes.len() <= 4096 && are_plain(bytes)
@@ -141,7 +151,7 @@ pub(crate) fn file_names(
     names: &[&str],
     most: usize,
 ) -> Result<Items<FileName>, WordFault>
-    ensures names { Gives (words.file_names 1 most (map (λ s. s.now) names.now)) result }
+    ensures names { Gives (words.file_names most (map (λ s. s.now) names.now)) result }
     ensures some { IfOk result (λ l. 1 ≤ length l) }
     ensures few { IfOk result (λ l. length l ≤ most) }
 {
@@ -157,11 +167,12 @@ pub(crate) fn file_names(
 }
 
 /// The one name.
-pub(crate) fn sole<'a>(names: &[&'a str]) -> Option<&'a str>
-    ensures { option_map (λ s. s.now) result ≡ words.sole (map (λ s. s.now) names.now) }
+pub(crate) fn sole<'a>(names: &[&'a str]) -> Result<&'a str, WordFault>
+    ensures one { IfOk result (λ s. words.sole (map (λ s. s.now) names.now) ≡ Some s.now) }
+    ensures other { IfErr result (λ _. words.sole (map (λ s. s.now) names.now) ≡ None) }
 {
     match names {
-        [name] => Some(*name),
-        _ => None,
+        [name] => Ok(*name),
+        _ => Err(WordFault::Usage),
     }
 }

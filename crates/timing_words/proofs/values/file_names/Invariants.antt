@@ -1,7 +1,7 @@
 use Rattle.std.proofs.Common.{◌≡◌, List, map, take, true}
 use Rattle.std.specs.List.{list_all}
+use Rattle.timing_base.specs.Name.{is_file_name}
 use Rattle.timing_words.specs.Line.{Text}
-use Rattle.timing_words.specs.Request.{is_file_name}
 use Rattle.timing_words.proofs.values.file_names.Given as goal
 
 -- the names so far

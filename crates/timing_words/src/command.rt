@@ -1,0 +1,119 @@
+//! The commands, and the options, flags and names that `clap` is told of for each.
+
+ghost use Rattle.std.specs.Prelude.{◌≡◌, ◌++◌, [], IfOk, List, false, true};
+ghost use Rattle.clap.specs.Words.{app_of, rule_of};
+ghost use Rattle.timing_words.specs.Clap.{app, bare, names_told, told};
+ghost use Rattle.timing_words.specs.Line.{Sort};
+ghost use Rattle.timing_words.specs.Sorts.{sorts_of};
+
+use clap::{Arg, ArgAction};
+use std::alloc::{AllocError as OutOfMemory, Global};
+
+// The id of the names.
+pub(crate) const NAMES: &str = "names";
+
+/// What the first word of a command line names.
+#[derive(Clone, Copy)]
+pub(crate) enum Command {
+    Check,
+    Verify,
+    VerifyReport,
+    SelfTest,
+    Window,
+    Shape,
+    Skew,
+}
+
+impl Command {
+    ghost use Rattle.timing_words.specs.Request.{command_named, sorts};
+
+    /// The command with this name.
+    pub(crate) fn named(text: &str) -> Option<Command>
+        ensures { result ≡ command_named text.now }
+    {
+        match text {
+            "check" => Some(Command::Check),
+            "verify" => Some(Command::Verify),
+            "verify-report" => Some(Command::VerifyReport),
+            "selftest" => Some(Command::SelfTest),
+            "window" => Some(Command::Window),
+            "shape" => Some(Command::Shape),
+            "skew" => Some(Command::Skew),
+            _ => None,
+        }
+    }
+
+    /// What `clap` is told of the command.
+    pub(crate) fn parser<'a>(self, alloc: Global) -> Result<clap::Command<'a>, OutOfMemory>
+        ensures { IfOk result (λ c. app_of c ≡ app (sorts self)) }
+    {
+        match self {
+            Command::Check => parser_of(
+                alloc,
+                &["sdp", "workers", "tai"],
+                &["serial", "json", "joined"],
+            ),
+            Command::Verify => parser_of(
+                alloc,
+                &[
+                    "sdp", "media", "type", "model", "from", "to", "count", "limit", "tai",
+                ],
+                &["joined"],
+            ),
+            Command::VerifyReport => parser_of(alloc, &["sdp", "report", "tai"], &["joined"]),
+            Command::SelfTest => parser_of(alloc, &["workers"], &[]),
+            Command::Window => parser_of(alloc, &["sdp", "media", "tai"], &[]),
+            Command::Shape => parser_of(alloc, &["sdp", "media", "type", "tai"], &["list"]),
+            Command::Skew => parser_of(alloc, &["sdp", "media", "pair"], &[]),
+        }
+    }
+}
+
+// An option, or a flag, which is an argument that takes no value.
+fn arg_of<'a>(alloc: Global, valued: bool, name: &'static str) -> Arg<'a>
+    ensures rule { rule_of result ≡ told valued name.now }
+    ensures local { result.global ≡ false }
+{
+    let arg = Arg::new(alloc, name).long(name).action(ArgAction::Set);
+    if valued { arg } else { arg.num_args(0) }
+}
+
+fn names_arg<'a>(alloc: Global) -> Arg<'a>
+    ensures rule { rule_of result ≡ names_told }
+    ensures local { result.global ≡ false }
+{
+    Arg::new(alloc, NAMES).action(ArgAction::Append)
+}
+
+// The parser that takes these options, or these flags, as well.
+fn taking<'a>(
+    alloc: Global,
+    parser: clap::Command<'a>,
+    valued: bool,
+    names: &[&'static str],
+) -> Result<clap::Command<'a>, OutOfMemory>
+    ensures { IfOk result (λ c. (taken : List Sort) → app_of parser.entry ≡ bare taken
+        → app_of c ≡ bare (taken ++ sorts_of valued names.now)) }
+{
+    let mut parser = parser;
+    for name in names {
+        parser = parser.arg(arg_of(alloc, valued, name))?;
+    }
+    Ok(parser)
+}
+
+// The parser of a command that takes these options and flags, and names.
+fn parser_of<'a>(
+    alloc: Global,
+    options: &[&'static str],
+    flags: &[&'static str],
+) -> Result<clap::Command<'a>, OutOfMemory>
+    ensures { IfOk result (λ c. app_of c ≡ app (sorts_of true options.now ++ sorts_of false flags.now)) }
+{
+    let parser = clap::Command::new(alloc, "command")
+        .no_binary_name(true)
+        .disable_help_flag(true);
+    let parser = taking(alloc, parser, true, options)?;
+    let parser = taking(alloc, parser, false, flags)?;
+    parser.arg(names_arg(alloc))
+}
