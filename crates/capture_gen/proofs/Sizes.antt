@@ -32,21 +32,14 @@ lost Gap = 1
 lost Short = 1
 lost _ = 0
 
-kept-early : (flaw : Flaw) → kept flaw false ≡ 20
+-- of an early frame, and of the last one
+kept-both : (flaw : Flaw) → (kept flaw false ≡ 20) × (kept flaw true + lost flaw ≡ 20)
 unfolding kept
-kept-early Clean = refl
-kept-early Burst = refl
-kept-early Slow = refl
-kept-early Gap = refl
-kept-early Short = refl
-
-kept-last : (flaw : Flaw) → kept flaw true + lost flaw ≡ 20
-unfolding kept
-kept-last Clean = refl
-kept-last Burst = refl
-kept-last Slow = refl
-kept-last Gap = refl
-kept-last Short = refl
+kept-both Clean = (refl, refl)
+kept-both Burst = (refl, refl)
+kept-both Slow = (refl, refl)
+kept-both Gap = (refl, refl)
+kept-both Short = (refl, refl)
 
 lost-number : (flaw : ℕ) → lost (flaw_of flaw) ≡ (if nat_le 3 flaw then 1 else 0)
 lost-number zero = refl
@@ -74,7 +67,7 @@ module _ (number frames : ℕ) (flaw : Flaw) where
       let e : suc n ≡ n + 1 = omega arith in
       let differs : (n + 1 == frames) ≡ false = ne_eqb (n + 1) frames (λ same. omega arith) in
       let now = flat_map at (range_with_len 0 n) in
-      let one : length (at n) ≡ 20 = length-at n false differs ∙ kept-early flaw in
+      let one : length (at n) ≡ 20 = length-at n false differs ∙ (kept-both flaw).0 in
       let all : length (flat_map at (range_with_len 0 (suc n))) ≡ length now + length (at n) =
       ap (λ k. length (flat_map at (range_with_len 0 k))) e ∙ ap length (flat_map-range_more at n) ∙ length-append now (at n) in
       omega (arith, all, one, early n (omega arith))
@@ -86,7 +79,7 @@ module _ (number frames : ℕ) (flaw : Flaw) where
       let one : length (at n) ≡ kept flaw true = length-at n true (eq-eqb (n + 1) frames (sym e)) in
       let both : length (flat_map at (range_with_len 0 frames)) ≡ length now + length (at n) =
       ap (λ k. length (flat_map at (range_with_len 0 k))) e ∙ ap length (flat_map-range_more at n) ∙ length-append now (at n) in
-      omega (arith, both, one, early n (omega arith), kept-last flaw)
+      omega (arith, both, one, early n (omega arith), (kept-both flaw).1)
 
 -- the packets of a capture
 pub length-packets : (number frames flaw : ℕ) → 1 ≤ frames → length (packets number frames flaw) ≡ 1 + 20 * frames - (if nat_le 3 flaw then 1 else 0)

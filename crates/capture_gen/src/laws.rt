@@ -2,7 +2,7 @@
 //! does nothing, and its clauses are proved.
 
 ghost use Rattle.std.specs.Prelude.{◌≡◌, [], ◌∷◌, true, false, length, map, take, drop};
-ghost use Rattle.capture_gen.specs.Capture.{capture, frame_of, head_packet, packet_of, packets, packets_of};
+ghost use Rattle.capture_gen.specs.Capture.{capture, frame_of, head_packet, packet_of, packets, packets_of, start};
 ghost use Rattle.capture_gen.specs.Flaws.{flaw_of};
 ghost use Rattle.capture_gen.specs.Heads.{file_head};
 ghost use Rattle.capture_gen.specs.Packets.{extended_number, record_of, rtp_header};
@@ -50,6 +50,18 @@ pub fn numbers_by_hand()
     ensures sequence { take 2 (drop 2 (rtp_header (head_packet 65544))) ≡ 0x00 ∷ 0x08 ∷ [] }
     ensures extended { extended_number (head_packet 65544) ≡ 0x00 ∷ 0x01 ∷ [] }
     ensures marker { take 2 (rtp_header (head_packet 65544)) ≡ 0x80 ∷ 0xe0 ∷ [] }
+{}
+
+/// Frame 0 of the number 999,999 starts 1,600,999,999 seconds after 1970, and that of 1,000,000
+/// again at 1,600,000,000; frame 1 has 1,800 ticks more than frame 0.
+pub fn starts_by_hand()
+    ensures last { start 999999 ≡ 1600999999000000000 }
+    ensures again { start 1000000 ≡ 1600000000000000000 }
+    ensures head { (head_packet 1000003).at ≡ 1600000002999000000 }
+    ensures first { (packet_of (frame_of 1000003 2 (flaw_of 0) 0) 0).at ≡ 1600000003000764000 }
+    ensures number { (packet_of (frame_of 1000003 2 (flaw_of 0) 1) 0).number ≡ 1000024 }
+    ensures second_stamp { (packet_of (frame_of 0 2 (flaw_of 0) 1) 0).at ≡ 1600000000020764000 }
+    ensures second_timestamp { (packet_of (frame_of 0 2 (flaw_of 0) 1) 0).timestamp ≡ 3600 }
 {}
 
 /// A capture's packet numbers go on at 0 after 2^32 - 1.

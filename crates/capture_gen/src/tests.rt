@@ -1,3 +1,5 @@
+//! Captures on a sink in memory, and sinks that fail.
+
 use super::*;
 use byteorder::{BigEndian, ByteOrder, LittleEndian};
 use std::alloc::Global;
