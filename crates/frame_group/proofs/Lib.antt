@@ -1,0 +1,4 @@
+pub mod Faults
+pub mod Sized
+pub mod Steps
+pub mod Told

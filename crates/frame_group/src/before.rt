@@ -1,0 +1,99 @@
+//! The packet before, and the faults that it shows.
+
+ghost use Rattle.std.specs.Prelude.{◌≡◌, ◌≤◌, ◌<◌, ◌+◌, ◌^◌, ℕ, List, false, length};
+ghost use Rattle.timing_base.specs.declared.packet.FlowPacket.{FlowPacket};
+ghost use Rattle.timing_base.specs.declared.packet.PacketFault.TheVariants.{SecondSource, NoMarker, SameStamp};
+ghost use Rattle.timing_base.specs.Flows.{cuts, fault_if, first_of, is_cut, is_second_source, lacks_marker, order_fault, repeats_timestamp};
+ghost use Rattle.frame_group.specs.Placing.{cut_at};
+
+use timing_base::{PacketFault, Rtp};
+
+// The most cuts that a flow may have.
+const MOST_CUTS: u64 = 1024;
+
+// What a packet is compared with: the packet before it, and the source of the flow's first.
+#[derive(Clone, Copy, Debug, PartialEq, Eq)]
+pub struct Before {
+    pub at: u64,
+    pub number: u32,
+    pub timestamp: u32,
+    pub marker: bool,
+    pub source: u32,
+}
+
+impl Before {
+    ghost use Rattle.frame_group.specs.Reads.{IsRead, IsAfter};
+
+    // The number that would have gone on, where a cut stands at the next packet.
+    pub fn cut(&self, rtp: Rtp) -> Option<u32>
+        ensures { (packets : List FlowPacket) (i at : ℕ) → IsAfter packets i self.now
+            → IsRead packets i at rtp → result ≡ cut_at packets i }
+    {
+        let expected = self.number.wrapping_add(1);
+        if rtp.number == expected {
+            None
+        } else {
+            Some(expected)
+        }
+    }
+
+    // Whether the next packet has another source than the flow's first.
+    fn is_second_source(&self, rtp: Rtp) -> bool
+        ensures { (packets : List FlowPacket) (i at : ℕ) → IsAfter packets i self.now
+            → IsRead packets i at rtp → result ≡ is_second_source packets i }
+    {
+        rtp.ssrc != self.source
+    }
+
+    // The fault of the next packet by its RTP timestamp, where no cut stands at it.
+    fn timestamp_fault(&self, rtp: Rtp) -> Option<PacketFault>
+        ensures { (packets : List FlowPacket) (i at : ℕ) → IsAfter packets i self.now
+            → IsRead packets i at rtp → is_cut packets i ≡ false
+            → result ≡ first_of (fault_if (lacks_marker packets i) NoMarker)
+            (fault_if (repeats_timestamp packets i) SameStamp) }
+    {
+        let is_same = rtp.timestamp == self.timestamp;
+        if self.marker != is_same {
+            return None;
+        }
+        Some(if is_same {
+            PacketFault::SameStamp
+        } else {
+            PacketFault::NoMarker
+        })
+    }
+
+    // The fault of the next packet by the packet before: a gap too many, a stamp that goes back, or a
+    // frame or field that ends without the marker or goes on after it.
+    fn order_fault(&self, at: u64, rtp: Rtp, cut: Option<u32>, so_far: u64) -> Option<PacketFault>
+        ensures { (packets : List FlowPacket) (i : ℕ) → IsAfter packets i self.now
+            → IsRead packets i at rtp → cut ≡ cut_at packets i → so_far ≡ length (cuts packets i)
+            → result ≡ order_fault 1024 packets i }
+    {
+        match cut {
+            Some(expected) if so_far >= MOST_CUTS => Some(PacketFault::Number {
+                expected,
+                got: rtp.number,
+            }),
+            _ if at < self.at => Some(PacketFault::StampBack {
+                before: self.at,
+                got: at,
+            }),
+            Some(_) => None,
+            None => self.timestamp_fault(rtp),
+        }
+    }
+
+    // The fault of the next packet by the packets before it.
+    pub fn fault(&self, at: u64, rtp: Rtp, cut: Option<u32>, so_far: u64) -> Option<PacketFault>
+        ensures { (packets : List FlowPacket) (i : ℕ) → IsAfter packets i self.now
+            → IsRead packets i at rtp → cut ≡ cut_at packets i → so_far ≡ length (cuts packets i)
+            → result ≡ first_of (fault_if (is_second_source packets i) SecondSource)
+            (order_fault 1024 packets i) }
+    {
+        if self.is_second_source(rtp) {
+            return Some(PacketFault::SecondSource);
+        }
+        self.order_fault(at, rtp, cut, so_far)
+    }
+}

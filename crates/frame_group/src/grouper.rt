@@ -1,0 +1,200 @@
+//! The grouper.
+
+ghost use Rattle.std.specs.Prelude.{◌≡◌, ◌≤◌, ◌<◌, ◌+◌, ◌^◌, ◌++◌, ◌∷◌, [], ℕ, List, Ok, None, length, IfOk};
+ghost use Rattle.std.specs.Option.{ForSome};
+ghost use Rattle.timing_base.specs.declared.packet.FlowPacket.{FlowPacket};
+ghost use Rattle.timing_base.specs.Flows.{cuts, fault, fault_if, first_of, is_second_source, markers_before, order_fault};
+ghost use Rattle.timing_base.specs.declared.packet.PacketFault.TheVariants.{SecondSource};
+ghost use Rattle.frame_group.specs.Placing.{answer_at, cut_at, IsInRange};
+
+use crate::before::Before;
+use crate::group::Group;
+use crate::place::Placed;
+use timing_base::{PacketFault, Rtp};
+
+/// What is kept of the packets of one flow between two of them.
+#[derive(Clone, Copy, Debug, PartialEq, Eq)]
+pub struct Grouper {
+    pt: u8,
+    fed: u64,
+    before: Option<Before>,
+    cuts: u64,
+    group: Option<Group>,
+    // The first fault of the flow: the other fields are then of no use.
+    fault: Option<PacketFault>,
+    ghost few_cuts: { cuts ≤ fed },
+    ghost few_groups: { ForSome group (λ g. g.frame < fed) },
+}
+
+impl Grouper {
+    ghost use Rattle.frame_group.specs.Marks.{IsIn};
+    ghost use Rattle.frame_group.specs.Reads.{IsAfter, IsRead};
+    ghost use Rattle.frame_group.specs.Stands.{count_fed, Keeps, StandsFor};
+
+    /// Before the first packet of a flow whose media has the payload type `pt`.
+    pub fn new(pt: u8) -> Grouper
+        ensures fed { count_fed result ≡ 0 }
+        ensures stands { StandsFor pt result [] }
+    {
+        Grouper {
+            pt,
+            fed: 0,
+            before: None,
+            cuts: 0,
+            group: None,
+            fault: None,
+        }
+    }
+
+    // The number that would have gone on, where a cut stands at the next packet.
+    fn cut(&self, rtp: Rtp) -> Option<u32>
+        ensures { (packets : List FlowPacket) (i at : ℕ) → Keeps packets i self.now
+            → IsRead packets i at rtp → result ≡ cut_at packets i }
+    {
+        match self.before {
+            None => None,
+            Some(before) => before.cut(rtp),
+        }
+    }
+
+    // The fault of the next packet by the packets before it, if there are any.
+    fn earlier_fault(&self, at: u64, rtp: Rtp, cut: Option<u32>) -> Option<PacketFault>
+        ensures { (packets : List FlowPacket) (i : ℕ) → Keeps packets i self.now
+            → IsRead packets i at rtp → cut ≡ cut_at packets i
+            → result ≡ first_of (fault_if (is_second_source packets i) SecondSource)
+            (order_fault 1024 packets i) }
+    {
+        match self.before {
+            None => None,
+            Some(before) => before.fault(at, rtp, cut, self.cuts),
+        }
+    }
+
+    // The fault of the next packet, which has this cut and stands in this group.
+    fn fault_at(
+        &self,
+        at: u64,
+        rtp: Rtp,
+        cut: Option<u32>,
+        group: Option<Group>,
+    ) -> Option<PacketFault>
+        ensures is { (packets : List FlowPacket) (i : ℕ) → Keeps packets i self.now
+            → IsRead packets i at rtp → cut ≡ cut_at packets i
+            → IsIn (markers_before packets i) i group
+            → result ≡ fault packets self.now.pt i }
+        ensures fits { result ≡ None → ForSome group (λ g. g.place < g.most) }
+    {
+        if rtp.pt != self.pt {
+            return Some(PacketFault::PayloadType);
+        }
+        if let Some(fault) = self.earlier_fault(at, rtp, cut) {
+            return Some(fault);
+        }
+        Group::fault_in(group, rtp.marker)
+    }
+
+    // The group that the next packet stands in: at a cut a run begins.
+    fn group_at(&self, cut: Option<u32>) -> Option<Group>
+        ensures is { (packets : List FlowPacket) (i : ℕ) → Keeps packets i self.now
+            → cut ≡ cut_at packets i → IsIn (markers_before packets i) i result }
+        ensures few { ForSome result (λ g. g.frame < self.now.fed) }
+    {
+        match cut {
+            Some(_) => None,
+            None => self.group,
+        }
+    }
+
+    // What the packet after the next one is compared with.
+    fn before_later(&self, at: u64, rtp: Rtp) -> Before
+        ensures { (packets : List FlowPacket) (i : ℕ) → Keeps packets i self.now
+            → IsRead packets i at rtp → IsAfter packets (i + 1) result }
+    {
+        let source = match self.before {
+            None => rtp.ssrc,
+            Some(before) => before.source,
+        };
+        Before {
+            at,
+            number: rtp.number,
+            timestamp: rtp.timestamp,
+            marker: rtp.marker,
+            source,
+        }
+    }
+
+    // The cuts of the flow, with that of the next packet.
+    fn cuts_with(&self, cut: Option<u32>) -> u64
+        requires { self.now.fed < 2 ^ 41 }
+        ensures are { (packets : List FlowPacket) (i : ℕ) → Keeps packets i self.now
+            → cut ≡ cut_at packets i → result ≡ length (cuts packets (i + 1)) }
+        ensures few { result ≤ self.now.fed + 1 }
+    {
+        match cut {
+            Some(_) => self.cuts + 1,
+            None => self.cuts,
+        }
+    }
+
+    // Goes past the next packet, which has this cut, stands in this group and has no fault.
+    fn pass(&mut self, at: u64, rtp: Rtp, cut: Option<u32>, group: Option<Group>)
+        requires few { self.old.fed < 2 ^ 41 }
+        requires fits { ForSome group (λ g. g.place < g.most) }
+        requires few_groups { ForSome group (λ g. g.frame < self.old.fed) }
+        ensures keeps { (packets : List FlowPacket) (i : ℕ) → Keeps packets i self.old
+            → IsRead packets i at rtp → cut ≡ cut_at packets i
+            → IsIn (markers_before packets i) i group → Keeps packets (i + 1) self.new }
+        ensures pt { self.new.pt ≡ self.old.pt }
+        ensures fed { self.new.fed ≡ self.old.fed + 1 }
+        ensures fault { self.new.fault ≡ self.old.fault }
+    {
+        let before = self.before_later(at, rtp);
+        let cuts = self.cuts_with(cut);
+        self.fed += 1;
+        self.before = Some(before);
+        self.cuts = cuts;
+        self.group = Group::after_in(group, rtp.marker);
+    }
+
+    /// Takes the next packet of the flow, captured at `at` in nanoseconds, and answers where it stands,
+    /// or its fault: the first that holds, in the order of [`PacketFault`]. After a fault each later
+    /// packet is answered with that same fault.
+    ///
+    /// A packet that could not be read (`Short` or `Version`) is not fed, nor is any after it.
+    pub fn feed(&mut self, at: u64, rtp: Rtp) -> Result<Placed, PacketFault>
+        requires few { count_fed self.old < 2 ^ 41 }
+
+        ensures fed { count_fed self.new ≡ count_fed self.old + 1 }
+
+        // The packet's place in every flow that begins with the packets before it and goes on so.
+        ensures answer { (pt : ℕ) (packets rest : List FlowPacket) (rec : ℕ)
+            → StandsFor pt self.old packets
+            → result ≡ answer_at
+            (packets ++ record { rec = rec; at = at; rtp = Ok rtp } ∷ rest) pt (length packets) }
+
+        // What a caller may count on without knowing the packets before.
+        ensures in_range { IfOk result (λ placed. IsInRange (count_fed self.old) placed.place) }
+
+        // Whatever packets the grouper stood for, it now stands for those and this one.
+        ensures stands { (pt : ℕ) (packets : List FlowPacket) (rec : ℕ)
+            → StandsFor pt self.old packets
+            → StandsFor pt self.new (packets ++ record { rec = rec; at = at; rtp = Ok rtp } ∷ []) }
+    {
+        if let Some(fault) = self.fault {
+            self.fed += 1;
+            return Err(fault);
+        }
+        let cut = self.cut(rtp);
+        let group = self.group_at(cut);
+        if let Some(fault) = self.fault_at(at, rtp, cut, group) {
+            self.fed += 1;
+            self.fault = Some(fault);
+            return Err(fault);
+        }
+        self.pass(at, rtp, cut, group);
+        Ok(Placed {
+            cut,
+            place: Group::place_in(group, rtp.marker),
+        })
+    }
+}
