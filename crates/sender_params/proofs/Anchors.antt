@@ -2,7 +2,7 @@
 use Rattle.std.proofs.Common.{◌≡◌, ◌≤◌, ◌<◌, ◌+◌, ◌*◌, ◌^◌, ℕ, true, false, cond, arith, ap, sym, ◌∙◌, pos, ◌+ℤ◌, ◌-ℤ◌, ◌*ℤ◌}
 use Rattle.std.proofs.Math.Nat.{mul-le-mul_right}
 use Rattle.fraction128.specs.Fractions.{floor_of_signed}
-use Rattle.timing_base.specs.declared.media.Media.{Media}
+use Rattle.timing_base.specs.Media.{IsMedia, Media}
 use Rattle.sender_params.specs.Reads.{anchor_of}
 use Rattle.sender_params.specs.Times.{group_time, groups_of, offset_time}
 use Rattle.sender_params.proofs.Floors.{anchor-floor}
@@ -30,10 +30,10 @@ pub groups_of-most : (m : Media) → groups_of m ≤ 2
 groups_of-most m = elim (m.interlaced) as (λ b. cond b 2 1 ≤ 2) [ true ↦ omega arith | false ↦ omega arith ]
 
 -- a second has at most 480 groups
-pub group_time-most : (m : Media) → (group_time m).1 ≤ 480 * m.q
-group_time-most m =
+pub group_time-most : (m : Media) → IsMedia m → (group_time m).1 ≤ 480 * m.q
+group_time-most m is =
     let h : groups_of m * m.p ≤ 2 * m.p = mul-le-mul_right (m.p) (groups_of-most m) in
-    omega (arith, h, m.p_most)
+    omega (arith, h, is.p_most)
 
 -- a first packet before 2^62 is of a group below 2^42
 pub anchor-high : (a per rate group : ℕ)

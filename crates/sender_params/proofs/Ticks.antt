@@ -1,9 +1,9 @@
 -- The ticks of the drain are fewer than the nanoseconds, and never fall.
-use Rattle.std.proofs.Common.{◌≡◌, ◌≤◌, ◌<◌, ◌*◌, ◌/◌, ◌^◌, ◌-◌, ℕ, inl, inr, arith}
-use Rattle.std.proofs.Math.Nat.{div-mul-le_self, mul-le-mul_right, mul_assoc}
+use Rattle.std.proofs.Common.{◌≡◌, ◌≤◌, ◌<◌, ◌*◌, ◌/◌, ◌^◌, ◌-◌, ℕ, zero, suc, inl, inr, arith}
+use Rattle.std.proofs.Math.Nat.{div-zero, div-mul-le_self, mul-le-mul_right, mul_assoc}
 use Rattle.std.proofs.lemmas.Bool.{cases_lt}
 use Rattle.std.proofs.lemmas.Nat.{le-div}
-use Rattle.timing_base.specs.declared.media.Media.{Media}
+use Rattle.timing_base.specs.Media.{Media}
 use Rattle.sender_params.specs.Ticks.{ticks_of}
 use Rattle.sender_params.specs.Times.{drain_time}
 
@@ -22,13 +22,14 @@ quotient-small d den num few slow =
     ]
 
 -- a floor never falls
-pub quotient-rises : (a b den num : ℕ) → 0 < num → a ≤ b → a * den / num ≤ b * den / num
-quotient-rises a b den num some h =
-    let below : (a * den / num) * num ≤ a * den = div-mul-le_self (a * den) num in
+pub quotient-rises : (a b den num : ℕ) → a ≤ b → a * den / num ≤ b * den / num
+quotient-rises a b den zero h = omega (arith, div-zero (a * den))
+quotient-rises a b den (suc k) h =
+    let below : (a * den / suc k) * suc k ≤ a * den = div-mul-le_self (a * den) (suc k) in
     let more : a * den ≤ b * den = mul-le-mul_right den h in
-    le-div (a * den / num) (b * den) num some (omega (arith, below, more))
+    le-div (a * den / suc k) (b * den) (suc k) (omega arith) (omega (arith, below, more))
 
 -- later instants have no fewer ticks
 pub ticks_of-rises : (m : Media) (n a0 a b : ℕ) → a ≤ b → ticks_of m n a0 a ≤ ticks_of m n a0 b
 ticks_of-rises m n a0 a b h =
-    quotient-rises (a - a0) (b - a0) ((drain_time m n).1) ((drain_time m n).0) (omega (arith, m.q_some)) (omega (arith, h))
+    quotient-rises (a - a0) (b - a0) ((drain_time m n).1) ((drain_time m n).0) (omega (arith, h))

@@ -1,16 +1,17 @@
 -- When the judged packets keep the limits of a sender type (SMPTE ST 2110-21), and what shows that they
 -- don't. m is the video, n the packets of one group, and the stamps are those of the judged packets, in
--- nanoseconds, counted from 0. An instant is any fraction of nanoseconds.
-use Rattle.std.specs.Prelude.{◌≡◌, ◌+◌, ◌-◌, ◌≤◌, ◌<◌, ℕ, ℤ, pos, ◌-ℤ◌, ◌≤ℤ◌, Bool, List, length, slice_index, count_by}
+-- nanoseconds, counted from 0. An instant is any fraction of nanoseconds. Both models are the standard's. This
+-- project's own are the fields of a fail, and that at one instant a packet has come and a read is done.
+use Rattle.std.specs.Prelude.{◌≡◌, ◌+◌, ◌-◌, ◌≤◌, ◌<◌, ℕ, ℤ, pos, ◌-ℤ◌, ◌≤ℤ◌, Bool, nat_lt, List, length, slice_index, count_by}
 use Rattle.std.specs.List.{range_with_len}
-use Rattle.fraction128.specs.Fractions.{Fraction, Below, at_most, whole}
-use Rattle.timing_base.specs.declared.media.Media.{Media}
+use Rattle.fraction128.specs.Fractions.{Fraction, at_most, below, whole}
+use Rattle.timing_base.specs.Media.{Media}
 use Rattle.timing_base.specs.declared.media.Kind.{Kind}
 use Rattle.timing_base.specs.declared.fail.FailProof.{FailProof}
 use Rattle.timing_base.specs.declared.fail.Broken.{Broken}
 use Rattle.timing_base.specs.declared.fail.Broken.TheVariants.{Bucket, Over, Empty}
 use Rattle.sender_params.specs.Limits.{c_max_of, vrx_full_of, gapped_of}
-use Rattle.sender_params.specs.Reads.{AreDue, anchor_of, read_of}
+use Rattle.sender_params.specs.Reads.{anchor_of, read_of}
 use Rattle.sender_params.specs.Ticks.{KeepsBucket, load_of}
 
 -- the packets that came by the instant t
@@ -37,20 +38,20 @@ pub record Keeps (m : Media) (n : ℕ) (stamps : List ℕ) (kind : Kind) : Type 
   pub bucket : KeepsBucket m n stamps kind
   pub buffer : KeepsBuffer m n stamps kind
 
--- when packet i comes, the buffer then holds `count` packets: those up to i, less the reads that are due
-abbrev pub HeldAt : Media → ℕ → List ℕ → Kind → ℕ → ℕ → Type 0
-HeldAt m n stamps kind i count = (reads : ℕ)
-    × AreDue m n (anchor_of m (slice_index stamps 0)) (gapped_of kind) (whole (slice_index stamps i)) reads
-    × (count ≡ (i + 1) - reads)
+-- the packets that the buffer holds just after packet i came: those up to i, less the reads that are due by then, and 0
+-- where the reads are more. Of the reads the first i + 1 decide: where they are due, nothing is held.
+abbrev pub held_at : Media → ℕ → List ℕ → Bool → ℕ → ℕ
+held_at m n stamps gapped i =
+    (i + 1) - due_among m n (anchor_of m (slice_index stamps 0)) gapped (i + 1) (whole (slice_index stamps i))
 
 -- when packet i comes, the buffer holds more than VRX_FULL packets
-abbrev pub IsOver : Media → ℕ → List ℕ → Kind → ℕ → Type 0
-IsOver m n stamps kind i = (count : ℕ) × HeldAt m n stamps kind i count × (vrx_full_of m n kind < count)
+abbrev pub is_over : Media → ℕ → List ℕ → Kind → ℕ → Bool
+is_over m n stamps kind i = nat_lt (vrx_full_of m n kind) (held_at m n stamps (gapped_of kind) i)
 
 -- packet i comes after its own read, which found nothing
-abbrev pub IsEmpty : Media → ℕ → List ℕ → Kind → ℕ → Type 0
-IsEmpty m n stamps kind i =
-    Below (read_of m n (anchor_of m (slice_index stamps 0)) (gapped_of kind) i) (whole (slice_index stamps i))
+abbrev pub is_empty : Media → ℕ → List ℕ → Kind → ℕ → Bool
+is_empty m n stamps kind i =
+    below (read_of m n (anchor_of m (slice_index stamps 0)) (gapped_of kind) i) (whole (slice_index stamps i))
 
 -- the packets that came by read i
 abbrev pub arrived_by_read : Media → ℕ → List ℕ → Kind → ℕ → ℕ
@@ -64,7 +65,7 @@ BreaksLimit m n stamps kind f Bucket = (f.limit ≡ c_max_of m n kind)
     × (f.limit < f.count)
 BreaksLimit m n stamps kind f Over = (f.limit ≡ vrx_full_of m n kind)
     × (f.from ≡ 0)
-    × HeldAt m n stamps kind f.to f.count
+    × (f.count ≡ held_at m n stamps (gapped_of kind) f.to)
     × (f.limit < f.count)
 BreaksLimit m n stamps kind f Empty = (f.limit ≡ f.to + 1)
     × (f.from ≡ f.to)

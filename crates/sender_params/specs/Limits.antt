@@ -1,7 +1,9 @@
--- The limits of the two models (SMPTE ST 2110-21), in packets. m is the video, n the packets of one group.
+-- The limits of the two models (SMPTE ST 2110-21), in packets. m is the video, n the packets of one group. The
+-- models, the types and the names are the standard's. This project's own are all numbers, the least limits 4, 16,
+-- 8 and 720 and the divisors among them, that CMAX is of the declared type alone, and that W is read linearly.
 use Rattle.std.specs.Prelude.{◌*◌, ◌/◌, ℕ, max, Bool, true, false, cond, Option, Some}
 use Rattle.std.specs.Option.{unwrap_or}
-use Rattle.timing_base.specs.declared.media.Media.{Media}
+use Rattle.timing_base.specs.Media.{Media}
 use Rattle.timing_base.specs.declared.media.Kind.{Kind}
 use Rattle.timing_base.specs.declared.media.Kind.TheVariants.{N, NL, W}
 use Rattle.sender_params.specs.Times.{per_frame_of, active_part}

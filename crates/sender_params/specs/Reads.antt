@@ -1,9 +1,10 @@
 -- The reads of the virtual receiver buffer (SMPTE ST 2110-21), in nanoseconds, as exact fractions. m is
 -- the video, n the packets of one group, `anchor` the number of the group to which the first packet
--- belongs, and the schedule is gapped or linear.
+-- belongs, and the schedule is gapped or linear. The two schedules are the standard's. This project's own are the
+-- rounding to the nearest group, and that all reads are counted from the one group of the first packet.
 use Rattle.std.specs.Prelude.{◌≤◌, ◌<◌, ◌/◌, ◌%◌, ℕ, ℤ, pos, ◌+ℤ◌, Bool}
 use Rattle.fraction128.specs.Fractions.{Fraction, AtMost, Below, whole, scaled, plus, minus, divided, floor}
-use Rattle.timing_base.specs.declared.media.Media.{Media}
+use Rattle.timing_base.specs.Media.{Media}
 use Rattle.sender_params.specs.Times.{group_time, offset_time, read_step}
 
 -- n0, floor((a0 - TR_OFFSET) / T_GROUP + 1/2): the group nearest to a first packet at a0

@@ -1,7 +1,8 @@
 -- The drain of the network compatibility model (SMPTE ST 2110-21). m is the video, n the packets of one
--- group, and the stamps are those of the judged packets, in nanoseconds, counted from 0.
+-- group, and the stamps are those of the judged packets, in nanoseconds, counted from 0. The drain is the
+-- standard's. This project's own is where its ticks stand, and that one at the instant of a packet comes before it.
 use Rattle.std.specs.Prelude.{◌+◌, ◌-◌, ◌*◌, ◌/◌, ◌≤◌, ◌<◌, ℕ, List, length, slice_index}
-use Rattle.timing_base.specs.declared.media.Media.{Media}
+use Rattle.timing_base.specs.Media.{Media}
 use Rattle.timing_base.specs.declared.media.Kind.{Kind}
 use Rattle.sender_params.specs.Times.{drain_time}
 use Rattle.sender_params.specs.Limits.{c_max_of}

@@ -1,9 +1,10 @@
 -- The times of a sender of video (SMPTE ST 2110-21), in nanoseconds, each as the pair of a numerator
 -- and a denominator. m is the video, n the packets of one group: a group is a frame of a progressive
 -- picture and a field of an interlaced one. Reads start anew with each group, TR_OFFSET after its start.
--- All numbers are this project's profile of the standard.
+-- The times and their names are the standard's. This project's own are all numbers: 10 / 11, the parts of a
+-- frame and the heights from which they hold, and that an interlaced picture is timed by its fields.
 use Rattle.std.specs.Prelude.{◌*◌, ℕ, Bool, cond, nat_le, Option, Some, None}
-use Rattle.timing_base.specs.declared.media.Media.{Media}
+use Rattle.timing_base.specs.Media.{Media}
 
 -- the groups of a frame
 abbrev pub groups_of : Media → ℕ

@@ -1,134 +1,196 @@
 //! The definitions on numbers worked by hand. Each function does nothing, and its clauses are
 //! proved.
 
-ghost use Rattle.std.specs.Prelude.{◌≡◌, ◌∷◌, ◌*◌, [], true, false, pos, negsuc, Some, None};
-ghost use Rattle.fraction128.specs.Fractions.{AtMost, Below, scaled, whole};
+ghost use Rattle.std.specs.Prelude.{◌≡◌, ◌∷◌, [], true, false, pos, negsuc, Some, None, replicate};
+ghost use Rattle.fraction128.specs.Fractions.{Below, scaled, whole};
 ghost use Rattle.timing_base.specs.declared.fail.Broken.TheVariants.{Bucket, Over, Empty};
 ghost use Rattle.timing_base.specs.declared.media.Kind.TheVariants.{N, NL, W};
-ghost use Rattle.sender_params.specs.Times.{drain_time, frame_time, group_time, offset_by};
+ghost use Rattle.sender_params.specs.Times.{drain_time, frame_time, group_time};
 ghost use Rattle.sender_params.specs.Times.{offset_time, read_step};
-ghost use Rattle.sender_params.specs.Limits.{c_max_of, or_declared, vrx_full_of};
-ghost use Rattle.sender_params.specs.Ticks.{KeepsBucket, load_of, ticks_of};
+ghost use Rattle.sender_params.specs.Ticks.{KeepsBucket, NeverFall, load_of, ticks_of};
 ghost use Rattle.sender_params.specs.Reads.{AreDue, anchor_of, read_of};
-ghost use Rattle.sender_params.specs.Keeps.{Confirms, HeldAt, IsEmpty, IsOver, Keeps, KeepsBuffer};
-ghost use Rattle.sender_params.specs.Keeps.{arrived_by_read, held_of};
-ghost use Rattle.sender_params.specs.Worked.{at_once, fail, linear_two};
-ghost use Rattle.sender_params.specs.Worked.{hd_50, hd_59_94, hd_720};
-ghost use Rattle.sender_params.specs.Worked.{hd_25_interlaced, sd_25_interlaced};
-ghost use Rattle.sender_params.specs.Worked.{sd_29_97_interlaced};
+ghost use Rattle.sender_params.specs.Keeps.{Confirms, Keeps, KeepsBuffer};
+ghost use Rattle.sender_params.specs.Keeps.{arrived_by_read, held_at, held_of, is_empty, is_over};
+ghost use Rattle.sender_params.specs.Worked.{IsAt, IsTime, c_max_of_each, vrx_full_of_each};
+ghost use Rattle.sender_params.specs.Worked.{at_once, described, fail, linear_two, video};
+ghost use Rattle.sender_params.specs.Worked.{hd_50, hd_59_94, hd_25_interlaced, sd_25_interlaced};
 
-/// 1080p at 50 with 20 packets per frame: T_RS is 960,000 ns, as with 720 lines, TR_OFFSET
-/// 764,444 4/9 ns and T_DRAIN 909,090 10/11 ns. TROFF=700 is 700,000 ns.
+/// 1080p at 50 with 20 packets per frame: T_RS is 960,000 ns, TR_OFFSET 764,444 4/9 ns and T_DRAIN
+/// 909,090 10/11 ns. TROFF=700 is 700,000 ns.
 pub fn times_by_hand()
-    ensures step_720 { (read_step hd_720 20 true).0 ≡ 960000 * (read_step hd_720 20 true).1 }
-    ensures step { (read_step hd_50 20 true).0 ≡ 960000 * (read_step hd_50 20 true).1 }
-    ensures offset { (offset_time hd_50).0 * 9 ≡ 6880000 * (offset_time hd_50).1 }
-    ensures drain { (drain_time hd_50 20).0 * 11 ≡ 10000000 * (drain_time hd_50 20).1 }
-    ensures troff { offset_by hd_50 (Some 700) ≡ (700000, 1) }
+    ensures frame { IsTime (frame_time hd_50) 20000000 1 }
+    ensures group { IsTime (group_time hd_50) 20000000 1 }
+    ensures gapped { IsTime (read_step hd_50 20 true) 960000 1 }
+    ensures linear { IsTime (read_step hd_50 20 false) 1000000 1 }
+    ensures offset { IsTime (offset_time hd_50) 6880000 9 }
+    ensures drain { IsTime (drain_time hd_50 20) 10000000 11 }
+    ensures troff { IsTime (offset_time (described 1080 false 50 1 (Some N) (Some 700) None)) 700000 1 }
 {}
 
-/// The offset of 720 lines is 746,666 2/3 ns. Of interlaced pictures it is 1,664,000 ns with 576
-/// lines at 25, 1,271,111 1/9 ns with 480 lines at 30000/1001, and 782,222 2/9 ns with 1080 lines
-/// at 25.
-pub fn offsets_by_hand()
-    ensures height_720 { (offset_time hd_720).0 * 3 ≡ 2240000 * (offset_time hd_720).1 }
-    ensures lines_576 { (offset_time sd_25_interlaced).0
-        ≡ 1664000 * (offset_time sd_25_interlaced).1 }
-    ensures lines_480 { (offset_time sd_29_97_interlaced).0 * 9
-        ≡ 11440000 * (offset_time sd_29_97_interlaced).1 }
-    ensures lines_1080 { (offset_time hd_25_interlaced).0 * 9
-        ≡ 7040000 * (offset_time hd_25_interlaced).1 }
+/// 1080p at 60000/1001 with 4320 packets per frame: T_FRAME is 16,683,333 1/3 ns, gapped T_RS 3,707 11/27 ns,
+/// TR_OFFSET 637,674 2/27 ns and T_DRAIN 3,510 65/81 ns.
+pub fn times_at_5994_by_hand()
+    ensures frame { IsTime (frame_time hd_59_94) 50050000 3 }
+    ensures group { IsTime (group_time hd_59_94) 50050000 3 }
+    ensures gapped { IsTime (read_step hd_59_94 4320 true) 100100 27 }
+    ensures linear { IsTime (read_step hd_59_94 4320 false) 625625 162 }
+    ensures offset { IsTime (offset_time hd_59_94) 17217200 27 }
+    ensures drain { IsTime (drain_time hd_59_94 4320) 284375 81 }
 {}
 
-/// Interlaced pictures with 10 packets per field. Gapped T_RS is 1,920,000 ns with 1080 lines at
-/// 25, 1,843,200 ns with 576 lines at 25 and 13,928,200/9 ns with 480 lines at 30000/1001. At 25
-/// T_GROUP is 20,000,000 ns, T_FRAME 40,000,000 ns and linear T_RS 2,000,000 ns.
+/// Interlaced pictures with 10 packets per field at 25: T_GROUP is 20,000,000 ns, T_FRAME
+/// 40,000,000 ns, linear T_RS 2,000,000 ns and T_DRAIN 1,818,181 9/11 ns.
 pub fn interlaced_times_by_hand()
-    ensures group { (group_time hd_25_interlaced).0 ≡ 20000000 * (group_time hd_25_interlaced).1 }
-    ensures frame { (frame_time hd_25_interlaced).0 ≡ 40000000 * (frame_time hd_25_interlaced).1 }
-    ensures linear { (read_step hd_25_interlaced 10 false).0
-        ≡ 2000000 * (read_step hd_25_interlaced 10 false).1 }
-    ensures lines_1080 { (read_step hd_25_interlaced 10 true).0
-        ≡ 1920000 * (read_step hd_25_interlaced 10 true).1 }
-    ensures lines_576 { (read_step sd_25_interlaced 10 true).0
-        ≡ 1843200 * (read_step sd_25_interlaced 10 true).1 }
-    ensures lines_480 { (read_step sd_29_97_interlaced 10 true).0 * 9
-        ≡ 13928200 * (read_step sd_29_97_interlaced 10 true).1 }
+    ensures group { IsTime (group_time hd_25_interlaced) 20000000 1 }
+    ensures frame { IsTime (frame_time hd_25_interlaced) 40000000 1 }
+    ensures linear { IsTime (read_step hd_25_interlaced 10 false) 2000000 1 }
+    ensures drain { IsTime (drain_time hd_25_interlaced 10) 20000000 11 }
 {}
 
-/// 1080p at 60000/1001 with 4320 packets per frame, and at 50 with 17,280. CMAX of the declared
-/// type alone.
+/// TR_OFFSET by height: 746,666 2/3 ns of all progressive pictures below 1080 lines at 50. Of
+/// interlaced ones at 25 it is 782,222 2/9 ns from 1080 lines on, 1,664,000 ns from 576 to 1079 lines and
+/// 1,523,809 11/21 ns below; with 480 lines at 30000/1001 it is 1,271,111 1/9 ns.
+pub fn offsets_by_hand()
+    ensures lines_2160 { IsTime (offset_time (video 2160 false 50 1)) 6880000 9 }
+    ensures lines_1079 { IsTime (offset_time (video 1079 false 50 1)) 2240000 3 }
+    ensures lines_720 { IsTime (offset_time (video 720 false 50 1)) 2240000 3 }
+    ensures lines_480 { IsTime (offset_time (video 480 false 50 1)) 2240000 3 }
+    ensures fields_2160 { IsTime (offset_time (video 2160 true 25 1)) 7040000 9 }
+    ensures fields_1080 { IsTime (offset_time hd_25_interlaced) 7040000 9 }
+    ensures fields_1079 { IsTime (offset_time (video 1079 true 25 1)) 1664000 1 }
+    ensures fields_576 { IsTime (offset_time sd_25_interlaced) 1664000 1 }
+    ensures fields_575 { IsTime (offset_time (video 575 true 25 1)) 32000000 21 }
+    ensures fields_480 { IsTime (offset_time (video 480 true 30000 1001)) 11440000 9 }
+{}
+
+/// Gapped T_RS by height: 960,000 ns of all progressive pictures at 50 with 20 packets per frame. Of
+/// interlaced ones at 25 with 10 packets per field it is 1,920,000 ns from 1080 lines on, 1,843,200 ns from
+/// 576 to 1079 lines and 1,855,238 2/21 ns below; with 480 lines at 30000/1001 it is 1,547,577 7/9 ns.
+pub fn steps_by_hand()
+    ensures lines_2160 { IsTime (read_step (video 2160 false 50 1) 20 true) 960000 1 }
+    ensures lines_720 { IsTime (read_step (video 720 false 50 1) 20 true) 960000 1 }
+    ensures lines_480 { IsTime (read_step (video 480 false 50 1) 20 true) 960000 1 }
+    ensures fields_2160 { IsTime (read_step (video 2160 true 25 1) 10 true) 1920000 1 }
+    ensures fields_1080 { IsTime (read_step hd_25_interlaced 10 true) 1920000 1 }
+    ensures fields_1079 { IsTime (read_step (video 1079 true 25 1) 10 true) 1843200 1 }
+    ensures fields_576 { IsTime (read_step sd_25_interlaced 10 true) 1843200 1 }
+    ensures fields_575 { IsTime (read_step (video 575 true 25 1) 10 true) 38960000 21 }
+    ensures fields_480 { IsTime (read_step (video 480 true 30000 1001) 10 true) 13928200 9 }
+{}
+
+/// 1080p at 60000/1001 with 4320 packets per frame. At 50 with so few that each limit is its least, and on
+/// both sides of whole quotients: 17,280 and 20,736 packets per frame, and one less.
 pub fn limits_by_hand()
-    ensures bucket_n { c_max_of hd_59_94 4320 N ≡ 6 }
-    ensures bucket_nl { c_max_of hd_59_94 4320 NL ≡ 5 }
-    ensures bucket_w { c_max_of hd_59_94 4320 W ≡ 16 }
-    ensures buffer_n { vrx_full_of hd_59_94 4320 N ≡ 9 }
-    ensures buffer_nl { vrx_full_of hd_59_94 4320 NL ≡ 9 }
-    ensures buffer_w { vrx_full_of hd_59_94 4320 W ≡ 863 }
-    ensures bucket_n_50 { c_max_of hd_50 17280 N ≡ 20 }
-    ensures bucket_nl_50 { c_max_of hd_50 17280 NL ≡ 20 }
-    ensures bucket_w_50 { c_max_of hd_50 17280 W ≡ 40 }
-    ensures buffer_n_50 { vrx_full_of hd_50 17280 N ≡ 32 }
-    ensures buffer_w_50 { vrx_full_of hd_50 17280 W ≡ 2880 }
-    ensures declared { or_declared (Some N) (Some 1) N 4 ≡ 1 }
-    ensures undeclared { or_declared None (Some 1) N 4 ≡ 4 }
-    ensures others { or_declared (Some N) (Some 1) NL 4 ≡ 4 }
-    ensures declared_nl { or_declared (Some NL) (Some 2) NL 4 ≡ 2 }
-    ensures others_nl { or_declared (Some NL) (Some 2) W 16 ≡ 16 }
-    ensures declared_w { or_declared (Some W) (Some 20) W 16 ≡ 20 }
-    ensures others_w { or_declared (Some W) (Some 20) N 4 ≡ 4 }
-    ensures no_cmax { or_declared (Some W) None W 16 ≡ 16 }
+    ensures bucket { c_max_of_each hd_59_94 4320 ≡ (6, 5, 16) }
+    ensures buffer { vrx_full_of_each hd_59_94 4320 ≡ (9, 9, 863) }
+    ensures bucket_least { c_max_of_each hd_50 20 ≡ (4, 4, 16) }
+    ensures buffer_least { vrx_full_of_each hd_50 20 ≡ (8, 8, 720) }
+    ensures bucket_whole { c_max_of_each hd_50 17280 ≡ (20, 20, 40) }
+    ensures bucket_under { c_max_of_each hd_50 17279 ≡ (20, 19, 39) }
+    ensures buffer_whole { vrx_full_of_each hd_50 17280 ≡ (32, 32, 2880) }
+    ensures buffer_under { vrx_full_of_each hd_50 17279 ≡ (31, 31, 2879) }
+    ensures narrow_whole { c_max_of_each hd_50 20736 ≡ (25, 24, 48) }
+    ensures narrow_under { c_max_of_each hd_50 20735 ≡ (24, 23, 47) }
+{}
+
+/// CMAX=9 is of the declared type alone, where C_MAX is 4, 4 and 16 without it.
+pub fn cmax_by_hand()
+    ensures narrow { c_max_of_each (described 1080 false 50 1 (Some N) None (Some 9)) 20 ≡ (9, 4, 16) }
+    ensures linear { c_max_of_each (described 1080 false 50 1 (Some NL) None (Some 9)) 20 ≡ (4, 9, 16) }
+    ensures wide { c_max_of_each (described 1080 false 50 1 (Some W) None (Some 9)) 20 ≡ (4, 4, 9) }
+    ensures undeclared { c_max_of_each (described 1080 false 50 1 None None (Some 9)) 20 ≡ (4, 4, 16) }
+    ensures no_cmax { c_max_of_each (described 1080 false 50 1 (Some W) None None) 20 ≡ (4, 4, 16) }
 {}
 
 /// 1080 lines, interlaced, at 25 with 8,640 packets per field; 576 lines at 25 with 9,000, and 480
 /// lines at 30000/1001 with 8,960, whose active parts differ.
 pub fn interlaced_limits_by_hand()
-    ensures bucket_n { c_max_of hd_25_interlaced 8640 N ≡ 10 }
-    ensures bucket_nl { c_max_of hd_25_interlaced 8640 NL ≡ 10 }
-    ensures bucket_w { c_max_of hd_25_interlaced 8640 W ≡ 20 }
-    ensures buffer_n { vrx_full_of hd_25_interlaced 8640 N ≡ 16 }
-    ensures buffer_nl { vrx_full_of hd_25_interlaced 8640 NL ≡ 16 }
-    ensures buffer_w { vrx_full_of hd_25_interlaced 8640 W ≡ 1440 }
-    ensures lines_576 { c_max_of sd_25_interlaced 9000 N ≡ 11 }
-    ensures lines_480 { c_max_of sd_29_97_interlaced 8960 N ≡ 13 }
+    ensures bucket { c_max_of_each hd_25_interlaced 8640 ≡ (10, 10, 20) }
+    ensures buffer { vrx_full_of_each hd_25_interlaced 8640 ≡ (16, 16, 1440) }
+    ensures lines_576 { c_max_of_each sd_25_interlaced 9000 ≡ (11, 10, 20) }
+    ensures lines_480 { c_max_of_each (video 480 true 30000 1001) 8960 ≡ (13, 12, 24) }
 {}
 
-/// 1080p at 50 with 20 packets per frame: 4 ticks within 3,840,000 ns, and 5 packets at once, where
-/// the sixth comes 2,000,000 ns after them.
+/// The ticks of 1080p at 50 with 20 packets per frame: 4 within 3,840,000 ns, and the eleventh at the very
+/// instant 10,000,000 ns after the first packet. With 10 packets per field at 25, 5 ticks by then.
 pub fn ticks_by_hand()
     ensures none { ticks_of hd_50 20 1600000000000764000 1600000000001673090 ≡ 0 }
     ensures one { ticks_of hd_50 20 1600000000000764000 1600000000001673091 ≡ 1 }
     ensures four { ticks_of hd_50 20 1600000000000764000 1600000000004604000 ≡ 4 }
-    ensures load { load_of hd_50 20 (7 ∷ 7 ∷ 7 ∷ 7 ∷ 7 ∷ 2000007 ∷ []) 0 4 ≡ 5 }
+    ensures before { ticks_of hd_50 20 7 10000006 ≡ 10 }
+    ensures at_tick { ticks_of hd_50 20 7 10000007 ≡ 11 }
+    ensures fields { ticks_of hd_25_interlaced 10 7 10000007 ≡ 5 }
+{}
+
+/// The loads of five packets at once, where the sixth comes 2,000,000 ns after them. Ticks are counted from
+/// packet 0 on: the first is between packets 1 and 2 of the second list, which are 20,000 ns apart. No load is
+/// below 0.
+pub fn loads_by_hand()
+    ensures all { load_of hd_50 20 (7 ∷ 7 ∷ 7 ∷ 7 ∷ 7 ∷ 2000007 ∷ []) 0 4 ≡ 5 }
     ensures drained { load_of hd_50 20 (7 ∷ 7 ∷ 7 ∷ 7 ∷ 7 ∷ 2000007 ∷ []) 0 5 ≡ 4 }
     ensures alone { load_of hd_50 20 (7 ∷ 7 ∷ 7 ∷ 7 ∷ 7 ∷ 2000007 ∷ []) 5 5 ≡ 1 }
+    ensures from_first { load_of hd_50 20 (7 ∷ 900007 ∷ 920007 ∷ []) 1 2 ≡ 1 }
+    ensures idle { load_of hd_50 20 (7 ∷ 20000007 ∷ []) 0 1 ≡ 0 }
+    ensures never_fall { NeverFall (7 ∷ 7 ∷ 8 ∷ []) }
+    ensures falls { NeverFall (7 ∷ 8 ∷ 7 ∷ []) → ⊥ }
 {}
 
-/// 1080p at 50, with a first packet 764,000 ns after 1,600,000,000 s: it is of frame
-/// 80,000,000,000, and gapped read 1 is at 1,724,444 4/9 ns of it. At 60000/1001, TAI second
-/// 1,601,600,000 begins frame 96,000,000,000. A first packet at 0 is of frame 0.
-pub fn reads_by_hand()
+/// 1080p at 50, with a first packet 764,000 ns after 1,600,000,000 s: it is of frame 80,000,000,000. At
+/// 60000/1001, TAI second 1,601,600,000 begins frame 96,000,000,000; at 25, 1,600,000,000 s begin field
+/// 80,000,000,000. A first packet belongs to the nearest group, and halfway to the later one: with
+/// TR_OFFSET 764,444 4/9 ns from 10,764,445 ns on to frame 1, and with TROFF=0 from 10,000,000 ns on. With
+/// TROFF=1000000 at 240 the group of a packet at 0 is 240 frames, or 480 fields, before it.
+pub fn anchors_by_hand()
     ensures anchor { anchor_of hd_50 1600000000000764000 ≡ pos 80000000000 }
     ensures frame { anchor_of hd_59_94 1601600000000636674 ≡ pos 96000000000 }
+    ensures field { anchor_of hd_25_interlaced 1600000000000782000 ≡ pos 80000000000 }
     ensures early { anchor_of hd_50 0 ≡ pos 0 }
-    ensures read_low { AtMost (read_of hd_50 20 (pos 80000000000) true 1)
-        (scaled (pos 14400000000015520000) (1, 9)) }
-    ensures read_high { AtMost (scaled (pos 14400000000015520000) (1, 9))
-        (read_of hd_50 20 (pos 80000000000) true 1) }
-    ensures next_frame { Below (whole 1600000000020764444)
-        (read_of hd_50 20 (pos 80000000000) true 20) }
-    ensures within_one { AtMost (read_of hd_50 20 (pos 80000000000) true 20)
-        (whole 1600000000020764445) }
+    ensures nearest { anchor_of hd_50 10764444 ≡ pos 0 }
+    ensures later { anchor_of hd_50 10764445 ≡ pos 1 }
+    ensures no_tie { anchor_of (described 1080 false 50 1 None (Some 0) None) 9999999 ≡ pos 0 }
+    ensures tie { anchor_of (described 1080 false 50 1 None (Some 0) None) 10000000 ≡ pos 1 }
+    ensures frames { anchor_of (described 1080 false 240 1 None (Some 1000000) None) 0 ≡ negsuc 239 }
+    ensures fields { anchor_of (described 1080 true 240 1 None (Some 1000000) None) 0 ≡ negsuc 479 }
 {}
 
-/// A linear sender of type N: packet 1 comes 1,000,000 ns after packet 0, after gapped read 1,
-/// by which one packet had come.
+/// Reads of frame 80,000,000,000 at 50 with 20 packets per frame: gapped read 1 is at 1,724,444 4/9 ns of it,
+/// linear read 1 at 1,764,444 4/9 ns, and read 20 is the first of the next frame. With 10 packets per field at
+/// 25, read 10 is the first of the next field, 20,782,222 2/9 ns after second 1,600,000,000, and read 11
+/// 1,920,000 ns later. A group may stand before 0.
+pub fn reads_by_hand()
+    ensures gapped { IsAt (read_of hd_50 20 (pos 80000000000) true 1) 14400000000015520000 9 }
+    ensures linear { IsAt (read_of hd_50 20 (pos 80000000000) false 1) 14400000000015880000 9 }
+    ensures next_frame { IsAt (read_of hd_50 20 (pos 80000000000) true 20) 14400000000186880000 9 }
+    ensures next_field { IsAt (read_of hd_25_interlaced 10 (pos 80000000000) true 10)
+        14400000000187040000 9 }
+    ensures in_field { IsAt (read_of hd_25_interlaced 10 (pos 80000000000) true 11)
+        14400000000204320000 9 }
+    ensures before_0 { IsAt (read_of hd_50 20 (negsuc 0) true 20) 6880000 9 }
+    ensures not_at_0 { Below (read_of hd_50 20 (negsuc 0) true 19) (whole 0) }
+{}
+
+/// A linear sender: packet 1 comes 1,000,000 ns after packet 0, after gapped read 1, by which one packet had
+/// come, and before linear read 1. So it is late for type N alone.
 pub fn late_by_hand()
-    ensures empty { IsEmpty hd_50 20 linear_two N 1 }
+    ensures narrow { is_empty hd_50 20 linear_two N 1 ≡ true }
+    ensures linear { is_empty hd_50 20 linear_two NL 1 ≡ false }
+    ensures wide { is_empty hd_50 20 linear_two W 1 ≡ false }
     ensures count { arrived_by_read hd_50 20 linear_two N 1 ≡ 1 }
+    ensures count_linear { arrived_by_read hd_50 20 linear_two NL 1 ≡ 2 }
+    ensures count_wide { arrived_by_read hd_50 20 linear_two W 1 ≡ 2 }
 {}
 
-/// The same two packets in the virtual receiver buffer. At the very instant of gapped read 1 one
+/// With one packet per frame the reads are counted on from the frame of packet 0. Packet 1 comes 444 4/9 ns
+/// before the read of the next frame, when one packet is held, or 555 5/9 ns after it, when none is.
+pub fn next_frame_by_hand()
+    ensures held { held_at hd_50 1 (764000 ∷ 20764000 ∷ []) true 1 ≡ 1 }
+    ensures in_time { is_empty hd_50 1 (764000 ∷ 20764000 ∷ []) N 1 ≡ false }
+    ensures late { is_empty hd_50 1 (764000 ∷ 20765000 ∷ []) N 1 ≡ true }
+    ensures none { held_at hd_50 1 (764000 ∷ 20765000 ∷ []) true 1 ≡ 0 }
+    ensures count { arrived_by_read hd_50 1 (764000 ∷ 20765000 ∷ []) N 1 ≡ 1 }
+{}
+
+/// The packets of the linear sender in the virtual receiver buffer. At the very instant of gapped read 1 one
 /// packet has come and two reads are due, so the buffer lacks one; just before it lacks none. At
 /// the very instant of packet 1 the buffer lacks none, and just before it lacks one.
 pub fn held_by_hand()
@@ -158,8 +220,8 @@ pub fn due_by_hand()
 /// that instant isn't late, and one a nanosecond later is.
 pub fn on_its_read_by_hand()
     ensures due { AreDue sd_25_interlaced 10 (pos 0) true (whole 1664000) 1 }
-    ensures in_time { IsEmpty sd_25_interlaced 10 (1664000 ∷ []) N 0 → ⊥ }
-    ensures late { IsEmpty sd_25_interlaced 10 (1664001 ∷ []) N 0 }
+    ensures in_time { is_empty sd_25_interlaced 10 (1664000 ∷ []) N 0 ≡ false }
+    ensures late { is_empty sd_25_interlaced 10 (1664001 ∷ []) N 0 ≡ true }
     ensures held { held_of sd_25_interlaced 10 (1664000 ∷ []) true (whole 1664000) ≡ pos 0 }
     ensures lacks { held_of sd_25_interlaced 10 (1664001 ∷ []) true (whole 1664000) ≡ negsuc 0 }
     ensures passes { Confirms sd_25_interlaced 10 (1664000 ∷ []) N (fail Empty 0 0 1 1) → ⊥ }
@@ -167,19 +229,25 @@ pub fn on_its_read_by_hand()
 {}
 
 /// 1080p at 50 with 20 packets per frame, where C_MAX of types N and NL is 4 and that of W is 16:
-/// five packets at once break the bucket of N, and four don't.
+/// five packets at once break the bucket of N, and four don't, also where they come after another packet.
 pub fn bucket_by_hand()
     ensures four { KeepsBucket hd_50 20 (at_once 4) N }
     ensures five { KeepsBucket hd_50 20 (at_once 5) N → ⊥ }
     ensures wide { KeepsBucket hd_50 20 (at_once 5) W }
+    ensures later { KeepsBucket hd_50 20 (7 ∷ replicate 5 2000007) N → ⊥ }
 {}
 
-/// Nine packets at once are more than VRX_FULL of type N, which is 8, and eight aren't. The linear
-/// sender's buffer lacks a packet at gapped read 1.
+/// Nine packets at once are more than VRX_FULL of types N and NL, which is 8, and eight aren't; of W they
+/// aren't. Between gapped and linear read 1, ten packets are eight and nine. The linear sender's buffer
+/// lacks a packet at gapped read 1.
 pub fn buffer_by_hand()
-    ensures held { HeldAt hd_50 20 (at_once 9) N 8 9 }
-    ensures over { IsOver hd_50 20 (at_once 9) N 8 }
-    ensures full { IsOver hd_50 20 (at_once 9) N 7 → ⊥ }
+    ensures held { held_at hd_50 20 (at_once 9) true 8 ≡ 9 }
+    ensures over { is_over hd_50 20 (at_once 9) N 8 ≡ true }
+    ensures full { is_over hd_50 20 (at_once 9) N 7 ≡ false }
+    ensures wide { is_over hd_50 20 (at_once 9) W 8 ≡ false }
+    ensures gapped { is_over hd_50 20 (1600000000000764000 ∷ replicate 9 1600000000001764000) N 9 ≡ false }
+    ensures linear { is_over hd_50 20 (1600000000000764000 ∷ replicate 9 1600000000001764000) NL 9 ≡ true }
+    ensures less_reads { held_at hd_50 20 linear_two true 1 ≡ 0 }
     ensures eight { KeepsBuffer hd_50 20 (at_once 8) N }
     ensures nine { KeepsBuffer hd_50 20 (at_once 9) N → ⊥ }
     ensures late { KeepsBuffer hd_50 20 linear_two N → ⊥ }
@@ -210,9 +278,14 @@ pub fn buffer_fails_by_hand()
     ensures over { Confirms hd_50 20 (at_once 9) N (fail Over 0 8 9 8) }
     ensures over_from { Confirms hd_50 20 (at_once 9) N (fail Over 1 8 9 8) → ⊥ }
     ensures full { Confirms hd_50 20 (at_once 9) N (fail Over 0 7 8 8) → ⊥ }
+    ensures over_limit { Confirms hd_50 20 (at_once 9) N (fail Over 0 7 8 7) → ⊥ }
+    ensures over_count { Confirms hd_50 20 (at_once 10) N (fail Over 0 9 9 8) → ⊥ }
+    ensures over_beyond { Confirms hd_50 20 (at_once 9) N (fail Over 0 9 10 8) → ⊥ }
     ensures empty { Confirms hd_50 20 linear_two N (fail Empty 1 1 1 2) }
     ensures empty_from { Confirms hd_50 20 linear_two N (fail Empty 0 1 1 2) → ⊥ }
-    ensures count { Confirms hd_50 20 linear_two N (fail Empty 1 1 0 2) → ⊥ }
+    ensures empty_count { Confirms hd_50 20 linear_two N (fail Empty 1 1 0 2) → ⊥ }
+    ensures empty_limit { Confirms hd_50 20 linear_two N (fail Empty 1 1 1 3) → ⊥ }
+    ensures empty_beyond { Confirms hd_50 20 linear_two N (fail Empty 2 2 2 3) → ⊥ }
     ensures in_time { Confirms hd_50 20 linear_two N (fail Empty 0 0 1 1) → ⊥ }
     ensures linear { Confirms hd_50 20 linear_two NL (fail Empty 1 1 1 2) → ⊥ }
 {}

@@ -10,6 +10,7 @@
 pub mod laws;
 mod params;
 mod rules;
+pub mod worked;
 
 pub use params::Params;
 

@@ -3,6 +3,7 @@
 ghost use Rattle.std.specs.Prelude.{◌≡◌, ◌≤◌, ◌<◌, ◌^◌, ◌*◌, true};
 ghost use Rattle.std.specs.Prelude.{false, pos, negsuc, ◌≤ℤ◌, ◌<ℤ◌, ◌-ℤ◌};
 ghost use Rattle.fraction128.specs.Fractions.{floor_of_signed};
+ghost use Rattle.timing_base.specs.Media.{IsMedia};
 ghost use Rattle.timing_base.specs.declared.media.Kind.TheVariants.{N, NL, W};
 ghost use Rattle.sender_params.specs.Limits.{c_max_of, vrx_full_of};
 ghost use Rattle.sender_params.specs.Reads.{anchor_of};
@@ -10,17 +11,9 @@ ghost use Rattle.sender_params.specs.Ticks.{ticks_of};
 ghost use Rattle.sender_params.specs.Times.{drain_time, frame_time, group_time, offset_time};
 ghost use Rattle.sender_params.specs.Times.{per_frame_of, read_step};
 
-use crate::rules::{self, Ratio};
-use fraction128::{floor_near, floor_of, floor_signed};
+use crate::rules::{self, Limits, Ratio};
+use fraction128::{Line, floor_of, floor_signed};
 use timing_base::{Kind, Media};
-
-/// One number for each sender type.
-#[derive(Clone, Copy, Debug, PartialEq, Eq)]
-struct PerKind {
-    n: u64,
-    nl: u64,
-    w: u64,
-}
 
 /// The numbers of a sender of `media` with `n` packets in each group.
 #[derive(Clone, Copy, Debug, PartialEq, Eq)]
@@ -29,20 +22,23 @@ pub struct Params {
     pub media: Media,
     /// The packets of one group: 1 to 262,144.
     pub n: u32,
-    c_max: PerKind,
-    vrx_full: PerKind,
-    drain: Ratio,
+    /// The ticks of the bucket's drain: T_DRAIN from one to the next, in nanoseconds.
+    pub drain: Line,
+    narrow: Limits,
+    narrow_linear: Limits,
+    wide: Limits,
     offset: Ratio,
     gapped: Ratio,
     linear: Ratio,
+    ghost media_is: { IsMedia media },
     ghost n_some: { 1 ≤ n },
     ghost n_most: { n ≤ 262144 },
-    ghost c_max_n: { c_max.n ≡ c_max_of media n N },
-    ghost c_max_nl: { c_max.nl ≡ c_max_of media n NL },
-    ghost c_max_w: { c_max.w ≡ c_max_of media n W },
-    ghost vrx_full_n: { vrx_full.n ≡ vrx_full_of media n N },
-    ghost vrx_full_nl: { vrx_full.nl ≡ vrx_full_of media n NL },
-    ghost vrx_full_w: { vrx_full.w ≡ vrx_full_of media n W },
+    ghost narrow_c_max: { narrow.c_max ≡ c_max_of media n N },
+    ghost narrow_vrx_full: { narrow.vrx_full ≡ vrx_full_of media n N },
+    ghost narrow_linear_c_max: { narrow_linear.c_max ≡ c_max_of media n NL },
+    ghost narrow_linear_vrx_full: { narrow_linear.vrx_full ≡ vrx_full_of media n NL },
+    ghost wide_c_max: { wide.c_max ≡ c_max_of media n W },
+    ghost wide_vrx_full: { wide.vrx_full ≡ vrx_full_of media n W },
     ghost drain_num: { drain.num ≡ (drain_time media n).0 },
     ghost drain_den: { drain.den ≡ (drain_time media n).1 },
     ghost offset_num: { offset.num ≡ (offset_time media).0 },
@@ -51,10 +47,6 @@ pub struct Params {
     ghost gapped_den: { gapped.den ≡ (read_step media n true).1 },
     ghost linear_num: { linear.num ≡ (read_step media n false).0 },
     ghost linear_den: { linear.den ≡ (read_step media n false).1 },
-    ghost drain_some: { 1 ≤ drain.den },
-    ghost drain_num_some: { 10000000000 ≤ drain.num },
-    ghost drain_num_small: { drain.num < 2 ^ 44 },
-    ghost drain_den_small: { drain.den < 2 ^ 41 },
     ghost drain_slow: { drain.den * 4 < drain.num },
     ghost offset_some: { 1 ≤ offset.den },
     ghost offset_within: { offset.num * (group_time media).1
@@ -80,17 +72,10 @@ impl Params {
         Params {
             media: *media,
             n,
-            c_max: PerKind {
-                n: rules::c_max(media, n, Kind::N),
-                nl: rules::c_max(media, n, Kind::NL),
-                w: rules::c_max(media, n, Kind::W),
-            },
-            vrx_full: PerKind {
-                n: rules::vrx_full(media, n, Kind::N),
-                nl: rules::vrx_full(media, n, Kind::NL),
-                w: rules::vrx_full(media, n, Kind::W),
-            },
             drain: rules::drain(media, n),
+            narrow: Limits::of(media, n, Kind::N),
+            narrow_linear: Limits::of(media, n, Kind::NL),
+            wide: Limits::of(media, n, Kind::W),
             offset: rules::offset(media),
             gapped: rules::step(media, n, true),
             linear: rules::step(media, n, false),
@@ -102,21 +87,25 @@ impl Params {
     pub fn c_max(&self, kind: Kind) -> u64
         ensures { result ≡ c_max_of self.now.media self.now.n kind }
     {
-        match kind {
-            Kind::N => self.c_max.n,
-            Kind::NL => self.c_max.nl,
-            Kind::W => self.c_max.w,
-        }
+        self.limits(kind).c_max
     }
 
     /// VRX_FULL of this sender type, in packets, rounded down.
     pub fn vrx_full(&self, kind: Kind) -> u64
         ensures { result ≡ vrx_full_of self.now.media self.now.n kind }
     {
+        self.limits(kind).vrx_full
+    }
+
+    /// The limits of this sender type.
+    fn limits(&self, kind: Kind) -> Limits
+        ensures c_max { result.c_max ≡ c_max_of self.now.media self.now.n kind }
+        ensures vrx_full { result.vrx_full ≡ vrx_full_of self.now.media self.now.n kind }
+    {
         match kind {
-            Kind::N => self.vrx_full.n,
-            Kind::NL => self.vrx_full.nl,
-            Kind::W => self.vrx_full.w,
+            Kind::N => self.narrow,
+            Kind::NL => self.narrow_linear,
+            Kind::W => self.wide,
         }
     }
 
@@ -127,7 +116,7 @@ impl Params {
         ensures den { result.1 ≡ (drain_time self.now.media self.now.n).1 }
         ensures some { 1 ≤ result.1 }
     {
-        self.drain.pair()
+        (u128::from(self.drain.num), u128::from(self.drain.den))
     }
 
     /// TR_OFFSET in nanoseconds, the time from the start of each group to its first read, as
@@ -216,21 +205,6 @@ impl Params {
             u128::from(at - a0),
             u128::from(self.drain.den),
             u128::from(self.drain.num),
-        )
-    }
-
-    /// The same ticks. Where `near` is at most their number and near it, as the ticks up to the
-    /// packet before are, no 128-bit division is made.
-    pub fn ticks_near(&self, a0: u64, at: u64, near: u64) -> u128
-        requires order { a0 ≤ at }
-        requires small { at < 2 ^ 62 }
-        ensures value { result ≡ ticks_of self.now.media self.now.n a0 at }
-        ensures small { result < 2 ^ 60 }
-    {
-        floor_near(
-            u128::from(at - a0) * u128::from(self.drain.den),
-            self.drain.num,
-            near,
         )
     }
 

@@ -1,14 +1,37 @@
 //! The rules of SMPTE ST 2110-21 for one video.
 
 ghost use Rattle.std.specs.Prelude.{◌≡◌, ◌≤◌, ◌<◌, ◌*◌, ◌/◌, ◌^◌, max};
+ghost use Rattle.timing_base.specs.Media.{IsMedia};
 ghost use Rattle.sender_params.specs.Limits.{c_max_by_rate, c_max_of, or_declared, vrx_full_of};
 ghost use Rattle.sender_params.specs.Times.{active_part, groups_of};
 ghost use Rattle.sender_params.specs.Times.{offset_part, offset_time, group_time};
 ghost use Rattle.sender_params.specs.Times.{drain_time, per_frame_of, read_step};
 
+use fraction128::Line;
 use timing_base::{Kind, Media};
 
 const SECOND: u64 = 1_000_000_000;
+
+/// The limits of one sender type, in packets.
+#[derive(Clone, Copy, Debug, PartialEq, Eq)]
+pub struct Limits {
+    pub c_max: u64,
+    pub vrx_full: u64,
+}
+
+impl Limits {
+    /// The limits of both models.
+    pub fn of(media: &Media, n: u32, kind: Kind) -> Limits
+        requires { n ≤ 262144 }
+        ensures c_max { result.c_max ≡ c_max_of media.now n kind }
+        ensures vrx_full { result.vrx_full ≡ vrx_full_of media.now n kind }
+    {
+        Limits {
+            c_max: c_max(media, n, kind),
+            vrx_full: vrx_full(media, n, kind),
+        }
+    }
+}
 
 /// A fraction that isn't below 0.
 #[derive(Clone, Copy, Debug, PartialEq, Eq)]
@@ -187,7 +210,7 @@ fn declared_limit(declared: Option<Kind>, cmax: Option<u32>, kind: Kind, limit: 
 }
 
 /// C_MAX, in packets.
-pub fn c_max(media: &Media, n: u32, kind: Kind) -> u64
+fn c_max(media: &Media, n: u32, kind: Kind) -> u64
     requires { n ≤ 262144 }
     ensures { result ≡ c_max_of media.now n kind }
 {
@@ -196,7 +219,7 @@ pub fn c_max(media: &Media, n: u32, kind: Kind) -> u64
 }
 
 /// VRX_FULL, in packets.
-pub fn vrx_full(media: &Media, n: u32, kind: Kind) -> u64
+fn vrx_full(media: &Media, n: u32, kind: Kind) -> u64
     requires { n ≤ 262144 }
     ensures { result ≡ vrx_full_of media.now n kind }
 {
@@ -208,21 +231,18 @@ pub fn vrx_full(media: &Media, n: u32, kind: Kind) -> u64
     }
 }
 
-/// The time from one tick of the drain to the next, in nanoseconds.
-pub fn drain(media: &Media, n: u32) -> Ratio
+/// The ticks of the drain: T_DRAIN from one to the next, in nanoseconds.
+pub fn drain(media: &Media, n: u32) -> Line
     requires some { 1 ≤ n }
     requires most { n ≤ 262144 }
+    ensures media { IsMedia media.now }
     ensures num { result.num ≡ (drain_time media.now n).0 }
     ensures den { result.den ≡ (drain_time media.now n).1 }
-    ensures num_some { 10000000000 ≤ result.num }
-    ensures num_small { result.num < 2 ^ 44 }
-    ensures den_some { 1 ≤ result.den }
-    ensures den_small { result.den < 2 ^ 41 }
     ensures slow { result.den * 4 < result.num }
 {
     let media = *media;
-    Ratio {
-        num: 10 * u64::from(media.q) * SECOND,
-        den: 11 * u64::from(media.p) * u64::from(per_frame(&media, n)),
-    }
+    Line::of(
+        10 * u64::from(media.q) * SECOND,
+        11 * u64::from(media.p) * u64::from(per_frame(&media, n)),
+    )
 }
