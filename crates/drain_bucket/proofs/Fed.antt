@@ -1,8 +1,11 @@
 -- A bucket stands for one packet more after it is fed.
-use Rattle.std.proofs.Common.{◌≡◌, ◌≤◌, ◌<◌, ◌+◌, ◌-◌, ℕ, suc, List, [], ◌∷◌, ◌++◌, length, slice_index, refl, sym, ap, subst, inl, inr, ◌∙◌, arith, max, length-append}
+use Rattle.std.proofs.Common.{◌≡◌, ◌≤◌, ◌<◌, ◌+◌, ◌-◌, ℕ, suc, List, [], ◌∷◌, ◌++◌, length, slice_index, refl, sym, ap, subst, inl, inr, ◌∙◌, arith, max, length-append, None, Some, ◌*◌, ◌/◌}
+use Rattle.std.proofs.Math.Nat.{zero-div}
 use Rattle.std.proofs.Math.Seq.{get_or-append_seam}
 use Rattle.std.proofs.lemmas.List.{get_or_append_left}
 use Rattle.std.proofs.lemmas.Bool.{cases_lt}
+use Rattle.fraction128.specs.Clocks.{HasPassed, StandsAt, passed_by}
+use Rattle.fraction128.specs.declared.clock.Clock.{Clock}
 use Rattle.sender_params.specs.declared.params.Params.{Params}
 use Rattle.sender_params.specs.Ticks.{NeverFall, ticks_at, ticks_of}
 use Rattle.drain_bucket.specs.Stands.{CanFollow, IsAfter, StandsFor}
@@ -119,12 +122,14 @@ falls-append stamps at h last j i order few =
           ]
     ]
 
--- the numbers as a bucket's
-pub is_after : (params : Params) (b : Bucket) (stamps : List ℕ) (i : ℕ)
+-- the numbers as a bucket's, with its next tick
+pub is_after : (params : Params) (b : Bucket) (clock : Clock) (stamps : List ℕ) (i : ℕ)
     → slice_index stamps 0 ≡ b.origin
+    → b.next ≡ Some clock
+    → StandsAt params.drain clock b.origin (slice_index stamps i)
     → Reads b (ticks_at params.media params.n stamps) i
     → IsAfter params b stamps i
-is_after params b stamps i origin r = record {
+is_after params b clock stamps i origin next stands r = record {
   origin = origin;
   count = r.count;
   last_tick = r.last_tick;
@@ -133,29 +138,32 @@ is_after params b stamps i origin r = record {
   latest = r.latest;
   peak_most = r.peak_most;
   peak_reached = r.peak_reached;
+  next = (clock, next, stands);
 }
 
 -- after a packet the bucket stands for one more
-pub fed_more : (params : Params) (b c : Bucket) (stamps : List ℕ) (at : ℕ)
+pub fed_more : (params : Params) (b c : Bucket) (clock : Clock) (stamps : List ℕ) (at : ℕ)
     → StandsFor params b stamps
     → CanFollow b stamps at
     → Fed b c (ticks_of params.media params.n b.origin at)
+    → c.next ≡ Some clock
+    → StandsAt params.drain clock c.origin at
     → StandsFor params c (stamps ++ at ∷ [])
-fed_more params b c [] at s f n =
+fed_more params b c clock [] at s f n next stands =
     let m = params.media in
     let fresh = s.fresh refl in
     let here : at ≡ b.origin = f.first refl in
     let fed : Fed b c (ticks_of m params.n at at) = subst (λ o. Fed b c (ticks_of m params.n o at)) (sym here) n in
     let start : at ≡ c.origin = here ∙ sym n.origin in
     let zero_th : IsAfter params c (at ∷ []) 0 =
-    is_after params c (at ∷ []) 0 start (first b c (ticks_at m params.n (at ∷ [])) fresh.count s.seen fresh.peak fed) in
+    is_after params c clock (at ∷ []) 0 start next stands (first b c (ticks_at m params.n (at ∷ [])) fresh.count s.seen fresh.peak fed) in
     record {
       ordered = falls-append [] at s.ordered f.later;
       seen = omega (arith, n.seen, s.seen);
       fresh = λ e. absurd (omega (arith, e));
       fed = λ i size. let z : i ≡ 0 = omega (arith, size) in subst (λ j. IsAfter params c (at ∷ []) j) (sym z) zero_th;
     }
-fed_more params b c (x ∷ xs) at s f n =
+fed_more params b c clock (x ∷ xs) at s f n tick stands =
     let m = params.media in
     let old = x ∷ xs in
     let new = old ++ at ∷ [] in
@@ -184,10 +192,91 @@ fed_more params b c (x ∷ xs) at s f n =
     } in
     let start : x ≡ c.origin = was.origin ∙ sym n.origin in
     let next : IsAfter params c new (i + 1) =
-    is_after params c new (i + 1) start (one_more b c (ticks_at m params.n old) (ticks_at m params.n new) i before same up fed) in
+    is_after params c clock new (i + 1) start tick (subst (StandsAt params.drain clock c.origin) (sym there) stands) (one_more b c (ticks_at m params.n old) (ticks_at m params.n new) i before same up fed) in
     record {
       ordered = falls;
       seen = omega (arith, n.seen, s.seen, long);
       fresh = λ e. absurd (omega (arith, e, long));
       fed = λ j sz. let e : j ≡ i + 1 = omega (arith, sz, long) in subst (λ k. IsAfter params c new k) (sym e) next;
     }
+
+-- the line of the drain has the ticks as its instants
+pub ticks-are : (params : Params) (a0 at : ℕ) → passed_by params.drain a0 at ≡ ticks_of params.media params.n a0 at
+ticks-are params a0 at = rw (params.drain_num, params.drain_den) refl
+
+-- no tick is at the first packet
+pub none_at : (params : Params) (a0 : ℕ) → passed_by params.drain a0 a0 ≡ 0
+none_at params a0 =
+    let none : a0 - a0 ≡ 0 = omega arith in
+    let product : (a0 - a0) * params.drain.den ≡ 0 = omega (arith, ap (λ d. d * params.drain.den) none) in
+    ap (λ d. d / params.drain.num) product ∙ zero-div params.drain.num
+
+-- what a bucket's clock says before a packet: where it stands, and that the ticks up to there are the bucket's
+pub record Before (params : Params) (b : Bucket) (clock : Clock) (at : ℕ) : Type 0 where
+  pub last : ℕ
+  pub order : last ≤ at
+  pub ticks : b.last_tick ≡ passed_by params.drain b.origin last
+  pub stands : StandsAt params.drain clock b.origin last
+
+-- so it is before each packet
+pub before : (params : Params) (b : Bucket) (clock : Clock) (stamps : List ℕ) (at : ℕ)
+    → StandsFor params b stamps
+    → CanFollow b stamps at
+    → (b.next ≡ None → StandsAt params.drain clock b.origin b.origin)
+    → ((next : Clock) → b.next ≡ Some next → clock ≡ next)
+    → Before params b clock at
+before params b clock [] at s f start going =
+    let fresh = s.fresh refl in
+    record {
+      last = b.origin;
+      order = omega (arith, f.first refl);
+      ticks = fresh.last_tick ∙ sym (none_at params b.origin);
+      stands = start fresh.next;
+    }
+before params b clock (x ∷ xs) at s f start going =
+    let stamps = x ∷ xs in
+    let i = length xs in
+    let size : length stamps ≡ i + 1 = omega arith in
+    let was = s.fed i size in
+    let same : clock ≡ was.next.0 = going was.next.0 was.next.1 in
+    let last = slice_index stamps i in
+    record {
+      last = last;
+      order = f.later i size;
+      ticks = was.last_tick ∙ ap (λ o. ticks_of params.media params.n o last) was.origin ∙ sym (ticks-are params b.origin last);
+      stands = subst (λ k. StandsAt params.drain k b.origin last) (sym same) was.next.2;
+    }
+
+-- the numbers after a packet, where so many ticks came since the one before
+pub record Drained (b c : Bucket) (ticks : ℕ) : Type 0 where
+  pub origin : c.origin ≡ b.origin
+  pub count : c.count ≡ (b.count - ticks) + 1
+  pub fresh : c.count ≡ 1 → c.begin ≡ b.seen
+  pub kept : 1 < c.count → c.begin ≡ b.begin
+  pub last : c.last_tick ≡ b.last_tick + ticks
+  pub seen : c.seen ≡ b.seen + 1
+  pub peak : c.peak ≡ max b.peak c.count
+
+-- a bucket that goes on with its clock stands for one packet more
+pub drained_more : (params : Params) (b c : Bucket) (old new : Clock) (stamps : List ℕ) (at ticks : ℕ)
+    → StandsFor params b stamps
+    → CanFollow b stamps at
+    → Before params b old at
+    → ((origin last : ℕ) → last ≤ at → StandsAt params.drain old origin last → HasPassed params.drain new origin last at ticks)
+    → Drained b c ticks
+    → c.next ≡ Some new
+    → StandsFor params c (stamps ++ at ∷ [])
+drained_more params b c old new stamps at ticks s f was goes n next =
+    let passed = goes b.origin was.last was.order was.stands in
+    let now : ticks_of params.media params.n b.origin at ≡ b.last_tick + ticks =
+    sym (ticks-are params b.origin at) ∙ sym passed.exact ∙ ap (λ k. k + ticks) (sym was.ticks) in
+    let stands : StandsAt params.drain new c.origin at = subst (λ o. StandsAt params.drain new o at) (sym n.origin) passed.stands in
+    fed_more params b c new stamps at s f (record {
+      origin = n.origin;
+      count = omega (arith, n.count, now);
+      fresh = n.fresh;
+      kept = n.kept;
+      last = n.last ∙ sym now;
+      seen = n.seen;
+      peak = n.peak;
+    }) next stands

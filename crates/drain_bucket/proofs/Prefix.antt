@@ -2,7 +2,7 @@
 use Rattle.std.proofs.Common.{◌≡◌, ◌≤◌, ◌<◌, ◌+◌, ◌-◌, ℕ, suc, List, [], ◌∷◌, ◌++◌, length, slice_index, take, ap, subst, sym, ◌∙◌, arith}
 use Rattle.std.proofs.Math.Seq.{take-suc}
 use Rattle.std.proofs.lemmas.List.{get_or-take, length-take-le}
-use Rattle.timing_base.specs.declared.media.Media.{Media}
+use Rattle.timing_base.specs.Media.{Media}
 use Rattle.timing_base.specs.declared.media.Kind.{Kind}
 use Rattle.sender_params.specs.declared.params.Params.{Params}
 use Rattle.sender_params.specs.Limits.{c_max_of}

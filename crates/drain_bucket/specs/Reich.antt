@@ -1,6 +1,6 @@
 -- Reich's formula: a count that is lowered by ticks, and never below 0, is the greatest excess of any interval.
 use Rattle.std.specs.Prelude.{◌≡◌, ◌≤◌, ◌<◌, ℕ, List, length}
-use Rattle.timing_base.specs.declared.media.Media.{Media}
+use Rattle.timing_base.specs.Media.{Media}
 use Rattle.sender_params.specs.Ticks.{NeverFall, load_of}
 use Rattle.drain_bucket.specs.Word.{bucket_of}
 

@@ -1,5 +1,7 @@
 -- What a `Bucket` says of the packets that it was fed.
-use Rattle.std.specs.Prelude.{◌≡◌, ◌≤◌, ◌+◌, ℕ, List, length, slice_index}
+use Rattle.std.specs.Prelude.{◌≡◌, ◌≤◌, ◌+◌, ℕ, List, length, slice_index, None, Some}
+use Rattle.fraction128.specs.Clocks.{StandsAt}
+use Rattle.fraction128.specs.declared.clock.Clock.{Clock}
 use Rattle.sender_params.specs.declared.params.Params.{Params}
 use Rattle.sender_params.specs.Ticks.{NeverFall, load_of, ticks_at}
 use Rattle.drain_bucket.specs.Word.{bucket_of}
@@ -11,6 +13,7 @@ pub record IsFresh (b : Bucket) : Type 0 where
   pub begin : b.begin ≡ 0
   pub last_tick : b.last_tick ≡ 0
   pub peak : b.peak ≡ 0
+  pub next : b.next ≡ None
 
 -- packet i was the last one fed
 pub record IsAfter (params : Params) (b : Bucket) (stamps : List ℕ) (i : ℕ) : Type 0 where
@@ -24,6 +27,8 @@ pub record IsAfter (params : Params) (b : Bucket) (stamps : List ℕ) (i : ℕ) 
   -- `peak` is the greatest count
   pub peak_most : (k : ℕ) → k ≤ i → bucket_of params.media params.n stamps k ≤ b.peak
   pub peak_reached : (k : ℕ) × (k ≤ i) × (bucket_of params.media params.n stamps k ≡ b.peak)
+  -- `next` is the first tick after the packet
+  pub next : (clock : Clock) × (b.next ≡ Some clock) × StandsAt params.drain clock b.origin (slice_index stamps i)
 
 -- the bucket was fed packets with these stamps and no others, as far as later calls can tell
 pub record StandsFor (params : Params) (b : Bucket) (stamps : List ℕ) : Type 0 where

@@ -1,7 +1,7 @@
 -- The leaky bucket of the network compatibility model (SMPTE ST 2110-21), tick by tick. m is the video, n
 -- the packets of one group, and the stamps are those of the judged packets, in nanoseconds, counted from 0.
 use Rattle.std.specs.Prelude.{ℕ, zero, suc, ◌+◌, ◌-◌, List, [], ◌∷◌, ◌++◌, replicate}
-use Rattle.timing_base.specs.declared.media.Media.{Media}
+use Rattle.timing_base.specs.Media.{Media}
 use Rattle.sender_params.specs.Ticks.{ticks_at}
 
 -- what happens to the bucket

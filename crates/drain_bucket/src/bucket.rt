@@ -1,7 +1,8 @@
 //! The bucket.
 
-ghost use Rattle.std.specs.Prelude.{◌≡◌, ◌≤◌, ◌<◌, ◌^◌, ◌++◌, ◌∷◌, [], ℕ, List};
+ghost use Rattle.std.specs.Prelude.{◌≡◌, ◌≤◌, ◌<◌, ◌*◌, ◌^◌, ◌++◌, ◌∷◌, [], ℕ, List, None, Some};
 
+use fraction128::{Clock, Line};
 use sender_params::Params;
 
 /// The bucket between two packets of one flow.
@@ -20,13 +21,17 @@ pub struct Bucket {
     pub seen: u64,
     /// The greatest count after any packet, and 0 before the first.
     pub peak: u64,
+    /// The next tick, from the first packet on.
+    next: Option<Clock>,
     ghost count_within: { count ≤ seen },
     ghost begin_within: { begin ≤ seen },
     ghost peak_within: { peak ≤ seen },
-    ghost last_tick_small: { last_tick < 2 ^ 60 },
+    ghost last_tick_within: { last_tick ≤ seen * 2 ^ 63 },
 }
 
 impl Bucket {
+    ghost use Rattle.fraction128.specs.Clocks.{StandsAt};
+    ghost use Rattle.fraction128.specs.declared.clock.Clock.{Clock};
     ghost use Rattle.drain_bucket.specs.Stands.{CanFollow, StandsFor};
 
     /// The empty bucket of a flow whose first packet comes at `origin`, in nanoseconds of TAI.
@@ -41,6 +46,7 @@ impl Bucket {
             last_tick: 0,
             seen: 0,
             peak: 0,
+            next: None,
         }
     }
 
@@ -63,16 +69,29 @@ impl Bucket {
             → CanFollow self.old stamps at
             → StandsFor params.now self.new (stamps ++ at ∷ []) }
     {
-        let tick = params.ticks_near(self.origin, at, self.last_tick as u64);
-        let drained = tick.saturating_sub(self.last_tick);
-        let left = u128::from(self.count).saturating_sub(drained) as u64;
+        let mut next = self.next_tick(&params.drain);
+        let drained = next.advance(&params.drain, at);
+        let left = self.count.saturating_sub(drained);
         if left == 0 {
             self.begin = self.seen;
         }
+        self.next = Some(next);
         self.count = left + 1;
-        self.last_tick = tick;
+        self.last_tick += u128::from(drained);
         self.seen += 1;
         self.peak = self.peak.max(self.count);
         self.count
+    }
+
+    /// The next tick after the last packet, and the first one where none was fed.
+    fn next_tick(&self, drain: &Line) -> Clock
+        requires { self.now.origin < 2 ^ 62 }
+        ensures fresh { self.now.next ≡ None → StandsAt drain.now result self.now.origin self.now.origin }
+        ensures fed { (next : Clock) → self.now.next ≡ Some next → result ≡ next }
+    {
+        match self.next {
+            Some(next) => next,
+            None => Clock::start(drain, self.origin),
+        }
     }
 }

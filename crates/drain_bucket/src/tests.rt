@@ -1,38 +1,14 @@
-ghost use Rattle.std.specs.Prelude.{◌≤◌, ◌*◌};
-
 use super::*;
 use sender_params::Params;
+use sender_params::worked::video;
 use std::process::Abort;
-use timing_base::{Kind, Media};
+use timing_base::Kind;
 
 const FIRST: u64 = 1_600_000_000_000_764_000;
 
-// 1080 lines, declared narrow, without TROFF and CMAX.
-fn video(interlaced: bool, p: u32, q: u32) -> Media
-    requires p_some { 1 ≤ p }
-    requires p_most { p ≤ 240 * q }
-    requires q_some { 1 ≤ q }
-    requires q_most { q ≤ 1001 }
-{
-    Media {
-        line: 5,
-        address: 0xef00_0001,
-        port: 50000,
-        pt: 96,
-        width: 1920,
-        height: 1080,
-        interlaced,
-        p,
-        q,
-        declared: Some(Kind::N),
-        troff: None,
-        cmax: None,
-    }
-}
-
 // 1080p at 50 with 20 packets per frame: T_DRAIN is 909,090 10/11 ns.
 fn plain() -> Params {
-    Params::of(&video(false, 50, 1), 20)
+    Params::of(&video(1080, false, 50, 1), 20)
 }
 
 // Asserts what `feed` requires, since a proof does not follow the rows of a table.
@@ -66,7 +42,7 @@ fn plain_narrow(rt: HostRuntime) {
 // 1080i at 25 with 10 packets per field: T_DRAIN is 1,818,181 9/11 ns.
 #[test]
 fn interlaced_narrow(rt: HostRuntime) {
-    let params = Params::of(&video(true, 25, 1), 10);
+    let params = Params::of(&video(1080, true, 25, 1), 10);
     let first = 1_600_000_000_000_782_000;
     let mut bucket = Bucket::new(first);
     for field in 0..4 {
@@ -85,7 +61,7 @@ fn interlaced_narrow(rt: HostRuntime) {
 // its gapped read. T_FRAME is 450,450,000/27 ns, TR_OFFSET 17,217,200/27 ns and T_RS 100,100/27 ns.
 #[test]
 fn usual_equipment(rt: HostRuntime) {
-    let params = Params::of(&video(false, 60_000, 1001), 4320);
+    let params = Params::of(&video(1080, false, 60_000, 1001), 4320);
     let mut bucket = Bucket::new(1_601_600_000_000_636_674);
     for packet in 0..8640 {
         let (frame, place) = (packet / 4320, packet % 4320);
@@ -101,6 +77,14 @@ fn usual_equipment(rt: HostRuntime) {
     assert_eq!(rt; params.c_max(Kind::W), 16);
 }
 
+// Feeds packets of the plain video, and asserts count and begin after each.
+fn fed_rows(rt: &impl Abort, bucket: &mut Bucket, rows: &[(u64, u64, u64)]) {
+    for (late, count, begin) in rows {
+        assert_eq!(rt; fed_late(rt, bucket, *late), *count, "at {late}");
+        assert_eq!(rt; bucket.begin, *begin, "at {late}");
+    }
+}
+
 #[test]
 fn five_at_once(rt: HostRuntime) {
     let rows = [
@@ -113,10 +97,7 @@ fn five_at_once(rt: HostRuntime) {
         (4_800_000, 1, 5),
     ];
     let mut bucket = Bucket::new(FIRST);
-    for (late, count, begin) in rows {
-        assert_eq!(rt; fed_late(&rt, &mut bucket, late), count, "at {late}");
-        assert_eq!(rt; bucket.begin, begin, "at {late}");
-    }
+    fed_rows(&rt, &mut bucket, &rows);
     assert_eq!(rt; bucket.peak, 5);
     assert_eq!(rt; bucket.seen, 6);
     assert_eq!(rt; bucket.last_tick, 5);
@@ -125,7 +106,6 @@ fn five_at_once(rt: HostRuntime) {
 #[test]
 fn four_at_once(rt: HostRuntime) {
     let rows = [
-        // nanoseconds after the first packet, count, begin
         (0, 1, 0),
         (0, 2, 0),
         (0, 3, 0),
@@ -133,10 +113,7 @@ fn four_at_once(rt: HostRuntime) {
         (3_840_000, 1, 4),
     ];
     let mut bucket = Bucket::new(FIRST);
-    for (late, count, begin) in rows {
-        assert_eq!(rt; fed_late(&rt, &mut bucket, late), count, "at {late}");
-        assert_eq!(rt; bucket.begin, begin, "at {late}");
-    }
+    fed_rows(&rt, &mut bucket, &rows);
     assert_eq!(rt; bucket.peak, 4);
 }
 
