@@ -1,0 +1,5 @@
+pub mod Stands
+pub mod Worked
+-- these only serve proofs
+pub mod Parts
+pub mod Sizes

@@ -1,0 +1,21 @@
+-- The reads of one schedule in parts of a nanosecond, from 2^49 ns before 0 on, so that none is below 0. Read x is the
+-- read x % n of group x / n.
+use Rattle.std.specs.Prelude.{◌≤◌, ◌+◌, ◌*◌, ◌/◌, ◌%◌, ◌^◌, ◌↔◌, ℕ, ℤ, Bool}
+use Rattle.fraction128.specs.Fractions.{AtMost, whole}
+use Rattle.timing_base.specs.Media.{Media}
+use Rattle.sender_params.specs.Reads.{read_of}
+use Rattle.read_schedule.specs.declared.grid.Grid.{Grid}
+
+-- where read x is
+abbrev pub parts_at : Grid → ℕ → ℕ
+parts_at g x = g.start + (x / g.n) * g.group + (x % g.n) * g.step
+
+-- where the whole nanosecond t is
+abbrev pub parts_of : Grid → ℕ → ℕ
+parts_of g t = (t + 2 ^ 49) * g.den
+
+-- the reads are those of this schedule of the video, with n packets in each group: they stand to each whole nanosecond
+-- as its reads do
+pub record IsGridOf (m : Media) (n : ℕ) (anchor : ℤ) (gapped : Bool) (g : Grid) : Type 0 where
+  pub before : (x t : ℕ) → AtMost (read_of m n anchor gapped x) (whole t) ↔ (parts_at g x ≤ parts_of g t)
+  pub after : (x t : ℕ) → AtMost (whole t) (read_of m n anchor gapped x) ↔ (parts_of g t ≤ parts_at g x)

@@ -1,0 +1,24 @@
+-- What a `Schedule` says of the stamps that it was asked for. m is the video, n the packets of one group, `anchor` the
+-- number of the group of read 0, and the schedule is gapped or linear (SMPTE ST 2110-21, read schedules).
+use Rattle.std.specs.Prelude.{◌≡◌, ◌<◌, ◌-◌, ℕ, ℤ, Bool, false, cond, nat_lt}
+use Rattle.fraction128.specs.Fractions.{AtMost, at_most, whole}
+use Rattle.timing_base.specs.Media.{Media}
+use Rattle.sender_params.specs.Reads.{AreDue, read_of}
+use Rattle.read_schedule.specs.Parts.{IsGridOf}
+use Rattle.read_schedule.specs.declared.schedule.Due.{Due}
+use Rattle.read_schedule.specs.declared.schedule.Schedule.{Schedule}
+
+-- where `count` reads are due at the whole nanosecond `at`, whether the last of them is at that very instant
+abbrev pub is_on_time : Media → ℕ → ℤ → Bool → ℕ → ℕ → Bool
+is_on_time m n anchor gapped at count =
+    cond (nat_lt 0 count) (at_most (whole at) (read_of m n anchor gapped (count - 1))) false
+
+-- what is due at the whole nanosecond `at`
+pub record IsDueAt (m : Media) (n : ℕ) (anchor : ℤ) (gapped : Bool) (at : ℕ) (due : Due) : Type 0 where
+  pub count : AreDue m n anchor gapped (whole at) due.count
+  pub on_time : due.on_time ≡ is_on_time m n anchor gapped at due.count
+
+-- the schedule is of these reads, and those that passed are due at the whole nanosecond `at`
+pub record StandsBy (m : Media) (n : ℕ) (anchor : ℤ) (gapped : Bool) (s : Schedule) (at : ℕ) : Type 0 where
+  pub grid : IsGridOf m n anchor gapped s.grid
+  pub passed : (x : ℕ) → x < s.passed → AtMost (read_of m n anchor gapped x) (whole at)

@@ -1,0 +1,293 @@
+//! The reads that are due, carried along stamps that never fall.
+
+ghost use Rattle.std.specs.Prelude.{◌≡◌, ◌≤◌, ◌<◌, ◌+◌, ◌-◌, ◌*◌, ◌/◌, ◌%◌, ◌^◌, ◌↔◌, ℕ, IsTrue, false};
+ghost use Rattle.read_schedule.specs.Parts.{parts_at};
+
+use crate::grid::{BEFORE, Grid};
+use sender_params::Params;
+
+/// The instant of a read that is never due, and of no read: no stamp is as late.
+const NEVER: u64 = 1 << 63;
+
+/// The reads that a schedule passes one by one. Where more are due it divides.
+const FEW: u64 = 64;
+
+/// A span of time, in nanoseconds and parts of one.
+#[derive(Clone, Copy, Debug, PartialEq, Eq)]
+struct Span {
+    whole: u64,
+    part: u64,
+}
+
+/// An instant, rounded up to whole nanoseconds, and by how many parts.
+#[derive(Clone, Copy, Debug, PartialEq, Eq)]
+struct Rounded {
+    at: u64,
+    slack: u64,
+}
+
+/// What is due at an instant.
+#[derive(Clone, Copy, Debug, PartialEq, Eq)]
+pub struct Due {
+    /// The reads that are due. One at the very instant counts.
+    pub count: u64,
+    /// Whether the last of them is at the very instant.
+    pub on_time: bool,
+}
+
+/// The reads of one schedule that are due, for stamps that never fall.
+#[derive(Clone, Copy, Debug, PartialEq, Eq)]
+pub struct Schedule {
+    grid: Grid,
+    /// From one read of a group to the next.
+    step: Span,
+    /// From the last read of a group to the first of the next.
+    turn: Span,
+    /// The time of a few reads.
+    long: u64,
+    /// The reads that are due.
+    passed: u64,
+    /// The place of the next one in its group.
+    place: u64,
+    /// The next one.
+    next: Rounded,
+    /// The last one that is due.
+    last: Rounded,
+    ghost step_some: { 1 ≤ step.whole },
+    ghost step_small: { step.whole < 2 ^ 51 },
+    ghost step_is: { step.whole * grid.den + step.part ≡ grid.step },
+    ghost step_left: { step.part < grid.den },
+    ghost turn_some: { 1 ≤ turn.whole },
+    ghost turn_small: { turn.whole ≤ 2 ^ 40 },
+    ghost turn_is: { turn.whole * grid.den + turn.part + (grid.n - 1) * grid.step ≡ grid.group },
+    ghost turn_left: { turn.part < grid.den },
+    ghost within: { place < grid.n },
+    ghost place_is: { passed % grid.n ≡ place },
+    ghost few: { passed ≤ next.at },
+    ghost next_left: { next.slack < grid.den },
+    ghost next_low: { next.at * grid.den ≤ parts_at grid passed + next.slack },
+    ghost next_is: { next.at < 2 ^ 63 → next.at * grid.den ≡ parts_at grid passed + next.slack },
+    ghost last_left: { last.slack < grid.den },
+    ghost none_last: { passed ≡ 0 → last.at ≡ 2 ^ 63 },
+    ghost last_is: { 1 ≤ passed
+        → last.at * grid.den ≡ parts_at grid (passed - 1) + last.slack },
+}
+
+impl Schedule {
+    ghost use Rattle.std.specs.Prelude.{ℤ, pos, negsuc, ◌≤ℤ◌, Bool};
+    ghost use Rattle.timing_base.specs.Media.{Media};
+    ghost use Rattle.read_schedule.specs.Stands.{IsDueAt, StandsBy};
+
+    /// The reads of a sender, gapped or linear, where read 0 is of group `n0`. None is due yet.
+    pub fn new(params: &Params, gapped: bool, n0: i128) -> Schedule
+        requires low { negsuc 479 ≤ℤ n0 }
+        requires high { n0 ≤ℤ pos (2 ^ 42) }
+        ensures { (at : ℕ) → StandsBy params.now.media params.now.n n0 gapped result at }
+    {
+        Schedule::start(Grid::of(params, gapped, n0))
+    }
+
+    /// What is due at `at`, in nanoseconds of TAI. It divides only where it is many reads behind.
+    ///
+    /// Ask for stamps that never fall: the clauses say nothing of others.
+    pub fn advance(&mut self, at: u64) -> Due
+        requires { at < 2 ^ 62 }
+
+        // Whatever reads these are, and whatever stamp it was asked for before.
+        ensures due { (m : Media) (n : ℕ) (anchor : ℤ) (gapped : Bool) (before : ℕ)
+            → before ≤ at → StandsBy m n anchor gapped self.old before
+            → IsDueAt m n anchor gapped at result }
+        ensures stands { (m : Media) (n : ℕ) (anchor : ℤ) (gapped : Bool) (before : ℕ)
+            → before ≤ at → StandsBy m n anchor gapped self.old before
+            → StandsBy m n anchor gapped self.new at }
+    {
+        let t = at + BEFORE;
+        self.catch_up(t);
+        Due {
+            count: self.passed,
+            on_time: self.is_at(t),
+        }
+    }
+
+    /// The schedule at its start, with no read due.
+    fn start(grid: Grid) -> Schedule
+        ensures grid { result.grid ≡ grid }
+        ensures passed { result.passed ≡ 0 }
+    {
+        let turn = grid.turn();
+        let step = u128::from(grid.step);
+        Schedule {
+            grid,
+            step: spread(step, grid.den),
+            turn: spread(turn, grid.den),
+            long: grid.step / grid.den * FEW,
+            passed: 0,
+            place: 0,
+            next: rounded_up(grid.start, grid.den),
+            last: Rounded {
+                at: NEVER,
+                slack: 0,
+            },
+        }
+    }
+
+    /// From the next read to the one after it, and the place of that one.
+    fn ahead(&self) -> (Span, u64)
+        requires few { self.now.passed < 2 ^ 63 }
+        ensures reach { parts_at self.now.grid (self.now.passed + 1)
+            ≡ parts_at self.now.grid self.now.passed
+            + (result.0.whole * self.now.grid.den + result.0.part) }
+        ensures left { result.0.part < self.now.grid.den }
+        ensures some { 1 ≤ result.0.whole }
+        ensures small { result.0.whole < 2 ^ 52 }
+        ensures place { (self.now.passed + 1) % self.now.grid.n ≡ result.1 }
+        ensures within { result.1 < self.now.grid.n }
+    {
+        let place = self.place + 1;
+        if place == self.grid.n {
+            (self.turn, 0)
+        } else {
+            (self.step, place)
+        }
+    }
+
+    /// The next read passes; `t` is at it or after.
+    fn pass(&mut self, t: u64)
+        requires due { self.old.next.at ≤ t }
+        requires in_time { t < 2 ^ 63 }
+        ensures grid { self.new.grid ≡ self.old.grid }
+        ensures passed { self.new.passed ≡ self.old.passed + 1 }
+        ensures later { self.old.next.at < self.new.next.at }
+    {
+        let (span, place) = self.ahead();
+        self.last = self.next;
+        self.next = later(self.next, span, self.grid.den);
+        self.place = place;
+        self.passed += 1;
+    }
+
+    /// All reads up to `t` pass, by way of a division.
+    #[cold]
+    #[inline(never)]
+    fn seek(&mut self, t: u64)
+        requires in_time { t < 2 ^ 63 }
+        ensures grid { self.new.grid ≡ self.old.grid }
+        ensures due { (x : ℕ) → x < self.new.passed
+            → parts_at self.old.grid x ≤ t * self.old.grid.den }
+    {
+        let passed = self.grid.count(t);
+        self.passed = passed;
+        self.place = passed % self.grid.n;
+        self.next = rounded_up(self.grid.instant(passed), self.grid.den);
+        self.last = if passed == 0 {
+            Rounded {
+                at: NEVER,
+                slack: 0,
+            }
+        } else {
+            rounded_up(self.grid.instant(passed - 1), self.grid.den)
+        };
+    }
+
+    /// Where many reads are due at `t`, all of them pass.
+    fn hurry(&mut self, t: u64)
+        requires in_time { t < 2 ^ 63 }
+        ensures grid { self.new.grid ≡ self.old.grid }
+        ensures due { (x : ℕ) → x < self.new.passed
+            → (x < self.old.passed → parts_at self.old.grid x ≤ t * self.old.grid.den)
+            → parts_at self.old.grid x ≤ t * self.old.grid.den }
+    {
+        if t.saturating_sub(self.next.at) > self.long {
+            self.seek(t);
+        }
+    }
+
+    /// All reads up to `t` pass.
+    fn catch_up(&mut self, t: u64)
+        requires in_time { t < 2 ^ 63 }
+        ensures grid { self.new.grid ≡ self.old.grid }
+        ensures due { ((x : ℕ) → x < self.old.passed
+            → parts_at self.old.grid x ≤ t * self.old.grid.den)
+            → (x : ℕ) → x < self.new.passed → parts_at self.old.grid x ≤ t * self.old.grid.den }
+        ensures ahead { (x : ℕ) → self.new.passed ≤ x
+            → t * self.old.grid.den < parts_at self.old.grid x }
+    {
+        self.hurry(t);
+        while t >= self.next.at {
+            self.pass(t);
+        }
+    }
+
+    /// Whether the last read that is due is at `t`.
+    fn is_at(&self, t: u64) -> bool
+        requires in_time { t < 2 ^ 63 }
+        ensures none { self.now.passed ≡ 0 → result ≡ false }
+        ensures some { 1 ≤ self.now.passed → IsTrue result
+            ↔ (t * self.now.grid.den ≡ parts_at self.now.grid (self.now.passed - 1)) }
+    {
+        self.last == Rounded { at: t, slack: 0 }
+    }
+}
+
+/// So many parts.
+fn spread(parts: u128, den: u64) -> Span
+    requires some { 1 ≤ den }
+    requires den_small { den < 2 ^ 48 }
+    requires slow { den ≤ parts }
+    requires small { parts < 2 ^ 63 * den }
+    ensures is { result.whole * den + result.part ≡ parts }
+    ensures left { result.part < den }
+    ensures some { 1 ≤ result.whole }
+    ensures most { result.whole * den ≤ parts }
+{
+    let den = u128::from(den);
+    Span {
+        whole: (parts / den) as u64,
+        part: (parts % den) as u64,
+    }
+}
+
+/// So many parts after 0, or never.
+fn rounded_up(parts: u128, den: u64) -> Rounded
+    requires some { 1 ≤ den }
+    requires den_small { den < 2 ^ 48 }
+    requires small { parts < 2 ^ 127 }
+    ensures low { result.at * den ≤ parts + result.slack }
+    ensures is { result.at < 2 ^ 63 → result.at * den ≡ parts + result.slack }
+    ensures left { result.slack < den }
+    ensures most { result.at ≤ 2 ^ 63 }
+{
+    let den = u128::from(den);
+    if parts > u128::from(NEVER) * den {
+        return Rounded {
+            at: NEVER,
+            slack: 0,
+        };
+    }
+    let at = (parts + den - 1) / den;
+    Rounded {
+        at: at as u64,
+        slack: (at * den - parts) as u64,
+    }
+}
+
+/// The instant a span later. No branch is taken on the parts.
+fn later(before: Rounded, span: Span, den: u64) -> Rounded
+    requires slack { before.slack < den }
+    requires part { span.part < den }
+    requires den_small { den < 2 ^ 48 }
+    requires in_time { before.at < 2 ^ 63 }
+    requires small { span.whole < 2 ^ 52 }
+    ensures is { result.at * den + before.slack
+        ≡ before.at * den + (span.whole * den + span.part) + result.slack }
+    ensures left { result.slack < den }
+    ensures low { before.at + span.whole ≤ result.at }
+    ensures high { result.at ≤ before.at + span.whole + 1 }
+{
+    let carry = before.slack < span.part;
+    let more = if carry { den } else { 0 };
+    Rounded {
+        at: before.at + span.whole + u64::from(carry),
+        slack: before.slack + more - span.part,
+    }
+}

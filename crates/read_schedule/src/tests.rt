@@ -1,0 +1,141 @@
+//! A schedule and the direct counts say the same, and worked rows.
+
+ghost use Rattle.std.specs.Prelude.{◌≤◌, ◌*◌};
+
+use super::*;
+use sender_params::Params;
+use std::process::Abort;
+use timing_base::{Kind, Media};
+
+// 764,000 ns after 1,600,000,000 s: of frame 80,000,000,000 at 50 frames per second.
+const FIRST: u64 = 1_600_000_000_000_764_000;
+
+const FRAME: i128 = 80_000_000_000;
+
+// A video of this height, declared narrow, without TROFF and CMAX.
+fn video(height: u32, interlaced: bool, p: u32, q: u32) -> Media
+    requires height_some { 1 ≤ height }
+    requires height_most { height ≤ 32767 }
+    requires p_some { 1 ≤ p }
+    requires p_most { p ≤ 240 * q }
+    requires q_some { 1 ≤ q }
+    requires q_most { q ≤ 1001 }
+{
+    Media {
+        line: 5,
+        address: 0xef00_0001,
+        port: 50000,
+        pt: 96,
+        width: 1920,
+        height,
+        interlaced,
+        p,
+        q,
+        declared: Some(Kind::N),
+        troff: None,
+        cmax: None,
+    }
+}
+
+// Asserts what the calls require, since a proof does not follow the rows of a table.
+fn advanced(
+    rt: &impl Abort,
+    params: &Params,
+    (gapped, n0): (bool, i128),
+    schedule: &mut Schedule,
+    at: u64,
+) -> Due {
+    assert!(rt; at < 1 << 62);
+    assert!(rt; n0 >= -480 && n0 <= 1 << 42);
+    let due = schedule.advance(at);
+    assert_eq!(rt; reads(params, gapped, n0, at), due.count, "at {at}");
+    if let Some(last) = due.count.checked_sub(1) {
+        assert!(rt; last < 1 << 41);
+        let late = is_late(params, gapped, n0, last, at);
+        assert_eq!(rt; late, !due.on_time, "at {at}");
+    }
+    due
+}
+
+// Gapped read 1 is at 1,724,444 4/9 ns of the frame, before packet 1 at 1,764,000 ns; linear read 1
+// is at 1,764,444 4/9 ns, after it.
+#[test]
+fn linear_sender(rt: HostRuntime) {
+    let params = Params::of(&video(1080, false, 50, 1), 20);
+    let rows = [(true, 2), (false, 1)];
+    for (gapped, count) in rows {
+        let mut schedule = Schedule::new(&params, gapped, FRAME);
+        let due = advanced(&rt, &params, (gapped, FRAME), &mut schedule, FIRST);
+        assert_eq!(rt; due.count, 0);
+        let at = FIRST + 1_000_000;
+        let due = advanced(&rt, &params, (gapped, FRAME), &mut schedule, at);
+        assert_eq!(rt; due.count, count);
+        assert!(rt; !due.on_time);
+    }
+}
+
+// TROFF=700: each packet stands on its gapped read, and so does each a nanosecond later no more.
+#[test]
+fn on_its_read(rt: HostRuntime) {
+    let mut media = video(1080, false, 50, 1);
+    media.troff = Some(700);
+    let params = Params::of(&media, 20);
+    let first = 1_600_000_000_000_700_000;
+    for late in 0..2 {
+        let mut schedule = Schedule::new(&params, true, FRAME);
+        for packet in 0..20 {
+            let at = first + 960_000 * packet + late;
+            let due = advanced(&rt, &params, (true, FRAME), &mut schedule, at);
+            assert_eq!(rt; due.count, packet + 1, "at {at}");
+            assert_eq!(rt; due.on_time, late == 0, "at {at}");
+        }
+    }
+}
+
+// 1080p at 60000/1001 with 4320 packets per frame, from TAI second 1,601,600,000 on, where frame
+// 96,000,000,000 begins; each packet comes 1,000 ns before the floor of its gapped read.
+#[test]
+fn usual_equipment(rt: HostRuntime) {
+    let params = Params::of(&video(1080, false, 60_000, 1001), 4320);
+    let n0 = 96_000_000_000;
+    let mut schedule = Schedule::new(&params, true, n0);
+    for packet in 0..8640 {
+        let (frame, place) = (packet / 4320, packet % 4320);
+        let read = (450_450_000 * frame + 17_217_200 + 100_100 * place) / 27;
+        let at = 1_601_600_000_000_000_000 + read - 1_000;
+        let due = advanced(&rt, &params, (true, n0), &mut schedule, at);
+        assert_eq!(rt; due.count, packet, "packet {packet}");
+    }
+}
+
+// The carried count after long pauses and bursts is the direct one, for odd rates and for reads that
+// begin before 0.
+#[test]
+fn carried_as_counted(rt: HostRuntime) {
+    let videos = [
+        (1080, false, 60_000, 1001, 4320),
+        (480, true, 30_000, 1001, 7),
+        (720, false, 240, 1, 3),
+        (576, true, 1, 1001, 1),
+    ];
+    for (height, interlaced, p, q, n) in videos {
+        assert!(rt; height >= 1 && height <= 32767);
+        assert!(rt; q >= 1 && q <= 1001);
+        assert!(rt; p >= 1 && p <= 240 * q);
+        assert!(rt; n >= 1 && n <= 262_144);
+        let params = Params::of(&video(height, interlaced, p, q), n);
+        for gapped in [true, false] {
+            let mut schedule = Schedule::new(&params, gapped, -3);
+            let mut at: u64 = 0;
+            for step in 0..400u64 {
+                let pause = if step % 50 == 49 {
+                    7_777_777_777
+                } else {
+                    step * step
+                };
+                at = at.saturating_add(pause * 13);
+                advanced(&rt, &params, (gapped, -3), &mut schedule, at);
+            }
+        }
+    }
+}
