@@ -1,0 +1,165 @@
+-- A buffer stands for one packet more after it is fed.
+use Rattle.std.proofs.Common.{◌≡◌, ◌≤◌, ◌<◌, ◌+◌, ◌-◌, ℕ, ℤ, Bool, nat_lt, if◌then◌else◌, Option, Some, None, List, [], ◌∷◌, ◌++◌, length, slice_index, sym, ap, subst, inl, inr, ◌∙◌, arith, length-append}
+use Rattle.std.proofs.Math.Seq.{get_or-append_seam}
+use Rattle.std.proofs.lemmas.List.{get_or_append_left}
+use Rattle.std.proofs.lemmas.Bool.{cases_lt}
+use Rattle.fraction128.specs.Fractions.{below, whole}
+use Rattle.timing_base.specs.Media.{Media}
+use Rattle.timing_base.specs.declared.media.Kind.{Kind}
+use Rattle.sender_params.specs.Keeps.{due_among, held_at, is_empty}
+use Rattle.sender_params.specs.Limits.{gapped_of, vrx_full_of}
+use Rattle.sender_params.specs.Reads.{AreDue, anchor_of, read_of}
+use Rattle.sender_params.specs.declared.params.Params.{Params}
+use Rattle.read_schedule.proofs.Held.{held_at-is}
+use Rattle.vrx_buffer.specs.Faults.{IsFirstFault, fault_at}
+use Rattle.vrx_buffer.specs.Stands.{StandsFor}
+use Rattle.vrx_buffer.specs.Taking.{Took, earlier}
+use Rattle.vrx_buffer.specs.declared.vrx.Vrx.{Vrx}
+use Rattle.vrx_buffer.specs.declared.vrx.VrxFault.{VrxFault}
+use Rattle.vrx_buffer.specs.declared.vrx.VrxFault.TheVariants.{Over, Empty}
+
+-- what is held when a packet at `at` comes, of a flow that begins at a0
+abbrev held_from : Media → ℕ → Bool → ℕ → ℕ → ℕ → ℕ
+held_from m n gapped i a0 at = (i + 1) - due_among m n (anchor_of m a0) gapped (i + 1) (whole at)
+
+-- how that packet breaks the model
+abbrev fault_from : Media → ℕ → Kind → ℕ → ℕ → ℕ → Option VrxFault
+fault_from m n kind i a0 at =
+    if nat_lt (vrx_full_of m n kind) (held_from m n (gapped_of kind) i a0 at) then Some (Over i (held_from m n (gapped_of kind) i a0 at))
+    else if below (read_of m n (anchor_of m a0) (gapped_of kind) i) (whole at) then Some (Empty i)
+    else None
+
+-- a packet more changes nothing for those before it
+pub held_at-append : (m : Media) (n : ℕ) (stamps : List ℕ) (at : ℕ) (gapped : Bool) (k : ℕ)
+    → k < length stamps
+    → held_at m n (stamps ++ at ∷ []) gapped k ≡ held_at m n stamps gapped k
+held_at-append m n stamps at gapped k few =
+    let first : slice_index (stamps ++ at ∷ []) 0 ≡ slice_index stamps 0 = get_or_append_left stamps (at ∷ []) 0 0 (omega (arith, few)) in
+    let here : slice_index (stamps ++ at ∷ []) k ≡ slice_index stamps k = get_or_append_left stamps (at ∷ []) 0 k few in
+    ap (λ a. held_from m n gapped k a (slice_index (stamps ++ at ∷ []) k)) first
+    ∙ ap (held_from m n gapped k (slice_index stamps 0)) here
+
+pub fault_at-append : (m : Media) (n : ℕ) (stamps : List ℕ) (at : ℕ) (kind : Kind) (k : ℕ)
+    → k < length stamps
+    → fault_at m n (stamps ++ at ∷ []) kind k ≡ fault_at m n stamps kind k
+fault_at-append m n stamps at kind k few =
+    let first : slice_index (stamps ++ at ∷ []) 0 ≡ slice_index stamps 0 = get_or_append_left stamps (at ∷ []) 0 0 (omega (arith, few)) in
+    let here : slice_index (stamps ++ at ∷ []) k ≡ slice_index stamps k = get_or_append_left stamps (at ∷ []) 0 k few in
+    ap (λ a. fault_from m n kind k a (slice_index (stamps ++ at ∷ []) k)) first
+    ∙ ap (fault_from m n kind k (slice_index stamps 0)) here
+
+-- the fault of a packet, by what is held and whether it is late
+pub fault_at-is : (m : Media) (n : ℕ) (stamps : List ℕ) (kind : Kind) (i held : ℕ) (late : Bool)
+    → held_at m n stamps (gapped_of kind) i ≡ held
+    → is_empty m n stamps kind i ≡ late
+    → fault_at m n stamps kind i ≡ (if nat_lt (vrx_full_of m n kind) held then Some (Over i held) else if late then Some (Empty i) else None)
+fault_at-is m n stamps kind i held late eh el =
+    ap (λ h. if nat_lt (vrx_full_of m n kind) h then Some (Over i h) else if is_empty m n stamps kind i then Some (Empty i) else None) eh
+    ∙ ap (λ l. if nat_lt (vrx_full_of m n kind) held then Some (Over i held) else if l then Some (Empty i) else None) el
+
+-- the first fault of one packet more
+pub first-more : (m : Media) (n : ℕ) (stamps : List ℕ) (at : ℕ) (kind : Kind) (fault here : Option VrxFault)
+    → fault_at m n (stamps ++ at ∷ []) kind (length stamps) ≡ here
+    → IsFirstFault m n stamps kind fault
+    → IsFirstFault m n (stamps ++ at ∷ []) kind (earlier fault here)
+first-more m n stamps at kind (Some fault) here e h =
+    let long : length (stamps ++ at ∷ []) ≡ length stamps + 1 = length-append stamps (at ∷ []) in
+    let begins = h.1 in (
+      h.0,
+      record {
+        within = omega (arith, begins.within, long);
+        breaks = fault_at-append m n stamps at kind h.0 begins.within ∙ begins.breaks;
+        first = λ j low. fault_at-append m n stamps at kind j (omega (arith, low, begins.within)) ∙ begins.first j low;
+      },
+    )
+first-more m n stamps at kind None None e h =
+    let long : length (stamps ++ at ∷ []) ≡ length stamps + 1 = length-append stamps (at ∷ []) in
+    λ i few. elim (cases_lt i (length stamps)) as (λ _. fault_at m n (stamps ++ at ∷ []) kind i ≡ None) [
+      | inl before ↦ fault_at-append m n stamps at kind i before ∙ h i before
+      | inr last ↦
+          let same : i ≡ length stamps = omega (arith, last, few, long) in
+          ap (fault_at m n (stamps ++ at ∷ []) kind) same ∙ e
+    ]
+first-more m n stamps at kind None (Some fault) e h =
+    let long : length (stamps ++ at ∷ []) ≡ length stamps + 1 = length-append stamps (at ∷ []) in (
+      length stamps,
+      record {
+        within = omega (arith, long);
+        breaks = e;
+        first = λ j low. fault_at-append m n stamps at kind j low ∙ h j low;
+      },
+    )
+
+-- what the packet is found to be
+pub took-fault : (params : Params) (v w : Vrx) (stamps : List ℕ) (at count : ℕ) (late : Bool) (answer : Option VrxFault)
+    → StandsFor params v stamps
+    → AreDue params.media params.n (anchor_of params.media (slice_index (stamps ++ at ∷ []) 0)) (gapped_of v.kind) (whole at) count
+    → below (read_of params.media params.n (anchor_of params.media (slice_index (stamps ++ at ∷ []) 0)) (gapped_of v.kind) v.seen) (whole at) ≡ late
+    → Took params v w count late answer
+    → answer ≡ fault_at params.media params.n (stamps ++ at ∷ []) v.kind (length stamps)
+took-fault params v w stamps at count late answer s are is took =
+    let m = params.media in
+    let n = params.n in
+    let new = stamps ++ at ∷ [] in
+    let last : slice_index new (length stamps) ≡ at = get_or-append_seam stamps at [] 0 in
+    let there : slice_index new v.seen ≡ at = ap (slice_index new) s.seen ∙ last in
+    let due = subst (λ a. AreDue m n (anchor_of m (slice_index new 0)) (gapped_of v.kind) (whole a) count) (sym there) are in
+    let held = held_at-is m n new (gapped_of v.kind) v.seen count due in
+    let lateness : is_empty m n new v.kind v.seen ≡ late =
+    ap (λ a. below (read_of m n (anchor_of m (slice_index new 0)) (gapped_of v.kind) v.seen) (whole a)) there ∙ is in
+    took.answer_is ∙ sym (fault_at-is m n new v.kind v.seen ((v.seen + 1) - count) late held lateness) ∙ ap (fault_at m n new v.kind) s.seen
+
+-- after the packet the buffer stands for one more
+pub took-stands : (params : Params) (v w : Vrx) (stamps : List ℕ) (at count : ℕ) (late : Bool) (answer : Option VrxFault)
+    → StandsFor params v stamps
+    → AreDue params.media params.n (anchor_of params.media (slice_index (stamps ++ at ∷ []) 0)) (gapped_of v.kind) (whole at) count
+    → below (read_of params.media params.n (anchor_of params.media (slice_index (stamps ++ at ∷ []) 0)) (gapped_of v.kind) v.seen) (whole at) ≡ late
+    → Took params v w count late answer
+    → StandsFor params w (stamps ++ at ∷ [])
+took-stands params v w stamps at count late answer s are is took =
+    let m = params.media in
+    let n = params.n in
+    let g = gapped_of v.kind in
+    let new = stamps ++ at ∷ [] in
+    let i = length stamps in
+    let long : length new ≡ i + 1 = length-append stamps (at ∷ []) in
+    let last : slice_index new i ≡ at = get_or-append_seam stamps at [] 0 in
+    let due = subst (λ a. AreDue m n (anchor_of m (slice_index new 0)) g (whole a) count) (sym last) are in
+    let held : held_at m n new g i ≡ (i + 1) - count = held_at-is m n new g i count due in
+    let before = λ (k : ℕ) (few : k < i). held_at-append m n stamps at g k few in
+    let fault = first-more m n stamps at v.kind v.fault answer (sym (took-fault params v w stamps at count late answer s are is took)) s.fault in
+    record {
+      seen = omega (arith, took.seen, s.seen, long);
+      peak_most = λ k few. subst (λ kind. held_at m n new (gapped_of kind) k ≤ w.peak) (sym took.kind)
+          (elim (cases_lt k i) as (λ _. held_at m n new g k ≤ w.peak) [
+            | inl early ↦ omega (arith, before k early, s.peak_most k early, took.peak)
+            | inr late_on ↦
+                let same : k ≡ i = omega (arith, late_on, few, long) in
+                omega (arith, ap (held_at m n new g) same, held, took.peak, s.seen)
+          ]);
+      peak_reached = λ some. subst (λ kind. (k : ℕ) × (k < length new) × (held_at m n new (gapped_of kind) k ≡ w.peak)) (sym took.kind)
+          (elim (cases_lt v.peak ((i + 1) - count)) as (λ _. (k : ℕ) × (k < length new) × (held_at m n new g k ≡ w.peak)) [
+            | inl above ↦ (i, omega (arith, long), omega (arith, held, took.peak, above, s.seen))
+            | inr kept ↦
+                let old = s.peak_reached (omega (arith, some, took.peak, kept, s.seen)) in
+                (old.0, omega (arith, old.1, long), omega (arith, before old.0 old.1, old.2, took.peak, kept, s.seen))
+          ]);
+      fault = subst (IsFirstFault m n new w.kind) (sym took.fault) (subst (λ kind. IsFirstFault m n new kind (earlier v.fault answer)) (sym took.kind) fault);
+    }
+
+-- the same reads under another name
+pub due-same : (m : Media) (n at count : ℕ) (anchor there : ℤ) (gapped same : Bool)
+    → anchor ≡ there
+    → gapped ≡ same
+    → AreDue m n anchor gapped (whole at) count
+    → AreDue m n there same (whole at) count
+due-same m n at count anchor there gapped same ea eg are =
+    subst (λ g. AreDue m n there g (whole at) count) eg (subst (λ a. AreDue m n a gapped (whole at) count) ea are)
+
+pub late-same : (m : Media) (n at i : ℕ) (anchor there : ℤ) (gapped same late : Bool)
+    → anchor ≡ there
+    → gapped ≡ same
+    → late ≡ below (read_of m n anchor gapped i) (whole at)
+    → below (read_of m n there same i) (whole at) ≡ late
+late-same m n at i anchor there gapped same late ea eg is =
+    sym (is ∙ ap (λ a. below (read_of m n a gapped i) (whole at)) ea ∙ ap (λ g. below (read_of m n there g i) (whole at)) eg)

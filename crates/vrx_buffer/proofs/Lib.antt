@@ -1,0 +1,4 @@
+pub mod Fed
+pub mod Instants
+pub mod Lateness
+pub mod Order

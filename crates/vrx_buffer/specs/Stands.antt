@@ -1,0 +1,16 @@
+-- What a `Vrx` says of the packets that it was fed.
+use Rattle.std.specs.Prelude.{◌≡◌, ◌≤◌, ◌<◌, ℕ, List, length}
+use Rattle.sender_params.specs.Keeps.{held_at}
+use Rattle.sender_params.specs.Limits.{gapped_of}
+use Rattle.sender_params.specs.declared.params.Params.{Params}
+use Rattle.vrx_buffer.specs.Faults.{IsFirstFault}
+use Rattle.vrx_buffer.specs.declared.vrx.Vrx.{Vrx}
+
+-- the buffer was fed packets with these stamps and no others, as far as later calls can tell
+pub record StandsFor (params : Params) (v : Vrx) (stamps : List ℕ) : Type 0 where
+  pub seen : v.seen ≡ length stamps
+  -- `peak` is the greatest number held, and 0 before the first packet
+  pub peak_most : (k : ℕ) → k < length stamps → held_at params.media params.n stamps (gapped_of v.kind) k ≤ v.peak
+  pub peak_reached : 0 < v.peak
+      → (k : ℕ) × (k < length stamps) × (held_at params.media params.n stamps (gapped_of v.kind) k ≡ v.peak)
+  pub fault : IsFirstFault params.media params.n stamps v.kind v.fault

@@ -1,0 +1,23 @@
+-- How one packet changes a `Vrx`.
+use Rattle.std.specs.Prelude.{◌≡◌, ◌+◌, ◌-◌, max, ℕ, Bool, nat_lt, if◌then◌else◌, Option, Some, None}
+use Rattle.sender_params.specs.Limits.{vrx_full_of}
+use Rattle.sender_params.specs.declared.params.Params.{Params}
+use Rattle.vrx_buffer.specs.declared.vrx.Vrx.{Vrx}
+use Rattle.vrx_buffer.specs.declared.vrx.VrxFault.{VrxFault}
+use Rattle.vrx_buffer.specs.declared.vrx.VrxFault.TheVariants.{Over, Empty}
+
+-- the earlier of two faults
+abbrev pub earlier : Option VrxFault → Option VrxFault → Option VrxFault
+earlier (Some fault) here = Some fault
+earlier None here = here
+
+-- packet `v.seen` came when `count` reads were due, and late or not
+pub record Took (params : Params) (v w : Vrx) (count : ℕ) (late : Bool) (answer : Option VrxFault) : Type 0 where
+  pub kind : w.kind ≡ v.kind
+  pub seen : w.seen ≡ v.seen + 1
+  pub peak : w.peak ≡ max v.peak ((v.seen + 1) - count)
+  pub fault : w.fault ≡ earlier v.fault answer
+  pub answer_is : answer ≡ (if nat_lt (vrx_full_of params.media params.n v.kind) ((v.seen + 1) - count)
+      then Some (Over v.seen ((v.seen + 1) - count))
+      else if late then Some (Empty v.seen)
+      else None)

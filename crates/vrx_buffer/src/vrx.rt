@@ -1,0 +1,154 @@
+//! The buffer.
+
+ghost use Rattle.std.specs.Prelude.{◌≡◌, ◌<◌, ◌^◌, ◌++◌, ◌∷◌, [], ℕ, List, length, slice_index};
+ghost use Rattle.std.specs.Prelude.{pos, negsuc, ◌≤◌, ◌+◌, ◌≤ℤ◌, not, true, false};
+ghost use Rattle.sender_params.specs.Limits.{gapped_of};
+ghost use Rattle.sender_params.specs.Reads.{anchor_of};
+
+use read_schedule::{Due, is_late, reads};
+use sender_params::Params;
+use timing_base::Kind;
+
+/// How a packet breaks the buffer's model. Packets are counted from 0.
+#[derive(Clone, Copy, Debug, PartialEq, Eq)]
+pub enum VrxFault {
+    /// When the packet came, the buffer held more than VRX_FULL packets: so many.
+    Over {
+        /// The packet.
+        packet: u64,
+        /// The packets that the buffer held.
+        held: u64,
+    },
+    /// The packet came after its own read, which found nothing.
+    Empty {
+        /// The packet.
+        packet: u64,
+    },
+}
+
+/// The buffer between two packets of one flow.
+#[derive(Clone, Copy, Debug, PartialEq, Eq)]
+pub struct Vrx {
+    /// The sender type.
+    pub kind: Kind,
+    /// The packets fed.
+    pub seen: u64,
+    /// The greatest number held just after any packet, and 0 before the first.
+    pub peak: u64,
+    /// The first fault.
+    pub fault: Option<VrxFault>,
+}
+
+impl Vrx {
+    ghost use Rattle.read_schedule.specs.Stands.{IsDueAt};
+    ghost use Rattle.vrx_buffer.specs.Faults.{fault_at};
+    ghost use Rattle.vrx_buffer.specs.Stands.{StandsFor};
+    ghost use Rattle.vrx_buffer.specs.Taking.{Took};
+
+    /// The empty buffer of a flow, judged as one of this sender type.
+    pub fn new(kind: Kind) -> Vrx
+        ensures kind { result.kind ≡ kind }
+        ensures stands { (params : _) → StandsFor params result [] }
+    {
+        Vrx {
+            kind,
+            seen: 0,
+            peak: 0,
+            fault: None,
+        }
+    }
+
+    /// Puts in the packet that came at `at`, in nanoseconds of TAI, and answers how it breaks the
+    /// model, if it does. `n0` is the group of the flow's first packet. At equal instants the packet
+    /// has come and the read is done (SMPTE ST 2110-21, virtual receiver buffer; this project's
+    /// profile).
+    ///
+    /// Feed one buffer with one `Params` and one `n0` alone: `stands` says nothing of others.
+    pub fn feed(&mut self, params: &Params, n0: i128, at: u64) -> Option<VrxFault>
+        requires low { negsuc 479 ≤ℤ n0 }
+        requires high { n0 ≤ℤ pos (2 ^ 42) }
+        requires in_time { at < 2 ^ 62 }
+        requires few { self.old.seen < 2 ^ 41 }
+
+        ensures kind { self.new.kind ≡ self.old.kind }
+
+        // Whatever packets the buffer stood for, of which the first is of group n0.
+        ensures fault { (stamps : List ℕ) → StandsFor params.now self.old stamps
+            → n0 ≡ anchor_of params.now.media (slice_index (stamps ++ at ∷ []) 0)
+            → result ≡ fault_at params.now.media params.now.n (stamps ++ at ∷ []) self.old.kind
+            (length stamps) }
+        ensures stands { (stamps : List ℕ) → StandsFor params.now self.old stamps
+            → n0 ≡ anchor_of params.now.media (slice_index (stamps ++ at ∷ []) 0)
+            → StandsFor params.now self.new (stamps ++ at ∷ []) }
+    {
+        let gapped = is_gapped(self.kind);
+        let count = reads(params, gapped, n0, at);
+        let late = is_late(params, gapped, n0, self.seen, at);
+        self.take(params, count, late)
+    }
+
+    /// The same for a packet at whose instant so much is due, of the schedule of this sender type:
+    /// for callers that count the reads once for several buffers.
+    pub fn feed_due(&mut self, params: &Params, due: Due) -> Option<VrxFault>
+        requires { self.old.seen < 2 ^ 41 }
+
+        ensures kind { self.new.kind ≡ self.old.kind }
+
+        // Whatever packets the buffer stood for, and whenever this one came.
+        ensures fault { (stamps : List ℕ) (at : ℕ) → StandsFor params.now self.old stamps
+            → IsDueAt params.now.media params.now.n
+            (anchor_of params.now.media (slice_index (stamps ++ at ∷ []) 0))
+            (gapped_of self.old.kind) at due
+            → result ≡ fault_at params.now.media params.now.n (stamps ++ at ∷ []) self.old.kind
+            (length stamps) }
+        ensures stands { (stamps : List ℕ) (at : ℕ) → StandsFor params.now self.old stamps
+            → IsDueAt params.now.media params.now.n
+            (anchor_of params.now.media (slice_index (stamps ++ at ∷ []) 0))
+            (gapped_of self.old.kind) at due
+            → StandsFor params.now self.new (stamps ++ at ∷ []) }
+    {
+        let late = comes_late(self.seen, due);
+        self.take(params, due.count, late)
+    }
+
+    /// Puts in a packet that came when so many reads were due, and after its own read or not.
+    fn take(&mut self, params: &Params, count: u64, late: bool) -> Option<VrxFault>
+        requires { self.old.seen < 2 ^ 41 }
+        ensures took { Took params.now self.old self.new count late result }
+    {
+        let packet = self.seen;
+        let held = (packet + 1).saturating_sub(count);
+        let fault = if held > params.vrx_full(self.kind) {
+            Some(VrxFault::Over { packet, held })
+        } else if late {
+            Some(VrxFault::Empty { packet })
+        } else {
+            None
+        };
+        self.seen += 1;
+        self.peak = self.peak.max(held);
+        self.fault = self.fault.or(fault);
+        fault
+    }
+}
+
+/// Whether a packet at whose instant so much is due comes after its own read.
+fn comes_late(packet: u64, due: Due) -> bool
+    requires { packet < 2 ^ 41 }
+    ensures last { due.count ≡ packet + 1 → result ≡ not due.on_time }
+    ensures more { packet + 1 < due.count → result ≡ true }
+    ensures fewer { due.count ≤ packet → result ≡ false }
+{
+    if due.count == packet + 1 {
+        !due.on_time
+    } else {
+        due.count > packet
+    }
+}
+
+/// Whether the reads of this sender type are gapped.
+fn is_gapped(kind: Kind) -> bool
+    ensures { result ≡ gapped_of kind }
+{
+    kind == Kind::N
+}
