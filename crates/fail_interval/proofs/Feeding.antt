@@ -1,0 +1,278 @@
+-- A flow is fed one packet.
+use Rattle.std.proofs.Common.{◌≡◌, ◌≤◌, ◌<◌, ◌+◌, ◌*◌, ◌^◌, ℕ, Bool, true, false, List, [], ◌∷◌, ◌++◌, length, length-append, Option, Some, None, Ok, Err, refl, arith, ap, ◌∙◌, sym, subst, append_assoc}
+use Rattle.std.specs.Prelude.{if◌then◌else◌, is_some}
+use Rattle.std.proofs.Props.{props}
+use Rattle.std.proofs.Math.Logic.{∥∥₁_elim, ∥∥₁_map}
+use Rattle.std.proofs.lemmas.List.Elements.{All-push}
+use Rattle.frame_group.specs.Placing.{answer_at, cut_at}
+use Rattle.frame_group.specs.Stands.{StandsFor as GrouperStandsFor, count_fed}
+use Rattle.frame_group.specs.declared.grouper.Grouper.{Grouper}
+use Rattle.frame_group.specs.declared.place.Placed.{Placed}
+use Rattle.timing_base.specs.Captures.{IsStamp}
+use Rattle.timing_base.specs.Flows.{AreStamped, cuts, fault, fault_if, first_fault, first_fault_below, first_of, is_cut, is_other_payload, is_second_source, last_place, order_fault, packet, reading_fault, size_fault}
+use Rattle.timing_base.specs.declared.packet.PacketFault.TheVariants.{PayloadType, SecondSource}
+use Rattle.timing_base.proofs.FirstFaults.{fault-here}
+use Rattle.timing_base.specs.Judged.{stamp_of}
+use Rattle.timing_base.specs.Media.{Media}
+use Rattle.timing_base.specs.declared.packet.FlowPacket.{FlowPacket}
+use Rattle.timing_base.specs.declared.packet.PacketFault.{PacketFault}
+use Rattle.timing_base.specs.declared.packet.Rtp.{Rtp}
+use Rattle.fail_interval.specs.Flowing.{CanGoOn, ComesNext, HasRoom, IsOpen, OpensAt, StandsFor, StartsAt, has_fault}
+use Rattle.fail_interval.specs.Runs.{CanGoOn as CanTake, StandsFor as RunStandsFor}
+use Rattle.fail_interval.specs.SoFar.{Fits, SoFar, in_head, so_far_at, so_far_next}
+use Rattle.fail_interval.specs.declared.flow.Flow.{Flow}
+use Rattle.fail_interval.specs.declared.flow.OpenRun.{OpenRun}
+use Rattle.fail_interval.specs.declared.run.RunJudge.{RunJudge}
+use Rattle.fail_interval.proofs.Flows.{fault-is, goes_on-next, goes_on-so_far, packet-here, placed-is}
+use Rattle.fail_interval.proofs.Limits.{fits-at}
+
+-- a packet that was read
+abbrev pub read_packet : ℕ → ℕ → Rtp → FlowPacket
+read_packet rec_number at seen = record { rec = rec_number; at = at; rtp = Ok seen }
+
+-- what holds of packets that begin so, whatever follows, holds with one packet more
+pub shift : (P : List FlowPacket → ℕ → Type 0) (packets : List FlowPacket) (p : FlowPacket)
+    → ((rest : List FlowPacket) → P (packets ++ p ∷ rest) (length packets + 1))
+    → (rest : List FlowPacket) → P ((packets ++ p ∷ []) ++ rest) (length (packets ++ p ∷ []))
+shift P packets p h rest =
+    let long : length packets + 1 ≡ length (packets ++ p ∷ []) = sym (length-append packets (p ∷ [])) in
+    let same : packets ++ p ∷ rest ≡ (packets ++ p ∷ []) ++ rest = sym (append_assoc packets (p ∷ []) rest) in
+    subst (λ n. P ((packets ++ p ∷ []) ++ rest) n) long (subst (λ (all : List FlowPacket). P all (length packets + 1)) same (h rest))
+
+-- how the packet comes
+pub comes : (packets rest : List FlowPacket) (tai rec_number at : ℕ) (seen : Rtp)
+    → ComesNext (packets ++ read_packet rec_number at seen ∷ rest) tai (length packets) rec_number (at + tai * 1000000000) seen
+comes packets rest tai rec_number at seen =
+    let here = packet-here packets rest (read_packet rec_number at seen) in
+    record {
+      within = omega (arith, length-append packets (read_packet rec_number at seen ∷ rest));
+      rec = ap (λ (p : FlowPacket). p.rec) here;
+      stamp = ap (stamp_of tai) here;
+      reading = ap (λ (p : FlowPacket). p.rtp) here;
+    }
+
+-- the packets with the next one
+pub stamped-more : (packets : List FlowPacket) (p : FlowPacket) → AreStamped packets → IsStamp p.at → AreStamped (packets ++ p ∷ [])
+stamped-more packets p stamped stamp = All-push (λ (q : FlowPacket). IsStamp q.at) packets p stamped stamp
+
+no_cut-case : (b : Bool) (n : ℕ) → (if b then Some n else None) ≡ None → b ≡ false
+no_cut-case true n e = cc
+no_cut-case false n e = refl
+
+some_cut-case : (b : Bool) (n m : ℕ) → (if b then Some n else None) ≡ Some m → b ≡ true
+some_cut-case true n m e = refl
+some_cut-case false n m e = cc
+
+-- what the grouper says of the packet, whatever follows
+abbrev pub IsPlaced : List FlowPacket → FlowPacket → ℕ → Placed → Type 0
+IsPlaced packets p pt placed = (rest : List FlowPacket) → Ok placed ≡ answer_at (packets ++ p ∷ rest) pt (length packets)
+
+-- where it says that no cut stands, none does
+pub not_cut : (packets rest : List FlowPacket) (p : FlowPacket) (pt : ℕ) (placed : Placed) → IsPlaced packets p pt placed → placed.cut ≡ None
+    → is_cut (packets ++ p ∷ rest) (length packets) ≡ false
+not_cut packets rest p pt placed answer none =
+    let is = (placed-is (packets ++ p ∷ rest) pt (length packets) placed (answer rest)).1 in
+    no_cut-case _ _ (sym (ap (λ (q : Placed). q.cut) is) ∙ none)
+
+pub is_cut-there : (packets rest : List FlowPacket) (p : FlowPacket) (pt n : ℕ) (placed : Placed) → IsPlaced packets p pt placed → placed.cut ≡ Some n
+    → is_cut (packets ++ p ∷ rest) (length packets) ≡ true
+is_cut-there packets rest p pt n placed answer some =
+    let is = (placed-is (packets ++ p ∷ rest) pt (length packets) placed (answer rest)).1 in
+    some_cut-case _ _ n (sym (ap (λ (q : Placed). q.cut) is) ∙ some)
+
+-- the open run with the packet is within the limits
+pub fits-next : (flow : Flow) (packets : List FlowPacket) (rec_number at : ℕ) (seen : Rtp) (placed : Placed) (open_run : OpenRun)
+    → (c : CanGoOn flow packets at) → flow.open ≡ Some open_run → placed.cut ≡ None
+    → IsPlaced packets (read_packet rec_number at seen) flow.media.pt placed
+    → Fits (so_far_next c.stands.so_far (at + flow.tai * 1000000000) seen.marker)
+fits-next flow packets rec_number at seen placed open_run c e none answer =
+    let p = read_packet rec_number at seen in
+    let all = packets ++ p ∷ [] in
+    let i = length packets in
+    let long : length all ≡ i + 1 = length-append packets (p ∷ []) in
+    let o : IsOpen flow.media flow.tai all i (cuts all i) c.stands.so_far flow.done.items open_run =
+    subst (λ x. OpensAt flow.media flow.tai all i c.stands.so_far flow.done.items x) e (c.stands.runs (p ∷ [])) in
+    let is : so_far_next c.stands.so_far (at + flow.tai * 1000000000) seen.marker ≡ so_far_at all flow.tai (last_place (0 ∷ cuts all (i + 1))) (i + 1) =
+    goes_on-so_far all flow.tai i rec_number (at + flow.tai * 1000000000) seen c.stands.so_far (comes packets [] flow.tai rec_number at seen) (not_cut packets [] p flow.media.pt placed answer none) o.so_far_is in
+    let no_fault : first_fault all flow.media.pt ≡ None = ap (first_fault_below all flow.media.pt) long ∙ (placed-is all flow.media.pt i placed (answer [])).0 in
+    let fits = fits-at all flow.media.pt flow.tai no_fault (omega (arith, long, c.few)) c.stands.seconds (stamped-more packets p c.stamped c.stamp) in
+    subst Fits (ap (λ k. so_far_at all flow.tai (last_place (0 ∷ cuts all k)) k) long ∙ sym is) fits
+
+-- so the run can take it
+pub can_take : (flow : Flow) (packets : List FlowPacket) (rec_number at : ℕ) (seen : Rtp) (placed : Placed) (open_run : OpenRun)
+    → (c : CanGoOn flow packets at) → flow.open ≡ Some open_run → placed.cut ≡ None
+    → IsPlaced packets (read_packet rec_number at seen) flow.media.pt placed
+    → CanTake flow.media open_run.judge c.stands.so_far (at + flow.tai * 1000000000) seen.marker
+can_take flow packets rec_number at seen placed open_run c e none answer =
+    let o : IsOpen flow.media flow.tai (packets ++ []) (length packets) (cuts (packets ++ []) (length packets)) c.stands.so_far flow.done.items open_run =
+    subst (λ x. OpensAt flow.media flow.tai (packets ++ []) (length packets) c.stands.so_far flow.done.items x) e (c.stands.runs []) in
+    record { stands = o.judge; fits = fits-next flow packets rec_number at seen placed open_run c e none answer }
+
+-- no packet up to this one has a fault
+pub sound-next : (flow : Flow) (packets : List FlowPacket) (rec_number at : ℕ) (seen : Rtp) (placed : Placed)
+    → IsPlaced packets (read_packet rec_number at seen) flow.media.pt placed
+    → (rest : List FlowPacket)
+    → first_fault_below ((packets ++ read_packet rec_number at seen ∷ []) ++ rest) flow.media.pt (length (packets ++ read_packet rec_number at seen ∷ [])) ≡ None
+sound-next flow packets rec_number at seen placed answer =
+    let p = read_packet rec_number at seen in
+    shift (λ all n. first_fault_below all flow.media.pt n ≡ None) packets p
+    (λ rest. (placed-is (packets ++ p ∷ rest) flow.media.pt (length packets) placed (answer rest)).0)
+
+-- a flow with other parts
+abbrev pub with_parts : Flow → Grouper → Option OpenRun → Flow
+with_parts flow grouper open_run = record {
+  alloc = flow.alloc;
+  media = flow.media;
+  tai = flow.tai;
+  grouper = grouper;
+  done = flow.done;
+  «open» = open_run;
+}
+
+-- the open run goes on with the packet
+pub goes_on : (flow : Flow) (packets : List FlowPacket) (rec_number at : ℕ) (seen : Rtp) (placed : Placed) (grouper : Grouper) (open_run : OpenRun) (judge : RunJudge)
+    → flow.open ≡ Some open_run → placed.cut ≡ None
+    → IsPlaced packets (read_packet rec_number at seen) flow.media.pt placed
+    → GrouperStandsFor flow.media.pt grouper (packets ++ read_packet rec_number at seen ∷ [])
+    → ((so_far : SoFar) → CanTake flow.media open_run.judge so_far (at + flow.tai * 1000000000) seen.marker
+    → RunStandsFor flow.media judge (so_far_next so_far (at + flow.tai * 1000000000) seen.marker))
+    → CanGoOn flow packets at
+    → StandsFor (with_parts flow grouper (Some (record { rec = open_run.rec; number = open_run.number; expected = open_run.expected; judge = judge })))
+    (packets ++ read_packet rec_number at seen ∷ [])
+goes_on flow packets rec_number at seen placed grouper open_run judge e none answer grouped fed c =
+    let p = read_packet rec_number at seen in
+    let stamp = at + flow.tai * 1000000000 in
+    let more = so_far_next c.stands.so_far stamp seen.marker in
+    let stands = fed c.stands.so_far (can_take flow packets rec_number at seen placed open_run c e none answer) in
+    let with_it : OpenRun = record { rec = open_run.rec; number = open_run.number; expected = open_run.expected; judge = judge } in
+    record {
+      seconds = c.stands.seconds;
+      grouper = grouped;
+      sound = sound-next flow packets rec_number at seen placed answer;
+      so_far = more;
+      runs = shift (λ all n. OpensAt flow.media flow.tai all n more flow.done.items (Some with_it)) packets p
+          (λ rest.
+          let o : IsOpen flow.media flow.tai (packets ++ p ∷ rest) (length packets) (cuts (packets ++ p ∷ rest) (length packets)) c.stands.so_far flow.done.items open_run =
+          subst (λ x. OpensAt flow.media flow.tai (packets ++ p ∷ rest) (length packets) c.stands.so_far flow.done.items x) e (c.stands.runs (p ∷ rest)) in
+          goes_on-next flow.media (packets ++ p ∷ rest) flow.tai (length packets) rec_number stamp seen c.stands.so_far flow.done.items open_run judge
+          (comes packets rest flow.tai rec_number at seen) (not_cut packets rest p flow.media.pt placed answer none) o stands);
+      room = c.stands.room;
+    }
+
+starts-case : (packets : List FlowPacket) (i : ℕ) (open_run : Option OpenRun) → ((run : OpenRun) → open_run ≡ Some run → is_cut packets i ≡ true) → StartsAt packets i open_run
+starts-case packets i None h = tt
+starts-case packets i (Some run) h = h run refl
+
+-- a call of `begin` on this flow, with the next packet
+abbrev pub Begun : Flow → Flow → Option ℕ → ℕ → ℕ → Rtp → Type 0
+Begun flow new expected rec_number stamp seen = (all : List FlowPacket) (i : ℕ) (so_far : SoFar) → ComesNext all flow.tai i rec_number stamp seen
+    → expected ≡ cut_at all i → StartsAt all i flow.open
+    → OpensAt flow.media flow.tai all i so_far flow.done.items flow.open
+    → OpensAt new.media new.tai all (i + 1) (so_far_next (in_head 0) stamp seen.marker) new.done.items new.open
+
+-- a run begins with the packet
+begins-from : (flow new : Flow) (packets : List FlowPacket) (rec_number at : ℕ) (seen : Rtp) (placed : Placed) (grouper : Grouper)
+    → new.media ≡ flow.media → new.tai ≡ flow.tai → new.grouper ≡ grouper
+    → (HasRoom flow → HasRoom new)
+    → ((run : OpenRun) → flow.open ≡ Some run → (n : ℕ) × (placed.cut ≡ Some n))
+    → IsPlaced packets (read_packet rec_number at seen) flow.media.pt placed
+    → GrouperStandsFor flow.media.pt grouper (packets ++ read_packet rec_number at seen ∷ [])
+    → Begun flow new placed.cut rec_number (at + flow.tai * 1000000000) seen
+    → CanGoOn flow packets at
+    → StandsFor new (packets ++ read_packet rec_number at seen ∷ [])
+begins-from flow new packets rec_number at seen placed grouper media tai same_grouper room cut answer grouped begun c =
+    let p = read_packet rec_number at seen in
+    let stamp = at + flow.tai * 1000000000 in
+    let same_pt : new.media.pt ≡ flow.media.pt = ap (λ (m : Media). m.pt) media in
+    let more = so_far_next (in_head 0) stamp seen.marker in
+    record {
+      seconds = omega (arith, tai, c.stands.seconds);
+      grouper = subst (λ g. GrouperStandsFor new.media.pt g (packets ++ p ∷ [])) (sym same_grouper)
+          (subst (λ pt. GrouperStandsFor pt grouper (packets ++ p ∷ [])) (sym same_pt) grouped);
+      sound = λ rest. subst (λ pt. first_fault_below ((packets ++ p ∷ []) ++ rest) pt (length (packets ++ p ∷ [])) ≡ None) (sym same_pt)
+          (sound-next flow packets rec_number at seen placed answer rest);
+      so_far = more;
+      runs = shift (λ all n. OpensAt new.media new.tai all n more new.done.items new.open) packets p
+          (λ rest.
+          begun (packets ++ p ∷ rest) (length packets) c.stands.so_far (comes packets rest flow.tai rec_number at seen)
+          (ap (λ (q : Placed). q.cut) (placed-is (packets ++ p ∷ rest) flow.media.pt (length packets) placed (answer rest)).1)
+          (starts-case (packets ++ p ∷ rest) (length packets) flow.open
+          (λ run e. let there = cut run e in is_cut-there packets rest p flow.media.pt there.0 placed answer there.1))
+          (c.stands.runs (p ∷ rest)));
+      room = room c.stands.room;
+    }
+
+-- the same after the grouper took the packet
+pub begins : (flow between new : Flow) (packets : List FlowPacket) (rec_number at : ℕ) (seen : Rtp) (placed : Placed) (grouper : Grouper)
+    → between ≡ with_parts flow grouper flow.open
+    → new.media ≡ between.media → new.tai ≡ between.tai → new.grouper ≡ between.grouper
+    → (HasRoom between → HasRoom new)
+    → ((run : OpenRun) → flow.open ≡ Some run → (n : ℕ) × (placed.cut ≡ Some n))
+    → IsPlaced packets (read_packet rec_number at seen) flow.media.pt placed
+    → GrouperStandsFor flow.media.pt grouper (packets ++ read_packet rec_number at seen ∷ [])
+    → Begun between new placed.cut rec_number (at + flow.tai * 1000000000) seen
+    → CanGoOn flow packets at
+    → StandsFor new (packets ++ read_packet rec_number at seen ∷ [])
+begins flow between new packets rec_number at seen placed grouper is media tai same_grouper room cut answer grouped begun c =
+    begins-from flow new packets rec_number at seen placed grouper
+    (media ∙ ap (λ (f : Flow). f.media) is) (tai ∙ ap (λ (f : Flow). f.tai) is) (same_grouper ∙ ap (λ (f : Flow). f.grouper) is)
+    (subst (λ (f : Flow). HasRoom f → HasRoom new) is room) cut answer grouped
+    (subst (λ (f : Flow). Begun f new placed.cut rec_number (at + flow.tai * 1000000000) seen) is begun) c
+
+-- what is known of some packets of the flow
+abbrev pub Known : Flow → ℕ → Type 0
+Known flow at = ∥ ((packets : List FlowPacket) × CanGoOn flow packets at) ∥₁
+
+few-fed : (flow : Flow) (packets : List FlowPacket) (at : ℕ) → CanGoOn flow packets at → count_fed flow.grouper < 2 ^ 41
+few-fed flow packets at c = omega (arith, c.stands.grouper.fed, c.few)
+
+-- the grouper was fed few packets
+pub few-known : (flow : Flow) (at : ℕ) → Known flow at → count_fed flow.grouper < 2 ^ 41
+few-known flow at known = ∥∥₁_elim known (hlevel props) (λ (packets, c). few-fed flow packets at c)
+
+-- the stamp is one that a capture can hold
+pub stamp-known : (flow : Flow) (at : ℕ) → Known flow at → at < 2 ^ 32 * 10 ^ 9
+stamp-known flow at known = ∥∥₁_elim known (hlevel props) (λ (packets, c). c.stamp)
+
+-- few seconds are added to it
+pub seconds-known : (flow : Flow) (at : ℕ) → Known flow at → flow.tai ≤ 1000
+seconds-known flow at known = ∥∥₁_elim known (hlevel props) (λ (packets, c). c.stands.seconds)
+
+-- the open run can take the packet
+pub take-known : (flow : Flow) (rec_number at : ℕ) (seen : Rtp) (placed : Placed) (open_run : OpenRun) → flow.open ≡ Some open_run → placed.cut ≡ None
+    → ((packets : List FlowPacket) → GrouperStandsFor flow.media.pt flow.grouper packets → IsPlaced packets (read_packet rec_number at seen) flow.media.pt placed)
+    → Known flow at
+    → ∥ ((so_far : SoFar) × CanTake flow.media open_run.judge so_far (at + flow.tai * 1000000000) seen.marker) ∥₁
+take-known flow rec_number at seen placed open_run e none answer known =
+    ∥∥₁_map known (λ (packets, c). (c.stands.so_far, can_take flow packets rec_number at seen placed open_run c e none (answer packets c.stands.grouper)))
+
+-- a packet that is not placed has the first fault
+pub ends : (flow : Flow) (packets rest : List FlowPacket) (rec_number at : ℕ) (seen : Rtp) (fault : PacketFault) → CanGoOn flow packets at
+    → Err fault ≡ answer_at (packets ++ read_packet rec_number at seen ∷ rest) flow.media.pt (length packets)
+    → has_fault (packets ++ read_packet rec_number at seen ∷ rest) flow.media.pt (length packets) fault
+ends flow packets rest rec_number at seen fault c answer =
+    fault-is (packets ++ read_packet rec_number at seen ∷ rest) flow.media.pt (length packets) fault (c.stands.sound (read_packet rec_number at seen ∷ rest)) answer
+
+-- an option that is none, and one that is some
+pub none-of : (o : Option ℕ) → is_some o ≡ false → o ≡ None
+none-of None e = refl
+none-of (Some n) e = cc
+
+pub some-of : (o : Option ℕ) → is_some o ≡ true → (n : ℕ) × (o ≡ Some n)
+some-of None e = cc
+some-of (Some n) e = (n, refl)
+
+-- a packet that was not read has a fault
+unread-fault : (packets : List FlowPacket) (pt i : ℕ) (fault_here : PacketFault) → (packet packets i).rtp ≡ Err fault_here → fault packets pt i ≡ Some fault_here
+unread-fault packets pt i fault_here e =
+    ap (λ r. first_of (first_of (reading_fault r)
+    (first_of (fault_if (is_other_payload packets pt i) PayloadType) (fault_if (is_second_source packets i) SecondSource)))
+    (first_of (order_fault 1024 packets i) (size_fault 262144 packets i))) e
+
+-- and the first of its flow, where no packet before it has one
+pub unread-ends : (flow : Flow) (packets rest : List FlowPacket) (rec_number at : ℕ) (fault_here : PacketFault) → CanGoOn flow packets at
+    → has_fault (packets ++ record { rec = rec_number; at = at; rtp = Err fault_here } ∷ rest) flow.media.pt (length packets) fault_here
+unread-ends flow packets rest rec_number at fault_here c =
+    let p : FlowPacket = record { rec = rec_number; at = at; rtp = Err fault_here } in
+    fault-here (packets ++ p ∷ rest) flow.media.pt (length packets) fault_here (c.stands.sound (p ∷ rest))
+    (unread-fault (packets ++ p ∷ rest) flow.media.pt (length packets) fault_here (ap (λ (q : FlowPacket). q.rtp) (packet-here packets rest p)))

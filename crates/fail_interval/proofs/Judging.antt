@@ -1,0 +1,165 @@
+-- A judge is fed one packet, and answers its row.
+use Rattle.std.proofs.Common.{◌≡◌, ◌<◌, ◌+◌, ◌^◌, ℕ, List, [], ◌∷◌, ◌++◌, length, length-append, Some, Result, arith, ap, ◌∙◌, sym, subst}
+use Rattle.std.proofs.Math.Logic.{∥∥₁_map}
+use Rattle.timing_base.specs.Captures.{IsStamp}
+use Rattle.timing_base.specs.Flows.{first_fault_below, packet}
+use Rattle.timing_base.specs.Judged.{judged, refusal}
+use Rattle.timing_base.specs.Media.{Media}
+use Rattle.timing_base.specs.declared.key.FlowKey.{FlowKey}
+use Rattle.timing_base.specs.declared.packet.FlowPacket.{FlowPacket}
+use Rattle.timing_base.specs.declared.packet.PacketFault.{PacketFault}
+use Rattle.timing_base.specs.declared.packet.Rtp.{Rtp}
+use Rattle.timing_base.specs.declared.row.Row.{Row}
+use Rattle.timing_base.specs.declared.row.Verdict.{Verdict}
+use Rattle.timing_base.proofs.FirstFaults.{fault-kept}
+use Rattle.fail_interval.specs.Flowing.{CanGoOn, StandsFor as FlowStandsFor, has_fault}
+use Rattle.fail_interval.specs.Row.{row, verdict_of}
+use Rattle.fail_interval.specs.Stands.{StandsFor}
+use Rattle.fail_interval.specs.States.{IsAt, IsFedTo, IsKnown, IsRefused}
+use Rattle.fail_interval.specs.declared.flow.Flow.{Flow}
+use Rattle.fail_interval.specs.declared.judge.FlowJudge.{FlowJudge}
+use Rattle.fail_interval.specs.declared.judge.State.{State}
+use Rattle.fail_interval.specs.declared.judge.State.TheVariants.{Going, Refused, Spent}
+use Rattle.fail_interval.proofs.Feeding.{shift, stamped-more}
+use Rattle.fail_interval.proofs.Flows.{packet-here}
+use Rattle.fail_interval.proofs.Rows.{refused-verdict}
+
+-- a packet as it was fed
+abbrev fed_packet : ℕ → ℕ → Result Rtp PacketFault → FlowPacket
+fed_packet rec at rtp = record { rec = rec; at = at; rtp = rtp }
+
+can_go_on : (flow : Flow) (fed at : ℕ) (packets : List FlowPacket) → IsFedTo flow fed packets → fed < 2 ^ 41 → IsStamp at → CanGoOn flow packets at
+can_go_on flow fed at packets f few stamp = record { stands = f.stands; stamped = f.stamped; stamp = stamp; few = omega (arith, f.count, few) }
+
+-- what a judge knows of its flow
+pub flow-known : (fed at : ℕ) (state : State) (flow : Flow) → state ≡ Going flow → ∥ IsKnown fed state ∥₁ → fed < 2 ^ 41 → IsStamp at
+    → ∥ ((packets : List FlowPacket) × CanGoOn flow packets at) ∥₁
+flow-known fed at state flow e known few stamp =
+    let of_flow : ∥ IsKnown fed (Going flow) ∥₁ = subst (λ s. ∥ IsKnown fed s ∥₁) e known in
+    ∥∥₁_map of_flow (λ (packets, f). (packets, can_go_on flow fed at packets f few stamp))
+
+-- a call of `feed` that took the packet
+abbrev pub GoesOn : Flow → Flow → ℕ → ℕ → Result Rtp PacketFault → Type 0
+GoesOn flow new rec at rtp = (packets : List FlowPacket) → CanGoOn flow packets at → FlowStandsFor new (packets ++ fed_packet rec at rtp ∷ [])
+
+-- it knows so of the flow with one packet more
+pub known-more : (fed rec at : ℕ) (rtp : Result Rtp PacketFault) (state : State) (flow new : Flow) → state ≡ Going flow → ∥ IsKnown fed state ∥₁ → fed < 2 ^ 41 → IsStamp at
+    → GoesOn flow new rec at rtp → ∥ IsKnown (fed + 1) (Going new) ∥₁
+known-more fed rec at rtp state flow new e known few stamp goes =
+    let of_flow : ∥ IsKnown fed (Going flow) ∥₁ = subst (λ s. ∥ IsKnown fed s ∥₁) e known in
+    ∥∥₁_map of_flow (λ (packets, f). (
+      packets ++ fed_packet rec at rtp ∷ [],
+      record {
+        count = omega (arith, length-append packets (fed_packet rec at rtp ∷ []), f.count);
+        stamped = stamped-more packets (fed_packet rec at rtp) f.stamped stamp;
+        stands = goes packets (can_go_on flow fed at packets f few stamp);
+      },
+    ))
+
+-- a judge by its parts
+abbrev judge_by : FlowKey → (fed : ℕ) (state : State) → ∥ IsKnown fed state ∥₁ → FlowJudge
+judge_by key fed state known = record { key = key; fed = fed; state = state; known = known }
+
+-- the judge stands for one packet more, where its flow does
+more : (m : Media) (key : FlowKey) (tai rec at : ℕ) (rtp : Result Rtp PacketFault) (judge : FlowJudge) (state : State) (known : ∥ IsKnown (judge.fed + 1) state ∥₁) (packets : List FlowPacket)
+    → IsStamp at → StandsFor m key tai judge packets → IsAt m tai (packets ++ fed_packet rec at rtp ∷ []) state
+    → StandsFor m key tai (judge_by judge.key (judge.fed + 1) state known) (packets ++ fed_packet rec at rtp ∷ [])
+more m key tai rec at rtp judge state known packets stamp s is = record {
+  key_is = s.key_is;
+  fed = omega (arith, s.fed, length-append packets (fed_packet rec at rtp ∷ []));
+  stamped = stamped-more packets (fed_packet rec at rtp) s.stamped stamp;
+  state = is;
+}
+
+at-flow : (m : Media) (tai at : ℕ) (state : State) (flow : Flow) (packets : List FlowPacket) → state ≡ Going flow → IsAt m tai packets state → (flow.media ≡ m) × (flow.tai ≡ tai) × FlowStandsFor flow packets
+at-flow m tai at state flow packets e is = subst (IsAt m tai packets) e is
+
+-- the flow goes on
+pub going-more : (m : Media) (key : FlowKey) (tai rec at : ℕ) (rtp : Result Rtp PacketFault) (judge : FlowJudge) (flow new : Flow) (known : ∥ IsKnown (judge.fed + 1) (Going new) ∥₁) (packets : List FlowPacket)
+    → judge.state ≡ Going flow → judge.fed < 2 ^ 41 → IsStamp at
+    → new.media ≡ flow.media → new.tai ≡ flow.tai
+    → GoesOn flow new rec at rtp
+    → StandsFor m key tai judge packets
+    → StandsFor m key tai (judge_by judge.key (judge.fed + 1) (Going new) known) (packets ++ fed_packet rec at rtp ∷ [])
+going-more m key tai rec at rtp judge flow new known packets e few stamp media seconds goes s =
+    let is = at-flow m tai at judge.state flow packets e s.state in
+    let c : CanGoOn flow packets at = record { stands = is.2; stamped = s.stamped; stamp = stamp; few = omega (arith, s.fed, few) } in
+    more m key tai rec at rtp judge (Going new) known packets stamp s (media ∙ is.0, seconds ∙ is.1, goes packets c)
+
+-- the first fault of a flow stays the first
+refused-more : (m : Media) (packets : List FlowPacket) (p : FlowPacket) (rec : ℕ) (fault : PacketFault) → IsRefused m packets rec fault → IsRefused m (packets ++ p ∷ []) rec fault
+refused-more m packets p rec fault r = record {
+  index = r.index;
+  first = shift (λ all n. first_fault_below all m.pt n ≡ Some (record { index = r.index; fault = fault })) packets p
+      (λ rest. fault-kept (packets ++ p ∷ rest) m.pt (length packets) (length packets + 1) _ (omega arith) (r.first (p ∷ rest)));
+  rec_is = shift (λ all n. (packet all r.index).rec ≡ rec) packets p (λ rest. r.rec_is (p ∷ rest));
+}
+
+-- the flow ends with a fault
+pub refused-now : (m : Media) (key : FlowKey) (tai rec at : ℕ) (rtp : Result Rtp PacketFault) (fault : PacketFault) (judge : FlowJudge) (flow : Flow) (state : State) (known : ∥ IsKnown (judge.fed + 1) state ∥₁) (packets : List FlowPacket)
+    → judge.state ≡ Going flow → state ≡ Refused rec fault → judge.fed < 2 ^ 41 → IsStamp at
+    → ((packets rest : List FlowPacket) → CanGoOn flow packets at → has_fault (packets ++ fed_packet rec at rtp ∷ rest) flow.media.pt (length packets) fault)
+    → StandsFor m key tai judge packets
+    → StandsFor m key tai (judge_by judge.key (judge.fed + 1) state known) (packets ++ fed_packet rec at rtp ∷ [])
+refused-now m key tai rec at rtp fault judge flow state known packets e ended few stamp ends s =
+    let is = at-flow m tai at judge.state flow packets e s.state in
+    let c : CanGoOn flow packets at = record { stands = is.2; stamped = s.stamped; stamp = stamp; few = omega (arith, s.fed, few) } in
+    let p = fed_packet rec at rtp in
+    let refused : IsRefused m (packets ++ p ∷ []) rec fault = record {
+      index = length packets;
+      first = shift (λ all n. first_fault_below all m.pt n ≡ Some (record { index = length packets; fault = fault })) packets p
+          (λ rest. subst (λ (k : Media). has_fault (packets ++ p ∷ rest) k.pt (length packets) fault) is.0 (ends packets rest c));
+      rec_is = shift (λ all n. (packet all (length packets)).rec ≡ rec) packets p (λ rest. ap (λ (q : FlowPacket). q.rec) (packet-here packets rest p));
+    } in
+    more m key tai rec at rtp judge state known packets stamp s (subst (IsAt m tai (packets ++ p ∷ [])) (sym ended) refused)
+
+-- it ended before
+pub refused-before : (m : Media) (key : FlowKey) (tai rec at more_rec : ℕ) (rtp : Result Rtp PacketFault) (fault : PacketFault) (judge : FlowJudge) (known : ∥ IsKnown (judge.fed + 1) judge.state ∥₁) (packets : List FlowPacket)
+    → judge.state ≡ Refused more_rec fault → IsStamp at
+    → StandsFor m key tai judge packets
+    → StandsFor m key tai (judge_by judge.key (judge.fed + 1) judge.state known) (packets ++ fed_packet rec at rtp ∷ [])
+refused-before m key tai rec at more_rec rtp fault judge known packets e stamp s =
+    let p = fed_packet rec at rtp in
+    let is : IsRefused m packets more_rec fault = subst (IsAt m tai packets) e s.state in
+    more m key tai rec at rtp judge judge.state known packets stamp s (subst (IsAt m tai (packets ++ p ∷ [])) (sym e) (refused-more m packets p more_rec fault is))
+
+-- what is known where the flow ends
+pub stands-known : (fed : ℕ) (state : State) (flow : Flow) → state ≡ Going flow → ∥ IsKnown fed state ∥₁ → ∥ ((packets : List FlowPacket) × FlowStandsFor flow packets) ∥₁
+stands-known fed state flow e known =
+    let of_flow : ∥ IsKnown fed (Going flow) ∥₁ = subst (λ s. ∥ IsKnown fed s ∥₁) e known in
+    ∥∥₁_map of_flow (λ (packets, f). (packets, f.stands))
+
+-- a row by its parts
+abbrev pub row_by : FlowKey → Verdict → Row
+row_by key told = record { key = key; verdict = told }
+
+row-same : (a b : FlowKey) (v w : Verdict) → a ≡ b → v ≡ w → row_by a v ≡ row_by b w
+row-same a b v w e f = cc
+
+-- the row of a flow that has no fault
+pub row-going : (m : Media) (key : FlowKey) (tai : ℕ) (judge : FlowJudge) (flow : Flow) (told verdict : Verdict) (packets : List FlowPacket) → judge.state ≡ Going flow
+    → ((packets : List FlowPacket) → FlowStandsFor flow packets → verdict ≡ verdict_of flow.media (judged packets flow.media.pt flow.tai))
+    → told ≡ verdict
+    → StandsFor m key tai judge packets
+    → row_by judge.key told ≡ row packets key m tai
+row-going m key tai judge flow told verdict packets e says is s =
+    let at = at-flow m tai 0 judge.state flow packets e s.state in
+    row-same _ _ _ _ s.key_is
+    (is ∙ (says packets at.2
+    ∙ (ap (λ (k : Media). verdict_of k (judged packets k.pt flow.tai)) at.0 ∙ ap (λ t. verdict_of m (judged packets m.pt t)) at.1)))
+
+-- and of one that has
+pub row-refused : (m : Media) (key : FlowKey) (tai rec : ℕ) (fault : PacketFault) (judge : FlowJudge) (told verdict : Verdict) (packets : List FlowPacket) → judge.state ≡ Refused rec fault
+    → ((m : Media) → verdict ≡ verdict_of m (refusal rec fault))
+    → told ≡ verdict
+    → StandsFor m key tai judge packets
+    → row_by judge.key told ≡ row packets key m tai
+row-refused m key tai rec fault judge told verdict packets e says is s =
+    let at : IsRefused m packets rec fault = subst (IsAt m tai packets) e s.state in
+    row-same _ _ _ _ s.key_is (is ∙ (says m ∙ sym (ap (verdict_of m) (refused-verdict m tai packets rec fault at))))
+
+-- a judge that was refused memory stands for no packets
+pub row-spent : (m : Media) (key : FlowKey) (tai : ℕ) (judge : FlowJudge) (told : Verdict) (packets : List FlowPacket) → judge.state ≡ Spent
+    → StandsFor m key tai judge packets
+    → row_by judge.key told ≡ row packets key m tai
+row-spent m key tai judge told packets e s = let at : ⊥ = subst (IsAt m tai packets) e s.state in absurd at

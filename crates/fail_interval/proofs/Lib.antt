@@ -1,0 +1,14 @@
+pub mod Confirmed
+pub mod Feeding
+pub mod Fit
+pub mod Flows
+pub mod Going
+pub mod Judging
+pub mod SenderTypes
+pub mod Limits
+pub mod Metering
+pub mod Prefixes
+pub mod Rows
+pub mod Runs
+pub mod Verdicts
+pub mod Whole

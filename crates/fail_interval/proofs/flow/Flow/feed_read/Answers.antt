@@ -1,0 +1,43 @@
+use Rattle.std.proofs.Common.{◌≡◌, arith, ap, Err, Some, ◌∙◌, ℕ}
+use Rattle.fail_interval.proofs.Feeding.{begins, ends, few-known, goes_on, none-of, seconds-known, some-of, stamp-known, take-known, with_parts}
+use Rattle.fail_interval.proofs.flow.Flow.feed_read.Goals as goal
+use Rattle.fail_interval.proofs.flow.Flow.feed_read.Goals.{then-is_none+in_default, else-is_none}
+
+pub feed-requires : goal.feed-requires
+feed-requires c = record { few = few-known _ _ c.requires }
+
+pub returns-in-Err-clause-ends : goal.returns-in-Err-clause-ends
+returns-in-Err-clause-ends c = λ packets rest fault h e.
+    let same : fault ≡ c.in-Err.fault = cc in
+    ends _ packets rest c.args.rec c.args.at c.args.rtp fault h (ap Err same ∙ c.in-Err.ensures.answer _ packets rest _ h.stands.grouper)
+
+pub overflow_mul-stamp : goal.overflow_mul-stamp
+overflow_mul-stamp c = omega (arith, seconds-known _ _ c.requires)
+
+pub overflow_add-stamp : goal.overflow_add-stamp
+overflow_add-stamp c = omega (arith, stamp-known _ _ c.requires, seconds-known _ _ c.requires)
+
+pub feed-requires-in-Some : goal.feed-requires-in-Some
+feed-requires-in-Some c =
+    take-known _ c.args.rec c.args.at c.args.rtp c.in-Ok.placed _ c.in-Some.is (none-of _ c.if-is_none.ensures)
+    (λ packets s rest. c.in-Ok.ensures.answer _ packets rest _ s) c.requires
+
+pub returns-in-Some-clause-goes_on : goal.returns-in-Some-clause-goes_on
+returns-in-Some-clause-goes_on c = λ packets h _.
+    goes_on _ packets c.args.rec c.args.at c.args.rtp c.in-Ok.placed _ _ _ c.in-Some.is (none-of _ c.if-is_none.ensures)
+    (λ rest. c.in-Ok.ensures.answer _ packets rest _ h.stands.grouper) (c.in-Ok.ensures.stands _ packets _ h.stands.grouper) c.in_ok-feed.ensures h
+
+pub returns-clause-goes_on : goal.returns-clause-goes_on
+returns-clause-goes_on c = λ packets h _.
+    begins c.args.self.now c.if-is_none.self c.begin.new.self packets c.args.rec c.args.at c.args.rtp c.in-Ok.placed c.feed.new.self
+    (elim c.if-is_none.branch as (λ _. c.if-is_none.self ≡ with_parts c.args.self.now c.feed.new.self c.args.self.now.open) [
+      | then-is_none+in_default w ↦ w.self-is
+      | else-is_none w ↦ w.self-is
+    ])
+    c.begin.ensures.media c.begin.ensures.tai c.begin.ensures.grouper c.in_ok-begin.ensures.room
+    (λ run e. elim c.if-is_none.branch as (λ _. (n : ℕ) × (c.in-Ok.placed.cut ≡ Some n)) [
+      | then-is_none+in_default w ↦ absurd (w.in_default.not-Some run e)
+      | else-is_none w ↦ some-of _ w.if-is_none.ensures
+    ])
+    (λ rest. c.in-Ok.ensures.answer _ packets rest _ h.stands.grouper) (c.in-Ok.ensures.stands _ packets _ h.stands.grouper)
+    c.in_ok-begin.ensures.begins h

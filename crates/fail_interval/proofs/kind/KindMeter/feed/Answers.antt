@@ -1,0 +1,20 @@
+use Rattle.std.proofs.Common.{sym}
+use Rattle.fail_interval.proofs.SenderTypes.{found-verdict, kind-more, next-kept, unbroken-verdict}
+use Rattle.fail_interval.proofs.kind.KindMeter.feed.Goals as goal
+
+pub returns-then-bucket-c_max-clause-stands : goal.returns-then-bucket-c_max-clause-stands
+returns-then-bucket-c_max-clause-stands c = λ stamps at s next.
+    let fault = c.feed_due-fault.ensures.fault stamps at s.vrx next.due_is in
+    kind-more _ _ _ _ _ _ stamps at s next c.feed_due-fault.ensures.kind (c.feed_due-fault.ensures.stands stamps at s.vrx next.due_is)
+    (found-verdict _ _ _ _ stamps at _ _ _ _ c.in-Pass.is s.vrx.seen next fault c.verdict_at-self.ensures)
+
+pub returns-else-is_some-clause-stands : goal.returns-else-is_some-clause-stands
+returns-else-is_some-clause-stands c = λ stamps at s next.
+    let fault = c.feed_due-fault.ensures.fault stamps at s.vrx next.due_is in
+    kind-more _ _ _ _ _ _ stamps at s next c.feed_due-fault.ensures.kind (c.feed_due-fault.ensures.stands stamps at s.vrx next.due_is)
+    (unbroken-verdict _ _ _ _ stamps at _ _ _ c.in-Pass.is next fault c.c_max-c_max.ensures c.if-bucket-c_max.false (sym c.if-is_some.ensures))
+
+pub returns-in_default-clause-stands : goal.returns-in_default-clause-stands
+returns-in_default-clause-stands c = λ stamps at s next.
+    kind-more _ _ _ _ _ _ stamps at s next c.feed_due-fault.ensures.kind (c.feed_due-fault.ensures.stands stamps at s.vrx next.due_is)
+    (next-kept _ _ c.in_default.not-Pass)

@@ -1,0 +1,86 @@
+-- The fail of a sender type: the first judged packet that breaks a model (SMPTE ST 2110-21), and the interval that shows
+-- it. m is the video, n the packets of one group, and the stamps are those of the judged packets, in nanoseconds of TAI,
+-- counted from 0. Which packet is named, and which model where both are broken, is this project's profile.
+use Rattle.std.specs.Prelude.{ℕ, zero, suc, ◌+◌, ◌==◌, nat_lt, max, Bool, if◌then◌else◌, List, length, Option, Some, None}
+use Rattle.timing_base.specs.Media.{Media}
+use Rattle.timing_base.specs.declared.media.Kind.{Kind}
+use Rattle.timing_base.specs.declared.fail.FailProof.{FailProof}
+use Rattle.timing_base.specs.declared.fail.Broken.{Broken}
+use Rattle.timing_base.specs.declared.fail.Broken.TheVariants.{Bucket, Over, Empty}
+use Rattle.timing_base.specs.declared.row.KindVerdict.{KindVerdict}
+use Rattle.timing_base.specs.declared.row.KindVerdict.TheVariants.{Pass, Fail}
+use Rattle.sender_params.specs.Keeps.{arrived_by_read, held_at, is_empty, is_over}
+use Rattle.sender_params.specs.Limits.{c_max_of, gapped_of, vrx_full_of}
+use Rattle.sender_params.specs.Ticks.{load_of}
+use Rattle.drain_bucket.specs.Word.{bucket_of}
+
+-- when packet i came, the bucket holds more than C_MAX packets
+abbrev pub is_overfull : Media → ℕ → List ℕ → Kind → ℕ → Bool
+is_overfull m n stamps kind i = nat_lt (c_max_of m n kind) (bucket_of m n stamps i)
+
+-- the model that packet i breaks, the bucket's before the buffer's
+abbrev pub broken_at : Media → ℕ → List ℕ → Kind → ℕ → Option Broken
+broken_at m n stamps kind i =
+    if is_overfull m n stamps kind i then Some Bucket
+    else if is_over m n stamps kind i then Some Over
+    else if is_empty m n stamps kind i then Some Empty
+    else None
+
+-- the latest packet up to packet i from which on the packets to i, less the ticks after it, are the count of the bucket
+abbrev pub latest_up_to : Media → ℕ → List ℕ → (i j : ℕ) → ℕ
+latest_up_to m n stamps i zero = 0
+latest_up_to m n stamps i (suc j) =
+    if load_of m n stamps (suc j) i == bucket_of m n stamps i then suc j else latest_up_to m n stamps i j
+
+abbrev pub latest_start : Media → ℕ → List ℕ → ℕ → ℕ
+latest_start m n stamps i = latest_up_to m n stamps i i
+
+-- the interval that shows how packet i breaks a model
+abbrev pub proof_at : Media → ℕ → List ℕ → Kind → ℕ → Broken → FailProof
+proof_at m n stamps kind i Bucket = record {
+  model = Bucket;
+  from = latest_start m n stamps i;
+  to = i;
+  count = bucket_of m n stamps i;
+  limit = c_max_of m n kind;
+}
+proof_at m n stamps kind i Over = record {
+  model = Over;
+  from = 0;
+  to = i;
+  count = held_at m n stamps (gapped_of kind) i;
+  limit = vrx_full_of m n kind;
+}
+proof_at m n stamps kind i Empty = record {
+  model = Empty;
+  from = i;
+  to = i;
+  count = arrived_by_read m n stamps kind i;
+  limit = i + 1;
+}
+
+-- the verdict before packet i stays where it is a fail; else packet i decides
+abbrev pub verdict_next : KindVerdict → Option FailProof → KindVerdict
+verdict_next (Fail proof) here = Fail proof
+verdict_next Pass (Some proof) = Fail proof
+verdict_next Pass None = Pass
+
+-- the interval at packet i, where it breaks a model
+abbrev pub proof_if : Media → ℕ → List ℕ → Kind → ℕ → Option Broken → Option FailProof
+proof_if m n stamps kind i None = None
+proof_if m n stamps kind i (Some model) = Some (proof_at m n stamps kind i model)
+
+-- the verdict on the first `count` packets: Pass, or the interval at the least of them that breaks a model
+abbrev pub verdict_below : Media → ℕ → List ℕ → Kind → ℕ → KindVerdict
+verdict_below m n stamps kind zero = Pass
+verdict_below m n stamps kind (suc i) =
+    verdict_next (verdict_below m n stamps kind i) (proof_if m n stamps kind i (broken_at m n stamps kind i))
+
+-- the verdict on all packets
+abbrev pub kind_verdict : Media → ℕ → List ℕ → Kind → KindVerdict
+kind_verdict m n stamps kind = verdict_below m n stamps kind (length stamps)
+
+-- the greatest of the first `count` values, or 0
+abbrev pub greatest : (ℕ → ℕ) → ℕ → ℕ
+greatest f zero = 0
+greatest f (suc i) = max (greatest f i) (f i)

@@ -1,0 +1,80 @@
+-- What a `Flow` says of the packets that it was fed. Packets count from 0.
+use Rattle.std.specs.Prelude.{◌≡◌, ◌≤◌, ◌<◌, ◌+◌, ◌^◌, ℕ, List, [], ◌∷◌, ◌++◌, length, map, vec_len, vec_capacity, ⊤, true, Option, Some, None, Ok}
+use Rattle.frame_group.specs.Stands.{StandsFor as GrouperStandsFor}
+use Rattle.timing_base.specs.Captures.{IsStamp}
+use Rattle.timing_base.specs.Flows.{AreStamped, cuts, first_fault_below, is_cut, last_place, packet, rtp}
+use Rattle.timing_base.specs.Judged.{expected_at, run_at, runs_between, stamp_of}
+use Rattle.timing_base.specs.Media.{Media}
+use Rattle.timing_base.specs.declared.packet.FlowPacket.{FlowPacket}
+use Rattle.timing_base.specs.declared.packet.PacketFault.{PacketFault}
+use Rattle.timing_base.specs.declared.packet.Rtp.{Rtp}
+use Rattle.timing_base.specs.declared.row.Run.{Run}
+use Rattle.fail_interval.specs.Row.{run_of, run_verdict_of}
+use Rattle.fail_interval.specs.Runs.{StandsFor as RunStandsFor}
+use Rattle.fail_interval.specs.SoFar.{SoFar, outcome_of, so_far_at}
+use Rattle.fail_interval.specs.declared.flow.Flow.{Flow}
+use Rattle.fail_interval.specs.declared.flow.OpenRun.{OpenRun}
+
+-- the packets before packet i, with cuts at these places, are those of the runs that are over, and of the open one
+pub record IsOpen (m : Media) (tai : ℕ) (packets : List FlowPacket) (i : ℕ) (places : List ℕ) (so_far : SoFar) (done : List Run) (open_run : OpenRun) : Type 0 where
+  pub some : 0 < i
+  pub rec : open_run.rec ≡ (packet packets (last_place (0 ∷ places))).rec
+  pub number : open_run.number ≡ (rtp packets (last_place (0 ∷ places))).number
+  pub expected : open_run.expected ≡ expected_at packets (last_place (0 ∷ places))
+  pub judge : RunStandsFor m open_run.judge so_far
+  pub so_far_is : so_far ≡ so_far_at packets tai (last_place (0 ∷ places)) i
+  pub count : length done ≡ length places
+  pub runs : (to : ℕ) → map (run_of m) (runs_between packets tai to 0 places)
+      ≡ done ++ run_of m (run_at packets tai (last_place (0 ∷ places)) to) ∷ []
+
+-- or there are none
+abbrev pub OpensAt : Media → ℕ → List FlowPacket → ℕ → SoFar → List Run → Option OpenRun → Type 0
+OpensAt m tai packets i so_far done None = (i ≡ 0) × (done ≡ [])
+OpensAt m tai packets i so_far done (Some open_run) = IsOpen m tai packets i (cuts packets i) so_far done open_run
+
+-- the open run is over: the runs that are over are these, and then it
+abbrev pub IsClosed : Media → List Run → Option OpenRun → List Run → Type 0
+IsClosed m done None new = new ≡ done
+IsClosed m done (Some open_run) new = (so_far : SoFar) → RunStandsFor m open_run.judge so_far
+    → new ≡ done ++ record {
+      rec = open_run.rec;
+      number = open_run.number;
+      expected = open_run.expected;
+      verdict = run_verdict_of m (outcome_of so_far);
+    } ∷ []
+
+-- where runs are over there is room for one more
+abbrev pub HasRoom : Flow → Type 0
+HasRoom flow = 1 ≤ vec_len flow.done → vec_len flow.done < vec_capacity flow.done
+
+-- the flow was fed these packets and no others, as far as later calls can tell; whatever packets follow
+pub record StandsFor (flow : Flow) (packets : List FlowPacket) : Type 0 where
+  pub seconds : flow.tai ≤ 1000
+  pub grouper : GrouperStandsFor flow.media.pt flow.grouper packets
+  pub sound : (rest : List FlowPacket) → first_fault_below (packets ++ rest) flow.media.pt (length packets) ≡ None
+  pub so_far : SoFar
+  pub runs : (rest : List FlowPacket) → OpensAt flow.media flow.tai (packets ++ rest) (length packets) so_far flow.done.items flow.open
+  pub room : HasRoom flow
+
+-- packet i came so
+pub record ComesNext (packets : List FlowPacket) (tai i rec_number at : ℕ) (seen : Rtp) : Type 0 where
+  pub within : i < length packets
+  pub rec : (packet packets i).rec ≡ rec_number
+  pub stamp : stamp_of tai (packet packets i) ≡ at
+  pub reading : (packet packets i).rtp ≡ Ok seen
+
+-- a run starts with packet i, at a cut or at the first packet
+abbrev pub StartsAt : List FlowPacket → ℕ → Option OpenRun → Type 0
+StartsAt packets i None = ⊤
+StartsAt packets i (Some open_run) = is_cut packets i ≡ true
+
+-- and a packet at this instant may be the next one
+pub record CanGoOn (flow : Flow) (packets : List FlowPacket) (at : ℕ) : Type 0 where
+  pub stands : StandsFor flow packets
+  pub stamped : AreStamped packets
+  pub stamp : IsStamp at
+  pub few : length packets < 2 ^ 41
+
+-- packet i is the first that has a fault, which is this
+abbrev pub has_fault : List FlowPacket → ℕ → ℕ → PacketFault → Type 0
+has_fault packets pt i fault = first_fault_below packets pt (i + 1) ≡ Some record { index = i; fault = fault }

@@ -1,0 +1,25 @@
+-- What a `KindMeter` says of the judged packets of a run.
+use Rattle.std.specs.Prelude.{◌≡◌, ℕ, List, [], ◌∷◌, ◌++◌, slice_index}
+use Rattle.drain_bucket.specs.Stands.{StandsFor as BucketStandsFor}
+use Rattle.drain_bucket.specs.declared.bucket.Bucket.{Bucket}
+use Rattle.read_schedule.specs.Stands.{IsDueAt}
+use Rattle.read_schedule.specs.declared.schedule.Due.{Due}
+use Rattle.sender_params.specs.Limits.{gapped_of}
+use Rattle.sender_params.specs.Reads.{anchor_of}
+use Rattle.sender_params.specs.Ticks.{NeverFall}
+use Rattle.sender_params.specs.declared.params.Params.{Params}
+use Rattle.timing_base.specs.declared.media.Kind.{Kind}
+use Rattle.vrx_buffer.specs.Stands.{StandsFor as VrxStandsFor}
+use Rattle.fail_interval.specs.Fails.{kind_verdict}
+use Rattle.fail_interval.specs.declared.kind.KindMeter.{KindMeter}
+
+-- the meter was fed packets with these stamps and no others
+pub record StandsFor (params : Params) (meter : KindMeter) (stamps : List ℕ) : Type 0 where
+  pub vrx : VrxStandsFor params meter.vrx stamps
+  pub verdict : meter.verdict ≡ kind_verdict params.media params.n stamps meter.vrx.kind
+
+-- the next packet comes at this instant, with this bucket after it and so much due by the schedule of this type
+pub record ComesNext (params : Params) (bucket : Bucket) (due : Due) (kind : Kind) (stamps : List ℕ) (at : ℕ) : Type 0 where
+  pub ordered : NeverFall (stamps ++ at ∷ [])
+  pub bucket_is : BucketStandsFor params bucket (stamps ++ at ∷ [])
+  pub due_is : IsDueAt params.media params.n (anchor_of params.media (slice_index (stamps ++ at ∷ []) 0)) (gapped_of kind) at due

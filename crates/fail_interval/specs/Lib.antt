@@ -1,0 +1,15 @@
+-- what is promised
+pub mod Row
+pub mod Fails
+pub mod Stands
+-- flows that are worked by hand
+pub mod Worked
+-- these only serve proofs
+pub mod Early
+pub mod Flowing
+pub mod Groups
+pub mod Kinds
+pub mod Meters
+pub mod Runs
+pub mod SoFar
+pub mod States

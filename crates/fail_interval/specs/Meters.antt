@@ -1,0 +1,33 @@
+-- What `Meters` say of the judged packets of a run.
+use Rattle.std.specs.Prelude.{◌≡◌, ◌≤◌, ℕ, ◌-◌, true, false, List, [], ◌∷◌, ◌++◌, length, slice_index}
+use Rattle.drain_bucket.specs.Stands.{StandsFor as BucketStandsFor}
+use Rattle.read_schedule.specs.Stands.{StandsBy}
+use Rattle.sender_params.specs.Reads.{anchor_of}
+use Rattle.sender_params.specs.declared.params.Params.{Params}
+use Rattle.timing_base.specs.declared.media.Kind.TheVariants.{N, NL, W}
+use Rattle.fail_interval.specs.Kinds.{StandsFor as KindStandsFor}
+use Rattle.fail_interval.specs.SoFar.{AreStamps}
+use Rattle.fail_interval.specs.declared.meters.Meters.{Meters}
+
+-- the last stamp, or 0
+abbrev pub last_stamp : List ℕ → ℕ
+last_stamp stamps = slice_index stamps (length stamps - 1)
+
+-- the meters were fed packets with these stamps and no others
+pub record StandsFor (params : Params) (meters : Meters) (stamps : List ℕ) : Type 0 where
+  pub first : 1 ≤ length stamps → slice_index stamps 0 ≡ meters.bucket.origin
+  pub bucket : BucketStandsFor params meters.bucket stamps
+  pub gapped : StandsBy params.media params.n (anchor_of params.media meters.bucket.origin) true meters.gapped (last_stamp stamps)
+  pub linear : StandsBy params.media params.n (anchor_of params.media meters.bucket.origin) false meters.linear (last_stamp stamps)
+  pub narrow_kind : meters.narrow.vrx.kind ≡ N
+  pub narrow : KindStandsFor params meters.narrow stamps
+  pub narrow_linear_kind : meters.narrow_linear.vrx.kind ≡ NL
+  pub narrow_linear : KindStandsFor params meters.narrow_linear stamps
+  pub wide_kind : meters.wide.vrx.kind ≡ W
+  pub wide : KindStandsFor params meters.wide stamps
+
+-- a packet at this instant may be the next one
+pub record CanFollow (params : Params) (meters : Meters) (stamps : List ℕ) (at : ℕ) : Type 0 where
+  pub stands : StandsFor params meters stamps
+  pub first : length stamps ≡ 0 → at ≡ meters.bucket.origin
+  pub fit : AreStamps (stamps ++ at ∷ [])

@@ -1,0 +1,30 @@
+-- What a `RunJudge` says of the packets of its run.
+use Rattle.std.specs.Prelude.{◌≡◌, ◌≤◌, ℕ, ⊤, Bool, List, length}
+use Rattle.timing_base.specs.Media.{Media}
+use Rattle.fail_interval.specs.Groups.{IsWhole}
+use Rattle.fail_interval.specs.SoFar.{AreStamps, Fits, SoFar, in_first, in_groups, in_head, so_far_next}
+use Rattle.fail_interval.specs.declared.run.RunJudge.{RunJudge}
+use Rattle.fail_interval.specs.declared.run.RunJudge.TheVariants.{Head, First, Groups}
+
+-- the run has come to this
+abbrev pub StandsFor : Media → RunJudge → SoFar → Type 0
+StandsFor m (Head packets) (in_head head) = packets ≡ head
+StandsFor m (First head stamps) (in_first so_far so_far_stamps) = (head ≡ so_far) × (stamps.items ≡ so_far_stamps)
+StandsFor m (Groups judge) (in_groups so_far) = IsWhole m judge so_far
+StandsFor m _ _ = ⊥
+
+-- and a packet at this instant may be the next one
+pub record CanGoOn (m : Media) (judge : RunJudge) (so_far : SoFar) (at : ℕ) (marker : Bool) : Type 0 where
+  pub stands : StandsFor m judge so_far
+  pub fits : Fits (so_far_next so_far at marker)
+
+-- a first group that is whole is within the limits
+pub record FitsWhole (stamps : List ℕ) : Type 0 where
+  pub some : 1 ≤ length stamps
+  pub most : length stamps ≤ 262144
+  pub fit : AreStamps stamps
+
+abbrev pub IsWholeFirst : RunJudge → Type 0
+IsWholeFirst (Head packets) = ⊤
+IsWholeFirst (First head stamps) = FitsWhole stamps.items
+IsWholeFirst (Groups judge) = ⊤

@@ -1,0 +1,25 @@
+-- What a `FlowJudge` says of the packets that it was fed. Packets count from 0.
+use Rattle.std.specs.Prelude.{◌≡◌, ℕ, List, length}
+use Rattle.timing_base.specs.Flows.{AreStamped}
+use Rattle.timing_base.specs.Media.{Media}
+use Rattle.timing_base.specs.declared.key.FlowKey.{FlowKey}
+use Rattle.timing_base.specs.declared.packet.FlowPacket.{FlowPacket}
+use Rattle.fail_interval.specs.States.{IsAt}
+use Rattle.fail_interval.specs.declared.judge.FlowJudge.{FlowJudge}
+use Rattle.fail_interval.specs.declared.judge.State.TheVariants.{Spent}
+
+-- how many packets were fed
+abbrev pub count_fed : FlowJudge → ℕ
+count_fed judge = judge.fed
+
+-- memory was refused
+abbrev pub IsSpent : FlowJudge → Type 0
+IsSpent judge = judge.state ≡ Spent
+
+-- the judge of the flow with this key, of packets of this media, with so many seconds added to their stamps, was fed
+-- these packets and no others, as far as later calls can tell
+pub record StandsFor (m : Media) (key : FlowKey) (tai : ℕ) (judge : FlowJudge) (packets : List FlowPacket) : Type 0 where
+  pub key_is : judge.key ≡ key
+  pub fed : count_fed judge ≡ length packets
+  pub stamped : AreStamped packets
+  pub state : IsAt m tai packets judge.state

@@ -1,0 +1,42 @@
+-- What a `FlowJudge` keeps of the packets that it was fed. Packets count from 0.
+use Rattle.std.specs.Prelude.{◌≡◌, ℕ, ⊤, List, ◌++◌, length, Some, Result, Ok, Err, ◌⊎◌}
+use Rattle.timing_base.specs.Flows.{AreStamped, first_fault_below, packet}
+use Rattle.timing_base.specs.Media.{Media}
+use Rattle.timing_base.specs.declared.packet.FlowPacket.{FlowPacket}
+use Rattle.timing_base.specs.declared.packet.PacketFault.{PacketFault}
+use Rattle.timing_base.specs.declared.packet.PacketFault.TheVariants.{Short, Version}
+use Rattle.timing_base.specs.declared.packet.Rtp.{Rtp}
+use Rattle.fail_interval.specs.Flowing.{StandsFor as FlowStandsFor}
+use Rattle.fail_interval.specs.declared.flow.Flow.{Flow}
+use Rattle.fail_interval.specs.declared.judge.State.{State}
+use Rattle.fail_interval.specs.declared.judge.State.TheVariants.{Going, Refused, Spent}
+
+-- a packet that was not read is too short, or of another version
+abbrev pub IsReading : Result Rtp PacketFault → Type 0
+IsReading (Ok rtp) = ⊤
+IsReading (Err fault) = (fault ≡ Short) ⊎ (fault ≡ Version)
+
+-- the first fault of a flow that begins so, and the record of its packet; whatever packets follow
+pub record IsRefused (m : Media) (packets : List FlowPacket) (rec : ℕ) (fault : PacketFault) : Type 0 where
+  pub index : ℕ
+  pub first : (rest : List FlowPacket) → first_fault_below (packets ++ rest) m.pt (length packets)
+      ≡ Some record { index = index; fault = fault }
+  pub rec_is : (rest : List FlowPacket) → (packet (packets ++ rest) index).rec ≡ rec
+
+-- what has come of these packets of a flow
+abbrev pub IsAt : Media → ℕ → List FlowPacket → State → Type 0
+IsAt m tai packets (Going flow) = (flow.media ≡ m) × (flow.tai ≡ tai) × FlowStandsFor flow packets
+IsAt m tai packets (Refused rec fault) = IsRefused m packets rec fault
+IsAt m tai packets Spent = ⊥
+
+-- the packets that stand behind a flow without a fault
+pub record IsFedTo (flow : Flow) (fed : ℕ) (packets : List FlowPacket) : Type 0 where
+  pub count : length packets ≡ fed
+  pub stamped : AreStamped packets
+  pub stands : FlowStandsFor flow packets
+
+-- some packets stand behind a flow without a fault
+abbrev pub IsKnown : ℕ → State → Type 0
+IsKnown fed (Going flow) = (packets : List FlowPacket) × IsFedTo flow fed packets
+IsKnown fed (Refused rec fault) = ⊤
+IsKnown fed Spent = ⊤

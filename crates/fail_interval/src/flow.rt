@@ -1,0 +1,236 @@
+//! A flow without a fault, as far as it has come.
+
+ghost use Rattle.std.specs.Prelude.{◌≡◌, ◌≤◌, ◌<◌, ◌+◌, ◌++◌, ◌∷◌, [], ℕ, List, length, Ok, None, Some, OnOk, IfOk};
+ghost use Rattle.timing_base.specs.Captures.{IsStamp};
+ghost use Rattle.timing_base.specs.Flows.{first_fault_below};
+ghost use Rattle.timing_base.specs.declared.packet.FlowPacket.{FlowPacket};
+ghost use Rattle.timing_base.specs.Judged.{judged};
+ghost use Rattle.frame_group.specs.Placing.{cut_at};
+ghost use Rattle.timing_base.specs.Media.{Media as MediaValue};
+ghost use Rattle.fail_interval.specs.Row.{verdict_of};
+ghost use Rattle.fail_interval.specs.SoFar.{SoFar, in_head, so_far_next};
+
+use crate::run::RunJudge;
+use frame_group::Grouper;
+use std::alloc::{AllocError as OutOfMemory, Global};
+use timing_base::{Items, Media, PacketFault, Rtp, Run, RunVerdict, Runs, Unjudged, Verdict};
+
+/// A run between gaps that isn't over.
+#[derive(Drop)]
+pub struct OpenRun {
+    /// The record of its first packet.
+    pub rec: u64,
+    /// The number of its first packet.
+    pub number: u32,
+    /// The number that would have gone on from the run before; none for the first run.
+    pub expected: Option<u32>,
+    pub judge: RunJudge,
+}
+
+impl OpenRun {
+    ghost use Rattle.fail_interval.specs.Runs.{StandsFor as RunStandsFor};
+
+    /// A run of one packet, which has this number and came at this instant.
+    fn start(
+        alloc: Global,
+        media: &Media,
+        expected: Option<u32>,
+        rec: u64,
+        at: u64,
+        rtp: Rtp,
+    ) -> Result<OpenRun, OutOfMemory>
+        ensures rec { IfOk result (λ run. run.rec ≡ rec) }
+        ensures number { IfOk result (λ run. run.number ≡ rtp.number) }
+        ensures expected { IfOk result (λ run. run.expected ≡ expected) }
+        ensures judge { IfOk result (λ run. RunStandsFor media.now run.judge
+            (so_far_next (in_head 0) at rtp.marker)) }
+    {
+        let mut judge = RunJudge::new();
+        judge.feed(alloc, media, at, rtp.marker)?;
+        Ok(OpenRun {
+            rec,
+            number: rtp.number,
+            expected,
+            judge,
+        })
+    }
+}
+
+/// A flow without a fault, as far as it has come.
+#[derive(Drop)]
+pub struct Flow {
+    alloc: Global,
+    media: Media,
+    /// The seconds that are added to the stamps.
+    tai: u64,
+    grouper: Grouper,
+    /// The runs before the open one. Where there are any, there is room for one more.
+    done: Vec<Run>,
+    /// The run that isn't over; none before the first packet.
+    open: Option<OpenRun>,
+}
+
+impl Flow {
+    ghost use Rattle.fail_interval.specs.Flowing.{CanGoOn, ComesNext, HasRoom, StandsFor, has_fault};
+    ghost use Rattle.fail_interval.specs.Flowing.{IsClosed, OpensAt, StartsAt};
+
+    /// Before the first packet.
+    pub fn new(alloc: Global, media: &Media, tai: u64) -> Flow
+        requires { tai ≤ 1000 }
+        ensures media { result.media ≡ media.now }
+        ensures tai { result.tai ≡ tai }
+        ensures stands { StandsFor result [] }
+    {
+        Flow {
+            alloc,
+            media: *media,
+            tai,
+            grouper: Grouper::new(media.pt),
+            done: Vec::new(alloc),
+            open: None,
+        }
+    }
+
+    /// The open run is over, if there is one.
+    fn close(&mut self) -> Result<(), OutOfMemory>
+        ensures media { self.new.media ≡ self.old.media }
+        ensures tai { self.new.tai ≡ self.old.tai }
+        ensures grouper { self.new.grouper ≡ self.old.grouper }
+        ensures open { self.new.open ≡ self.old.open }
+        ensures done { (m : MediaValue) → OnOk result (IsClosed m self.old.done.items self.old.open
+            self.new.done.items) }
+        ensures room { OnOk result (HasRoom self.old → HasRoom self.new) }
+    {
+        if let Some(open) = &self.open {
+            self.done.push(Run {
+                rec: open.rec,
+                number: open.number,
+                expected: open.expected,
+                verdict: open.judge.verdict(),
+            })?;
+            self.done.reserve(1)?;
+        }
+        Ok(())
+    }
+
+    /// Begins a run with the next packet, at a gap or at the start of the flow.
+    #[cold]
+    #[inline(never)]
+    fn begin(
+        &mut self,
+        expected: Option<u32>,
+        rec: u64,
+        at: u64,
+        rtp: Rtp,
+    ) -> Result<(), OutOfMemory>
+        ensures media { self.new.media ≡ self.old.media }
+        ensures tai { self.new.tai ≡ self.old.tai }
+        ensures grouper { self.new.grouper ≡ self.old.grouper }
+        ensures room { OnOk result (HasRoom self.old → HasRoom self.new) }
+        ensures begins { (packets : List FlowPacket) (i : ℕ) (so_far : SoFar)
+            → ComesNext packets self.old.tai i rec at rtp
+            → expected ≡ cut_at packets i
+            → StartsAt packets i self.old.open
+            → OpensAt self.old.media self.old.tai packets i so_far self.old.done.items self.old.open
+            → OnOk result (OpensAt self.new.media self.new.tai packets (i + 1)
+            (so_far_next (in_head 0) at rtp.marker) self.new.done.items self.new.open) }
+    {
+        self.close()?;
+        let run = OpenRun::start(self.alloc, &self.media, expected, rec, at, rtp)?;
+        self.open = Some(run);
+        Ok(())
+    }
+
+    /// Takes the next packet, or answers its fault. `Err` is want of memory.
+    pub fn feed(
+        &mut self,
+        rec: u64,
+        at: u64,
+        rtp: Result<Rtp, PacketFault>,
+    ) -> Result<Option<PacketFault>, OutOfMemory>
+        requires { ∥ ((packets : List FlowPacket) × CanGoOn self.old packets at) ∥₁ }
+        ensures media { self.new.media ≡ self.old.media }
+        ensures tai { self.new.tai ≡ self.old.tai }
+        ensures goes_on { (packets : List FlowPacket) → CanGoOn self.old packets at
+            → result ≡ Ok None
+            → StandsFor self.new (packets ++ record { rec = rec; at = at; rtp = rtp } ∷ []) }
+        ensures ends { (packets rest : List FlowPacket) (fault : _) → CanGoOn self.old packets at
+            → result ≡ Ok (Some fault)
+            → has_fault (packets ++ record { rec = rec; at = at; rtp = rtp } ∷ rest)
+            self.old.media.pt (length packets) fault }
+    {
+        match rtp {
+            Ok(rtp) => self.feed_read(rec, at, rtp),
+            Err(fault) => Ok(Some(fault)),
+        }
+    }
+
+    /// Takes the next packet, which was read, or answers its fault. `Err` is want of memory.
+    fn feed_read(&mut self, rec: u64, at: u64, rtp: Rtp) -> Result<Option<PacketFault>, OutOfMemory>
+        requires { ∥ ((packets : List FlowPacket) × CanGoOn self.old packets at) ∥₁ }
+        ensures media { self.new.media ≡ self.old.media }
+        ensures tai { self.new.tai ≡ self.old.tai }
+        ensures goes_on { (packets : List FlowPacket) → CanGoOn self.old packets at
+            → result ≡ Ok None
+            → StandsFor self.new (packets ++ record { rec = rec; at = at; rtp = Ok rtp } ∷ []) }
+        ensures ends { (packets rest : List FlowPacket) (fault : _) → CanGoOn self.old packets at
+            → result ≡ Ok (Some fault)
+            → has_fault (packets ++ record { rec = rec; at = at; rtp = Ok rtp } ∷ rest)
+            self.old.media.pt (length packets) fault }
+    {
+        let placed = match self.grouper.feed(at, rtp) {
+            Ok(placed) => placed,
+            Err(fault) => return Ok(Some(fault)),
+        };
+        let stamp = at + self.tai * 1_000_000_000;
+        if placed.cut.is_none() {
+            if let Some(open) = &mut self.open {
+                open.judge.feed(self.alloc, &self.media, stamp, rtp.marker)?;
+                return Ok(None);
+            }
+        }
+        self.begin(placed.cut, rec, stamp, rtp)?;
+        Ok(None)
+    }
+
+    /// What comes of the flow, where it ends here.
+    pub fn verdict(self) -> Verdict
+        requires { ∥ ((packets : List FlowPacket) × StandsFor self packets) ∥₁ }
+        ensures { (packets : List FlowPacket) → StandsFor self packets
+            → result ≡ verdict_of self.media (judged packets self.media.pt self.tai) }
+    {
+        let Flow { mut done, open, .. } = self;
+        let open = match open {
+            Some(open) => open,
+            None => return Verdict::Unjudged(Unjudged::Absent),
+        };
+        let verdict = open.judge.verdict();
+        if done.is_empty() {
+            return one_run(verdict);
+        }
+        // Room for it was taken at the last gap.
+        let _ = done.push(Run {
+            rec: open.rec,
+            number: open.number,
+            expected: open.expected,
+            verdict,
+        });
+        Verdict::Runs(Runs {
+            list: Items::from_vec(done),
+        })
+    }
+}
+
+ghost use Rattle.timing_base.specs.Judged.{RunOutcome};
+ghost use Rattle.fail_interval.specs.Row.{one_run_verdict, run_verdict_of};
+
+/// What comes of a flow with no gap.
+fn one_run(verdict: RunVerdict) -> Verdict
+    ensures { (m : MediaValue) (outcome : RunOutcome) → verdict ≡ run_verdict_of m outcome
+        → result ≡ one_run_verdict m outcome }
+{
+    match verdict {
+        RunVerdict::NoWholeFrame { head } => Verdict::Unjudged(Unjudged::NoWholeFrame { head }),
+        RunVerdict::Judged(judged) => Verdict::Judged(judged),
+    }
+}

@@ -1,0 +1,146 @@
+//! The judge of one flow.
+
+ghost use Rattle.std.specs.Prelude.{◌≡◌, ◌≤◌, ◌<◌, ◌+◌, ◌^◌, ◌++◌, ◌∷◌, [], ℕ, List, IsErr, OnErr, OnOk};
+ghost use Rattle.timing_base.specs.Captures.{IsStamp};
+ghost use Rattle.timing_base.specs.declared.packet.FlowPacket.{FlowPacket};
+ghost use Rattle.timing_base.specs.declared.key.FlowKey.{FlowKey as KeyValue};
+ghost use Rattle.timing_base.specs.Media.{Media as MediaValue};
+ghost use Rattle.fail_interval.specs.Row.{row};
+ghost use Rattle.fail_interval.specs.States.{IsKnown, IsReading};
+
+use crate::flow::Flow;
+use std::alloc::{AllocError as OutOfMemory, Global};
+use timing_base::{FlowKey, Media, PacketFault, Row, Rtp, Unjudged, Verdict};
+
+/// What has come of the packets so far.
+#[derive(Drop)]
+enum State {
+    Going(Flow),
+    /// The first fault, and its record.
+    Refused { rec: u64, fault: PacketFault },
+    /// Memory was refused.
+    Spent,
+}
+
+impl State {
+    ghost use Rattle.fail_interval.specs.declared.judge.State.TheVariants.{Refused, Spent};
+
+    /// The flow has a fault.
+    #[cold]
+    #[inline(never)]
+    fn refuse(&mut self, rec: u64, fault: PacketFault)
+        ensures { self.new ≡ Refused rec fault }
+    {
+        *self = State::Refused { rec, fault };
+    }
+
+    /// Memory was refused.
+    #[cold]
+    #[inline(never)]
+    fn spend(&mut self)
+        ensures { self.new ≡ Spent }
+    {
+        *self = State::Spent;
+    }
+}
+
+/// The judge of one flow: it is fed the flow's packets, one by one and in order.
+#[derive(Drop)]
+pub struct FlowJudge {
+    key: FlowKey,
+    /// The packets fed.
+    fed: u64,
+    state: State,
+    ghost known: { ∥ IsKnown fed state ∥₁ },
+}
+
+impl FlowJudge {
+    ghost use Rattle.fail_interval.specs.Stands.{IsSpent, StandsFor, count_fed};
+
+    /// The judge of the flow with this key, of packets of this media. `tai` seconds are added to the stamps of its
+    /// judged packets, but not to those that a fault tells.
+    pub fn new(alloc: Global, media: &Media, key: FlowKey, tai: u64) -> FlowJudge
+        requires { tai ≤ 1000 }
+        ensures fed { count_fed result ≡ 0 }
+        ensures stands { StandsFor media.now key tai result [] }
+    {
+        FlowJudge {
+            key,
+            fed: 0,
+            state: State::Going(Flow::new(alloc, media, tai)),
+        }
+    }
+
+    /// Takes the next packet of the flow: the number of its record, when it was captured in nanoseconds, and what was
+    /// read of it.
+    ///
+    /// `Err` is want of memory. The judge is then spent: it answers so from then on, and its row is not the flow's.
+    pub fn feed(
+        &mut self,
+        rec: u64,
+        at: u64,
+        rtp: Result<Rtp, PacketFault>,
+    ) -> Result<(), OutOfMemory>
+        requires stamp { IsStamp at }
+        requires reading { IsReading rtp }
+        requires few { count_fed self.old < 2 ^ 41 }
+
+        ensures fed { count_fed self.new ≡ count_fed self.old + 1 }
+
+        // Whatever packets the judge stood for, it now stands for those and this one.
+        ensures stands { (media : MediaValue) (key : KeyValue) (tai : ℕ) (packets : List FlowPacket)
+            → StandsFor media key tai self.old packets
+            → OnOk result (StandsFor media key tai self.new
+            (packets ++ record { rec = rec; at = at; rtp = rtp } ∷ [])) }
+
+        ensures spends { OnErr result (IsSpent self.new) }
+        ensures stays { IsSpent self.old → IsErr result }
+    {
+        self.fed += 1;
+        let step = match &mut self.state {
+            State::Going(flow) => flow.feed(rec, at, rtp),
+            State::Refused { .. } => return Ok(()),
+            State::Spent => return Err(OutOfMemory),
+        };
+        match step {
+            Ok(fault) => match fault {
+                None => Ok(()),
+                Some(fault) => {
+                    self.state.refuse(rec, fault);
+                    Ok(())
+                }
+            },
+            Err(refused) => {
+                self.state.spend();
+                Err(refused)
+            }
+        }
+    }
+
+    /// The row of the flow, where it ends here.
+    pub fn finish(self) -> Row
+        ensures { (media : MediaValue) (key : KeyValue) (tai : ℕ) (packets : List FlowPacket)
+            → StandsFor media key tai self packets → result ≡ row packets key media tai }
+    {
+        let FlowJudge { key, state, .. } = self;
+        let verdict = match state {
+            State::Going(flow) => flow.verdict(),
+            State::Refused { rec, fault } => refusal(rec, fault),
+            State::Spent => Verdict::Unjudged(Unjudged::Absent),
+        };
+        Row { key, verdict }
+    }
+}
+
+ghost use Rattle.timing_base.specs.Judged.{refusal};
+ghost use Rattle.fail_interval.specs.Row.{verdict_of};
+
+/// One gap too many is told as a gap, each other fault as itself.
+fn refusal(rec: u64, fault: PacketFault) -> Verdict
+    ensures { (media : MediaValue) → result ≡ verdict_of media (refusal rec fault) }
+{
+    Verdict::Unjudged(match fault {
+        PacketFault::Number { expected, got } => Unjudged::Gap { rec, expected, got },
+        fault => Unjudged::Refused { rec, fault },
+    })
+}

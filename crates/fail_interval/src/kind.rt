@@ -1,0 +1,122 @@
+//! The meter of one sender type.
+
+ghost use Rattle.std.specs.Prelude.{◌≡◌, ◌<◌, ◌^◌, ◌++◌, ◌∷◌, [], ℕ, List};
+
+use drain_bucket::Bucket;
+use read_schedule::Due;
+use sender_params::Params;
+use timing_base::{Broken, FailProof, Kind, KindVerdict};
+use vrx_buffer::{Vrx, VrxFault};
+
+/// Whether the judged packets of one run keep the limits of one sender type.
+#[derive(Clone, Copy)]
+pub struct KindMeter {
+    pub vrx: Vrx,
+    pub verdict: KindVerdict,
+}
+
+impl KindMeter {
+    ghost use Rattle.fail_interval.specs.Kinds.{ComesNext, StandsFor};
+
+    /// The meter of this sender type before the first packet.
+    pub fn new(kind: Kind) -> KindMeter
+        ensures kind { result.vrx.kind ≡ kind }
+        ensures stands { (params : _) → StandsFor params result [] }
+    {
+        KindMeter {
+            vrx: Vrx::new(kind),
+            verdict: KindVerdict::Pass,
+        }
+    }
+
+    /// Takes the next packet, with the bucket just after it and what is due at its instant, of the
+    /// schedule of this sender type.
+    #[inline(always)]
+    pub fn feed(&mut self, params: &Params, bucket: &Bucket, due: Due)
+        requires { self.old.vrx.seen < 2 ^ 41 }
+        ensures kind { self.new.vrx.kind ≡ self.old.vrx.kind }
+        ensures stands { (stamps : List ℕ) (at : ℕ) → StandsFor params.now self.old stamps
+            → ComesNext params.now bucket.now due self.old.vrx.kind stamps at
+            → StandsFor params.now self.new (stamps ++ at ∷ []) }
+    {
+        let kind = self.vrx.kind;
+        let packet = self.vrx.seen;
+        let fault = self.vrx.feed_due(params, due);
+        if let KindVerdict::Pass = self.verdict {
+            let c_max = params.c_max(kind);
+            if bucket.count > c_max || fault.is_some() {
+                self.verdict = verdict_at(params, kind, bucket, fault, packet);
+            }
+        }
+    }
+}
+
+ghost use Rattle.drain_bucket.specs.Stands.{IsAfter};
+ghost use Rattle.vrx_buffer.specs.Faults.{fault_at};
+ghost use Rattle.fail_interval.specs.Early.{early_at};
+ghost use Rattle.fail_interval.specs.Fails.{verdict_next};
+ghost use Rattle.timing_base.specs.declared.row.KindVerdict.TheVariants.{Pass};
+
+/// The verdict where the last packet is the first that breaks a model, the bucket's before the
+/// buffer's; Pass where it breaks none.
+#[cold]
+#[inline(never)]
+fn verdict_at(
+    params: &Params,
+    kind: Kind,
+    bucket: &Bucket,
+    fault: Option<VrxFault>,
+    packet: u64,
+) -> KindVerdict
+    requires { packet < 2 ^ 41 }
+    ensures { (stamps : List ℕ) → IsAfter params.now bucket.now stamps packet
+        → fault ≡ fault_at params.now.media params.now.n stamps kind packet
+        → result ≡ verdict_next Pass (early_at params.now.media params.now.n stamps kind packet) }
+{
+    match fail_at(params, kind, bucket, fault, packet) {
+        Some(proof) => KindVerdict::Fail(proof),
+        None => KindVerdict::Pass,
+    }
+}
+
+/// The interval that shows how the last packet breaks a model, the bucket's before the buffer's.
+fn fail_at(
+    params: &Params,
+    kind: Kind,
+    bucket: &Bucket,
+    fault: Option<VrxFault>,
+    packet: u64,
+) -> Option<FailProof>
+    requires { packet < 2 ^ 41 }
+    ensures { (stamps : List ℕ) → IsAfter params.now bucket.now stamps packet
+        → fault ≡ fault_at params.now.media params.now.n stamps kind packet
+        → result ≡ early_at params.now.media params.now.n stamps kind packet }
+{
+    let c_max = params.c_max(kind);
+    if bucket.count > c_max {
+        return Some(FailProof {
+            model: Broken::Bucket,
+            from: bucket.begin,
+            to: packet,
+            count: bucket.count,
+            limit: c_max,
+        });
+    }
+    match fault? {
+        VrxFault::Over { held, .. } => Some(FailProof {
+            model: Broken::Over,
+            from: 0,
+            to: packet,
+            count: held,
+            limit: params.vrx_full(kind),
+        }),
+        // All packets before it came by their own reads, so by this one, and it is the first that didn't.
+        VrxFault::Empty { .. } => Some(FailProof {
+            model: Broken::Empty,
+            from: packet,
+            to: packet,
+            count: packet,
+            limit: packet + 1,
+        }),
+    }
+}

@@ -1,0 +1,102 @@
+//! What holds of the definitions themselves, and the row of flows worked by hand. Each function is a
+//! theorem: it does nothing, and its clauses are proved.
+
+ghost use Rattle.std.specs.Prelude.{◌≡◌, ◌≤◌, ◌∷◌, [], ℕ, List, Some, None, true, false};
+ghost use Rattle.timing_base.specs.Examples.{sent};
+ghost use Rattle.timing_base.specs.Media.{IsMedia, Media};
+ghost use Rattle.timing_base.specs.declared.fail.Broken.TheVariants.{Bucket, Over, Empty};
+ghost use Rattle.timing_base.specs.declared.fail.FailProof.{FailProof};
+ghost use Rattle.timing_base.specs.declared.media.Kind.{Kind};
+ghost use Rattle.timing_base.specs.declared.packet.PacketFault.TheVariants.{StampBack};
+ghost use Rattle.timing_base.specs.declared.row.KindVerdict.TheVariants.{Pass, Fail};
+ghost use Rattle.timing_base.specs.declared.row.Unjudged.TheVariants.{Absent, NoWholeFrame, Refused};
+ghost use Rattle.sender_params.specs.Keeps.{Confirms, Keeps};
+ghost use Rattle.sender_params.specs.Ticks.{NeverFall};
+ghost use Rattle.sender_params.specs.Worked.{fail, hd_25_interlaced, hd_50};
+ghost use Rattle.fail_interval.specs.Fails.{kind_verdict};
+ghost use Rattle.fail_interval.specs.Row.{row};
+ghost use Rattle.fail_interval.specs.Worked.{a_key, with_cmax};
+ghost use Rattle.fail_interval.specs.Worked.{four, four_and_tail, gap_between, ten_at_once};
+ghost use Rattle.fail_interval.specs.Worked.{headed_run, judged_row, judged_run, runs_row, twos, unjudged_row};
+
+/// A sender type passes exactly where the judged packets keep its limits: no interval of packets has more
+/// than C_MAX, and at every instant the buffer holds between nothing and VRX_FULL. Where it fails, the
+/// interval that is named is confirmed; and whatever is confirmed of a list, its limits aren't kept.
+pub fn fail_is_confirmed()
+    ensures pass { (m : Media) (n : ℕ) (stamps : List ℕ) (kind : Kind) → IsMedia m → 1 ≤ n
+        → NeverFall stamps → kind_verdict m n stamps kind ≡ Pass → Keeps m n stamps kind }
+    ensures keeps { (m : Media) (n : ℕ) (stamps : List ℕ) (kind : Kind) → IsMedia m → 1 ≤ n
+        → NeverFall stamps → Keeps m n stamps kind → kind_verdict m n stamps kind ≡ Pass }
+    ensures fail { (m : Media) (n : ℕ) (stamps : List ℕ) (kind : Kind) (f : FailProof) → IsMedia m
+        → 1 ≤ n → NeverFall stamps → kind_verdict m n stamps kind ≡ Fail f
+        → Confirms m n stamps kind f }
+    ensures refutes { (m : Media) (n : ℕ) (stamps : List ℕ) (kind : Kind) (f : FailProof) → IsMedia m
+        → 1 ≤ n → NeverFall stamps → Confirms m n stamps kind f → Keeps m n stamps kind → ⊥ }
+{}
+
+/// Each packet comes 444 4/9 ns before its gapped read. The tail comes at once, and isn't judged. A second that is
+/// added is fifty groups.
+pub fn passes_by_hand()
+    ensures plain { row (four 764000 10364000 20764000 30364000) a_key hd_50 0
+        ≡ judged_row (twos 2 4 0 1 1 1 Pass Pass Pass) }
+    ensures tail { row (four_and_tail 764000 10364000 20764000 30364000 30364000) a_key hd_50 0
+        ≡ judged_row (twos 2 4 1 1 1 1 Pass Pass Pass) }
+    ensures second_later { row (four 764000 10364000 20764000 30364000) a_key hd_50 1
+        ≡ judged_row (twos 2 4 0 1 1 1 Pass Pass Pass) }
+    ensures fields { row (four 782000 10382000 20782000 30382000) a_key hd_25_interlaced 0
+        ≡ judged_row (twos 2 4 0 1 1 1 Pass Pass Pass) }
+{}
+
+/// With CMAX=1 two packets at once are too many for the declared type alone. The interval starts at the latest packet
+/// from which on the count is reached.
+pub fn bucket_by_hand()
+    ensures first { row (four 764000 764000 20764000 30364000) a_key (with_cmax 1) 0
+        ≡ judged_row (twos 2 4 0 2 2 2 (Fail (fail Bucket 0 1 2 1)) Pass Pass) }
+    ensures second { row (four 764000 10364000 20764000 20764000) a_key (with_cmax 1) 0
+        ≡ judged_row (twos 2 4 0 2 2 2 (Fail (fail Bucket 2 3 2 1)) Pass Pass) }
+    ensures both { row (four 764000 764000 20764000 20764000) a_key (with_cmax 1) 0
+        ≡ judged_row (twos 2 4 0 2 2 2 (Fail (fail Bucket 0 1 2 1)) Pass Pass) }
+{}
+
+/// Ten packets at once: the bucket of types N and NL takes four, that of W sixteen, and the buffer of N and NL eight.
+/// Where both are broken at one packet the bucket is named.
+pub fn over_by_hand()
+    ensures bucket { row ten_at_once a_key hd_50 0
+        ≡ judged_row (twos 5 10 0 10 10 10 (Fail (fail Bucket 0 4 5 4)) (Fail (fail Bucket 0 4 5 4)) Pass) }
+    ensures over { row ten_at_once a_key (with_cmax 100) 0
+        ≡ judged_row (twos 5 10 0 10 10 10 (Fail (fail Over 0 8 9 8)) (Fail (fail Bucket 0 4 5 4)) Pass) }
+    ensures both { row ten_at_once a_key (with_cmax 8) 0
+        ≡ judged_row (twos 5 10 0 10 10 10 (Fail (fail Bucket 0 8 9 8)) (Fail (fail Bucket 0 4 5 4)) Pass) }
+{}
+
+/// A packet a nanosecond after gapped read 1, which is at 10,364,444 4/9 ns; linear read 1 is 400,000 ns later. A flow
+/// that comes late altogether is late at its first packet.
+pub fn empty_by_hand()
+    ensures late { row (four 764000 10364445 20764000 30364000) a_key hd_50 0
+        ≡ judged_row (twos 2 4 0 1 1 1 (Fail (fail Empty 1 1 1 2)) Pass Pass) }
+    ensures all_late { row (four 764445 10364445 20764445 30364445) a_key hd_50 0
+        ≡ judged_row (twos 2 4 0 1 0 1 (Fail (fail Empty 0 0 0 1)) (Fail (fail Empty 0 0 0 1))
+        (Fail (fail Empty 0 0 0 1))) }
+    ensures late_field { row (four 782000 10382223 20782000 30382000) a_key hd_25_interlaced 0
+        ≡ judged_row (twos 2 4 0 1 1 1 (Fail (fail Empty 1 1 1 2)) Pass Pass) }
+{}
+
+/// Rows that say why a flow is not judged.
+pub fn unjudged_by_hand()
+    ensures absent { row [] a_key hd_50 0 ≡ unjudged_row Absent }
+    ensures no_marker { row (sent 11 0 6 0 false ∷ sent 12 5 7 0 false ∷ []) a_key hd_50 0
+        ≡ unjudged_row (NoWholeFrame 2) }
+    ensures one_marker { row (sent 11 0 6 0 true ∷ sent 12 5 7 1 false ∷ []) a_key hd_50 0
+        ≡ unjudged_row (NoWholeFrame 1) }
+    ensures refused { row (sent 11 9 6 0 true ∷ sent 12 8 7 1 false ∷ []) a_key hd_50 5
+        ≡ unjudged_row (Refused 12 (StampBack 9 8)) }
+{}
+
+/// Runs between gaps: each has its own head, anchor, bucket and tail. The second group of the first run isn't whole.
+pub fn runs_by_hand()
+    ensures two { row gap_between a_key hd_50 0
+        ≡ runs_row (judged_run 11 6 None (twos 1 2 1 1 1 1 Pass Pass Pass))
+        (judged_run 15 11 (Some 10) (twos 1 2 0 1 1 1 Pass Pass Pass)) }
+    ensures headed { row (sent 11 0 6 0 true ∷ sent 12 5 8 1 false ∷ sent 13 6 9 1 false ∷ []) a_key hd_50 0
+        ≡ runs_row (headed_run 11 6 None 1) (headed_run 12 8 (Some 7) 2) }
+{}
