@@ -1,0 +1,5 @@
+mod Readings
+mod Judges
+mod Banks
+mod Takings
+mod HandWorked

@@ -1,0 +1,26 @@
+-- The rows of captures: one for each media, over the packets of its flow. Files and media count from 0.
+use Rattle.std.specs.Prelude.{◌+◌, ℕ, List, [], ◌∷◌, ◌++◌}
+use Rattle.timing_base.specs.Captures.{Record}
+use Rattle.timing_base.specs.Media.{Media}
+use Rattle.timing_base.specs.declared.key.FlowKey.{FlowKey}
+use Rattle.timing_base.specs.declared.row.Row.{Row}
+use Rattle.udp_rtp.specs.Flow.{flow}
+use Rattle.fail_interval.specs.Row.{row}
+
+-- the key of a flow
+abbrev pub key_of : (file media : ℕ) → FlowKey
+key_of file media = record { file = file; media = media }
+
+-- the rows of these media, the first of them with this number, over the records of one file
+abbrev pub rows_from : (tai file number : ℕ) → List Media → List Record → List Row
+rows_from tai file number [] items = []
+rows_from tai file number (m ∷ ms) items = row (flow items m) (key_of file number) m tai ∷ rows_from tai file (number + 1) ms items
+
+-- the rows of all media over the records of one file
+abbrev pub rows_of : (tai file : ℕ) → List Media → List Record → List Row
+rows_of tai file media items = rows_from tai file 0 media items
+
+-- the rows of files, the first of them with this number, by rising file and then media
+abbrev pub rows_of_files : (tai first : ℕ) → List Media → List (List Record) → List Row
+rows_of_files tai first media [] = []
+rows_of_files tai first media (items ∷ files) = rows_of tai first media items ++ rows_of_files tai (first + 1) media files

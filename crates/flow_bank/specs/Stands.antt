@@ -1,0 +1,40 @@
+-- What a bank of judges says of the records that it was fed: each judge was fed the flow of its media. Media count
+-- from 0.
+use Rattle.std.specs.Prelude.{◌≡◌, ◌+◌, ℕ, ⊤, List, [], ◌∷◌, ◌++◌}
+use Rattle.timing_base.specs.Captures.{Record}
+use Rattle.timing_base.specs.Media.{Media}
+use Rattle.timing_base.specs.Targets.{target_of}
+use Rattle.udp_rtp.specs.Flow.{flow}
+use Rattle.fail_interval.specs.Stands.{StandsFor as JudgeStandsFor}
+use Rattle.flow_bank.specs.Rows.{key_of}
+use Rattle.flow_bank.specs.declared.bank.Bank.{Bank}
+use Rattle.flow_bank.specs.declared.media_judge.MediaJudge.{MediaJudge}
+
+-- the judge is that of this media, and was fed its flow of these records
+pub record IsJudgeOf (m : Media) (file number tai : ℕ) (j : MediaJudge) (items : List Record) : Type 0 where
+  pub target : j.target ≡ target_of m
+  pub judge : JudgeStandsFor m (key_of file number) tai j.judge (flow items m)
+
+-- the judges are those of these media, the first of them with this number
+abbrev pub AreJudgesOf : (tai file number : ℕ) → List Media → List MediaJudge → List Record → Type 0
+AreJudgesOf tai file number [] [] items = ⊤
+AreJudgesOf tai file number [] (j ∷ js) items = ⊥
+AreJudgesOf tai file number (m ∷ ms) [] items = ⊥
+AreJudgesOf tai file number (m ∷ ms) (j ∷ js) items = IsJudgeOf m file number tai j items × AreJudgesOf tai file (number + 1) ms js items
+
+-- the bank was fed these records of one file and no others
+abbrev pub StandsFor : List Media → (file tai : ℕ) → Bank → List Record → Type 0
+StandsFor media file tai bank items = AreJudgesOf tai file 0 media bank.judges.items items
+
+-- whatever records the bank was fed, it was then fed these too, and no others
+abbrev pub Feeds : (old new : Bank) → List Record → Type 0
+Feeds old new more = (media : List Media) (file tai : ℕ) (items : List Record) → StandsFor media file tai old items
+    → StandsFor media file tai new (items ++ more)
+
+-- the records that were taken
+abbrev pub records : Bank → ℕ
+records bank = bank.records
+
+-- the bank was fed some records, and no others
+abbrev pub IsFed : (old new : Bank) → Type 0
+IsFed old new = (more : List Record) × Feeds old new more

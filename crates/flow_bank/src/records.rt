@@ -1,0 +1,113 @@
+//! The records of a capture, taken into a bank.
+
+ghost use Rattle.std.specs.Prelude.{◌≡◌, ◌≢◌, ◌≤◌, ◌<◌, ◌+◌, ◌*◌, ◌^◌, ℕ, List, None, Some, IfOk, IsErrOf, MatchOption, map, length};
+ghost use Rattle.timing_base.specs.Captures.{Record, raised};
+ghost use Rattle.timing_base.specs.declared.capture.FileNote.TheVariants as file_note;
+ghost use Rattle.timing_base.specs.declared.capture.PcapFault.TheVariants as fault;
+ghost use Rattle.timing_outside.specs.Causes.{Rose};
+ghost use Rattle.pcap_reader.specs.Readers.{WillGive, end_note, frame_count, most_of, under};
+ghost use Rattle.pcap_reader.specs.Records.{IsGiven};
+ghost use Rattle.flow_bank.specs.Stands.{Feeds, IsFed, records};
+ghost use Rattle.flow_bank.specs.Taken.{TakesNext};
+
+use crate::bank::Bank;
+use pcap_reader::{PcapReader, Step};
+use timing_base::{FileNote, PcapFault};
+use timing_outside::{OpenFault, Source};
+
+/// The records of a capture that were taken.
+#[derive(Clone, Copy, Debug, PartialEq, Eq)]
+pub struct Taken {
+    /// How the records end.
+    pub note: FileNote,
+    /// How many there are.
+    pub records: u64,
+}
+
+/// Takes the next record, the number raised by `before`. Answers how the records ended, where there
+/// is no record more.
+fn take_next<S: Source>(
+    reader: &mut PcapReader<S>,
+    before: u64,
+    number: u64,
+    bank: &mut Bank,
+) -> Result<Option<FileNote>, OpenFault>
+    requires fresh { end_note reader.old ≡ None }
+    requires number { number ≡ frame_count reader.old + 1 }
+    requires within { number ≤ 2 ^ 37 }
+    requires before { before ≤ 2 ^ 41 }
+    requires few { records bank.old < 2 ^ 41 }
+    ensures told { (items : List Record) (end : _) → WillGive S.left reader.old items end
+        → IfOk result (λ o. TakesNext S.left before bank.old bank.new reader.new o items end) }
+    ensures fed { IfOk result (λ _. IsFed bank.old bank.new) }
+    ensures given { IfOk result (λ o. (note : _) → o ≡ Some note → IsGiven note) }
+    ensures read { IfOk result (λ o. o ≢ Some (file_note.Refused fault.ReadFault)) }
+    ensures fresh { IfOk result (λ o. o ≡ None → end_note reader.new ≡ None) }
+    ensures number { IfOk result (λ o. MatchOption o (frame_count reader.new ≡ number)
+        (λ _. frame_count reader.new + 1 ≡ number)) }
+    ensures within { 16 * frame_count reader.new ≤ most_of reader.new }
+    ensures most { most_of reader.new ≡ most_of reader.old }
+    ensures count { records bank.new + frame_count reader.old
+        ≤ records bank.old + frame_count reader.new }
+    ensures name { S.name (under reader.new) ≡ S.name (under reader.old) }
+    ensures later { S.faults (under reader.old) ≤ S.faults (under reader.new) }
+    ensures failed { IsErrOf result OpenFault.Failed
+        → Rose (S.faults (under reader.old)) (S.faults (under reader.new)) }
+{
+    match reader.next() {
+        Ok(Step::Frame { at, bytes }) => {
+            bank.take(before + number, at, bytes)?;
+            Ok(None)
+        }
+        Ok(Step::End) => Ok(Some(FileNote::End)),
+        Ok(Step::Cut { at }) => Ok(Some(FileNote::Cut { at })),
+        Err(PcapFault::ReadFault) => Err(OpenFault::Failed),
+        Err(fault) => Ok(Some(FileNote::Refused(fault))),
+    }
+}
+
+/// Takes all records of a reader that has answered none, the number of each raised by `before`, the
+/// records before this capture.
+///
+/// `Failed` comes only where a read of the source failed, and `OutOfMemory` is want of memory. After
+/// either the bank has taken some of the records, and what it was fed isn't known.
+pub fn take_records<S: Source>(
+    reader: &mut PcapReader<S>,
+    before: u64,
+    bank: &mut Bank,
+) -> Result<Taken, OpenFault>
+    requires fresh { end_note reader.old ≡ None }
+    requires first { frame_count reader.old ≡ 0 }
+    requires most { most_of reader.old ≤ 2 ^ 40 }
+    requires before { before ≤ 2 ^ 41 }
+    requires few { records bank.old + 2 ^ 36 < 2 ^ 41 }
+
+    // What the reader had still to give is how the records end, how many they are, and what the bank
+    // was fed.
+    ensures told { (items : List Record) (end : _) → WillGive S.left reader.old items end
+        → IfOk result (λ taken. (taken.note ≡ end) × (taken.records ≡ length items)
+        × Feeds bank.old bank.new (map (raised before) items)) }
+
+    // Whatever the source tells, the bank was fed its records and no others.
+    ensures fed { IfOk result (λ _. IsFed bank.old bank.new) }
+    ensures given { IfOk result (λ taken. IsGiven taken.note) }
+    ensures read { IfOk result (λ taken. taken.note ≢ file_note.Refused fault.ReadFault) }
+    ensures few { IfOk result (λ taken. taken.records ≤ 2 ^ 36) }
+    ensures counted { IfOk result
+        (λ taken. records bank.new ≤ records bank.old + taken.records) }
+    ensures count { records bank.new ≤ records bank.old + 2 ^ 36 }
+    ensures name { S.name (under reader.new) ≡ S.name (under reader.old) }
+    ensures later { S.faults (under reader.old) ≤ S.faults (under reader.new) }
+    ensures failed { IsErrOf result OpenFault.Failed
+        → Rose (S.faults (under reader.old)) (S.faults (under reader.new)) }
+{
+    for number in 1..u64::MAX {
+        if let Some(note) = take_next(reader, before, number, bank)? {
+            return Ok(Taken {
+                note,
+                records: number - 1,
+            });
+        }
+    }
+    unreachable!()
+}

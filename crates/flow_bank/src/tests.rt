@@ -1,0 +1,178 @@
+ghost use Rattle.std.specs.Prelude.{◌≡◌, ◌≤◌, ◌^◌, None, IfOk};
+ghost use Rattle.pcap_reader.specs.Readers.{end_note, frame_count, most_of};
+
+use super::*;
+use pcap_reader::PcapReader;
+use std::alloc::{AllocError, Global};
+use std::test::Fail;
+use timing_base::{FileNote, FlowKey, Media, PacketFault, Row, Unjudged, Verdict};
+use timing_outside::{MemoryShelf, MemorySource, OpenFault, ReadPlan, Shelf};
+
+// A file header: little-endian, nanoseconds, Ethernet.
+const HEAD: [u8; 24] = [
+    0x4d, 0x3c, 0xb2, 0xa1, 2, 0, 4, 0, 0, 0, 0, 0, 0, 0, 0, 0, 0, 0, 4, 0, 1, 0, 0, 0,
+];
+
+// One packet to 239.0.0.1, laid out by hand.
+const FRAME: [u8; 56] = [
+    0x01, 0x00, 0x5e, 0x00, 0x00, 0x01, 0x02, 0x00, 0x00, 0x00, 0x00, 0x01, 0x08, 0x00, // Ethernet
+    0x45, 0x00, 0x00, 0x2a, 0x00, 0x00, 0x40, 0x00, 0x40, 0x11, 0x00, 0x00, // IPv4
+    0xc0, 0x00, 0x02, 0x01, 0xef, 0x00, 0x00, 0x01, // addresses
+    0xc3, 0x50, 0xc3, 0x50, 0x00, 0x16, 0x00, 0x00, // UDP, to port 50000
+    0x80, 0x60, 0x00, 0x00, 0x00, 0x00, 0x07, 0x08, 0x00, 0x00, 0x00, 0x01, // RTP
+    0x00, 0x00, // extended sequence number
+];
+
+// A video stream to this port of 239.0.0.1.
+fn media(port: u16) -> Media {
+    Media {
+        line: 5,
+        address: 0xef00_0001,
+        port: port.max(1),
+        pt: 96,
+        width: 1920,
+        height: 1080,
+        interlaced: false,
+        p: 50,
+        q: 1,
+        declared: None,
+        troff: None,
+        cmax: None,
+    }
+}
+
+// A frame to port 50000 and so many more, with the packet of this number: the last of its frame, or
+// not, of this frame of video.
+fn frame(more: u8, number: u8, marker: bool, group: u8) -> [u8; 56] {
+    let mut bytes = FRAME;
+    bytes[37] = more.saturating_add(0x50);
+    bytes[43] = if marker { 0xe0 } else { 0x60 };
+    bytes[45] = number;
+    bytes[47] = group;
+    bytes
+}
+
+// A record of the first bytes of a frame, all of them or fewer.
+fn put(text: &mut Vec<u8>, nanos: u32, frame: &[u8; 56], captured: u8) -> Result<(), AllocError> {
+    let captured = captured.min(56);
+    for number in [1_600_000_000, nanos, u32::from(captured), 56] {
+        text.extend_from_slice(&number.to_le_bytes())?;
+    }
+    text.extend_from_slice(&frame[..usize::from(captured)])
+}
+
+// Seven records: three packets to port 50000, of which the second ends its frame; to port 50001 one
+// that is too short, and one more; one to port 50009; and a frame that was cut within its ports.
+fn capture(alloc: Global) -> Result<Vec<u8>, AllocError> {
+    let mut text = Vec::from_slice(alloc, &HEAD)?;
+    put(&mut text, 1000, &frame(0, 0, false, 0), 56)?;
+    put(&mut text, 2000, &frame(1, 0, false, 0), 40)?;
+    put(&mut text, 3000, &frame(9, 0, false, 0), 56)?;
+    put(&mut text, 4000, &frame(0, 1, true, 0), 56)?;
+    put(&mut text, 5000, &frame(1, 1, true, 0), 56)?;
+    put(&mut text, 6000, &frame(0, 2, false, 0), 37)?;
+    put(&mut text, 7000, &frame(0, 2, false, 1), 56)?;
+    Ok(text)
+}
+
+// A reader of this text, which comes in pieces of 100 bytes. The reads of these numbers fail.
+fn open(alloc: Global, text: &[u8], fails: &[u32]) -> Result<PcapReader<MemorySource>, OpenFault>
+    ensures fresh { IfOk result (λ reader. end_note reader ≡ None) }
+    ensures first { IfOk result (λ reader. frame_count reader ≡ 0) }
+    ensures most { IfOk result (λ reader. most_of reader ≤ 2 ^ 40) }
+{
+    let plan = ReadPlan {
+        fetch_fails: false,
+        piece: 100,
+        fails: Vec::from_slice(alloc, fails)?,
+    };
+    let mut shelf = MemoryShelf::new(alloc);
+    shelf.put(
+        String::from_str(alloc, "a.pcap")?,
+        Vec::from_slice(alloc, text)?,
+        plan,
+    )?;
+    let source = shelf.fetch("a.pcap")?;
+    match PcapReader::start(alloc, source, 1 << 40) {
+        Ok(reader) => Ok(reader),
+        Err(_) => Err(OpenFault::OutOfMemory),
+    }
+}
+
+// What a bank of the media at ports 50000 to 50002, in the third file, takes of this text behind 100
+// records.
+fn taken(alloc: Global, text: &[u8], fails: &[u32]) -> Result<(Taken, Vec<Row>), OpenFault> {
+    let all = [media(50_000), media(50_001), media(50_002)];
+    let mut bank = Bank::new(alloc, &all, 2, 37)?;
+    let mut reader = open(alloc, text, fails)?;
+    let taken = take_records(&mut reader, 100, &mut bank)?;
+    let mut rows = Vec::new(alloc);
+    bank.finish(&mut rows)?;
+    Ok((taken, rows))
+}
+
+#[test]
+fn one_row_for_each_media(rt: HostRuntime) -> Result<(), Fail> {
+    let text = capture(rt.alloc())?;
+    let (taken, rows) = taken(rt.alloc(), &text, &[])?;
+    let want = Taken {
+        note: FileNote::End,
+        records: 7,
+    };
+    assert_eq!(rt; taken, want);
+    assert_eq!(rt; rows.len(), 3);
+    for (number, row) in rows.iter().enumerate() {
+        let key = FlowKey {
+            file: 2,
+            media: number as u32,
+        };
+        assert_eq!(rt; row.key, key);
+    }
+    Ok(())
+}
+
+// The first packets come up to a marker that is the only one, the second media's first packet is the
+// 102nd record and too short, and the third media has none.
+#[test]
+fn each_media_has_its_own_packets(rt: HostRuntime) -> Result<(), Fail> {
+    let text = capture(rt.alloc())?;
+    let (_, rows) = taken(rt.alloc(), &text, &[])?;
+    let want = [
+        Unjudged::NoWholeFrame { head: 2 },
+        Unjudged::Refused {
+            rec: 102,
+            fault: PacketFault::Short,
+        },
+        Unjudged::Absent,
+    ];
+    for (row, want) in rows.iter().zip(&want) {
+        match &row.verdict {
+            Verdict::Unjudged(unjudged) => assert_eq!(rt; unjudged, want),
+            _ => panic!(rt; "judged"),
+        }
+    }
+    Ok(())
+}
+
+#[test]
+fn cut_capture(rt: HostRuntime) -> Result<(), Fail> {
+    let text = capture(rt.alloc())?;
+    let (taken, rows) = taken(rt.alloc(), text.get(..200).unwrap_or(&[]), &[])?;
+    let want = Taken {
+        note: FileNote::Cut { at: 152 },
+        records: 2,
+    };
+    assert_eq!(rt; taken, want);
+    assert_eq!(rt; rows.len(), 3);
+    Ok(())
+}
+
+#[test]
+fn failed_read(rt: HostRuntime) -> Result<(), Fail> {
+    let text = capture(rt.alloc())?;
+    for number in 1..7 {
+        let failed = taken(rt.alloc(), &text, &[number]).err();
+        assert_eq!(rt; failed, Some(OpenFault::Failed), "at read {number}");
+    }
+    Ok(())
+}
