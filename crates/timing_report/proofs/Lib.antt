@@ -1,1 +1,4 @@
+pub mod Appends
+pub mod Keys
+pub mod Lines
 pub mod Numerals

@@ -1,44 +1,27 @@
 //! The texts and statuses tried by hand. Each function is a theorem: it does nothing, and its
 //! clauses are proved.
 
-ghost use Rattle.std.specs.Prelude.{◌≡◌, ◌++◌, [], Some, None, codes};
-ghost use Rattle.timing_base.specs.declared.media.Media.{Media};
-ghost use Rattle.timing_report.specs.Report.{bucket_text, bucket_type_line, bucket_status, status_line, target_text};
+ghost use Rattle.std.specs.Prelude.{◌≡◌, ◌<◌, ◌++◌, ◌∷◌, [], List, All, Some, None, true, false, codes};
+ghost use Rattle.timing_base.specs.declared.capture.FileNote.TheVariants as note;
+ghost use Rattle.timing_base.specs.declared.capture.PcapFault.TheVariants as pcap;
+ghost use Rattle.timing_base.specs.declared.fail.Broken.TheVariants as model;
+ghost use Rattle.timing_base.specs.declared.media.Kind.TheVariants as kind;
+ghost use Rattle.timing_base.specs.declared.packet.PacketFault.TheVariants as packet;
+ghost use Rattle.timing_base.specs.declared.row.KindVerdict.TheVariants as kind_verdict;
+ghost use Rattle.timing_base.specs.declared.row.RunVerdict.TheVariants as run_verdict;
+ghost use Rattle.timing_base.specs.declared.row.Unjudged.TheVariants as unjudged;
+ghost use Rattle.timing_base.specs.declared.row.Verdict.TheVariants as verdict;
+ghost use Rattle.timing_base.specs.Jobs.{CheckJob, IsCheckJob};
+ghost use Rattle.timing_base.specs.Media.{Media};
+ghost use Rattle.timing_base.specs.declared.row.Row.{Row};
+ghost use Rattle.timing_report.specs.Outcomes.{AreOfSession, AreRowsOf, status_of};
+ghost use Rattle.timing_report.specs.Text.{file_text, report_text, text_of_lines};
+ghost use Rattle.timing_report.specs.Verdict.{judged_text, lines_below, type_text, unjudged_text};
+ghost use Rattle.timing_report.specs.Worked.{check_of, fail, first_flow, narrow, plain, two_frames, video};
 ghost use Rattle.timing_report.specs.Status.{code_of, error_line};
 ghost use Rattle.timing_report.specs.declared.status.Input.TheVariants.{Sdp, Report, Capture};
 ghost use Rattle.timing_report.specs.declared.status.Status.TheVariants.{Pass, Fail, Usage, SdpRefused, NotAllJudged, ReadFault, WriteFault, OutOfMemory, NotBuilt, ReportRefused};
 ghost use Rattle.sdp_reader.specs.declared.fault.SdpCause.TheVariants as cause;
-
-/// A whole report: two frames of 20 packets, each packet alone in the bucket.
-#[tactic(auto, using(crate::proofs::Numerals::written_out))]
-pub fn report_by_hand()
-    ensures { (media : Media) → media.address ≡ 4009754625 → media.port ≡ 50000
-        → bucket_text (codes "a.pcap") media
-        (record { per_frame = 20; frames = 2; packets = 40; peak = 1; limit = 4; over = None })
-        ≡ codes "ST 2110-21 timing report\nfile 1 end a.pcap\n"
-        ++ (codes "flow 1.1 239.0.0.1:50000 judged by bucket: 20 per frame, 2 frames, 40 packets\n"
-        ++ codes "  N pass, bucket 1 of 4\nstatus 0\n") }
-{}
-
-/// Five packets at once, the first of them the judged packet 20: the fifth is above the limit.
-#[tactic(auto, using(crate::proofs::Numerals::written_out))]
-pub fn fail_by_hand()
-    ensures line { bucket_type_line
-        (record { per_frame = 20; frames = 2; packets = 40; peak = 5; limit = 4; over = Some 24 })
-        ≡ codes "  N fail at 24, bucket 5 of 4\n" }
-    ensures fails { bucket_status
-        (record { per_frame = 20; frames = 2; packets = 40; peak = 5; limit = 4; over = Some 24 })
-        ≡ Fail }
-    ensures last { status_line Fail ≡ codes "status 1\n" }
-{}
-
-/// Addresses, their first octet highest, and ports.
-#[tactic(auto, using(crate::proofs::Numerals::written_out))]
-pub fn targets_by_hand()
-    ensures each { target_text 16909060 9 ≡ codes "1.2.3.4:9" }
-    ensures least { target_text 0 1 ≡ codes "0.0.0.0:1" }
-    ensures greatest { target_text 4294967295 65535 ≡ codes "255.255.255.255:65535" }
-{}
 
 /// The exit statuses.
 pub fn codes_by_hand()
@@ -55,7 +38,7 @@ pub fn codes_by_hand()
 {}
 
 /// The lines on standard error. The inputs' captures count from 0, those of the lines from 1.
-#[tactic(auto, using(crate::proofs::Numerals::written_out))]
+#[tactic(auto, unfolding(crate::proofs::Numerals::numerals))]
 pub fn lines_by_hand()
     ensures usage { error_line Usage ≡ codes "usage: check, verify, verify-report or selftest\n" }
     ensures sdp_refused { error_line (SdpRefused (record { line = 11; what = cause.SameTarget }))
@@ -77,4 +60,206 @@ pub fn no_lines_by_hand()
     ensures pass { error_line Pass ≡ [] }
     ensures fail { error_line Fail ≡ [] }
     ensures not_all_judged { error_line NotAllJudged ≡ [] }
+{}
+
+/// A whole report: two frames of 20 packets, each packet alone in the bucket and in the buffer.
+#[tactic(auto, unfolding(crate::proofs::Numerals::numerals))]
+pub fn plain_narrow_by_hand()
+    ensures { report_text (check_of (codes "a.pcap")) (plain ∷ []) (note.End ∷ [])
+        (first_flow (verdict.Judged narrow) ∷ [])
+        ≡ codes "ST 2110-21 timing report\nfile 1 end a.pcap\n"
+        ++ (codes "flow 1.1 239.0.0.1:50000 judged: 20 per frame, 2 frames, 40 packets, "
+        ++ (codes "head 1, tail 0, class narrow, declared N\n"
+        ++ (codes "  N pass, bucket 1 of 4, buffer 1 of 8\n"
+        ++ (codes "  NL pass, bucket 1 of 4, buffer 1 of 8\n"
+        ++ codes "  W pass, bucket 1 of 16, buffer 1 of 720\nstatus 0\n")))) }
+{}
+
+/// The lines of captures. Captures count from 0 in their places, and from 1 in the lines.
+#[tactic(auto, unfolding(crate::proofs::Numerals::numerals))]
+pub fn files_by_hand()
+    ensures end { file_text 0 note.End (codes "a.pcap") ≡ codes "file 1 end a.pcap" }
+    ensures cut { file_text 0 (note.Cut 2904) (codes "a.pcap")
+        ≡ codes "file 1 cut at 2904 a.pcap" }
+    ensures magic { file_text 15 (note.Refused pcap.BadMagic) (codes "x")
+        ≡ codes "file 16 refused BadMagic x" }
+    ensures version { file_text 0 (note.Refused pcap.BadVersion) (codes "x")
+        ≡ codes "file 1 refused BadVersion x" }
+    ensures link { file_text 0 (note.Refused pcap.BadLink) (codes "x")
+        ≡ codes "file 1 refused BadLink x" }
+    ensures stamp { file_text 0 (note.Refused (pcap.BadStamp 1)) (codes "x")
+        ≡ codes "file 1 refused BadStamp at record 1 x" }
+    ensures len { file_text 0 (note.Refused (pcap.BadLength 1)) (codes "x")
+        ≡ codes "file 1 refused BadLength at record 1 x" }
+    ensures long { file_text 0 (note.Refused pcap.TooLong) (codes "x")
+        ≡ codes "file 1 refused TooLong x" }
+{}
+
+/// Flows without a verdict.
+#[tactic(auto, unfolding(crate::proofs::Numerals::numerals))]
+pub fn unjudged_by_hand()
+    ensures absent { unjudged_text unjudged.Absent ≡ codes "absent" }
+    ensures no_frame { unjudged_text (unjudged.NoWholeFrame 5) ≡ codes "no whole frame, head 5" }
+    ensures gap { unjudged_text (unjudged.Gap 1026 2049 2050)
+        ≡ codes "gap at record 1026: expected 2049, got 2050" }
+    ensures short { unjudged_text (unjudged.Refused 1 packet.Short)
+        ≡ codes "refused at record 1: Short" }
+    ensures version { unjudged_text (unjudged.Refused 1 packet.Version)
+        ≡ codes "refused at record 1: Version" }
+    ensures payload { unjudged_text (unjudged.Refused 1 packet.PayloadType)
+        ≡ codes "refused at record 1: PayloadType" }
+    ensures source { unjudged_text (unjudged.Refused 2 packet.SecondSource)
+        ≡ codes "refused at record 2: SecondSource" }
+    ensures back { unjudged_text (unjudged.Refused 2
+        (packet.StampBack 1599999999999000000 1599999999998999999))
+        ≡ codes "refused at record 2: StampBack before 1599999999999000000 "
+        ++ codes "got 1599999999998999999" }
+    ensures marker { unjudged_text (unjudged.Refused 3 packet.NoMarker)
+        ≡ codes "refused at record 3: NoMarker" }
+    ensures same { unjudged_text (unjudged.Refused 3 packet.SameStamp)
+        ≡ codes "refused at record 3: SameStamp" }
+    ensures size { unjudged_text (unjudged.Refused 40 (packet.FrameSize 20 19))
+        ≡ codes "refused at record 40: FrameSize want 20 got 19" }
+    ensures large { unjudged_text (unjudged.Refused 262146 packet.FrameTooLarge)
+        ≡ codes "refused at record 262146: FrameTooLarge" }
+{}
+
+/// Types that fail: late by the gapped reads, five packets at once, and a limit that the
+/// description gives for the declared type alone.
+#[tactic(auto, unfolding(crate::proofs::Numerals::numerals))]
+pub fn types_by_hand()
+    ensures late { type_text plain (two_frames 1 1 1 (fail model.Empty 1 1 1 2)
+        kind_verdict.Pass kind_verdict.Pass) kind.N
+        ≡ codes "N fail Empty 1 to 1 count 1 limit 2, bucket 1 of 4, buffer 1 of 8" }
+    ensures five { type_text plain (two_frames 5 5 5 (fail model.Bucket 0 4 5 4)
+        (fail model.Bucket 0 4 5 4) kind_verdict.Pass) kind.NL
+        ≡ codes "NL fail Bucket 0 to 4 count 5 limit 4, bucket 5 of 4, buffer 5 of 8" }
+    ensures wide { type_text plain (two_frames 5 5 5 (fail model.Bucket 0 4 5 4)
+        (fail model.Bucket 0 4 5 4) kind_verdict.Pass) kind.W
+        ≡ codes "W pass, bucket 5 of 16, buffer 5 of 720" }
+    ensures over { type_text plain (two_frames 1 1 174 kind_verdict.Pass
+        (fail model.Over 0 219 10 9) kind_verdict.Pass) kind.NL
+        ≡ codes "NL fail Over 0 to 219 count 10 limit 9, bucket 1 of 4, buffer 174 of 8" }
+    ensures declared { type_text (video false 50 (Some kind.N) (Some 1)) (two_frames 2 2 2
+        (fail model.Bucket 0 1 2 1) kind_verdict.Pass kind_verdict.Pass) kind.N
+        ≡ codes "N fail Bucket 0 to 1 count 2 limit 1, bucket 2 of 1, buffer 2 of 8" }
+    ensures others { type_text (video false 50 (Some kind.N) (Some 1)) (two_frames 2 2 2
+        (fail model.Bucket 0 1 2 1) kind_verdict.Pass kind_verdict.Pass) kind.NL
+        ≡ codes "NL pass, bucket 2 of 4, buffer 2 of 8" }
+
+    // The gapped peak is that of N alone.
+    ensures peak_of_n { type_text plain (two_frames 1 0 1 kind_verdict.Pass
+        kind_verdict.Pass kind_verdict.Pass) kind.N ≡ codes "N pass, bucket 1 of 4, buffer 0 of 8" }
+    ensures peak_of_w { type_text plain (two_frames 1 0 1 kind_verdict.Pass
+        kind_verdict.Pass kind_verdict.Pass) kind.W
+        ≡ codes "W pass, bucket 1 of 16, buffer 1 of 720" }
+{}
+
+/// The line of a judged flow: classes, declarations, and fields in place of frames.
+#[tactic(auto, unfolding(crate::proofs::Numerals::numerals))]
+pub fn judged_by_hand()
+    ensures linear { judged_text plain (two_frames 1 1 1 (fail model.Empty 1 1 1 2)
+        kind_verdict.Pass kind_verdict.Pass)
+        ≡ codes "judged: 20 per frame, 2 frames, 40 packets, head 1, tail 0, "
+        ++ codes "class narrow linear, declared N" }
+    ensures wide { judged_text (video false 50 (Some kind.W) None) (two_frames 5 5 5
+        (fail model.Bucket 20 24 5 4) (fail model.Bucket 20 24 5 4) kind_verdict.Pass)
+        ≡ codes "judged: 20 per frame, 2 frames, 40 packets, head 1, tail 0, "
+        ++ codes "class wide, declared W" }
+    ensures none { judged_text (video false 50 None None) (two_frames 1 1 1
+        (fail model.Empty 0 0 0 1) (fail model.Empty 0 0 0 1) (fail model.Empty 0 0 0 1))
+        ≡ codes "judged: 20 per frame, 2 frames, 40 packets, head 1, tail 0, "
+        ++ codes "class none, declared none" }
+    ensures linear_declared { judged_text (video false 50 (Some kind.NL) None) narrow
+        ≡ codes "judged: 20 per frame, 2 frames, 40 packets, head 1, tail 0, "
+        ++ codes "class narrow, declared NL" }
+    ensures fields { judged_text (video true 25 (Some kind.N) None)
+        (record {
+          n = 10;
+          frames = 4;
+          packets = 40;
+          head = 1;
+          tail = 0;
+          bucket_peak = 1;
+          gapped_peak = 1;
+          linear_peak = 1;
+          kinds = kind_verdict.Pass ∷ kind_verdict.Pass
+              ∷ kind_verdict.Pass ∷ [];
+        })
+        ≡ codes "judged: 10 per field, 4 fields, 40 packets, head 1, tail 0, "
+        ++ codes "class narrow, declared N" }
+{}
+
+/// A flow in two runs: the lines below its own. Runs count from 1 there.
+#[tactic(auto, unfolding(crate::proofs::Numerals::numerals))]
+pub fn two_runs_by_hand()
+    ensures { text_of_lines (lines_below plain (verdict.Runs (
+        record {
+          rec = 1;
+          number = 2;
+          expected = None;
+          verdict = run_verdict.Judged (
+              record {
+                n = 20;
+                frames = 1;
+                packets = 20;
+                head = 1;
+                tail = 10;
+                bucket_peak = 1;
+                gapped_peak = 1;
+                linear_peak = 1;
+                kinds = kind_verdict.Pass ∷ kind_verdict.Pass
+                    ∷ kind_verdict.Pass ∷ [];
+              });
+        }
+        ∷ record {
+          rec = 32;
+          number = 34;
+          expected = Some 33;
+          verdict = run_verdict.NoWholeFrame 9;
+        } ∷ [])))
+        ≡ codes "  run 1 from record 1 number 2: judged: 20 per frame, 1 frames, 20 packets, "
+        ++ (codes "head 1, tail 10, class narrow, declared N\n"
+        ++ (codes "    N pass, bucket 1 of 4, buffer 1 of 8\n"
+        ++ (codes "    NL pass, bucket 1 of 4, buffer 1 of 8\n"
+        ++ (codes "    W pass, bucket 1 of 16, buffer 1 of 720\n"
+        ++ codes "  run 2 from record 32 number 34 expected 33: no whole frame, head 9\n")))) }
+{}
+
+/// The status of a report: by the declared type, or where none is declared, by any.
+pub fn statuses_by_hand()
+    ensures passes { status_of (plain ∷ []) (note.End ∷ [])
+        (first_flow (verdict.Judged narrow) ∷ []) ≡ Pass }
+    ensures fails { status_of (plain ∷ []) (note.End ∷ []) (first_flow (verdict.Judged (two_frames
+        1 1 1 (fail model.Empty 1 1 1 2) kind_verdict.Pass kind_verdict.Pass)) ∷ []) ≡ Fail }
+    ensures other_declared { status_of (video false 50 (Some kind.W) None ∷ []) (note.End ∷ [])
+        (first_flow (verdict.Judged (two_frames 5 5 5 (fail model.Bucket 20 24 5 4)
+        (fail model.Bucket 20 24 5 4) kind_verdict.Pass)) ∷ []) ≡ Pass }
+    ensures none_declared { status_of (video false 50 None None ∷ []) (note.End ∷ [])
+        (first_flow (verdict.Judged (two_frames 5 5 5 (fail model.Bucket 20 24 5 4)
+        (fail model.Bucket 20 24 5 4) kind_verdict.Pass)) ∷ []) ≡ Pass }
+    ensures all_fail { status_of (video false 50 None None ∷ []) (note.End ∷ [])
+        (first_flow (verdict.Judged (two_frames 1 1 1 (fail model.Empty 0 0 0 1)
+        (fail model.Empty 0 0 0 1) (fail model.Empty 0 0 0 1))) ∷ []) ≡ Fail }
+    ensures cut { status_of (plain ∷ []) (note.Cut 2904 ∷ [])
+        (first_flow (verdict.Judged narrow) ∷ []) ≡ Pass }
+    ensures refused { status_of (plain ∷ []) (note.Refused (pcap.BadStamp 42) ∷ [])
+        (first_flow (verdict.Judged narrow) ∷ []) ≡ NotAllJudged }
+    ensures absent { status_of (plain ∷ []) (note.End ∷ [])
+        (first_flow (verdict.Unjudged unjudged.Absent) ∷ []) ≡ NotAllJudged }
+    ensures in_runs { status_of (plain ∷ []) (note.End ∷ [])
+        (first_flow (verdict.Runs []) ∷ []) ≡ NotAllJudged }
+
+    // A flow that is not judged counts before one that fails.
+    ensures both { status_of (plain ∷ []) (note.End ∷ []) (first_flow (verdict.Judged (two_frames
+        1 1 1 (fail model.Empty 1 1 1 2) kind_verdict.Pass kind_verdict.Pass))
+        ∷ first_flow (verdict.Unjudged unjudged.Absent) ∷ []) ≡ NotAllJudged }
+{}
+
+/// The rows of a job are of its captures, of which there are at most 16, and of the media of its
+/// session.
+pub fn rows_are_of_session()
+    ensures { (job : CheckJob) (session : List Media) (rows : List Row)
+        → IsCheckJob job → AreRowsOf job session rows
+        → All (λ row. row.key.file < 16) rows × AreOfSession session rows }
 {}

@@ -1,10 +1,21 @@
 //! What the analyser prints, and how a run ends: texts and statuses as values, made whole before
 //! they are written.
+//!
+//! Captures, media and runs count from 0 in values and from 1 in texts; the records of a capture
+//! count from 1 everywhere, and the packets of a judged run from 0.
 #![tactic(auto)]
 
-mod bucket;
 pub mod laws;
+mod outcomes;
 mod status;
+#[cfg(test)]
+mod tests;
+mod text;
+mod verdict;
+mod words;
 
-pub use bucket::{BucketRow, bucket_report};
+pub use outcomes::{buffer_peak, first_passing, media_of, status_of, verdict_on};
 pub use status::{Input, Status};
+pub use text::{file_line, text_of};
+pub use verdict::verdict_of;
+pub use words::{NoteText, PacketFaultText, class_name, declared_name, kind_name, model_name};

@@ -23,15 +23,19 @@ pub enum Input {
 /// How a run ended.
 #[derive(Clone, Copy, Debug, PartialEq, Eq)]
 pub enum Status {
-    /// The report was printed, and the type N passes in it, whatever type is declared.
+    /// The report was printed, every flow was judged, no capture was refused, and each flow passes as
+    /// the type that its description declares, or where it declares none, as some type. Of a
+    /// verification: every proof was confirmed.
     Pass,
-    /// The report was printed, and the type N fails in it, whatever type is declared.
+    /// The same, but that some flow fails: as the type that its description declares, or where it
+    /// declares none, as each type. Of a verification: some proof was not confirmed.
     Fail,
     /// The words are no request.
     Usage,
     /// The session description has a fault.
     SdpRefused(SdpFault),
-    /// Some flow has no verdict, or a capture was refused. No form that is built ends so.
+    /// The report was printed, and some flow was not judged as one run, or a capture was refused for
+    /// its bytes. Of a verification: the flow of some proof was not judged.
     NotAllJudged,
     /// This input couldn't be fetched, or a read of it failed.
     ReadFault(Input),
@@ -41,7 +45,7 @@ pub enum Status {
     OutOfMemory,
     /// A request that isn't built yet.
     NotBuilt,
-    /// The report that is verified isn't in its form. No form that is built ends so.
+    /// The report that is verified isn't in its form.
     ReportRefused,
 }
 

@@ -1,0 +1,44 @@
+-- The flows of a job are of its captures and of its media.
+use Rattle.std.proofs.Common.{◌<◌, ◌≤◌, ◌+◌, ℕ, zero, suc, List, [], ◌∷◌, ◌++◌, length, Bool, true, false, subst, sym, arith}
+use Rattle.std.specs.Prelude.{All, map, if◌then◌else◌}
+use Rattle.std.specs.List.{AllByRecursion}
+use Rattle.std.proofs.lemmas.List.Elements.{All-cons}
+use Rattle.timing_base.specs.Jobs.{CheckJob, IsCheckJob}
+use Rattle.timing_base.specs.Media.{Media}
+use Rattle.timing_base.specs.declared.key.FlowKey.{FlowKey}
+use Rattle.timing_base.specs.declared.row.Row.{Row}
+use Rattle.timing_report.specs.Outcomes.{AreRowsOf, flows_of, flows_of_file, flows_of_files}
+
+-- a flow of so many captures and media
+abbrev pub IsKeyOf : (files count : ℕ) → FlowKey → Type 0
+IsKeyOf files count key = (key.file < files) × (key.media < count)
+
+each-append : (P : FlowKey → Type 0) (xs ys : List FlowKey) → AllByRecursion P xs → AllByRecursion P ys → AllByRecursion P (xs ++ ys)
+each-append P [] ys h k = k
+each-append P (x ∷ xs) ys h k = (h.0, each-append P xs ys h.1 k)
+
+file_keys : (files most file media count : ℕ) → file < files → media + count ≤ most → AllByRecursion (IsKeyOf files most) (flows_of_file file media count)
+file_keys files most file media zero h k = tt
+file_keys files most file media (suc count) h k = ((h, omega arith), file_keys files most file (media + 1) count h (omega arith))
+
+files_keys : (files file more count : ℕ) → file + more ≤ files → AllByRecursion (IsKeyOf files count) (flows_of_files file more count)
+files_keys files file zero count h = tt
+files_keys files file (suc more) count h =
+    each-append (IsKeyOf files count) (flows_of_file file 0 count) (flows_of_files (file + 1) more count)
+    (file_keys files count file 0 count (omega arith) (omega arith)) (files_keys files (file + 1) more count (omega arith))
+
+few_files : (joined : Bool) (n : ℕ) → n ≤ 16 → (if joined then 1 else n) ≤ 16
+few_files true n h = omega arith
+few_files false n h = h
+
+each-map : (P : FlowKey → Type 0) (rows : List Row) → AllByRecursion P (map (λ row. row.key) rows) → All (λ row. P row.key) rows
+each-map P [] h = λ k d lt. absurd (omega arith)
+each-map P (row ∷ rows) h = All-cons (λ r. P r.key) row rows h.0 (each-map P rows h.1)
+
+-- the rows of a job
+pub keys_of_rows : (job : CheckJob) (session : List Media) (rows : List Row) → IsCheckJob job → AreRowsOf job session rows → All (λ row. IsKeyOf 16 (length session) row.key) rows
+keys_of_rows job session rows is are =
+    let P = IsKeyOf 16 (length session) in
+    let files = if job.joined then 1 else length job.captures in
+    let keys : AllByRecursion P (flows_of job session) = files_keys 16 0 files (length session) (omega (arith, few_files job.joined (length job.captures) is.captures_are.few)) in
+    each-map P rows (subst (AllByRecursion P) (sym are) keys)

@@ -1,0 +1,134 @@
+//! What a judged run says of the sender types, and the status of a report.
+
+ghost use Rattle.std.specs.Prelude.{◌≡◌, ◌<◌, length};
+ghost use Rattle.std.specs.List.{list_any, list_all};
+ghost use Rattle.timing_report.specs.Outcomes.{verdict_on, passes, first_passing, buffer_peak, media_of, is_refused, is_judged, declared_passes, verdict_fails, fails, AreOfSession, status_of};
+
+use crate::status::Status;
+use timing_base::{
+    FileNote, FlowKey, Judged, Kind, KindVerdict, Media, PcapFault, Row, Session, Verdict,
+};
+
+/// The verdict on one type.
+pub fn verdict_on(judged: &Judged, kind: Kind) -> KindVerdict
+    ensures { result ≡ verdict_on judged.now kind }
+{
+    let [n, nl, w] = judged.kinds;
+    match kind {
+        Kind::N => n,
+        Kind::NL => nl,
+        Kind::W => w,
+    }
+}
+
+/// Whether a type passes.
+fn passes(judged: &Judged, kind: Kind) -> bool
+    ensures { result ≡ passes judged.now kind }
+{
+    matches!(verdict_on(judged, kind), KindVerdict::Pass)
+}
+
+/// The first type, in the order N, NL, W, that passes.
+pub fn first_passing(judged: &Judged) -> Option<Kind>
+    ensures { result ≡ first_passing judged.now }
+{
+    if passes(judged, Kind::N) {
+        Some(Kind::N)
+    } else if passes(judged, Kind::NL) {
+        Some(Kind::NL)
+    } else if passes(judged, Kind::W) {
+        Some(Kind::W)
+    } else {
+        None
+    }
+}
+
+/// The most packets that the buffer held with the reads of the type.
+pub fn buffer_peak(judged: &Judged, kind: Kind) -> u64
+    ensures { result ≡ buffer_peak judged.now kind }
+{
+    match kind {
+        Kind::N => judged.gapped_peak,
+        Kind::NL => judged.linear_peak,
+        Kind::W => judged.linear_peak,
+    }
+}
+
+/// The media of a flow.
+pub fn media_of(session: &Session, key: FlowKey) -> &Media
+    requires { key.media < length session.now }
+    ensures { result.now ≡ media_of session.now key }
+{
+    &session.media.as_slice()[key.media as usize]
+}
+
+/// The status of a report: 4 where a flow was not judged as one run, or a capture was refused for
+/// its bytes; else 1 where the type fails that the description of some flow declares, or where none
+/// is declared all three types; else 0.
+pub fn status_of(session: &Session, notes: &[FileNote], rows: &[Row]) -> Status
+    requires { AreOfSession session.now rows.now }
+    ensures { result ≡ status_of session.now notes.now rows.now }
+{
+    if any_refused(notes) || !all_judged(rows) {
+        Status::NotAllJudged
+    } else if any_fails(session, rows) {
+        Status::Fail
+    } else {
+        Status::Pass
+    }
+}
+
+fn any_refused(notes: &[FileNote]) -> bool
+    ensures { result ≡ list_any is_refused notes.now }
+{
+    notes.iter().any(is_refused)
+}
+
+/// Whether the capture was refused for its bytes.
+fn is_refused(note: &FileNote) -> bool
+    ensures { result ≡ is_refused note.now }
+{
+    match note {
+        FileNote::Refused(fault) => !matches!(fault, PcapFault::ReadFault),
+        FileNote::End | FileNote::Cut { .. } | FileNote::Stopped => false,
+    }
+}
+
+fn all_judged(rows: &[Row]) -> bool
+    ensures { result ≡ list_all (λ row. is_judged row.verdict) rows.now }
+{
+    rows.iter()
+        .all(|row| matches!(row.verdict, Verdict::Judged(_)))
+}
+
+fn any_fails(session: &Session, rows: &[Row]) -> bool
+    requires { AreOfSession session.now rows.now }
+    ensures { result ≡ list_any (fails session.now) rows.now }
+{
+    for row in rows {
+        if verdict_fails(media_of(session, row.key), &row.verdict) {
+            return true;
+        }
+    }
+    false
+}
+
+/// Whether a judged flow fails by its declared type.
+fn verdict_fails(media: &Media, verdict: &Verdict) -> bool
+    ensures { result ≡ verdict_fails media.now verdict.now }
+{
+    match verdict {
+        Verdict::Unjudged(_) | Verdict::Runs(_) => false,
+        Verdict::Judged(judged) => !declared_passes(media.declared, judged),
+    }
+}
+
+/// Whether the declared type passes, or where none is declared, some type.
+fn declared_passes(declared: Option<Kind>, judged: &Judged) -> bool
+    ensures { result ≡ declared_passes declared judged.now }
+{
+    match declared {
+        Some(kind) => passes(judged, kind),
+        None => passes(judged, Kind::N) || passes(judged, Kind::NL) || passes(judged, Kind::W),
+    }
+}
