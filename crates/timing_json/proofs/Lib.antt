@@ -1,0 +1,11 @@
+pub mod Floatless
+pub mod Fitting
+pub mod Flows
+pub mod Frame
+pub mod Items
+pub mod Kept
+pub mod Limits
+pub mod Numerals
+pub mod Reread
+pub mod Texts
+pub mod Told

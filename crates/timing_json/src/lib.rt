@@ -1,0 +1,12 @@
+//! The report as JSON (RFC 8259): made from rows, and read back for the fails that it tells.
+#![tactic(auto)]
+
+pub mod laws;
+mod object;
+mod reading;
+#[cfg(test)]
+mod tests;
+mod written;
+
+pub use reading::{ReportError, ReportProof, read_json};
+pub use written::json_of;
