@@ -1,0 +1,5 @@
+-- what is promised
+pub mod Answers
+pub mod Ran
+-- these only serve proofs
+pub mod Fetched

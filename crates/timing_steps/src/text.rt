@@ -1,0 +1,83 @@
+//! Texts that are read whole, up to a limit.
+
+ghost use Rattle.std.specs.Prelude.{◌≡◌, ◌≤◌, ◌<◌, ◌++◌, ℕ, List, Some, IfOk, IsErrOf, length, take, vec_len};
+ghost use Rattle.std.specs.Io.KnownBytes.{Consumes, IsAtEnd};
+ghost use Rattle.timing_outside.specs.Causes.{Rose};
+
+use std::alloc::{AllocError as OutOfMemory, AllocFailed, Global};
+use timing_outside::{OpenFault, Shelf, Source};
+
+/// Bytes asked for in one read of a text.
+const PIECE: usize = 65_536;
+
+/// So many bytes, all 0.
+fn blank(alloc: Global, size: usize) -> Result<Vec<u8>, OutOfMemory>
+    ensures { IfOk result (λ v. vec_len v ≡ size) }
+{
+    vec![in alloc; 0u8; size]
+}
+
+/// Reads once into `piece`, `room` bytes at most, and appends what came to `text`. Answers how many
+/// bytes came.
+fn read_more<S: Source>(
+    source: &mut S,
+    piece: &mut [u8],
+    room: usize,
+    text: &mut Vec<u8>,
+) -> Result<usize, OpenFault>
+    requires { room ≤ length piece.old }
+    ensures bytes { IfOk result (λ n. (bs : List ℕ) × (length bs ≡ n) × (n ≤ room)
+        × Consumes (S.left source.old) (S.left source.new) bs × (text.new.items ≡ text.old.items ++ bs)
+        × (n ≡ 0 → 0 < room → IsAtEnd (S.left source.new))) }
+    ensures name { S.name source.new ≡ S.name source.old }
+    ensures later { S.faults source.old ≤ S.faults source.new }
+    ensures failed { IsErrOf result OpenFault.Failed → Rose (S.faults source.old) (S.faults source.new) }
+{
+    let Ok(count) = source.read(&mut piece[..room]) else {
+        return Err(OpenFault::Failed);
+    };
+    text.extend_from_slice(&piece[..count])?;
+    Ok(count)
+}
+
+/// The first bytes that the source has left, `most` of them at most.
+pub fn read_front<S: Source>(
+    alloc: Global,
+    source: &mut S,
+    most: usize,
+) -> Result<Vec<u8>, OpenFault>
+    ensures text { IfOk result (λ v. (t : List ℕ) → S.left source.old ≡ Some t → v.items ≡ take most t) }
+    ensures name { S.name source.new ≡ S.name source.old }
+    ensures later { S.faults source.old ≤ S.faults source.new }
+    ensures failed { IsErrOf result OpenFault.Failed → Rose (S.faults source.old) (S.faults source.new) }
+{
+    let mut piece = blank(alloc, PIECE)?;
+    let mut text = Vec::new(alloc);
+    while text.len() < most {
+        let room = (most - text.len()).min(piece.len());
+        let count = read_more(source, &mut piece, room, &mut text)?;
+        if count == 0 {
+            break;
+        }
+    }
+    Ok(text)
+}
+
+/// The first bytes of the text of this name, `most` of them at most. The source goes back to the
+/// shelf.
+pub fn fetch_front<H: Shelf>(
+    alloc: Global,
+    shelf: &mut H,
+    name: &str,
+    most: usize,
+) -> Result<Vec<u8>, OpenFault>
+    ensures text { IfOk result (λ v. (t : List ℕ) → H.text shelf.old name.now ≡ Some t → v.items ≡ take most t) }
+    ensures failed { IsErrOf result OpenFault.Failed → Rose (H.faults shelf.old name.now) (H.faults shelf.new name.now) }
+    ensures texts { (n : List ℕ) → H.text shelf.new n ≡ H.text shelf.old n }
+    ensures later { (n : List ℕ) → H.faults shelf.old n ≤ H.faults shelf.new n }
+{
+    let mut source = shelf.fetch(name)?;
+    let text = read_front(alloc, &mut source, most);
+    shelf.give_back(source);
+    text
+}
