@@ -1,11 +1,4 @@
-pub mod Answered
-pub mod Buckets
-pub mod Completing
-pub mod Flows
-pub mod Medias
-pub mod Ordering
-pub mod Printing
-pub mod Reports
-pub mod Sessions
-pub mod Stamped
-pub mod Taken
+mod Following
+mod Judgings
+mod Takings
+mod Reports

@@ -1,7 +1,5 @@
-pub mod Bucket
-pub mod Check
-pub mod Complete
-pub mod Flow
-pub mod Printed
-pub mod Steps
-pub mod Tasks
+-- what is promised
+pub mod Asked
+pub mod Report
+-- these only serve proofs
+pub mod Found

@@ -1,53 +1,74 @@
-//! From the words of a command line to the job that they ask for.
+//! From the words of a command line to what is printed and the status.
 
-ghost use Rattle.std.specs.Prelude.{◌≡◌, ◌≤◌, ℕ, List, Some, map, MatchOption, string_bytes};
-ghost use Rattle.timing_outside.specs.Causes.{Rose};
-ghost use Rattle.timing_words.specs.Asked.{asked_of};
+ghost use Rattle.std.specs.Prelude.{◌≡◌, ◌≤◌, ℕ, List, Some, map, IfErr, IfOk, string_bytes};
+ghost use Rattle.timing_steps.specs.Fetched.{OnReadFault as OnFailedRead};
+ghost use Rattle.timing_steps.specs.Ran.{Ran};
 ghost use Rattle.timing_words.specs.Request.{request};
-ghost use Rattle.timing_top.specs.Complete.{IsComplete};
-ghost use Rattle.timing_top.specs.Tasks.{Ends, KeepsOrder, ReadFaultRose, TellsLine, asked_task, not_built, task_of};
+ghost use Rattle.timing_top.specs.Asked.{Follows, InputRose, OnReadFault};
 
-use crate::check::{check_one, tell};
+use crate::check::answer_check;
 use std::alloc::Global;
 use std::sync::Wait;
 use std::thread::Threads;
-use timing_base::{CheckJob, Request};
+use timing_base::Request;
 use timing_outside::{Gate, Shelf, Sink};
 use timing_report::Status;
+use timing_steps::{Answer, Failure, conclude};
 use timing_words::{WordFault, read_words};
 
-/// The job of a request whose command is built: `check` on one thread.
-fn built_job(request: Request) -> Option<CheckJob>
-    ensures { MatchOption result (asked_task (Some (asked_of request)) ≡ not_built)
-        (λ job. asked_task (Some (asked_of request)) ≡ task_of job) }
+/// The answer of a request, or why there is none. Built is `check` on one thread,
+/// where the captures aren't joined.
+fn answer_request<H: Shelf>(
+    alloc: Global,
+    request: Request,
+    shelf: &mut H,
+) -> Result<Answer, Failure>
+    ensures follows { Follows (Some request) (record {
+      texts = H.text shelf.old;
+      before = H.faults shelf.old;
+      now = H.faults shelf.new;
+    }) result }
+    ensures cause { IfErr result (λ e. OnFailedRead e (InputRose (Some request)
+        (record { texts = H.text shelf.old; before = H.faults shelf.old; now = H.faults shelf.new }))) }
+    ensures answers { IfOk result (λ answer. OnReadFault answer.status (λ i. ⊥)) }
+    ensures texts { (n : List ℕ) → H.text shelf.new n ≡ H.text shelf.old n }
+    ensures later { (n : List ℕ) → H.faults shelf.old n ≤ H.faults shelf.new n }
 {
     match request {
-        Request::Check(job) => { if job.workers == 0 { Some(job) } else { None } }
-        Request::Verify(_) => None,
-        Request::VerifyReport(_) => None,
-        Request::SelfTest(_) => None,
-        Request::Window(_) => None,
-        Request::Shape(_) => None,
-        Request::Skew(_) => None,
+        Request::Check(job) => {
+            if job.workers == 0 && !job.joined {
+                return answer_check(alloc, &job, shelf);
+            }
+            Ok(Answer::silent(alloc, Status::NotBuilt))
+        }
+        _ => Ok(Answer::silent(alloc, Status::NotBuilt)),
     }
 }
 
-/// Tells on standard error why nothing was done.
-fn refuse<K: Sink>(err: &mut K, status: Status) -> Status
-    ensures status { result ≡ status }
-    ensures line { TellsLine (K.written err.old) (K.written err.new) (K.faults err.old)
-        (K.faults err.new) status }
-    ensures later { K.faults err.old ≤ K.faults err.new }
+/// The answer of a line of words, or why there is none.
+fn answer<H: Shelf>(alloc: Global, words: &[String], shelf: &mut H) -> Result<Answer, Failure>
+    ensures follows { Follows (request (map string_bytes words.now)) (record {
+      texts = H.text shelf.old;
+      before = H.faults shelf.old;
+      now = H.faults shelf.new;
+    }) result }
+    ensures cause { IfErr result (λ e. OnFailedRead e (InputRose (request (map string_bytes words.now))
+        (record { texts = H.text shelf.old; before = H.faults shelf.old; now = H.faults shelf.new }))) }
+    ensures answers { IfOk result (λ answer. OnReadFault answer.status (λ i. ⊥)) }
+    ensures texts { (n : List ℕ) → H.text shelf.new n ≡ H.text shelf.old n }
+    ensures later { (n : List ℕ) → H.faults shelf.old n ≤ H.faults shelf.new n }
 {
-    tell(err, &status);
-    status
+    match read_words(alloc, words) {
+        Ok(request) => answer_request(alloc, request, shelf),
+        Err(WordFault::Usage) => Ok(Answer::silent(alloc, Status::Usage)),
+        Err(WordFault::OutOfMemory) => Err(Failure::OutOfMemory),
+    }
 }
 
 /// Does what the words ask for, the program's name not among them, and answers how that ended.
 ///
-/// A report goes to `out`, whole or not at all, but where a write fails; `err` gets one line where there is
-/// none. Built is `check` with `--serial` of one capture, with text, of a session with one video whose
-/// pictures are progressive, where the capture ends whole and the flow is one judged run.
+/// A report goes to `out`, whole or not at all, but where a write fails; `err` gets one line where there
+/// is none. Built is `check` with `--serial`, without `--joined`.
 ///
 /// The call may wait for other threads in the forms that use them; it promises what it says if it
 /// returns. None is built yet.
@@ -60,29 +81,23 @@ pub fn run<R: Wait + Threads + Sync, H: Shelf, K: Sink, G: Gate>(
     err: &mut K,
     _gate: &G,
 ) -> Status
-    ensures ends { Ends (asked_task (request (map string_bytes words.now))) (H.text shelf.old)
-        (K.written out.old) (K.written out.new) result }
-    ensures order { KeepsOrder (asked_task (request (map string_bytes words.now)))
-        (H.text shelf.old) result }
-    ensures read_fault { ReadFaultRose (asked_task (request (map string_bytes words.now)))
-        (H.faults shelf.old) (H.faults shelf.new) result }
-    ensures write_fault { result ≡ Status.WriteFault → Rose (K.faults out.old) (K.faults out.new) }
-    ensures complete { IsComplete (asked_task (request (map string_bytes words.now)))
-        (H.text shelf.old) (H.faults shelf.old) (H.faults shelf.new)
-        (K.faults out.old) (K.faults out.new) result }
-    ensures line { TellsLine (K.written err.old) (K.written err.new) (K.faults err.old)
-        (K.faults err.new) result }
+    // What the texts of the request define was printed with its status, or nothing was and the status
+    // says why: an input couldn't be read, a write failed, or memory ran out.
+    ensures ran { Ran (Follows (request (map string_bytes words.now)) (record {
+      texts = H.text shelf.old;
+      before = H.faults shelf.old;
+      now = H.faults shelf.new;
+    }))
+        (record { old = K.written out.old; new = K.written out.new; before = K.faults out.old; now = K.faults out.new })
+        (record { old = K.written err.old; new = K.written err.new; before = K.faults err.old; now = K.faults err.new })
+        result }
+
+    // A read fault names an input of the request whose count rose.
+    ensures cause { OnReadFault result (InputRose (request (map string_bytes words.now))
+        (record { texts = H.text shelf.old; before = H.faults shelf.old; now = H.faults shelf.new })) }
     ensures texts { (n : List ℕ) → H.text shelf.new n ≡ H.text shelf.old n }
     ensures later { (n : List ℕ) → H.faults shelf.old n ≤ H.faults shelf.new n }
-    ensures later_out { K.faults out.old ≤ K.faults out.new }
-    ensures later_err { K.faults err.old ≤ K.faults err.new }
 {
-    match read_words(alloc, words) {
-        Ok(request) => match built_job(request) {
-            Some(job) => check_one(alloc, &job, shelf, out, err),
-            None => refuse(err, Status::NotBuilt),
-        },
-        Err(WordFault::Usage) => refuse(err, Status::Usage),
-        Err(WordFault::OutOfMemory) => refuse(err, Status::OutOfMemory),
-    }
+    let outcome = answer(alloc, words, shelf);
+    conclude(out, err, outcome)
 }

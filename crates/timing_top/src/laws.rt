@@ -1,15 +1,16 @@
 //! What holds of the definitions themselves. Each function is a theorem: it does nothing, and its
-//! clause is proved.
+//! clauses are proved.
 
-ghost use Rattle.timing_top.specs.Complete.{OneAnswer, OneReport};
+ghost use Rattle.std.specs.Prelude.{◌≡◌, ℕ, List};
+ghost use Rattle.timing_base.specs.Jobs.{CheckJob};
+ghost use Rattle.timing_base.specs.Media.{Media};
+ghost use Rattle.timing_steps.specs.Answers.{Answer};
+ghost use Rattle.timing_top.specs.Report.{HasReport};
 
-/// What is printed is a function of the texts: an SDP and a capture have at most one report, and one
-/// status that it ends in.
+/// Texts have one report: there is one, and there are not two.
 pub fn one_report()
-    ensures { OneReport }
-{}
-
-/// The same of the answer: an SDP and a capture never define two statuses.
-pub fn one_answer()
-    ensures { OneAnswer }
+    ensures some { (job : CheckJob) (media : List Media) (texts : List (List ℕ))
+        → (answer : Answer) × HasReport job media texts answer }
+    ensures once { (job : CheckJob) (media : List Media) (texts : List (List ℕ)) (a b : Answer)
+        → HasReport job media texts a → HasReport job media texts b → a ≡ b }
 {}

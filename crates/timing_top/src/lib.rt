@@ -1,13 +1,13 @@
-//! The analyser's jobs from words to status: what is read, in which order, and what is printed.
+//! The analyser as one call: from the words of a command line to what is printed and the status.
+//!
+//! [`run`] reads the words and does what they ask for, over a shelf of texts and two sinks. What is
+//! printed, and why there is nothing, is its contract.
 #![tactic(auto)]
 
-mod bucket;
+mod captures;
 mod check;
 mod commands;
-mod flow;
 pub mod laws;
-mod report;
-mod text;
 
 pub use check::check_one;
 pub use commands::run;

@@ -1,3 +1,6 @@
+//! The rows that one thread can run, each through [`run`] over files in memory, with the bytes that it
+//! prints.
+
 use super::*;
 use capture_gen::{capture_len, sdp_bytes, write_capture};
 use sdp_reader::{SdpCause, SdpFault};
@@ -12,7 +15,20 @@ use timing_report::{Input, Status};
 
 const CHECK: &str = "check --serial --sdp p.sdp a.pcap";
 
+const CHECK_TWO: &str = "check --serial --sdp p.sdp a.pcap b.pcap";
+
 const USAGE: &str = "usage: check, verify, verify-report or selftest\n";
+
+// The lines above the flows, for one capture that ends whole.
+const HEADER: &str = "ST 2110-21 timing report\nfile 1 end a.pcap\n";
+
+// The lines of the plain flow.
+const NARROW: &str =
+    "flow 1.1 239.0.0.1:50000 judged: 20 per frame, 2 frames, 40 packets, head 1, tail 0, class narrow, declared N\n  N pass, bucket 1 of 4, buffer 1 of 8\n  NL pass, bucket 1 of 4, buffer 1 of 8\n  W pass, bucket 1 of 16, buffer 1 of 720\n";
+
+// Those of a sender that spreads its packets over the whole frame.
+const LINEAR: &str =
+    "flow 1.1 239.0.0.1:50000 judged: 20 per frame, 2 frames, 40 packets, head 1, tail 0, class narrow linear, declared N\n  N fail Empty 1 to 1 count 1 limit 2, bucket 1 of 4, buffer 1 of 8\n  NL pass, bucket 1 of 4, buffer 1 of 8\n  W pass, bucket 1 of 16, buffer 1 of 720\n";
 
 // The answer on a description of no bytes.
 const NO_VERSION: Status = Status::SdpRefused(SdpFault {
@@ -23,9 +39,9 @@ const NO_VERSION: Status = Status::SdpRefused(SdpFault {
 // The stamp of the first packet of the first frame, as the head of its record has it.
 const FIRST_STAMP: &[u8] = b"\x00\x10\x5e\x5f\x60\xa8\x0b\x00";
 
-// The lines 5 to 8 of the plain description, with another port.
-const SECOND_MEDIA: &str =
-    "m=video 50002 RTP/AVP 96\nc=IN IP4 239.0.0.1/32\na=rtpmap:96 raw/90000\na=fmtp:96 sampling=YCbCr-4:2:2; width=1920; height=1080; exactframerate=50; depth=10; TCS=SDR; colorimetry=BT709; PM=2110GPM; SSN=ST2110-20:2017; TP=2110TPN;\n";
+// The lines 5 to 8 of the plain description, with two other ports.
+const TWO_MEDIA: &str =
+    "m=video 50002 RTP/AVP 96\nc=IN IP4 239.0.0.1/32\na=rtpmap:96 raw/90000\na=fmtp:96 sampling=YCbCr-4:2:2; width=1920; height=1080; exactframerate=50; depth=10; TCS=SDR; colorimetry=BT709; PM=2110GPM; SSN=ST2110-20:2017; TP=2110TPN;\nm=video 50004 RTP/AVP 96\nc=IN IP4 239.0.0.1/32\na=rtpmap:96 raw/90000\na=fmtp:96 sampling=YCbCr-4:2:2; width=1920; height=1080; exactframerate=50; depth=10; TCS=SDR; colorimetry=BT709; PM=2110GPM; SSN=ST2110-20:2017; TP=2110TPN;\n";
 
 // How a text is read: the bytes of a read, the reads that fail, and whether its fetch does.
 #[derive(Drop)]
@@ -35,7 +51,7 @@ struct Plan {
     fetch_fails: bool,
 }
 
-// A session description and a capture, how they are read, and how is written: the room on the two
+// A session description and two captures, how they are read, and how is written: the room on the two
 // sinks, the bytes of a write on standard output, and the writes that fail there.
 #[derive(Drop)]
 struct Setting {
@@ -43,6 +59,8 @@ struct Setting {
     sdp_plan: Plan,
     capture: Vec<u8>,
     plan: Plan,
+    second: Vec<u8>,
+    second_plan: Plan,
     room: u64,
     room_for_err: u64,
     out_piece: u32,
@@ -58,14 +76,17 @@ fn whole(alloc: Global) -> Plan {
     }
 }
 
-// A setting with the plain description, nothing that fails, and room for all.
+// A setting with the plain description, a second capture of no bytes, nothing that fails, and room for
+// all.
 fn over(alloc: Global, capture: Vec<u8>) -> Result<Setting, AllocError> {
     Ok(Setting {
         sdp: Vec::from_slice(alloc, sdp_bytes())?,
         sdp_plan: whole(alloc),
         capture,
         plan: whole(alloc),
-        room: 4096,
+        second: Vec::new(alloc),
+        second_plan: whole(alloc),
+        room: 8192,
         room_for_err: 4096,
         out_piece: 65_536,
         out_fails: Vec::new(alloc),
@@ -107,13 +128,6 @@ fn number_at(rt: &impl Abort, bytes: &[u8], at: usize) -> u32 {
     u32::from_le_bytes([bytes[at], bytes[at + 1], bytes[at + 2], bytes[at + 3]])
 }
 
-// The text of a report on the made flow, whose type line and status are these.
-fn report(alloc: Global, kind: &str, code: u8) -> Result<String, AllocError> {
-    format!(in alloc;
-        "ST 2110-21 timing report\nfile 1 end a.pcap\nflow 1.1 239.0.0.1:50000 judged by bucket: 20 per frame, 2 frames, 40 packets\n  N {kind}\nstatus {code}\n"
-    )
-}
-
 fn words_of(alloc: Global, line: &str) -> Result<Vec<String>, AllocError> {
     let mut words = Vec::new(alloc);
     for word in line.split(' ') {
@@ -148,7 +162,7 @@ fn put(
     Ok(())
 }
 
-// Puts the setting's texts on a shelf, the capture under this name.
+// Puts the setting's texts on a shelf, the first capture under this name.
 fn shelf_of(
     rt: &impl Abort,
     alloc: Global,
@@ -156,15 +170,18 @@ fn shelf_of(
     name: &str,
 ) -> Result<MemoryShelf, Fail> {
     let mut shelf = MemoryShelf::new(alloc);
+    let sdp = &setting.sdp;
+    put(rt, alloc, &mut shelf, "p.sdp", sdp, &setting.sdp_plan)?;
+    put(rt, alloc, &mut shelf, name, &setting.capture, &setting.plan)?;
+    let second = &setting.second;
     put(
         rt,
         alloc,
         &mut shelf,
-        "p.sdp",
-        &setting.sdp,
-        &setting.sdp_plan,
+        "b.pcap",
+        second,
+        &setting.second_plan,
     )?;
-    put(rt, alloc, &mut shelf, name, &setting.capture, &setting.plan)?;
     Ok(shelf)
 }
 
@@ -204,24 +221,25 @@ fn ends<R: Abort + AllocGlobal + Wait + Threads + Sync>(
     runs(rt, line, setting, &mut shelf, wanted)
 }
 
-// The setting's capture is judged, with this type line and the status that goes with it.
+// The capture is judged, with these lines of its flows and this status.
 fn judges<R: Abort + AllocGlobal + Wait + Threads + Sync>(
     rt: &R,
     line: &str,
     setting: &Setting,
-    kind: &str,
+    flows: &str,
     status: Status,
 ) -> Result<(), Fail> {
-    let text = report(rt.alloc(), kind, if status == Status::Pass { 0 } else { 1 })?;
+    let code = status.code();
+    let text = format!(in rt.alloc(); "{HEADER}{flows}status {code}\n")?;
     ends(rt, line, setting, (status, text.as_str(), ""))
 }
 
-// The setting's capture passes as the plain one does.
+// The capture is judged as the plain one is.
 fn passes<R: Abort + AllocGlobal + Wait + Threads + Sync>(
     rt: &R,
     setting: &Setting,
 ) -> Result<(), Fail> {
-    judges(rt, CHECK, setting, "pass, bucket 1 of 4", Status::Pass)
+    judges(rt, CHECK, setting, NARROW, Status::Pass)
 }
 
 // The plain capture with so many packets of its first frame on the first one's stamp.
@@ -297,56 +315,227 @@ fn without_text<R: Abort + AllocGlobal>(rt: &R) -> Result<Setting, Fail> {
     Ok(setting)
 }
 
-#[test]
-fn first_plain(rt: HostRuntime) -> Result<(), Fail> {
-    passes(&rt, &over(rt.alloc(), made(&rt, 0, 0)?)?)
+// Two frames of 4,320 packets at 60000/1001 frames per second behind a marked packet, 37 seconds early:
+// each packet 1,000 ns before its read, which is at (172 + p) / 4,500 of its frame.
+fn usual(rt: &impl Abort, alloc: Global, template: &[u8]) -> Result<Vec<u8>, AllocError> {
+    let mut out = Vec::from_slice(alloc, part(rt, template, 0, 24))?;
+    let start = 1_601_600_000_000_000_000 - 37_000_000_000 - 1_000;
+    usual_packet(
+        rt,
+        part(rt, template, 96, 168),
+        &mut out,
+        start + 172 * 100_100_000 / 27_000 - 1_000_000,
+        0,
+        0,
+        true,
+    )?;
+    for frame in 0..2 {
+        for packet in 0..4320 {
+            let at = start
+                + (u64::from(frame) * 4500 + 172 + u64::from(packet)) * 100_100_000 / 27_000;
+            let number = 1 + frame * 4320 + packet;
+            usual_packet(
+                rt,
+                part(rt, template, 96, 168),
+                &mut out,
+                at,
+                number,
+                1501 * (frame + 1),
+                packet == 4319,
+            )?;
+        }
+    }
+    Ok(out)
+}
+
+// A record like the template, of a packet with this number and RTP timestamp.
+fn usual_packet(
+    rt: &impl Abort,
+    template: &[u8],
+    out: &mut Vec<u8>,
+    at: u64,
+    number: u32,
+    timestamp: u32,
+    marked: bool,
+) -> Result<(), AllocError> {
+    let second = 1_000_000_000;
+    out.extend_from_slice(&((at / second % (1 << 32)) as u32).to_le_bytes())?;
+    out.extend_from_slice(&((at % second) as u32).to_le_bytes())?;
+    out.extend_from_slice(part(rt, template, 8, 59))?;
+    out.push(if marked { 0x80 | 96 } else { 96 })?;
+    out.extend_from_slice(&((number % 65_536) as u16).to_be_bytes())?;
+    out.extend_from_slice(&timestamp.to_be_bytes())?;
+    out.extend_from_slice(part(rt, template, 66, 70))?;
+    out.extend_from_slice(&((number / 65_536) as u16).to_be_bytes())
 }
 
 #[test]
-fn first_burst(rt: HostRuntime) -> Result<(), Fail> {
-    let setting = over(rt.alloc(), made(&rt, 0, 1)?)?;
-    judges(
-        &rt,
-        CHECK,
-        &setting,
-        "fail at 24, bucket 5 of 4",
-        Status::Fail,
-    )
+fn senders_that_keep_to_their_type(rt: HostRuntime) -> Result<(), Fail> {
+    let plain = made(&rt, 0, 0)?;
+    let alloc = rt.alloc();
+    // plain_narrow, number_wraps, other_orders, big_payload
+    for capture in [
+        made(&rt, 0, 0)?,
+        made(&rt, 4_294_967_295, 0)?,
+        big_endian(&rt, alloc, &plain)?,
+        tagged(&rt, alloc, &plain)?,
+        with_payload(&rt, alloc, &plain)?,
+    ] {
+        passes(&rt, &over(alloc, capture)?)?;
+    }
+    // last_second
+    let setting = over(alloc, last_second_of(&rt, alloc, &plain)?)?;
+    let line = "check --serial --sdp p.sdp --tai 1000 a.pcap";
+    judges(&rt, line, &setting, NARROW, Status::Pass)
 }
 
 #[test]
-fn first_not_built(rt: HostRuntime) -> Result<(), Fail> {
-    let wanted = (Status::NotBuilt, "", "not built\n");
+fn four_at_once(rt: HostRuntime) -> Result<(), Fail> {
+    let flows =
+        "flow 1.1 239.0.0.1:50000 judged: 20 per frame, 2 frames, 40 packets, head 1, tail 0, class narrow, declared N\n  N pass, bucket 4 of 4, buffer 4 of 8\n  NL pass, bucket 4 of 4, buffer 4 of 8\n  W pass, bucket 4 of 16, buffer 4 of 720\n";
+    let setting = over(rt.alloc(), at_once(&rt, 4)?)?;
+    judges(&rt, CHECK, &setting, flows, Status::Pass)
+}
+
+#[test]
+fn five_at_once(rt: HostRuntime) -> Result<(), Fail> {
+    let flows =
+        "flow 1.1 239.0.0.1:50000 judged: 20 per frame, 2 frames, 40 packets, head 1, tail 0, class wide, declared N\n  N fail Bucket 0 to 4 count 5 limit 4, bucket 5 of 4, buffer 5 of 8\n  NL fail Bucket 0 to 4 count 5 limit 4, bucket 5 of 4, buffer 5 of 8\n  W pass, bucket 5 of 16, buffer 5 of 720\n";
+    let setting = over(rt.alloc(), at_once(&rt, 5)?)?;
+    judges(&rt, CHECK, &setting, flows, Status::Fail)
+}
+
+// Of one capture the status goes by the type that is declared: burst_in_second_frame and declared_wide.
+#[test]
+fn burst_in_second_frame(rt: HostRuntime) -> Result<(), Fail> {
+    let lines =
+        "  N fail Bucket 20 to 24 count 5 limit 4, bucket 5 of 4, buffer 5 of 8\n  NL fail Bucket 20 to 24 count 5 limit 4, bucket 5 of 4, buffer 5 of 8\n  W pass, bucket 5 of 16, buffer 5 of 720\n";
+    let flow =
+        "flow 1.1 239.0.0.1:50000 judged: 20 per frame, 2 frames, 40 packets, head 1, tail 0, class wide, declared";
+    let mut setting = over(rt.alloc(), made(&rt, 0, 1)?)?;
+    let narrow = format!(in rt.alloc(); "{flow} N\n{lines}")?;
+    judges(&rt, CHECK, &setting, narrow.as_str(), Status::Fail)?;
+    setting.sdp = sdp_with(rt.alloc(), "2110TPN;", "2110TPW;")?;
+    let wide = format!(in rt.alloc(); "{flow} W\n{lines}")?;
+    judges(&rt, CHECK, &setting, wide.as_str(), Status::Pass)
+}
+
+#[test]
+fn linear_sender(rt: HostRuntime) -> Result<(), Fail> {
+    let setting = over(rt.alloc(), made(&rt, 0, 2)?)?;
+    judges(&rt, CHECK, &setting, LINEAR, Status::Fail)
+}
+
+#[test]
+fn cmax_of_declared(rt: HostRuntime) -> Result<(), Fail> {
+    let flows =
+        "flow 1.1 239.0.0.1:50000 judged: 20 per frame, 2 frames, 40 packets, head 1, tail 0, class narrow linear, declared N\n  N fail Bucket 0 to 1 count 2 limit 1, bucket 2 of 1, buffer 2 of 8\n  NL pass, bucket 2 of 4, buffer 2 of 8\n  W pass, bucket 2 of 16, buffer 2 of 720\n";
+    let mut setting = over(rt.alloc(), at_once(&rt, 2)?)?;
+    setting.sdp = sdp_with(rt.alloc(), "2110TPN;", "2110TPN; CMAX=1;")?;
+    judges(&rt, CHECK, &setting, flows, Status::Fail)
+}
+
+// TR_OFFSET is 746,666 2/3 ns: each packet comes 17,333 1/3 ns after its gapped read, so that nothing is held, and
+// linear read 0 is as early; from packet 1 on one packet is held with linear reads.
+#[test]
+fn height_720(rt: HostRuntime) -> Result<(), Fail> {
+    let flows =
+        "flow 1.1 239.0.0.1:50000 judged: 20 per frame, 2 frames, 40 packets, head 1, tail 0, class none, declared N\n  N fail Empty 0 to 0 count 0 limit 1, bucket 1 of 4, buffer 0 of 8\n  NL fail Empty 0 to 0 count 0 limit 1, bucket 1 of 4, buffer 1 of 8\n  W fail Empty 0 to 0 count 0 limit 1, bucket 1 of 16, buffer 1 of 720\n";
     let mut setting = over(rt.alloc(), made(&rt, 0, 0)?)?;
+    setting.sdp = sdp_with(rt.alloc(), "height=1080;", "height=720;")?;
+    judges(&rt, CHECK, &setting, flows, Status::Fail)
+}
+
+#[test]
+fn usual_equipment(rt: HostRuntime) -> Result<(), Fail> {
+    let flows =
+        "flow 1.1 239.0.0.1:50000 judged: 4320 per frame, 2 frames, 8640 packets, head 1, tail 0, class narrow, declared N\n  N pass, bucket 1 of 6, buffer 1 of 9\n  NL fail Over 0 to 219 count 10 limit 9, bucket 1 of 5, buffer 174 of 9\n  W pass, bucket 1 of 16, buffer 174 of 863\n";
+    let plain = made(&rt, 0, 0)?;
+    let mut setting = over(rt.alloc(), usual(&rt, rt.alloc(), &plain)?)?;
+    setting.sdp = sdp_with(rt.alloc(), "rate=50;", "rate=60000/1001;")?;
+    let line = "check --serial --sdp p.sdp --tai 37 a.pcap";
+    judges(&rt, line, &setting, flows, Status::Pass)
+}
+
+#[test]
+fn flows_that_are_not_judged(rt: HostRuntime) -> Result<(), Fail> {
+    let plain = made(&rt, 0, 0)?;
+    let alloc = rt.alloc();
+    let absent = "flow 1.1 239.0.0.1:50000 absent\n";
+    let setting = over(alloc, Vec::from_slice(alloc, part(&rt, &plain, 0, 24))?)?;
+    judges(&rt, CHECK, &setting, absent, Status::NotAllJudged)?;
+    let short = "flow 1.1 239.0.0.1:50000 refused at record 40: FrameSize want 20 got 19\n";
+    let setting = over(alloc, made(&rt, 0, 4)?)?;
+    judges(&rt, CHECK, &setting, short, Status::NotAllJudged)
+}
+
+#[test]
+fn two_runs(rt: HostRuntime) -> Result<(), Fail> {
+    let flows =
+        "flow 1.1 239.0.0.1:50000 gaps 1, runs 2\n  run 1 from record 1 number 2: judged: 20 per frame, 1 frames, 20 packets, head 1, tail 10, class narrow, declared N\n    N pass, bucket 1 of 4, buffer 1 of 8\n    NL pass, bucket 1 of 4, buffer 1 of 8\n    W pass, bucket 1 of 16, buffer 1 of 720\n  run 2 from record 32 number 34 expected 33: no whole frame, head 9\n";
+    let setting = over(rt.alloc(), made(&rt, 2, 3)?)?;
+    judges(&rt, CHECK, &setting, flows, Status::NotAllJudged)
+}
+
+#[test]
+fn captures_that_end_early(rt: HostRuntime) -> Result<(), Fail> {
+    let alloc = rt.alloc();
+    let plain = made(&rt, 0, 0)?;
+    // cut_capture
+    let text =
+        "ST 2110-21 timing report\nfile 1 cut at 2904 a.pcap\nflow 1.1 239.0.0.1:50000 judged: 20 per frame, 1 frames, 20 packets, head 1, tail 19, class narrow, declared N\n  N pass, bucket 1 of 4, buffer 1 of 8\n  NL pass, bucket 1 of 4, buffer 1 of 8\n  W pass, bucket 1 of 16, buffer 1 of 720\nstatus 0\n";
+    let setting = over(alloc, Vec::from_slice(alloc, part(&rt, &plain, 0, 2914))?)?;
+    ends(&rt, CHECK, &setting, (Status::Pass, text, ""))?;
+    // compressed_file
+    let text =
+        "ST 2110-21 timing report\nfile 1 refused BadMagic a.pcap\nflow 1.1 239.0.0.1:50000 absent\nstatus 4\n";
+    let mut capture = Vec::from_slice(alloc, b"\x1f\x8b")?;
+    for _ in 0..98 {
+        capture.push(0)?;
+    }
+    let setting = over(alloc, capture)?;
+    ends(&rt, CHECK, &setting, (Status::NotAllJudged, text, ""))
+}
+
+#[test]
+fn two_captures_three_media(rt: HostRuntime) -> Result<(), Fail> {
+    let alloc = rt.alloc();
+    let mut setting = over(alloc, made(&rt, 0, 0)?)?;
+    setting.second = made(&rt, 0, 2)?;
+    setting.sdp.extend_from_slice(TWO_MEDIA.as_bytes())?;
+    let linear = LINEAR.replace(alloc, "flow 1.1", "flow 2.1")?;
+    let text = format!(in alloc;
+        "{HEADER}file 2 end b.pcap\n{NARROW}flow 1.2 239.0.0.1:50002 absent\nflow 1.3 239.0.0.1:50004 absent\n{linear}flow 2.2 239.0.0.1:50002 absent\nflow 2.3 239.0.0.1:50004 absent\nstatus 4\n"
+    )?;
+    let wanted = (Status::NotAllJudged, text.as_str(), "");
+    ends(&rt, CHECK_TWO, &setting, wanted)
+}
+
+#[test]
+fn json_absent(rt: HostRuntime) -> Result<(), Fail> {
+    let plain = made(&rt, 0, 0)?;
+    let text =
+        "{\"files\":[{\"end\":\"end\",\"name\":\"e.pcap\"}],\"flows\":[{\"file\":1,\"media\":1,\"target\":\"239.0.0.1:50000\",\"verdict\":\"absent\"}],\"status\":4}\n";
+    let alloc = rt.alloc();
+    let setting = over(alloc, Vec::from_slice(alloc, part(&rt, &plain, 0, 24))?)?;
+    let mut shelf = shelf_of(&rt, alloc, &setting, "e.pcap")?;
+    let line = "check --serial --json --sdp p.sdp e.pcap";
+    let wanted = (Status::NotAllJudged, text, "");
+    runs(&rt, line, &setting, &mut shelf, wanted)
+}
+
+#[test]
+fn words_that_are_not_built(rt: HostRuntime) -> Result<(), Fail> {
+    let wanted = (Status::NotBuilt, "", "not built\n");
+    let setting = over(rt.alloc(), made(&rt, 0, 0)?)?;
     for line in [
         "check --sdp p.sdp a.pcap",
-        "check --serial --json --sdp p.sdp a.pcap",
+        "check --workers 1 --sdp p.sdp a.pcap",
         "check --serial --joined --sdp p.sdp a.pcap",
-        "check --serial --sdp p.sdp a.pcap a.pcap",
         "selftest 2",
+        "window --sdp p.sdp --media 1 a.pcap",
     ] {
         ends(&rt, line, &setting, wanted)?;
-    }
-    setting.sdp = sdp_with(rt.alloc(), "2110TPN;", "2110TPN; interlace;")?;
-    ends(&rt, CHECK, &setting, wanted)?;
-    setting.sdp = Vec::from_slice(rt.alloc(), sdp_bytes())?;
-    setting.sdp.extend_from_slice(SECOND_MEDIA.as_bytes())?;
-    ends(&rt, CHECK, &setting, wanted)
-}
-
-#[test]
-fn first_not_judged(rt: HostRuntime) -> Result<(), Fail> {
-    let plain = made(&rt, 0, 0)?;
-    let gap = made(&rt, 0, 3)?;
-    let short = made(&rt, 0, 4)?;
-    for capture in [
-        part(&rt, &plain, 0, 2914),
-        gap.as_slice(),
-        short.as_slice(),
-        part(&rt, &plain, 0, 24),
-    ] {
-        let setting = over(rt.alloc(), Vec::from_slice(rt.alloc(), capture)?)?;
-        ends(&rt, CHECK, &setting, (Status::NotBuilt, "", "not built\n"))?;
     }
     Ok(())
 }
@@ -422,12 +611,38 @@ fn missing_capture(rt: HostRuntime) -> Result<(), Fail> {
 #[test]
 fn fetch_fails(rt: HostRuntime) -> Result<(), Fail> {
     let mut setting = over(rt.alloc(), made(&rt, 0, 0)?)?;
+    setting.second = made(&rt, 0, 0)?;
+    setting.second_plan.fetch_fails = true;
+    let fault = Status::ReadFault(Input::Capture(1));
+    let wanted = (fault, "", "read fault: capture 2\n");
+    ends(&rt, CHECK_TWO, &setting, wanted)?;
+    // All captures are fetched before one is read.
+    setting.plan.fails = Vec::from_slice(rt.alloc(), &[1])?;
+    ends(&rt, CHECK_TWO, &setting, wanted)?;
     setting.plan.fetch_fails = true;
     let fault = Status::ReadFault(Input::Capture(0));
-    ends(&rt, CHECK, &setting, (fault, "", "read fault: capture 1\n"))?;
+    let wanted = (fault, "", "read fault: capture 1\n");
+    ends(&rt, CHECK_TWO, &setting, wanted)?;
     setting.sdp_plan.fetch_fails = true;
     let fault = Status::ReadFault(Input::Sdp);
-    ends(&rt, CHECK, &setting, (fault, "", "read fault: sdp\n"))
+    ends(&rt, CHECK_TWO, &setting, (fault, "", "read fault: sdp\n"))
+}
+
+// The least capture that fails is named.
+#[test]
+fn failing_reads(rt: HostRuntime) -> Result<(), Fail> {
+    let mut setting = over(rt.alloc(), made(&rt, 0, 0)?)?;
+    setting.second = made(&rt, 0, 0)?;
+    setting.plan.piece = 100;
+    setting.second_plan.piece = 100;
+    setting.second_plan.fails = Vec::from_slice(rt.alloc(), &[3])?;
+    let fault = Status::ReadFault(Input::Capture(1));
+    let wanted = (fault, "", "read fault: capture 2\n");
+    ends(&rt, CHECK_TWO, &setting, wanted)?;
+    setting.plan.fails = Vec::from_slice(rt.alloc(), &[3])?;
+    let fault = Status::ReadFault(Input::Capture(0));
+    let wanted = (fault, "", "read fault: capture 1\n");
+    ends(&rt, CHECK_TWO, &setting, wanted)
 }
 
 // The description has 346 bytes: with pieces of 100 bytes the fifth read finds its end.
@@ -466,7 +681,7 @@ fn sdp_too_large(rt: HostRuntime) -> Result<(), Fail> {
 #[test]
 fn each_room(rt: HostRuntime) -> Result<(), Fail> {
     let mut setting = over(rt.alloc(), made(&rt, 0, 0)?)?;
-    let text = report(rt.alloc(), "pass, bucket 1 of 4", 0)?;
+    let text = format!(in rt.alloc(); "{HEADER}{NARROW}status 0\n")?;
     for room in 0..text.len() {
         setting.room = room as u64;
         let front = str::from_utf8(part(&rt, text.as_bytes(), 0, room))?;
@@ -495,15 +710,6 @@ fn fourth_write_fails(rt: HostRuntime) -> Result<(), Fail> {
     )
 }
 
-#[test]
-fn first_failing_read(rt: HostRuntime) -> Result<(), Fail> {
-    let mut setting = over(rt.alloc(), made(&rt, 0, 0)?)?;
-    setting.plan.piece = 100;
-    setting.plan.fails = Vec::from_slice(rt.alloc(), &[2])?;
-    let fault = Status::ReadFault(Input::Capture(0));
-    ends(&rt, CHECK, &setting, (fault, "", "read fault: capture 1\n"))
-}
-
 // With pieces of 100 bytes the capture takes 30 reads, and one more that finds its end.
 #[test]
 fn each_read_fails(rt: HostRuntime) -> Result<(), Fail> {
@@ -516,168 +722,4 @@ fn each_read_fails(rt: HostRuntime) -> Result<(), Fail> {
     }
     setting.plan.fails = Vec::from_slice(rt.alloc(), &[32])?;
     passes(&rt, &setting)
-}
-
-#[test]
-fn other_orders(rt: HostRuntime) -> Result<(), Fail> {
-    let plain = made(&rt, 0, 0)?;
-    passes(
-        &rt,
-        &over(rt.alloc(), big_endian(&rt, rt.alloc(), &plain)?)?,
-    )?;
-    passes(&rt, &over(rt.alloc(), tagged(&rt, rt.alloc(), &plain)?)?)
-}
-
-#[test]
-fn number_wraps(rt: HostRuntime) -> Result<(), Fail> {
-    passes(&rt, &over(rt.alloc(), made(&rt, 4_294_967_295, 0)?)?)
-}
-
-#[test]
-fn five_at_once(rt: HostRuntime) -> Result<(), Fail> {
-    let setting = over(rt.alloc(), at_once(&rt, 5)?)?;
-    judges(
-        &rt,
-        CHECK,
-        &setting,
-        "fail at 4, bucket 5 of 4",
-        Status::Fail,
-    )
-}
-
-#[test]
-fn four_at_once(rt: HostRuntime) -> Result<(), Fail> {
-    let setting = over(rt.alloc(), at_once(&rt, 4)?)?;
-    judges(&rt, CHECK, &setting, "pass, bucket 4 of 4", Status::Pass)
-}
-
-#[test]
-fn cmax_of_declared(rt: HostRuntime) -> Result<(), Fail> {
-    let mut setting = over(rt.alloc(), at_once(&rt, 2)?)?;
-    setting.sdp = sdp_with(rt.alloc(), "2110TPN;", "2110TPN; CMAX=1;")?;
-    judges(
-        &rt,
-        CHECK,
-        &setting,
-        "fail at 1, bucket 2 of 1",
-        Status::Fail,
-    )
-}
-
-// Of a sender whose packets are spread over the whole frame the bucket alone is judged: it passes.
-#[test]
-fn linear_sender(rt: HostRuntime) -> Result<(), Fail> {
-    passes(&rt, &over(rt.alloc(), made(&rt, 0, 2)?)?)
-}
-
-#[test]
-fn compressed_file(rt: HostRuntime) -> Result<(), Fail> {
-    let mut capture = Vec::from_slice(rt.alloc(), b"\x1f\x8b")?;
-    for _ in 0..98 {
-        capture.push(0)?;
-    }
-    let setting = over(rt.alloc(), capture)?;
-    ends(&rt, CHECK, &setting, (Status::NotBuilt, "", "not built\n"))
-}
-
-// Two frames of 4,320 packets at 60000/1001 frames per second behind a marked packet, 37 seconds early:
-// each packet 1,000 ns before its read, which is at (172 + p) / 4,500 of its frame.
-fn usual(rt: &impl Abort, alloc: Global, template: &[u8]) -> Result<Vec<u8>, AllocError> {
-    let mut out = Vec::from_slice(alloc, part(rt, template, 0, 24))?;
-    let start = 1_601_600_000_000_000_000 - 37_000_000_000 - 1_000;
-    usual_packet(
-        rt,
-        part(rt, template, 96, 168),
-        &mut out,
-        start + 172 * 100_100_000 / 27_000 - 1_000_000,
-        0,
-        0,
-        true,
-    )?;
-    for frame in 0..2 {
-        for packet in 0..4320 {
-            let at = start
-                + (u64::from(frame) * 4500 + 172 + u64::from(packet)) * 100_100_000 / 27_000;
-            let number = 1 + frame * 4320 + packet;
-            usual_packet(
-                rt,
-                part(rt, template, 96, 168),
-                &mut out,
-                at,
-                number,
-                1501 * (frame + 1),
-                packet == 4319,
-            )?;
-        }
-    }
-    Ok(out)
-}
-
-// A record like the template, of a packet with this number and RTP timestamp.
-fn usual_packet(
-    rt: &impl Abort,
-    template: &[u8],
-    out: &mut Vec<u8>,
-    at: u64,
-    number: u32,
-    timestamp: u32,
-    marked: bool,
-) -> Result<(), AllocError> {
-    let second = 1_000_000_000;
-    out.extend_from_slice(&((at / second % (1 << 32)) as u32).to_le_bytes())?;
-    out.extend_from_slice(&((at % second) as u32).to_le_bytes())?;
-    out.extend_from_slice(part(rt, template, 8, 59))?;
-    out.push(if marked { 0x80 | 96 } else { 96 })?;
-    out.extend_from_slice(&((number % 65_536) as u16).to_be_bytes())?;
-    out.extend_from_slice(&timestamp.to_be_bytes())?;
-    out.extend_from_slice(part(rt, template, 66, 70))?;
-    out.extend_from_slice(&((number / 65_536) as u16).to_be_bytes())
-}
-
-#[test]
-fn usual_equipment(rt: HostRuntime) -> Result<(), Fail> {
-    let plain = made(&rt, 0, 0)?;
-    let mut setting = over(rt.alloc(), usual(&rt, rt.alloc(), &plain)?)?;
-    setting.sdp = sdp_with(rt.alloc(), "rate=50;", "rate=60000/1001;")?;
-    let text =
-        "ST 2110-21 timing report\nfile 1 end a.pcap\nflow 1.1 239.0.0.1:50000 judged by bucket: 4320 per frame, 2 frames, 8640 packets\n  N pass, bucket 1 of 6\nstatus 0\n";
-    let line = "check --serial --sdp p.sdp --tai 37 a.pcap";
-    ends(&rt, line, &setting, (Status::Pass, text, ""))
-}
-
-#[test]
-fn big_payload(rt: HostRuntime) -> Result<(), Fail> {
-    let plain = made(&rt, 0, 0)?;
-    passes(
-        &rt,
-        &over(rt.alloc(), with_payload(&rt, rt.alloc(), &plain)?)?,
-    )
-}
-
-#[test]
-fn declared_wide(rt: HostRuntime) -> Result<(), Fail> {
-    let mut setting = over(rt.alloc(), made(&rt, 0, 1)?)?;
-    setting.sdp = sdp_with(rt.alloc(), "2110TPN;", "2110TPW;")?;
-    judges(
-        &rt,
-        CHECK,
-        &setting,
-        "fail at 24, bucket 5 of 4",
-        Status::Fail,
-    )
-}
-
-#[test]
-fn last_second(rt: HostRuntime) -> Result<(), Fail> {
-    let plain = made(&rt, 0, 0)?;
-    let setting = over(rt.alloc(), last_second_of(&rt, rt.alloc(), &plain)?)?;
-    let line = "check --serial --sdp p.sdp --tai 1000 a.pcap";
-    judges(&rt, line, &setting, "pass, bucket 1 of 4", Status::Pass)
-}
-
-#[test]
-fn tai(rt: HostRuntime) -> Result<(), Fail> {
-    let setting = over(rt.alloc(), made(&rt, 0, 0)?)?;
-    let line = "check --serial --sdp p.sdp --tai 37 a.pcap";
-    judges(&rt, line, &setting, "pass, bucket 1 of 4", Status::Pass)
 }

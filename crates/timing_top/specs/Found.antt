@@ -1,0 +1,49 @@
+-- What was found in captures, and how their judging goes on.
+use Rattle.std.specs.Prelude.{◌≡◌, ◌+◌, ◌^◌, ℕ, List, [], ◌∷◌, ◌++◌, length, map, Option, Some, Result, IfOk, IfErr}
+use Rattle.timing_base.specs.Captures.{Record, joined, raised}
+use Rattle.timing_base.specs.Media.{Media}
+use Rattle.timing_base.specs.declared.capture.FileNote.{FileNote}
+use Rattle.timing_base.specs.declared.row.Row.{Row}
+use Rattle.pcap_reader.specs.Records.{AreRecords, Records}
+use Rattle.flow_bank.specs.Rows.{rows_of, rows_of_files}
+use Rattle.flow_bank.specs.Stands.{StandsFor}
+use Rattle.flow_bank.specs.declared.bank.Bank.{Bank}
+use Rattle.flow_bank.specs.declared.records.Taken.{Taken}
+use Rattle.timing_report.specs.declared.status.Input.TheVariants.{Capture}
+use Rattle.timing_steps.specs.Answers.{AreTold, CaptureRose}
+use Rattle.timing_steps.specs.Fetched.{AreFetched, OnReadFault}
+use Rattle.timing_steps.specs.declared.failure.Failure.{Failure}
+
+-- a capture was taken: how it ends, how many records it has, and that the bank took them, numbered on
+pub record TakesCapture (text : List ℕ) (before : ℕ) (old new : Bank) (taken : Taken) : Type 0 where
+  pub items : List Record
+  pub records : Records text (2 ^ 40) items taken.note
+  pub count : taken.records ≡ length items
+  pub stands : (media : List Media) (file tai : ℕ) (earlier : List Record)
+      → StandsFor media file tai old earlier → StandsFor media file tai new (earlier ++ map (raised before) items)
+
+-- one capture more was judged by itself: its note and its rows stand at the ends
+pub record FindsNext (text : List ℕ) (media : List Media) (tai file : ℕ) (old_notes new_notes : List FileNote) (old_rows new_rows : List Row) : Type 0 where
+  pub items : List Record
+  pub note : FileNote
+  pub records : Records text (2 ^ 40) items note
+  pub notes : new_notes ≡ old_notes ++ note ∷ []
+  pub rows : new_rows ≡ old_rows ++ rows_of tai file media items
+
+-- the captures of these texts end so, and have these rows, each by itself
+pub record AreFound (texts : List (List ℕ)) (media : List Media) (tai : ℕ) (notes : List FileNote) (rows : List Row) : Type 0 where
+  pub files : List (List Record)
+  pub records : AreRecords texts files notes
+  pub rows_are : rows ≡ rows_of_files tai 0 media files
+
+-- of the captures of these names some were judged, and the sources of the others are ahead; or one couldn't be read
+pub record Judging {S : Type 0} (name : S → List ℕ) (left : S → Option (List ℕ)) (faults : S → ℕ)
+    (texts : List ℕ → Option (List ℕ)) (before now : List ℕ → ℕ) (media : List Media) (tai : ℕ) (names : List (List ℕ))
+    (rest : List S) (outcome : Result (Unit {0}) Failure) (notes : List FileNote) (rows : List Row) : Type 0 where
+  pub done : List (List ℕ)
+  pub ahead : List (List ℕ)
+  pub whole : names ≡ done ++ ahead
+  pub fetched : AreFetched name left faults texts ahead rest
+  pub count : IfOk outcome (λ _. length notes ≡ length done)
+  pub told : IfOk outcome (λ _. (read : List (List ℕ)) → AreTold texts done read → AreFound read media tai notes rows)
+  pub cause : IfErr outcome (λ e. OnReadFault e (λ i. (number : ℕ) × (i ≡ Capture number) × CaptureRose before now names number))
