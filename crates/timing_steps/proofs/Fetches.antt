@@ -1,14 +1,15 @@
 -- Sources that are fetched one by one.
 use Rattle.std.proofs.Common.{◌≡◌, ◌≤◌, ◌<◌, ◌+◌, ℕ, zero, suc, List, [], ◌∷◌, ◌++◌, length, take, Option, refl, arith, ap, ◌∙◌, sym, subst, add-one}
-use Rattle.std.specs.Prelude.{IsErrOf, Result, Err, slice_index_or}
+use Rattle.std.proofs.lemmas.List.Elements.{All-append, All-cons, All-nil}
+use Rattle.std.specs.Prelude.{IsErrOf, Result, Ok, Err, slice_index_or}
 use Rattle.timing_outside.specs.Causes.{Rose}
 use Rattle.timing_outside.specs.declared.shelf.OpenFault.{OpenFault}
 use Rattle.timing_outside.specs.declared.shelf.OpenFault.TheVariants.{Failed, OutOfMemory}
 use Rattle.timing_report.specs.declared.status.Input.{Input}
 use Rattle.timing_report.specs.declared.status.Input.TheVariants.{Capture}
-use Rattle.timing_steps.specs.Answers.{CaptureRose}
+use Rattle.timing_steps.specs.Answers.{AreThere, CaptureRose, OnReadFault}
 use Rattle.timing_steps.specs.declared.failure.Failure.{Failure}
-use Rattle.timing_steps.specs.Fetched.{AreFetched, OnReadFault, unread}
+use Rattle.timing_steps.specs.Fetched.{AreFetched, unread}
 
 -- one name and its source more
 pub fetched-push : {S : Type 0} (name : S → List ℕ) (left : S → Option (List ℕ)) (faults : S → ℕ) (texts : List ℕ → Option (List ℕ)) (names : List (List ℕ)) (n : List ℕ) (sources : List S) (s : S)
@@ -18,6 +19,11 @@ fetched-push name left faults texts [] n (x ∷ xs) s before named whole fresh =
 fetched-push name left faults texts (m ∷ ms) n [] s before named whole fresh = absurd before
 fetched-push name left faults texts (m ∷ ms) n (x ∷ xs) s before named whole fresh =
     (before.0, before.1, before.2, fetched-push name left faults texts ms n xs s before.3 named whole fresh)
+
+-- one name more that the shelf doesn't lack, by what it said then and before
+pub there-push : (before now : List ℕ → Type 0) (names : List (List ℕ)) (n : List ℕ) → AreThere before names → ((m : List ℕ) → before m → now m) → ¬ now n → AreThere before (names ++ n ∷ [])
+there-push before now names n h kept there =
+    All-append (λ m. ¬ before m) names (n ∷ []) h (All-cons (λ m. ¬ before m) n [] (λ lacks. there (kept n lacks)) (All-nil (λ m. ¬ before m)))
 
 -- the first names, and the next one
 pub take-next : (names : List (List ℕ)) (k : ℕ) → k < length names → take (k + 1) names ≡ take k names ++ slice_index_or names k [] ∷ []
@@ -49,3 +55,10 @@ fetch-cause before mid now names number name asked fault e within is same later 
 -- an answer with this fault
 pub err-of : {S : Type 0} (r : Result S OpenFault) (fault : OpenFault) → r ≡ Err fault → fault ≡ Failed → IsErrOf r Failed
 err-of r fault e h = e ∙ ap Err h
+
+-- a source is no fault
+pub not-err : {S : Type 0} (r : Result S OpenFault) (s : S) → r ≡ Ok s → IsErrOf r Failed → ⊥
+not-err r s e failed = subst (λ x. IsErrOf x Failed → ⊥) (sym e) (λ h. ok-no-err s h) failed
+  where
+    ok-no-err : (s : S) → IsErrOf (Ok s) Failed → ⊥
+    ok-no-err s ()

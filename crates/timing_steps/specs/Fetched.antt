@@ -6,12 +6,6 @@ use Rattle.timing_report.specs.declared.status.Input.{Input}
 use Rattle.timing_steps.specs.declared.failure.Failure.{Failure}
 use Rattle.timing_steps.specs.declared.failure.Failure.TheVariants as failure
 
--- of a read fault alone
-abbrev pub OnReadFault : Failure → (Input → Type 0) → Type 0
-OnReadFault (failure.ReadFault input) P = P input
-OnReadFault failure.WriteFault P = ⊥
-OnReadFault failure.OutOfMemory P = ⊤
-
 -- the sources are those of these names, each whole and without a fault
 abbrev pub AreFetched : {S : Type 0} → (name : S → List ℕ) → (left : S → Option (List ℕ)) → (faults : S → ℕ)
     → (texts : List ℕ → Option (List ℕ)) → List (List ℕ) → List S → Type 0

@@ -1,12 +1,13 @@
 -- How a run ends: what it leaves on its sinks, and its status.
-use Rattle.std.specs.Prelude.{◌≡◌, ◌≤◌, ◌⊎◌, ℕ, List, Option, Result, Ok, Err}
+use Rattle.std.specs.Prelude.{◌≡◌, ◌≤◌, ◌⊎◌, ℕ, ⊤, List, Option, Result, Ok, Err}
 use Rattle.std.specs.Io.KnownBytes.{Appends, Keeps}
 use Rattle.timing_outside.specs.Causes.{Rose}
 use Rattle.timing_outside.specs.Written.{AppendsFront}
 use Rattle.timing_report.specs.Status.{error_line}
+use Rattle.timing_report.specs.declared.status.Input.{Input}
 use Rattle.timing_report.specs.declared.status.Status.{Status}
 use Rattle.timing_report.specs.declared.status.Status.TheVariants as status
-use Rattle.timing_steps.specs.Answers.{Answer}
+use Rattle.timing_steps.specs.Answers.{Answer, OnReadFault}
 use Rattle.timing_steps.specs.declared.failure.Failure.{Failure}
 use Rattle.timing_steps.specs.declared.failure.Failure.TheVariants as failure
 
@@ -40,11 +41,24 @@ Leaves o (Err failure) ends = (ends ≡ status_of failure) × Keeps o.old o.new
 abbrev pub TellsLine : Output → Status → Type 0
 TellsLine e ends = Appended e (error_line ends) ⊎ Broke e (error_line ends)
 
--- a run: an answer or why there is none, what follows for it, and how it ends. `Follows` says which answers the request
--- and its texts define.
-pub record Ran (Follows : Result Answer Failure → Type 0) (o e : Output) (ends : Status) : Type 0 where
+-- the status of a defined answer: none that a failure has
+abbrev pub IsAnswered : Status → Type 0
+IsAnswered (status.ReadFault input) = ⊥
+IsAnswered status.WriteFault = ⊥
+IsAnswered status.OutOfMemory = ⊥
+IsAnswered ends = ⊤
+
+-- an input that couldn't be read is one of which this holds, and an answer has a status of its own
+abbrev pub HasCause : Result Answer Failure → (Input → Type 0) → Type 0
+HasCause (Ok answer) InputRose = IsAnswered answer.status
+HasCause (Err failure) InputRose = OnReadFault failure InputRose
+
+-- a run: an answer or why there is none, what follows for it, its cause, and how it ends. `Follows` says which answers the
+-- request and its texts define, in the order in which its inputs are read, and `InputRose` of which inputs the count rose.
+pub record Ran (Follows : Result Answer Failure → Type 0) (InputRose : Input → Type 0) (o e : Output) (ends : Status) : Type 0 where
   pub outcome : Result Answer Failure
   pub follows : Follows outcome
+  pub cause : HasCause outcome InputRose
   pub printed : Leaves o outcome ends
   pub told : TellsLine e ends
   pub later_out : o.before ≤ o.now

@@ -3,8 +3,8 @@
 ghost use Rattle.std.specs.Prelude.{◌≡◌, ◌≤◌, ℕ, List, Some, IfOk, IfErr, length};
 ghost use Rattle.sdp_reader.specs.Session.{session};
 ghost use Rattle.timing_outside.specs.Causes.{Rose};
-ghost use Rattle.timing_steps.specs.Answers.{CaptureRose};
-ghost use Rattle.timing_steps.specs.Fetched.{AreFetched, OnReadFault};
+ghost use Rattle.timing_steps.specs.Answers.{AreThere, CaptureRose, OnReadFault};
+ghost use Rattle.timing_steps.specs.Fetched.{AreFetched};
 
 use crate::failure::Failure;
 use crate::text::fetch_front;
@@ -27,6 +27,8 @@ pub fn fetch_session<H: Shelf>(
         → session text ≡ read) }
     ensures cause { IfErr result (λ e. OnReadFault e (λ i. (i ≡ Input.Sdp)
         × Rose (H.faults shelf.old name.now) (H.faults shelf.new name.now))) }
+    ensures there { IfOk result (λ _. ¬ H.lacks shelf.old name.now) }
+    ensures lacks { (n : List ℕ) → H.lacks shelf.old n → H.lacks shelf.new n }
     ensures texts { (n : List ℕ) → H.text shelf.new n ≡ H.text shelf.old n }
     ensures later { (n : List ℕ) → H.faults shelf.old n ≤ H.faults shelf.new n }
 {
@@ -54,6 +56,8 @@ fn fetch_each<H: Shelf>(
         (H.text shelf.old) names.now sources.new.items) }
     ensures cause { IfErr result (λ e. OnReadFault e (λ i. (number : ℕ) × (i ≡ Input.Capture number)
         × CaptureRose (H.faults shelf.old) (H.faults shelf.new) names.now number)) }
+    ensures there { IfOk result (λ _. AreThere (H.lacks shelf.old) names.now) }
+    ensures lacks { (n : List ℕ) → H.lacks shelf.old n → H.lacks shelf.new n }
     ensures texts { (n : List ℕ) → H.text shelf.new n ≡ H.text shelf.old n }
     ensures later { (n : List ℕ) → H.faults shelf.old n ≤ H.faults shelf.new n }
 {
@@ -74,6 +78,7 @@ fn fetch_each<H: Shelf>(
 
 /// Gives these sources back to the shelf that they are of.
 pub fn give_back_all<H: Shelf>(shelf: &mut H, sources: Vec<H::Source>)
+    ensures lacks { (n : List ℕ) → H.lacks shelf.old n → H.lacks shelf.new n }
     ensures texts { (n : List ℕ) → H.text shelf.new n ≡ H.text shelf.old n }
     ensures later { (n : List ℕ) → H.faults shelf.old n ≤ H.faults shelf.new n }
 {
@@ -94,6 +99,8 @@ pub fn fetch_captures<H: Shelf>(
         H.Source.faults (H.text shelf.old) names.now sources.items) }
     ensures cause { IfErr result (λ e. OnReadFault e (λ i. (number : ℕ) × (i ≡ Input.Capture number)
         × CaptureRose (H.faults shelf.old) (H.faults shelf.new) names.now number)) }
+    ensures there { IfOk result (λ _. AreThere (H.lacks shelf.old) names.now) }
+    ensures lacks { (n : List ℕ) → H.lacks shelf.old n → H.lacks shelf.new n }
     ensures texts { (n : List ℕ) → H.text shelf.new n ≡ H.text shelf.old n }
     ensures later { (n : List ℕ) → H.faults shelf.old n ≤ H.faults shelf.new n }
 {

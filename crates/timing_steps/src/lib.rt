@@ -7,6 +7,7 @@
 mod answer;
 mod failure;
 mod fetch;
+pub mod laws;
 mod print;
 mod text;
 

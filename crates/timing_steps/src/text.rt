@@ -73,6 +73,8 @@ pub fn fetch_front<H: Shelf>(
 ) -> Result<Vec<u8>, OpenFault>
     ensures text { IfOk result (λ v. (t : List ℕ) → H.text shelf.old name.now ≡ Some t → v.items ≡ take most t) }
     ensures failed { IsErrOf result OpenFault.Failed → Rose (H.faults shelf.old name.now) (H.faults shelf.new name.now) }
+    ensures there { IfOk result (λ _. ¬ H.lacks shelf.old name.now) }
+    ensures lacks { (n : List ℕ) → H.lacks shelf.old n → H.lacks shelf.new n }
     ensures texts { (n : List ℕ) → H.text shelf.new n ≡ H.text shelf.old n }
     ensures later { (n : List ℕ) → H.faults shelf.old n ≤ H.faults shelf.new n }
 {

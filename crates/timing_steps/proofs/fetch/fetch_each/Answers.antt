@@ -1,8 +1,9 @@
 use Rattle.std.proofs.Common.{rules, ◌≡◌, ◌∙◌, sym, ap, refl, subst, length, []}
 use Rattle.std.specs.Prelude.{slice_index_or}
 use Rattle.std.proofs.lemmas.List.{get_or_read_under}
+use Rattle.timing_steps.specs.Answers.{AreThere}
 use Rattle.timing_steps.specs.Fetched.{AreFetched}
-use Rattle.timing_steps.proofs.Fetches.{err-of, fetch-cause, fetched-push, take-next}
+use Rattle.timing_steps.proofs.Fetches.{err-of, not-err, there-push, fetch-cause, fetched-push, take-next}
 use Rattle.timing_steps.proofs.fetch.fetch_each.Goals as goal
 
 pub returns-in-Err-clause-cause : goal.returns-in-Err-clause-cause
@@ -24,6 +25,11 @@ loop-number-preserved g c =
           (subst (AreFetched g.H.Source.Source.name g.H.Source.Source.left g.H.Source.Source.faults (g.H.Shelf.text c.args.shelf.now) _) (sym c.in_default.ensures.items)
           (fetched-push _ _ _ _ _ _ _ c.in-Ok.source c.loop-number.invariant.fetched (c.in-Ok.ensures.named ∙ name)
           (c.in-Ok.ensures.whole ∙ c.loop-number.invariant.texts _ ∙ ap (g.H.Shelf.text c.args.shelf.now) name) c.in-Ok.ensures.fresh));
+      there =
+          subst (AreThere (g.H.Shelf.lacks c.args.shelf.now)) (sym (take-next c.args.names.now c.loop-number.number (search rules)))
+          (there-push (g.H.Shelf.lacks c.args.shelf.now) (g.H.Shelf.lacks c.loop-number.shelf) _ _ c.loop-number.invariant.there c.loop-number.invariant.lacks
+          (λ lacks. not-err c.fetch.result c.in-Ok.source c.in-Ok.is (c.fetch.ensures.missing (subst (g.H.Shelf.lacks c.loop-number.shelf) (sym name) lacks))));
+      lacks = search rules;
       texts = search rules;
       later = search rules;
     }
