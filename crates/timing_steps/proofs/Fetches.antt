@@ -46,19 +46,24 @@ pub fetch-cause : (before mid now : List ℕ → ℕ) (names : List (List ℕ)) 
     → OnReadFault e (λ i. (x : ℕ) × (i ≡ Capture x) × CaptureRose before now names x)
 fetch-cause before mid now names number name asked fault e within is same later rose told =
     subst (λ failure. OnReadFault failure (λ i. (x : ℕ) × (i ≡ Capture x) × CaptureRose before now names x)) (sym told)
-    (unread-cause fault (Capture number) (λ i. (x : ℕ) × (i ≡ Capture x) × CaptureRose before now names x) (λ failed.
-    (number, refl, record {
-      within = within;
-      rose = subst (λ n. Rose (before n) (now n)) (same ∙ sym is) (rose-earlier (before asked) (mid asked) (now asked) (later asked) (rose failed));
-    })))
+    (unread-cause fault (Capture number) (λ i. (x : ℕ) × (i ≡ Capture x) × CaptureRose before now names x) (λ failed. (
+      number,
+      refl,
+      record {
+        within = within;
+        rose = subst (λ n. Rose (before n) (now n)) (same ∙ sym is) (rose-earlier (before asked) (mid asked) (now asked) (later asked) (rose failed));
+      },
+    )))
 
 -- an answer with this fault
 pub err-of : {S : Type 0} (r : Result S OpenFault) (fault : OpenFault) → r ≡ Err fault → fault ≡ Failed → IsErrOf r Failed
 err-of r fault e h = e ∙ ap Err h
 
+-- of an answer that isn't this fault
+abbrev Fetched : {S : Type 0} → Result S OpenFault → Type 0
+Fetched (Ok s) = Unit {0}
+Fetched (Err e) = ⊥
+
 -- a source is no fault
 pub not-err : {S : Type 0} (r : Result S OpenFault) (s : S) → r ≡ Ok s → IsErrOf r Failed → ⊥
-not-err r s e failed = subst (λ x. IsErrOf x Failed → ⊥) (sym e) (λ h. ok-no-err s h) failed
-  where
-    ok-no-err : (s : S) → IsErrOf (Ok s) Failed → ⊥
-    ok-no-err s ()
+not-err r s e failed = subst Fetched (sym e ∙ failed) tt

@@ -1,2 +1,3 @@
 mod Fetches
 mod Sessions
+mod Endings

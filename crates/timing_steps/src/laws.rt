@@ -1,23 +1,27 @@
 //! What holds of the definitions themselves. Each function is a theorem: it does nothing, and its
 //! clauses are proved.
 
-ghost use Rattle.std.specs.Prelude.{◌≡◌, ◌×◌, List, ℕ, Result};
-ghost use Rattle.timing_outside.specs.Causes.{Rose};
+ghost use Rattle.std.specs.Prelude.{◌≡◌, ⊤, List, ℕ, Result, Ok, Err};
 ghost use Rattle.timing_report.specs.declared.status.Input.{Input};
 ghost use Rattle.timing_report.specs.declared.status.Status.{Status};
 ghost use Rattle.timing_report.specs.declared.status.Status.TheVariants as status;
 ghost use Rattle.timing_steps.specs.Answers.{Answer};
-ghost use Rattle.timing_steps.specs.Ran.{Appended, Broke, IsAnswered, Output, Ran};
+ghost use Rattle.timing_steps.specs.Ran.{Appended, Broke, HasCause, IsAnswered, Leaves, Output};
 ghost use Rattle.timing_steps.specs.declared.failure.Failure.{Failure};
+ghost use Rattle.timing_steps.specs.declared.failure.Failure.TheVariants as failure;
 
-/// What a status says of a run, whatever its request is. A read fault names an input whose count rose.
-/// After a write fault the count of standard output rose, and a front of a text stands there that isn't
-/// the whole. After a status that an answer has, the whole text of a defined answer stands there.
+/// What the status of a run says, whatever its request is. A read fault is the outcome's own, so the
+/// count of the input rose that it names. After a write fault the count of standard output rose, and a
+/// front of the answer stands there that isn't the whole. After the status of an answer that answer is
+/// the outcome, and its whole text stands there.
 pub fn statuses_have_causes()
-    ensures read { (Follows : Result Answer Failure → Type 0) (InputRose : Input → Type 0) (o e : Output) (ends : Status) (input : Input)
-        → Ran Follows InputRose o e ends → ends ≡ status.ReadFault input → InputRose input }
-    ensures write { (Follows : Result Answer Failure → Type 0) (InputRose : Input → Type 0) (o e : Output) (ends : Status)
-        → Ran Follows InputRose o e ends → ends ≡ status.WriteFault → (text : List ℕ) × Broke o text }
-    ensures answered { (Follows : Result Answer Failure → Type 0) (InputRose : Input → Type 0) (o e : Output) (ends : Status)
-        → Ran Follows InputRose o e ends → IsAnswered ends → (answer : Answer) × (answer.status ≡ ends) × Appended o answer.text }
+    ensures read { (o : Output) (outcome : Result Answer Failure) (ends : Status) (input : Input)
+        → Leaves o outcome ends → HasCause outcome (λ i. ⊤) → ends ≡ status.ReadFault input
+        → outcome ≡ Err (failure.ReadFault input) }
+    ensures write { (o : Output) (outcome : Result Answer Failure) (ends : Status)
+        → Leaves o outcome ends → HasCause outcome (λ i. ⊤) → ends ≡ status.WriteFault
+        → (answer : Answer) × (outcome ≡ Ok answer) × Broke o answer.text }
+    ensures answered { (o : Output) (outcome : Result Answer Failure) (ends : Status)
+        → Leaves o outcome ends → HasCause outcome (λ i. ⊤) → IsAnswered ends
+        → (answer : Answer) × (outcome ≡ Ok answer) × (answer.status ≡ ends) × Appended o answer.text }
 {}

@@ -9,14 +9,14 @@ use Rattle.timing_steps.proofs.fetch.fetch_each.Goals as goal
 pub returns-in-Err-clause-cause : goal.returns-in-Err-clause-cause
 returns-in-Err-clause-cause g c =
     let named : slice_index_or c.args.names.now c.loop-number.number [] ≡ c.index-names-number.result =
-        sym (get_or_read_under c.args.names.now c.loop-number.number (length c.args.names.now) c.index-names-number.result [] c.index-names-number.is (search rules) refl) in
+    sym (get_or_read_under c.args.names.now c.loop-number.number (length c.args.names.now) c.index-names-number.result [] c.index-names-number.is (search rules) refl) in
     fetch-cause _ (g.H.Shelf.faults c.loop-number.shelf) _ _ c.loop-number.number _ c.as_str.result.now c.in-Err.fault _ (search rules) named c.as_str.ensures.text c.loop-number.invariant.later
     (λ failed. c.fetch.ensures.failed (err-of c.fetch.result c.in-Err.fault c.in-Err.is failed)) c.of_input.ensures
 
 pub loop-number-preserved : goal.loop-number-preserved
 loop-number-preserved g c =
     let named : slice_index_or c.args.names.now c.loop-number.number [] ≡ c.index-names-number.result =
-        sym (get_or_read_under c.args.names.now c.loop-number.number (length c.args.names.now) c.index-names-number.result [] c.index-names-number.is (search rules) refl) in
+    sym (get_or_read_under c.args.names.now c.loop-number.number (length c.args.names.now) c.index-names-number.result [] c.index-names-number.is (search rules) refl) in
     let name : c.as_str.result.now ≡ slice_index_or c.args.names.now c.loop-number.number [] = c.as_str.ensures.text ∙ sym named in
     record {
       within = search rules;
