@@ -1,7 +1,7 @@
 -- Sources that are fetched one by one.
-use Rattle.std.proofs.Common.{◌≡◌, ◌≤◌, ◌<◌, ◌+◌, ℕ, zero, suc, List, [], ◌∷◌, ◌++◌, length, take, Option, refl, arith, ap, ◌∙◌, sym, subst, add-one}
-use Rattle.std.proofs.lemmas.List.Elements.{All-append, All-cons, All-nil}
-use Rattle.std.specs.Prelude.{IsErrOf, Result, Ok, Err, slice_index_or}
+use Rattle.std.proofs.Common.{◌≡◌, ◌≤◌, ◌<◌, ◌+◌, ℕ, zero, suc, List, [], ◌∷◌, ◌++◌, length, take, Option, refl, arith, ap, ◌∙◌, sym, subst, add-one, append_assoc, append-nil}
+use Rattle.std.proofs.lemmas.List.Elements.{All-append, All-cons, All-nil, All-push, All-weaker}
+use Rattle.std.specs.Prelude.{All, IsErrOf, Result, Ok, Err, slice_index_or}
 use Rattle.timing_outside.specs.Causes.{Rose}
 use Rattle.timing_outside.specs.declared.shelf.OpenFault.{OpenFault}
 use Rattle.timing_outside.specs.declared.shelf.OpenFault.TheVariants.{Failed, OutOfMemory}
@@ -9,7 +9,7 @@ use Rattle.timing_report.specs.declared.status.Input.{Input}
 use Rattle.timing_report.specs.declared.status.Input.TheVariants.{Capture}
 use Rattle.timing_steps.specs.Answers.{AreThere, CaptureRose, OnReadFault}
 use Rattle.timing_steps.specs.declared.failure.Failure.{Failure}
-use Rattle.timing_steps.specs.Fetched.{AreFetched, unread}
+use Rattle.timing_steps.specs.Fetched.{AreFetched, Returning, unread}
 
 -- one name and its source more
 pub fetched-push : {S : Type 0} (name : S → List ℕ) (left : S → Option (List ℕ)) (faults : S → ℕ) (texts : List ℕ → Option (List ℕ)) (names : List (List ℕ)) (n : List ℕ) (sources : List S) (s : S)
@@ -67,3 +67,35 @@ Fetched (Err e) = ⊥
 -- a source is no fault
 pub not-err : {S : Type 0} (r : Result S OpenFault) (s : S) → r ≡ Ok s → IsErrOf r Failed → ⊥
 not-err r s e failed = subst Fetched (sym e ∙ failed) tt
+
+-- no source went back yet
+pub returning-start : {S : Type 0} (name : S → List ℕ) (faults : S → ℕ) (before : List ℕ → ℕ) (all rest : List S) → rest ≡ all → Returning name faults before before all rest
+returning-start name faults before all rest e = record {
+  done = [];
+  whole = sym e;
+  raised = All-nil (λ s. 0 < faults s → Rose (before (name s)) (before (name s)));
+}
+
+-- one source more went back
+pub returning-next : {S : Type 0} (name : S → List ℕ) (faults : S → ℕ) (before mid now : List ℕ → ℕ) (all some rest : List S) (s : S)
+    → some ≡ s ∷ rest → ((n : List ℕ) → before n ≤ mid n) → ((n : List ℕ) → mid n ≤ now n) → (0 < faults s → Rose (mid (name s)) (now (name s)))
+    → Returning name faults before mid all some → Returning name faults before now all rest
+returning-next name faults before mid now all some rest s e earlier later rose h = record {
+  done = h.done ++ s ∷ [];
+  whole = h.whole ∙ ap (λ l. h.done ++ l) e ∙ sym (append_assoc h.done (s ∷ []) rest);
+  raised =
+      All-push (λ x. 0 < faults x → Rose (before (name x)) (now (name x))) h.done s
+      (All-weaker (λ x. 0 < faults x → Rose (before (name x)) (mid (name x))) (λ x. 0 < faults x → Rose (before (name x)) (now (name x)))
+      (λ x r failed. rose-later (before (name x)) (mid (name x)) (now (name x)) (later (name x)) (r failed)) h.done h.raised)
+      (λ failed. rose-earlier (before (name s)) (mid (name s)) (now (name s)) (earlier (name s)) (rose failed));
+}
+  where
+    rose-later : (a b c : ℕ) → b ≤ c → Rose a b → Rose a c
+    rose-later a b c h r = omega (arith, h, r)
+
+-- all went back
+pub returning-all : {S : Type 0} (name : S → List ℕ) (faults : S → ℕ) (before now : List ℕ → ℕ) (all rest : List S) → length rest ≡ 0 → Returning name faults before now all rest
+    → All (λ s. 0 < faults s → Rose (before (name s)) (now (name s))) all
+returning-all name faults before now all [] none h =
+    subst (All (λ s. 0 < faults s → Rose (before (name s)) (now (name s)))) (sym (h.whole ∙ append-nil h.done)) h.raised
+returning-all name faults before now all (s ∷ rest) none h = absurd (omega (arith, none))

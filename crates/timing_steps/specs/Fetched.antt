@@ -1,5 +1,6 @@
 -- What the steps that fetch say to each other.
-use Rattle.std.specs.Prelude.{◌≡◌, ℕ, ⊤, List, [], ◌∷◌, Option}
+use Rattle.std.specs.Prelude.{◌≡◌, ◌<◌, ℕ, ⊤, List, [], ◌∷◌, ◌++◌, All, Option}
+use Rattle.timing_outside.specs.Causes.{Rose}
 use Rattle.timing_outside.specs.declared.shelf.OpenFault.{OpenFault}
 use Rattle.timing_outside.specs.declared.shelf.OpenFault.TheVariants as why
 use Rattle.timing_report.specs.declared.status.Input.{Input}
@@ -19,3 +20,9 @@ AreFetched name left faults texts (n ∷ ns) (s ∷ ss) =
 abbrev pub unread : OpenFault → Input → Failure
 unread why.Failed i = failure.ReadFault i
 unread why.OutOfMemory i = failure.OutOfMemory
+
+-- of these sources those ahead are still to go back; where a read of another had failed, the count of its name rose
+pub record Returning {S : Type 0} (name : S → List ℕ) (faults : S → ℕ) (before now : List ℕ → ℕ) (all ahead : List S) : Type 0 where
+  pub done : List S
+  pub whole : all ≡ done ++ ahead
+  pub raised : All (λ s. 0 < faults s → Rose (before (name s)) (now (name s))) done

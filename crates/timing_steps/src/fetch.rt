@@ -1,6 +1,6 @@
 //! The texts of a request's names: the session of a description, and the sources of captures.
 
-ghost use Rattle.std.specs.Prelude.{◌≡◌, ◌≤◌, ℕ, List, Some, IfOk, IfErr, length};
+ghost use Rattle.std.specs.Prelude.{◌≡◌, ◌≤◌, ◌<◌, ℕ, List, All, Some, IfOk, IfErr, length};
 ghost use Rattle.sdp_reader.specs.Session.{session};
 ghost use Rattle.timing_outside.specs.Causes.{Rose};
 ghost use Rattle.timing_steps.specs.Answers.{AreThere, CaptureRose, OnReadFault};
@@ -76,8 +76,12 @@ fn fetch_each<H: Shelf>(
     Ok(())
 }
 
-/// Gives these sources back to the shelf that they are of.
+/// Gives these sources back to the shelf that they are of. Where a read of one has failed, the count
+/// of its name rises.
 pub fn give_back_all<H: Shelf>(shelf: &mut H, sources: Vec<H::Source>)
+    ensures raised { All (λ source. 0 < H.Source.faults source
+        → Rose (H.faults shelf.old (H.Source.name source))
+        (H.faults shelf.new (H.Source.name source))) sources.items }
     ensures lacks { (n : List ℕ) → H.lacks shelf.old n → H.lacks shelf.new n }
     ensures texts { (n : List ℕ) → H.text shelf.new n ≡ H.text shelf.old n }
     ensures later { (n : List ℕ) → H.faults shelf.old n ≤ H.faults shelf.new n }
