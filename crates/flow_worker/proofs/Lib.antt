@@ -1,0 +1,12 @@
+pub mod Lists
+pub mod Batches
+pub mod Lanes
+pub mod Ends
+pub mod Media
+pub mod Joined
+pub mod Posting
+pub mod Files
+pub mod Steps
+pub mod Rows
+pub mod Cutting
+pub mod Reported

@@ -1,0 +1,53 @@
+-- What holds in the machine at every moment, and what its laws ask of a run.
+use Rattle.std.specs.Prelude.{◌≡◌, ◌≤◌, ◌==◌, ℕ, Bool, nat_lt, if◌then◌else◌, List, ◌++◌, length, slice_get, Some, IsTrue, All}
+use Rattle.timing_base.specs.Media.{Media}
+use Rattle.timing_base.specs.Targets.{target_of}
+use Rattle.timing_base.specs.declared.key.FlowKey.{FlowKey}
+use Rattle.timing_base.specs.declared.row.Row.{Row}
+use Rattle.flow_worker.specs.Messages.{Message, has_end, of_file}
+use Rattle.flow_worker.specs.Opening.{Capture, Setting, for_lane, messages}
+use Rattle.flow_worker.specs.Posting.{is_key, key_lane, key_row}
+use Rattle.flow_worker.specs.World.{State, times}
+
+-- no two media have one target
+abbrev pub HaveOwnTargets : List Media → Type 0
+HaveOwnTargets media = (i j : ℕ) (m n : Media) → slice_get media i ≡ Some m → slice_get media j ≡ Some n
+    → target_of m ≡ target_of n → i ≡ j
+
+-- there is a worker, and no two media of the session have one target
+pub record IsSetting (s : Setting) : Type 0 where
+  pub some : 1 ≤ s.workers
+  pub targets : HaveOwnTargets s.media
+
+-- the first list is the beginning of the second
+abbrev pub IsPrefix : List Message → List Message → Type 0
+IsPrefix xs whole = (later : List Message) × (xs ++ later ≡ whole)
+
+-- the messages of a file that were taken from a lane begin all that there are, and its end is among them
+pub record HasTaken (s : Setting) (captures : List Capture) (lane : ℕ) (taken : List Message) (file : ℕ) : Type 0 where
+  pub in_order : IsPrefix (of_file file taken) (messages s captures file lane)
+  pub ended : IsTrue (has_end file taken)
+
+-- whether a flow is in this file: it is its own, or the files are joined
+abbrev pub is_in_file : Setting → (files : ℕ) → FlowKey → ℕ → Bool
+is_in_file s files key file = if s.joined then nat_lt file files else file == key.file
+
+-- of each file that the flow is in, what was taken begins all that there is, and the end is among it
+abbrev pub HasTakenAll : Setting → List Capture → FlowKey → List Message → Type 0
+HasTakenAll s captures key taken = (file : ℕ) → IsTrue (is_in_file s (length captures) key file)
+    → HasTaken s captures (key_lane s key) taken file
+
+-- for each file and lane, what was taken, what is held and what is to be sent are the messages of the file for the lane
+abbrev pub IsInOrder : Setting → List Capture → State → Type 0
+IsInOrder s captures state = (file lane : ℕ)
+    → of_file file (state.taken lane) ++ (of_file file (state.held lane) ++ for_lane lane (state.todo file)) ≡ messages s captures file lane
+
+-- a row is that of its key, which is a key of the run
+pub record IsKeyRow (s : Setting) (captures : List Capture) (r : Row) : Type 0 where
+  pub key : IsTrue (is_key s (length captures) r.key)
+  pub row : r ≡ key_row s captures r.key
+
+-- each row that was posted is that of its key, and no key is posted twice
+pub record HasPosted (s : Setting) (captures : List Capture) (state : State) : Type 0 where
+  pub rows : All (IsKeyRow s captures) state.posted
+  pub once : (key : FlowKey) → times key state.posted ≤ 1

@@ -1,0 +1,9 @@
+-- what is promised
+pub mod Messages
+pub mod Opening
+pub mod Posting
+pub mod World
+pub mod Kept
+pub mod Cut
+-- a run that is worked by hand
+pub mod Examples

@@ -1,0 +1,109 @@
+-- The row that a worker makes for a flow of its own, from the messages that it took, and the row that it is to be.
+-- Files and media count from 0, records from 1.
+use Rattle.std.specs.Prelude.{ℕ, zero, suc, Bool, true, ◌&&◌, ◌+◌, nat_lt, if◌then◌else◌, false, List, [], ◌∷◌, ◌++◌, length, map, slice_get, slice_index_or, Option, Some, None}
+use Rattle.timing_base.specs.Captures.{Record, joined}
+use Rattle.timing_base.specs.Media.{Media}
+use Rattle.timing_base.specs.declared.key.FlowKey.{FlowKey}
+use Rattle.timing_base.specs.declared.packet.FlowPacket.{FlowPacket}
+use Rattle.timing_base.specs.declared.row.Row.{Row}
+use Rattle.udp_rtp.specs.Flow.{flow}
+use Rattle.fail_interval.specs.Row.{row}
+use Rattle.flow_bank.specs.Rows.{key_of}
+use Rattle.flow_worker.specs.Messages.{Message, file_packets, has_end, media_packets, records_told}
+use Rattle.flow_worker.specs.Opening.{Capture, Setting, media_lane}
+
+-- a media that isn't there
+abbrev pub no_media : Media
+no_media = record {
+  line = 0;
+  address = 0;
+  port = 0;
+  pt = 0;
+  width = 0;
+  height = 0;
+  interlaced = false;
+  p = 0;
+  q = 0;
+  declared = None;
+  troff = None;
+  cmax = None;
+}
+
+-- the media of a flow
+abbrev pub media_of : Setting → FlowKey → Media
+media_of s key = slice_index_or s.media key.media no_media
+
+-- whether this is the key of a flow of a run with so many files; files that are joined are one
+abbrev pub is_key : Setting → (files : ℕ) → FlowKey → Bool
+is_key s files key = nat_lt key.file (if s.joined then 1 else files) && nat_lt key.media (length s.media)
+
+-- the lane of a flow
+abbrev pub key_lane : Setting → FlowKey → ℕ
+key_lane s key = media_lane s key.file key.media
+
+-- a packet whose record counts so many records more
+abbrev pub raised_packet : ℕ → FlowPacket → FlowPacket
+raised_packet before p = record { rec = before + p.rec; at = p.at; rtp = p.rtp }
+
+-- the packets of a media in so many files from one on, by rising file, each file's in order and before its first end.
+-- Record numbers are raised by the records that the ends of the files before tell.
+abbrev pub joined_packets : (media before file count : ℕ) → List Message → List FlowPacket
+joined_packets media before file zero taken = []
+joined_packets media before file (suc n) taken =
+    map (raised_packet before) (media_packets media (file_packets file taken))
+    ++ joined_packets media (before + records_told file taken) (file + 1) n taken
+
+-- the packets of a flow that were taken: those of its file, or of all files where they are joined
+abbrev pub taken_packets : Setting → (files : ℕ) → List Message → FlowKey → List FlowPacket
+taken_packets s files taken key =
+    if s.joined then joined_packets key.media 0 0 files taken else media_packets key.media (file_packets key.file taken)
+
+-- the row of these packets
+abbrev pub row_over : Setting → FlowKey → List FlowPacket → Row
+row_over s key packets = row packets key (media_of s key) s.tai
+
+-- the row that is made of what was taken
+abbrev pub taken_row : Setting → (files : ℕ) → List Message → FlowKey → Row
+taken_row s files taken key = row_over s key (taken_packets s files taken key)
+
+-- whether an end of each of the first files was taken
+abbrev pub has_ends : (files : ℕ) → List Message → Bool
+has_ends zero taken = true
+has_ends (suc f) taken = has_ends f taken && has_end f taken
+
+-- whether an end was taken of each file that the flow is in
+abbrev pub is_whole : Setting → (files : ℕ) → List Message → FlowKey → Bool
+is_whole s files taken key = if s.joined then has_ends files taken else has_end key.file taken
+
+-- the records of a file, if it is there
+abbrev pub records_if : Option Capture → List Record
+records_if None = []
+records_if (Some c) = c.records
+
+-- the records that a flow is in: those of its file, or of all files as one
+abbrev pub key_records : Setting → List Capture → FlowKey → List Record
+key_records s captures key = if s.joined then joined (map (λ c. c.records) captures) else records_if (slice_get captures key.file)
+
+-- the row of a flow: that over its packets in these records
+abbrev pub key_row : Setting → List Capture → FlowKey → Row
+key_row s captures key = row_over s key (flow (key_records s captures key) (media_of s key))
+
+-- the keys of so many media of a file from one on, rising
+abbrev pub keys_from : (file media count : ℕ) → List FlowKey
+keys_from file media zero = []
+keys_from file media (suc n) = key_of file media ∷ keys_from file (media + 1) n
+
+-- the keys of so many files from one on, by rising file and then media
+abbrev pub keys_of_files : (first files media_count : ℕ) → List FlowKey
+keys_of_files first zero media_count = []
+keys_of_files first (suc n) media_count = keys_from first 0 media_count ++ keys_of_files (first + 1) n media_count
+
+-- the keys of a run with so many files
+abbrev pub keys : Setting → (files : ℕ) → List FlowKey
+keys s files = keys_of_files 0 (if s.joined then 1 else files) (length s.media)
+
+-- the files as they are judged: each for itself, or as one
+abbrev pub judged_files : Setting → List Capture → List (List Record)
+judged_files s captures =
+    let files = map (λ (c : Capture). c.records) captures in
+    if s.joined then joined files ∷ [] else files
