@@ -10,3 +10,5 @@ pub mod Steps
 pub mod Rows
 pub mod Cutting
 pub mod Reported
+pub mod Taking
+pub mod Senders

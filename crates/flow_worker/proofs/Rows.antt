@@ -54,7 +54,7 @@ may_post-true s files lane key state e =
     }
 
 -- the end of each of the first files is among the messages
-has_ends-at : (n f : ℕ) (taken : List Message) → has_ends n taken ≡ true → f < n → has_end f taken ≡ true
+pub has_ends-at : (n f : ℕ) (taken : List Message) → has_ends n taken ≡ true → f < n → has_end f taken ≡ true
 has_ends-at zero f taken e h = absurd (omega arith)
 has_ends-at (suc n) f taken e h =
     let t = and_parts (has_ends n taken) (has_end n taken) e in

@@ -27,7 +27,7 @@ of_file-push f ms m e =
     ∙ ap (λ (b : Bool). of_file f ms ++ cond b (m ∷ []) []) (eq-eqb (file_of m) f e)
 
 -- or one of another file
-of_file-push_other : (f : ℕ) (ms : List Message) (m : Message) → (file_of m ≡ f → ⊥) → of_file f (ms ++ m ∷ []) ≡ of_file f ms
+pub of_file-push_other : (f : ℕ) (ms : List Message) (m : Message) → (file_of m ≡ f → ⊥) → of_file f (ms ++ m ∷ []) ≡ of_file f ms
 of_file-push_other f ms m n =
     filter-append (λ (x : Message). eqb (file_of x) f) ms (m ∷ [])
     ∙ ap (λ (b : Bool). of_file f ms ++ cond b (m ∷ []) []) (ne_eqb (file_of m) f n) ∙ append-nil (of_file f ms)

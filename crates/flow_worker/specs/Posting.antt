@@ -1,6 +1,6 @@
 -- The row that a worker makes for a flow of its own, from the messages that it took, and the row that it is to be.
 -- Files and media count from 0, records from 1.
-use Rattle.std.specs.Prelude.{ℕ, zero, suc, Bool, true, ◌&&◌, ◌+◌, nat_lt, if◌then◌else◌, false, List, [], ◌∷◌, ◌++◌, length, map, slice_get, slice_index_or, Option, Some, None}
+use Rattle.std.specs.Prelude.{ℕ, zero, suc, Bool, true, ◌&&◌, ◌==◌, ◌+◌, filter, nat_lt, if◌then◌else◌, false, List, [], ◌∷◌, ◌++◌, length, map, slice_get, slice_index_or, Option, Some, None}
 use Rattle.timing_base.specs.Captures.{Record, joined}
 use Rattle.timing_base.specs.Media.{Media}
 use Rattle.timing_base.specs.declared.key.FlowKey.{FlowKey}
@@ -53,6 +53,11 @@ joined_packets media before file (suc n) taken =
     map (raised_packet before) (media_packets media (file_packets file taken))
     ++ joined_packets media (before + records_told file taken) (file + 1) n taken
 
+-- the records that the ends of so many files from one on tell, together
+abbrev pub told_by : (file count : ℕ) → List Message → ℕ
+told_by file zero taken = 0
+told_by file (suc n) taken = records_told file taken + told_by (file + 1) n taken
+
 -- the packets of a flow that were taken: those of its file, or of all files where they are joined
 abbrev pub taken_packets : Setting → (files : ℕ) → List Message → FlowKey → List FlowPacket
 taken_packets s files taken key =
@@ -101,6 +106,10 @@ keys_of_files first (suc n) media_count = keys_from first 0 media_count ++ keys_
 -- the keys of a run with so many files
 abbrev pub keys : Setting → (files : ℕ) → List FlowKey
 keys s files = keys_of_files 0 (if s.joined then 1 else files) (length s.media)
+
+-- those of them that are dealt to this lane
+abbrev pub own_keys : Setting → (files lane : ℕ) → List FlowKey
+own_keys s files lane = filter (λ key. key_lane s key == lane) (keys s files)
 
 -- the files as they are judged: each for itself, or as one
 abbrev pub judged_files : Setting → List Capture → List (List Record)

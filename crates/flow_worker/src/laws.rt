@@ -8,7 +8,7 @@ ghost use Rattle.timing_base.specs.declared.key.FlowKey.{FlowKey};
 ghost use Rattle.udp_rtp.specs.Flow.{flow};
 ghost use Rattle.flow_bank.specs.Examples.{packet_at};
 ghost use Rattle.flow_bank.specs.Rows.{key_of, rows_of_files};
-ghost use Rattle.flow_worker.specs.Examples.{early_steps, five_packets, later_steps, packet_of, second_of_first, second_of_second, to_lane, two_files, two_workers};
+ghost use Rattle.flow_worker.specs.Examples.{all_steps, early_steps, five_packets, later_steps, packet_of, second_of_first, second_of_second, to_lane, two_files, two_workers};
 ghost use Rattle.flow_worker.specs.Messages.{Message, media_packets};
 ghost use Rattle.flow_worker.specs.Messages.Message.{batch};
 ghost use Rattle.flow_worker.specs.Opening.{Capture, Setting, lane_packets, media_lane, messages, packet_lane, sent_of, session_packets};
@@ -17,19 +17,13 @@ ghost use Rattle.flow_worker.specs.World.{HasEnded, State, Step, after, after_st
 ghost use Rattle.flow_worker.specs.Cut.{AreWhole};
 ghost use Rattle.flow_worker.specs.Kept.{HasPosted, HasTakenAll, IsInOrder, IsSetting};
 
-/// The row that a worker makes for a flow of its own is the flow's row, whatever messages of other
-/// files it took, and in whatever order: it is enough that of each file that the flow is in, what it
-/// took begins the file's messages for its lane, and that an end of the file is among it.
-pub fn lists_alone()
-    ensures { (s : Setting) (captures : List Capture) (key : FlowKey) (taken : List Message)
-        → IsSetting s → IsTrue (is_key s (length captures) key)
-        → HasTakenAll s captures key taken
-        → taken_row s (length captures) taken key ≡ key_row s captures key }
-{}
-
 /// Each step keeps the messages of each file for each lane in order, whatever the state that it
-/// begins with. So in every run, at every moment, each row that was posted is its flow's row, and no
-/// flow's row was posted twice; and a run that has ended has posted the row of each flow once.
+/// begins with. So in every run, at every moment, each row that was posted is its flow's row, and
+/// no flow's row was posted twice; and a run that has ended has posted the row of each flow once.
+///
+/// The same holds of lists alone. The row that a worker makes for a flow of its own is the flow's
+/// row, whatever else it took and in whatever order: it is enough that of each file that the flow
+/// is in, what it took begins the file's messages for its lane, and that an end is among it.
 pub fn world_rows()
     ensures opens { (s : Setting) (captures : List Capture)
         → IsInOrder s captures (opening s captures) }
@@ -41,11 +35,15 @@ pub fn world_rows()
         → IsSetting s → HasEnded s (length captures) (after_steps s captures steps)
         → IsTrue (is_key s (length captures) key)
         → times key (after_steps s captures steps).posted ≡ 1 }
+    ensures lists { (s : Setting) (captures : List Capture) (key : FlowKey)
+        (taken : List Message) → IsSetting s → IsTrue (is_key s (length captures) key)
+        → HasTakenAll s captures key taken
+        → taken_row s (length captures) taken key ≡ key_row s captures key }
 {}
 
 /// What a file has to send to the lane of a worker is batches with the packets of the lane, in
-/// order, and then its end. Among the packets of a lane are all of a media that is dealt to it: they
-/// are the media's flow.
+/// order, and then its end. Among the packets of a lane are all of a media that is dealt to it:
+/// they are the media's flow.
 pub fn lanes_in_order()
     ensures whole { (s : Setting) (captures : List Capture) (file lane : ℕ) (c : Capture)
         → slice_get captures file ≡ Some c → lane < s.workers
@@ -77,6 +75,12 @@ pub fn batches_by_hand()
     ensures second { messages (two_workers false) two_files 1 1 ≡ second_of_second }
     ensures none { messages (two_workers false) two_files 2 1 ≡ [] }
     ensures joined { messages (two_workers true) two_files 1 1 ≡ second_of_second }
+
+    // With three workers the flows of the second file are the third and the fourth; joined, they
+    // are those of the first.
+    ensures third { media_lane (record (two_workers false) { workers = 3 }) 1 0 ≡ 2 }
+    ensures fourth { media_lane (record (two_workers false) { workers = 3 }) 1 1 ≡ 0 }
+    ensures as_first { media_lane (record (two_workers true) { workers = 3 }) 1 1 ≡ 1 }
 {}
 
 /// Worked by hand: a row is posted only where the end of its file was taken, by its own worker, and
@@ -85,6 +89,13 @@ pub fn run_by_hand()
     ensures early { (after_steps (two_workers false) two_files early_steps).posted ≡ [] }
     ensures later { (after_steps (two_workers false) two_files (early_steps ++ later_steps)).posted
         ≡ row_over (two_workers false) (key_of 1 1) (packet_at 1 200 ∷ []) ∷ [] }
+
+    // All that there is, with the messages of both files mixed in both lanes.
+    ensures whole { (after_steps (two_workers false) two_files all_steps).posted
+        ≡ row_over (two_workers false) (key_of 1 1) (packet_at 1 200 ∷ [])
+        ∷ row_over (two_workers false) (key_of 0 1) (packet_at 1 100 ∷ [])
+        ∷ row_over (two_workers false) (key_of 0 0) (packet_at 4 130 ∷ packet_at 5 140 ∷ [])
+        ∷ row_over (two_workers false) (key_of 1 0) [] ∷ [] }
 {}
 
 /// Worked by hand: of files that are joined, all ends are needed, and the packets come by rising
