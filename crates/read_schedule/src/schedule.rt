@@ -90,6 +90,7 @@ impl Schedule {
     /// What is due at `at`, in nanoseconds of TAI. It divides only where it is many reads behind.
     ///
     /// Ask for stamps that never fall: the clauses say nothing of others.
+    #[inline(always)]
     pub fn advance(&mut self, at: u64) -> Due
         requires { at < 2 ^ 62 }
 
@@ -152,6 +153,7 @@ impl Schedule {
     }
 
     /// The next read passes; `t` is at it or after.
+    #[inline(always)]
     fn pass(&mut self, t: u64)
         requires due { self.old.next.at ≤ t }
         requires in_time { t < 2 ^ 63 }
@@ -202,8 +204,9 @@ impl Schedule {
         }
     }
 
-    /// All reads up to `t` pass.
-    fn catch_up(&mut self, t: u64)
+    /// All reads up to `t` pass, many or few.
+    #[inline(never)]
+    fn race(&mut self, t: u64)
         requires in_time { t < 2 ^ 63 }
         ensures grid { self.new.grid ≡ self.old.grid }
         ensures due { ((x : ℕ) → x < self.old.passed
@@ -216,6 +219,27 @@ impl Schedule {
         while t >= self.next.at {
             self.pass(t);
         }
+    }
+
+    /// All reads up to `t` pass: mostly none or one.
+    #[inline(always)]
+    fn catch_up(&mut self, t: u64)
+        requires in_time { t < 2 ^ 63 }
+        ensures grid { self.new.grid ≡ self.old.grid }
+        ensures due { ((x : ℕ) → x < self.old.passed
+            → parts_at self.old.grid x ≤ t * self.old.grid.den)
+            → (x : ℕ) → x < self.new.passed → parts_at self.old.grid x ≤ t * self.old.grid.den }
+        ensures ahead { (x : ℕ) → self.new.passed ≤ x
+            → t * self.old.grid.den < parts_at self.old.grid x }
+    {
+        if t < self.next.at {
+            return;
+        }
+        self.pass(t);
+        if t < self.next.at {
+            return;
+        }
+        self.race(t);
     }
 
     /// Whether the last read that is due is at `t`.

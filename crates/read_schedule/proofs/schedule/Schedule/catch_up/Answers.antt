@@ -1,33 +1,53 @@
-use Rattle.std.proofs.Common.{◌≡◌, ◌≤◌, ◌<◌, ◌*◌, arith, inl, inr}
+use Rattle.std.proofs.Common.{◌≡◌, ◌≤◌, ◌<◌, ◌+◌, ◌*◌, ◌^◌, ℕ, arith, inl, inr, subst, sym}
 use Rattle.std.proofs.lemmas.Bool.{cases_lt}
 use Rattle.read_schedule.specs.Parts.{parts_at}
+use Rattle.read_schedule.specs.declared.grid.Grid.{Grid}
+use Rattle.read_schedule.specs.declared.schedule.Schedule.{Schedule}
 use Rattle.read_schedule.proofs.Rounding.{rounded-after, rounded-before}
 use Rattle.read_schedule.proofs.Turns.{parts_at-le}
 use Rattle.read_schedule.proofs.schedule.Schedule.catch_up.Goals as goal
 
-pub loop-self-preserved : goal.loop-self-preserved
-loop-self-preserved c =
-    let f = c.args.self.now in
-    let s = c.loop-self.self in
-    let i = c.loop-self.invariant in
-    let e = c.pass.ensures in
-    let was = s.next_is (omega (arith, c.loop-self-test.true, c.requires.in_time)) in
-    let here : parts_at s.grid s.passed ≤ c.args.t * s.grid.den =
-    rounded-before s.next.at c.args.t s.grid.den _ s.next.slack was c.loop-self-test.true in
-    record {
-      grid = cc;
-      due = λ old x few. elim (cases_lt x s.passed) as (λ _. parts_at f.grid x ≤ c.args.t * f.grid.den) [
-        | inl before ↦ i.due old x before
-        | inr last ↦
-            let same : x ≡ s.passed = omega (arith, last, few, e.passed) in
-            rw (same, ← i.grid) here
-      ];
-    }
+-- no read is due from the next one on, where that one isn't
+none_more : (s : Schedule) (t x : ℕ) → t < s.next.at → s.passed ≤ x → t * s.grid.den < parts_at s.grid x
+none_more s t x early high =
+    let next : t * s.grid.den < parts_at s.grid s.passed =
+    rounded-after s.next.at t s.grid.den _ s.next.slack s.next_low s.next_left early in
+    omega (arith, next, parts_at-le s.grid s.passed x high)
 
-pub returns-clause-ahead : goal.returns-clause-ahead
-returns-clause-ahead c = λ x high.
-    let s = c.loop-self.self in
-    let i = c.loop-self.invariant in
-    let next : c.args.t * s.grid.den < parts_at s.grid s.passed =
-    rounded-after s.next.at c.args.t s.grid.den _ s.next.slack s.next_low s.next_left c.loop-self-test.false in
-    rw (← i.grid) (omega (arith, next, parts_at-le s.grid s.passed x high))
+-- the next read is due, where it comes by then
+is_due : (s : Schedule) (t : ℕ) → s.next.at ≤ t → t < 2 ^ 63 → parts_at s.grid s.passed ≤ t * s.grid.den
+is_due s t late low = rounded-before s.next.at t s.grid.den _ s.next.slack (s.next_is (omega (arith, late, low))) late
+
+-- so are all up to it
+are_due : (s : Schedule) (t passed x : ℕ) → passed ≡ s.passed + 1 → s.next.at ≤ t → t < 2 ^ 63
+    → ((y : ℕ) → y < s.passed → parts_at s.grid y ≤ t * s.grid.den)
+    → x < passed
+    → parts_at s.grid x ≤ t * s.grid.den
+are_due s t passed x e late low old few =
+    elim (cases_lt x s.passed) as (λ _. parts_at s.grid x ≤ t * s.grid.den) [
+      | inl before ↦ old x before
+      | inr last ↦
+          let same : x ≡ s.passed = omega (arith, last, few, e) in
+          rw same (is_due s t late low)
+    ]
+
+pub returns-then-t-self-clause-ahead : goal.returns-then-t-self-clause-ahead
+returns-then-t-self-clause-ahead c = λ x high. none_more c.args.self.now c.args.t x c.if-t-self.true high
+
+pub returns-then-t-self-2-clause-due : goal.returns-then-t-self-2-clause-due
+returns-then-t-self-2-clause-due c = λ old x few.
+    are_due c.args.self.now c.args.t _ x c.pass.ensures.passed c.if-t-self.false c.requires.in_time old few
+
+pub returns-then-t-self-2-clause-ahead : goal.returns-then-t-self-2-clause-ahead
+returns-then-t-self-2-clause-ahead c = λ x high.
+    subst (λ (g : Grid). c.args.t * g.den < parts_at g x) c.pass.ensures.grid
+    (none_more c.pass.new.self c.args.t x c.if-t-self-2.true high)
+
+pub returns-clause-due : goal.returns-clause-due
+returns-clause-due c = λ old x few.
+    let e = c.pass.ensures in
+    subst (λ (g : Grid). parts_at g x ≤ c.args.t * g.den) e.grid
+    (c.race.ensures.due
+    (λ y low. subst (λ (g : Grid). parts_at g y ≤ c.args.t * g.den) (sym e.grid)
+    (are_due c.args.self.now c.args.t _ y e.passed c.if-t-self.false c.requires.in_time old low))
+    x few)

@@ -1,6 +1,6 @@
 use Rattle.std.proofs.Common.{◌≡◌, ◌≤◌, ◌<◌, ◌+◌, ◌-◌, ◌*◌, ℕ}
 use Rattle.read_schedule.specs.Parts.{parts_at}
-use Rattle.read_schedule.proofs.schedule.Schedule.catch_up.Given as goal
+use Rattle.read_schedule.proofs.schedule.Schedule.race.Given as goal
 
 abbrev pub invariant-loop-self : goal.invariant-loop-self
 invariant-loop-self l = record {
