@@ -1,8 +1,8 @@
 -- A buffer stands for one packet more after it is fed.
-use Rattle.std.proofs.Common.{◌≡◌, ◌≤◌, ◌<◌, ◌+◌, ◌-◌, ℕ, ℤ, Bool, nat_lt, if◌then◌else◌, Option, Some, None, List, [], ◌∷◌, ◌++◌, length, slice_index, sym, ap, subst, inl, inr, ◌∙◌, arith, length-append}
+use Rattle.std.proofs.Common.{◌≡◌, ◌≤◌, ◌<◌, ◌+◌, ◌-◌, ℕ, ℤ, Bool, nat_lt, max, false, refl, if◌then◌else◌, Option, Some, None, List, [], ◌∷◌, ◌++◌, length, slice_index, sym, ap, subst, inl, inr, ◌∙◌, arith, length-append}
 use Rattle.std.proofs.Math.Seq.{get_or-append_seam}
 use Rattle.std.proofs.lemmas.List.{get_or_append_left}
-use Rattle.std.proofs.lemmas.Bool.{cases_lt}
+use Rattle.std.proofs.lemmas.Bool.{cases_lt, le-ltb, ltb-false}
 use Rattle.fraction128.specs.Fractions.{below, whole}
 use Rattle.timing_base.specs.Media.{Media}
 use Rattle.timing_base.specs.declared.media.Kind.{Kind}
@@ -13,7 +13,8 @@ use Rattle.sender_params.specs.declared.params.Params.{Params}
 use Rattle.read_schedule.proofs.Held.{held_at-is}
 use Rattle.vrx_buffer.specs.Faults.{IsFirstFault, fault_at}
 use Rattle.vrx_buffer.specs.Stands.{StandsFor}
-use Rattle.vrx_buffer.specs.Taking.{Took, earlier}
+use Rattle.vrx_buffer.specs.Taking.{IsWithin, Took, earlier, fault_by}
+use Rattle.vrx_buffer.proofs.Instants.{first-none}
 use Rattle.vrx_buffer.specs.declared.vrx.Vrx.{Vrx}
 use Rattle.vrx_buffer.specs.declared.vrx.VrxFault.{VrxFault}
 use Rattle.vrx_buffer.specs.declared.vrx.VrxFault.TheVariants.{Over, Empty}
@@ -163,3 +164,65 @@ pub late-same : (m : Media) (n at i : ℕ) (anchor there : ℤ) (gapped same lat
     → below (read_of m n there same i) (whole at) ≡ late
 late-same m n at i anchor there gapped same late ea eg is =
     sym (is ∙ ap (λ a. below (read_of m n a gapped i) (whole at)) ea ∙ ap (λ g. below (read_of m n there g i) (whole at)) eg)
+
+-- as long as there is no fault, no more was held than may be
+pub stands-within : (params : Params) (v : Vrx) (stamps : List ℕ) → StandsFor params v stamps → IsWithin params v
+stands-within params v stamps s =
+    let m = params.media in
+    let n = params.n in
+    record {
+      within = λ none. elim (cases_lt 0 v.peak) as (λ _. v.peak ≤ vrx_full_of m n v.kind) [
+        | inr empty ↦ omega (arith, empty)
+        | inl some ↦
+            let top = s.peak_reached some in
+            let breaks = first-none m n stamps v.kind (subst (IsFirstFault m n stamps v.kind) none s.fault) in
+            let fits : held_at m n stamps (gapped_of v.kind) top.0 ≤ vrx_full_of m n v.kind =
+            ltb-false (vrx_full_of m n v.kind) (held_at m n stamps (gapped_of v.kind) top.0) (breaks top.0 top.1).0 in
+            omega (arith, fits, top.2)
+      ];
+    }
+
+-- a packet that raises nothing and comes in time has no fault
+quiet-fault : (params : Params) (kind : Kind) (packet held : ℕ) (late : Bool)
+    → held ≤ vrx_full_of params.media params.n kind
+    → late ≡ false
+    → None ≡ fault_by params kind packet held late
+quiet-fault params kind packet held late fits in_time =
+    sym (ap (λ b. if b then Some (Over packet held) else if late then Some (Empty packet) else None) (le-ltb (vrx_full_of params.media params.n kind) held fits)
+    ∙ ap (λ l. if l then Some (Empty packet) else None) in_time)
+
+pub quiet-took : (params : Params) (v w : Vrx) (count held : ℕ) (late : Bool)
+    → IsWithin params v
+    → held ≡ (v.seen + 1) - count
+    → held ≤ v.peak
+    → late ≡ false
+    → v.fault ≡ None
+    → w.kind ≡ v.kind
+    → w.seen ≡ v.seen + 1
+    → w.peak ≡ v.peak
+    → w.fault ≡ v.fault
+    → Took params v w count late None
+quiet-took params v w count held late within is low in_time none kind seen peak fault =
+    record {
+      kind = kind;
+      seen = seen;
+      peak = omega (arith, peak, is, low);
+      fault = fault ∙ none ∙ sym (ap (λ o. earlier o None) none);
+      answer_is = quiet-fault params v.kind v.seen ((v.seen + 1) - count) late (omega (arith, is, low, within.within none)) in_time;
+    }
+
+-- after a fault the buffer stands for one packet more, whatever comes
+pub after-stands : (params : Params) (v w : Vrx) (stamps : List ℕ) (at count : ℕ) (first : VrxFault)
+    → StandsFor params v stamps
+    → AreDue params.media params.n (anchor_of params.media (slice_index (stamps ++ at ∷ []) 0)) (gapped_of v.kind) (whole at) count
+    → v.fault ≡ Some first
+    → w.kind ≡ v.kind
+    → w.seen ≡ v.seen + 1
+    → w.peak ≡ max v.peak ((v.seen + 1) - count)
+    → w.fault ≡ v.fault
+    → StandsFor params w (stamps ++ at ∷ [])
+after-stands params v w stamps at count first s are some kind seen peak fault =
+    let late = below (read_of params.media params.n (anchor_of params.media (slice_index (stamps ++ at ∷ []) 0)) (gapped_of v.kind) v.seen) (whole at) in
+    let answer = fault_by params v.kind v.seen ((v.seen + 1) - count) late in
+    took-stands params v w stamps at count late answer s are refl
+    record { kind = kind; seen = seen; peak = peak; fault = fault ∙ some ∙ sym (ap (λ o. earlier o answer) some); answer_is = refl }

@@ -1,7 +1,7 @@
 //! The buffer.
 
 ghost use Rattle.std.specs.Prelude.{◌≡◌, ◌<◌, ◌^◌, ◌++◌, ◌∷◌, [], ℕ, List, length, slice_index};
-ghost use Rattle.std.specs.Prelude.{pos, negsuc, ◌≤◌, ◌+◌, ◌≤ℤ◌, not, true, false};
+ghost use Rattle.std.specs.Prelude.{pos, negsuc, ◌≤◌, ◌+◌, ◌-◌, ◌↔◌, ◌≤ℤ◌, IsTrue, None, max, not, true, false};
 ghost use Rattle.sender_params.specs.Limits.{gapped_of};
 ghost use Rattle.sender_params.specs.Reads.{anchor_of};
 
@@ -43,7 +43,7 @@ impl Vrx {
     ghost use Rattle.read_schedule.specs.Stands.{IsDueAt};
     ghost use Rattle.vrx_buffer.specs.Faults.{fault_at};
     ghost use Rattle.vrx_buffer.specs.Stands.{StandsFor};
-    ghost use Rattle.vrx_buffer.specs.Taking.{Took};
+    ghost use Rattle.vrx_buffer.specs.Taking.{IsWithin, Took, earlier, fault_by};
 
     /// The empty buffer of a flow, judged as one of this sender type.
     pub fn new(kind: Kind) -> Vrx
@@ -89,6 +89,7 @@ impl Vrx {
 
     /// The same for a packet at whose instant so much is due, of the schedule of this sender type:
     /// for callers that count the reads once for several buffers.
+    #[inline(always)]
     pub fn feed_due(&mut self, params: &Params, due: Due) -> Option<VrxFault>
         requires { self.old.seen < 2 ^ 41 }
 
@@ -111,13 +112,73 @@ impl Vrx {
         self.take(params, due.count, late)
     }
 
+    /// The same as [`Vrx::feed_due`], for callers that don't ask how the packet breaks the model.
+    #[inline(always)]
+    pub fn pass_due(&mut self, params: &Params, due: Due)
+        requires { self.old.seen < 2 ^ 41 }
+
+        ensures kind { self.new.kind ≡ self.old.kind }
+        ensures stands { (stamps : List ℕ) (at : ℕ) → StandsFor params.now self.old stamps
+            → IsDueAt params.now.media params.now.n
+            (anchor_of params.now.media (slice_index (stamps ++ at ∷ []) 0))
+            (gapped_of self.old.kind) at due
+            → StandsFor params.now self.new (stamps ++ at ∷ []) }
+    {
+        match self.fault {
+            None => {
+                self.feed_due(params, due);
+            }
+            Some(_) => self.go_on(due.count),
+        }
+    }
+
+    /// After the first fault: a packet came when so many reads were due.
+    fn go_on(&mut self, count: u64)
+        requires { self.old.seen < 2 ^ 41 }
+        ensures kind { self.new.kind ≡ self.old.kind }
+        ensures seen { self.new.seen ≡ self.old.seen + 1 }
+        ensures peak { self.new.peak ≡ max self.old.peak ((self.old.seen + 1) - count) }
+        ensures fault { self.new.fault ≡ self.old.fault }
+    {
+        self.seen += 1;
+        self.peak = self.peak.max(self.seen.saturating_sub(count));
+    }
+
     /// Puts in a packet that came when so many reads were due, and after its own read or not.
+    #[inline(always)]
     fn take(&mut self, params: &Params, count: u64, late: bool) -> Option<VrxFault>
         requires { self.old.seen < 2 ^ 41 }
-        ensures took { Took params.now self.old self.new count late result }
+        ensures kind { self.new.kind ≡ self.old.kind }
+        ensures took { IsWithin params.now self.old
+            → Took params.now self.old self.new count late result }
     {
         let packet = self.seen;
         let held = (packet + 1).saturating_sub(count);
+        self.seen = packet + 1;
+        if self.is_quiet(held, late) {
+            return None;
+        }
+        self.note(params, packet, held, late)
+    }
+
+    /// Whether a packet raises no peak and has no fault, as none had before it.
+    #[inline(always)]
+    fn is_quiet(&self, held: u64, late: bool) -> bool
+        ensures { IsTrue result
+            ↔ ((held ≤ self.now.peak) × (late ≡ false) × (self.now.fault ≡ None)) }
+    {
+        held <= self.peak && !late && self.fault.is_none()
+    }
+
+    /// Keeps what is new with a packet.
+    #[inline(never)]
+    fn note(&mut self, params: &Params, packet: u64, held: u64, late: bool) -> Option<VrxFault>
+        ensures kind { self.new.kind ≡ self.old.kind }
+        ensures seen { self.new.seen ≡ self.old.seen }
+        ensures peak { self.new.peak ≡ max self.old.peak held }
+        ensures fault { self.new.fault ≡ earlier self.old.fault result }
+        ensures answer { result ≡ fault_by params.now self.old.kind packet held late }
+    {
         let fault = if held > params.vrx_full(self.kind) {
             Some(VrxFault::Over { packet, held })
         } else if late {
@@ -125,7 +186,6 @@ impl Vrx {
         } else {
             None
         };
-        self.seen += 1;
         self.peak = self.peak.max(held);
         self.fault = self.fault.or(fault);
         fault
@@ -133,6 +193,7 @@ impl Vrx {
 }
 
 /// Whether a packet at whose instant so much is due comes after its own read.
+#[inline(always)]
 fn comes_late(packet: u64, due: Due) -> bool
     requires { packet < 2 ^ 41 }
     ensures last { due.count ≡ packet + 1 → result ≡ not due.on_time }

@@ -1,5 +1,5 @@
 use Rattle.std.proofs.lemmas.Int.{to_z-of_z}
-use Rattle.vrx_buffer.proofs.Fed.{due-same, late-same, took-fault, took-stands}
+use Rattle.vrx_buffer.proofs.Fed.{due-same, late-same, stands-within, took-fault, took-stands}
 use Rattle.vrx_buffer.proofs.vrx.Vrx.feed.Goals as goal
 
 pub returns-clause-fault : goal.returns-clause-fault
@@ -8,7 +8,7 @@ returns-clause-fault c = λ stamps s here.
     took-fault c.args.params.now c.args.self.now c.take.new.self stamps c.args.at c.reads-count.result c.is_late-late.result c.take.result s
     (due-same c.args.params.now.media _ c.args.at _ c.args.n0 _ _ _ here c.is_gapped-gapped.ensures (simp to_z-of_z at c.reads-count.ensures))
     (late-same c.args.params.now.media _ c.args.at _ c.args.n0 _ _ _ _ here c.is_gapped-gapped.ensures (simp to_z-of_z at c.is_late-late.ensures))
-    c.take.ensures.took
+    (c.take.ensures.took (stands-within c.args.params.now c.args.self.now stamps s))
 
 pub returns-clause-stands : goal.returns-clause-stands
 returns-clause-stands c = λ stamps s here.
@@ -16,4 +16,4 @@ returns-clause-stands c = λ stamps s here.
     took-stands c.args.params.now c.args.self.now c.take.new.self stamps c.args.at c.reads-count.result c.is_late-late.result c.take.result s
     (due-same c.args.params.now.media _ c.args.at _ c.args.n0 _ _ _ here c.is_gapped-gapped.ensures (simp to_z-of_z at c.reads-count.ensures))
     (late-same c.args.params.now.media _ c.args.at _ c.args.n0 _ _ _ _ here c.is_gapped-gapped.ensures (simp to_z-of_z at c.is_late-late.ensures))
-    c.take.ensures.took
+    (c.take.ensures.took (stands-within c.args.params.now c.args.self.now stamps s))
