@@ -167,8 +167,8 @@ next-kept Pass here not_pass = absurd (not_pass refl)
 next-kept (Fail proof) here not_pass = refl
 
 -- a meter by its parts
-abbrev meter_by : Vrx → KindVerdict → KindMeter
-meter_by vrx verdict = record { vrx = vrx; verdict = verdict }
+abbrev meter_by : Vrx → KindVerdict → ℕ → KindMeter
+meter_by vrx verdict c_max = record { vrx = vrx; verdict = verdict; c_max = c_max }
 
 -- the meter stands for one packet more
 pub kind-more : (params : Params) (meter : KindMeter) (vrx : Vrx) (verdict : KindVerdict) (bucket : Bucket) (due : Due) (stamps : List ℕ) (at : ℕ)
@@ -177,7 +177,7 @@ pub kind-more : (params : Params) (meter : KindMeter) (vrx : Vrx) (verdict : Kin
     → vrx.kind ≡ meter.vrx.kind
     → VrxStandsFor params vrx (stamps ++ at ∷ [])
     → verdict ≡ verdict_next meter.verdict (early_at params.media params.n (stamps ++ at ∷ []) meter.vrx.kind (length stamps))
-    → StandsFor params (meter_by vrx verdict) (stamps ++ at ∷ [])
+    → StandsFor params (meter_by vrx verdict meter.c_max) (stamps ++ at ∷ [])
 kind-more params meter vrx verdict bucket due stamps at s next kind stands is = record {
   vrx = stands;
   verdict =
@@ -185,4 +185,5 @@ kind-more params meter vrx verdict bucket due stamps at s next kind stands is = 
       ∙ (ap (λ v. verdict_next v (early_at params.media params.n (stamps ++ at ∷ []) meter.vrx.kind (length stamps))) s.verdict
       ∙ (sym (verdict-more params.media params.n stamps at meter.vrx.kind params.media_is params.n_some next.ordered)
       ∙ ap (kind_verdict params.media params.n (stamps ++ at ∷ [])) (sym kind)));
+  c_max = s.c_max ∙ ap (c_max_of params.media params.n) (sym kind);
 }

@@ -4,7 +4,7 @@ use Rattle.drain_bucket.specs.Stands.{StandsFor as BucketStandsFor}
 use Rattle.drain_bucket.specs.declared.bucket.Bucket.{Bucket}
 use Rattle.read_schedule.specs.Stands.{IsDueAt}
 use Rattle.read_schedule.specs.declared.schedule.Due.{Due}
-use Rattle.sender_params.specs.Limits.{gapped_of}
+use Rattle.sender_params.specs.Limits.{c_max_of, gapped_of}
 use Rattle.sender_params.specs.Reads.{anchor_of}
 use Rattle.sender_params.specs.Ticks.{NeverFall}
 use Rattle.sender_params.specs.declared.params.Params.{Params}
@@ -17,6 +17,7 @@ use Rattle.fail_interval.specs.declared.kind.KindMeter.{KindMeter}
 pub record StandsFor (params : Params) (meter : KindMeter) (stamps : List ℕ) : Type 0 where
   pub vrx : VrxStandsFor params meter.vrx stamps
   pub verdict : meter.verdict ≡ kind_verdict params.media params.n stamps meter.vrx.kind
+  pub c_max : meter.c_max ≡ c_max_of params.media params.n meter.vrx.kind
 
 -- the next packet comes at this instant, with this bucket after it and so much due by the schedule of this type
 pub record ComesNext (params : Params) (bucket : Bucket) (due : Due) (kind : Kind) (stamps : List ℕ) (at : ℕ) : Type 0 where

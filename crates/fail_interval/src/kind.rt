@@ -13,19 +13,22 @@ use vrx_buffer::{Vrx, VrxFault};
 pub struct KindMeter {
     pub vrx: Vrx,
     pub verdict: KindVerdict,
+    /// C_MAX of the type.
+    pub c_max: u64,
 }
 
 impl KindMeter {
     ghost use Rattle.fail_interval.specs.Kinds.{ComesNext, StandsFor};
 
     /// The meter of this sender type before the first packet.
-    pub fn new(kind: Kind) -> KindMeter
+    pub fn new(params: &Params, kind: Kind) -> KindMeter
         ensures kind { result.vrx.kind ≡ kind }
-        ensures stands { (params : _) → StandsFor params result [] }
+        ensures stands { StandsFor params.now result [] }
     {
         KindMeter {
             vrx: Vrx::new(kind),
             verdict: KindVerdict::Pass,
+            c_max: params.c_max(kind),
         }
     }
 
@@ -39,15 +42,16 @@ impl KindMeter {
             → ComesNext params.now bucket.now due self.old.vrx.kind stamps at
             → StandsFor params.now self.new (stamps ++ at ∷ []) }
     {
-        let kind = self.vrx.kind;
-        let packet = self.vrx.seen;
-        let fault = self.vrx.feed_due(params, due);
         if let KindVerdict::Pass = self.verdict {
-            let c_max = params.c_max(kind);
-            if bucket.count > c_max || fault.is_some() {
+            let kind = self.vrx.kind;
+            let packet = self.vrx.seen;
+            let fault = self.vrx.feed_due(params, due);
+            if bucket.count > self.c_max || fault.is_some() {
                 self.verdict = verdict_at(params, kind, bucket, fault, packet);
             }
+            return;
         }
+        self.vrx.pass_due(params, due);
     }
 }
 

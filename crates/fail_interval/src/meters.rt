@@ -35,9 +35,9 @@ impl Meters {
             bucket: Bucket::new(origin),
             gapped: Schedule::new(params, true, n0),
             linear: Schedule::new(params, false, n0),
-            narrow: KindMeter::new(Kind::N),
-            narrow_linear: KindMeter::new(Kind::NL),
-            wide: KindMeter::new(Kind::W),
+            narrow: KindMeter::new(params, Kind::N),
+            narrow_linear: KindMeter::new(params, Kind::NL),
+            wide: KindMeter::new(params, Kind::W),
         }
     }
 

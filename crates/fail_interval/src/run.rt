@@ -51,6 +51,7 @@ impl WholeGroups {
     }
 
     /// Takes the next packet.
+    #[inline(always)]
     fn feed(&mut self, at: u64, marker: bool)
         requires { ∥ ((m : MediaValue) × (so_far : Groups) × CanGoOn m self.old so_far at marker) ∥₁ }
         ensures { (m : MediaValue) (so_far : Groups) → CanGoOn m self.old so_far at marker
@@ -128,6 +129,7 @@ impl RunJudge {
     }
 
     /// Takes the next packet. `Err` is want of memory, for the stamps of the first group.
+    #[inline(always)]
     pub fn feed(
         &mut self,
         alloc: Global,

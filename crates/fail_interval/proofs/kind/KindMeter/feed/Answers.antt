@@ -2,8 +2,8 @@ use Rattle.std.proofs.Common.{sym}
 use Rattle.fail_interval.proofs.SenderTypes.{found-verdict, kind-more, next-kept, unbroken-verdict}
 use Rattle.fail_interval.proofs.kind.KindMeter.feed.Goals as goal
 
-pub returns-then-bucket-c_max-clause-stands : goal.returns-then-bucket-c_max-clause-stands
-returns-then-bucket-c_max-clause-stands c = λ stamps at s next.
+pub returns-then-bucket-self-clause-stands : goal.returns-then-bucket-self-clause-stands
+returns-then-bucket-self-clause-stands c = λ stamps at s next.
     let fault = c.feed_due-fault.ensures.fault stamps at s.vrx next.due_is in
     kind-more _ _ _ _ _ _ stamps at s next c.feed_due-fault.ensures.kind (c.feed_due-fault.ensures.stands stamps at s.vrx next.due_is)
     (found-verdict _ _ _ _ stamps at _ _ _ _ c.in-Pass.is s.vrx.seen next fault c.verdict_at-self.ensures)
@@ -12,9 +12,9 @@ pub returns-else-is_some-clause-stands : goal.returns-else-is_some-clause-stands
 returns-else-is_some-clause-stands c = λ stamps at s next.
     let fault = c.feed_due-fault.ensures.fault stamps at s.vrx next.due_is in
     kind-more _ _ _ _ _ _ stamps at s next c.feed_due-fault.ensures.kind (c.feed_due-fault.ensures.stands stamps at s.vrx next.due_is)
-    (unbroken-verdict _ _ _ _ stamps at _ _ _ c.in-Pass.is next fault c.c_max-c_max.ensures c.if-bucket-c_max.false (sym c.if-is_some.ensures))
+    (unbroken-verdict _ _ _ _ stamps at _ _ _ c.in-Pass.is next fault s.c_max c.if-bucket-self.false (sym c.if-is_some.ensures))
 
-pub returns-in_default-clause-stands : goal.returns-in_default-clause-stands
-returns-in_default-clause-stands c = λ stamps at s next.
-    kind-more _ _ _ _ _ _ stamps at s next c.feed_due-fault.ensures.kind (c.feed_due-fault.ensures.stands stamps at s.vrx next.due_is)
+pub returns-clause-stands : goal.returns-clause-stands
+returns-clause-stands c = λ stamps at s next.
+    kind-more _ _ _ _ _ _ stamps at s next c.pass_due.ensures.kind (c.pass_due.ensures.stands stamps at s.vrx next.due_is)
     (next-kept _ _ c.in_default.not-Pass)
