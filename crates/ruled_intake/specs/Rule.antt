@@ -1,0 +1,88 @@
+-- The rule that ties what each pass of a lane knows to what the lane holds, and what each step tells. `seat` has the
+-- number of each sender's pass, `sent` what each sender has sent, `got` what was taken.
+use Rattle.std.specs.Prelude.{◌≡◌, ◌≤◌, ◌<◌, ◌+◌, ◌^◌, ◌++◌, ◌∷◌, ℕ, ⊤, List, [], length, slice_index_or}
+use mathlib.Core.Option.{Option, some, none}
+use lib.ListN.{get_elem?}
+use Rattle.ruled_intake.specs.declared.message.Message.{Message}
+use Rattle.ruled_intake.specs.declared.rule.Entry.{Entry}
+use Rattle.ruled_intake.specs.declared.rule.View.{View}
+use Rattle.ruled_intake.specs.declared.rule.View.TheVariants.{Sends, Takes, Spent}
+use Rattle.ruled_intake.specs.Lanes.{IsWithin, Taker, messages, of}
+
+-- what the taker knows: what it took, that senders not yet made have sent nothing, and what those have sent that it
+-- took in
+pub record FitsTaker (reader : ℕ) (seat : ℕ → Option ℕ) (sent : ℕ → List Message) (got : List Entry) (pass : ℕ)
+    (mine : List Entry) (made : ℕ) (known : List (List Message)) : Type 0 where
+  pub here : pass ≡ reader
+  pub mine_is : mine ≡ got
+  pub few_made : made ≤ 16
+  pub later : (f : ℕ) → made ≤ f → (seat f ≡ none) × (sent f ≡ [])
+  pub ended : (f : ℕ) → f < length known → (seat f ≡ none) × (slice_index_or known f [] ≡ sent f)
+  pub few_known : length known ≤ made
+
+-- the pass with this number knows what is so
+abbrev pub Fits : (reader : ℕ) (seat : ℕ → Option ℕ) (sent : ℕ → List Message) (got : List Entry) → ℕ → View → Type 0
+Fits reader seat sent got pass (Sends from put) = (seat from ≡ some pass) × (put ≡ sent from)
+Fits reader seat sent got pass (Takes mine made known) = FitsTaker reader seat sent got pass mine made known
+Fits reader seat sent got pass Spent = ⊤
+
+-- of each sender, what was taken and then what the lane holds is what it sent, within its limits
+pub record Delivers (items : List Entry) (views : List View) : Type 0 where
+  pub reader : ℕ
+  pub seat : ℕ → Option ℕ
+  pub sent : ℕ → List Message
+  pub got : List Entry
+  pub tells : (f : ℕ) → of f (got ++ items) ≡ sent f
+  pub within : (f : ℕ) → IsWithin (2 ^ 37) (sent f)
+  pub fits : (pass : ℕ) (v : View) → get_elem? views pass ≡ some v → Fits reader seat sent got pass v
+
+-- the taker of a new lane
+abbrev pub new_taker : View
+new_taker = Takes [] 0 []
+
+-- the taker has made one sender more
+abbrev pub with_one_more : View → View
+with_one_more (Takes got made known) = Takes got (made + 1) known
+with_one_more v = v
+
+-- the sender that it made
+abbrev pub new_sender : View → View
+new_sender (Takes got made known) = Sends made []
+new_sender v = v
+
+-- the taker has taken in one sender more
+abbrev pub with_known : View → View → View
+with_known (Takes got made known) (Sends from put) = Takes got made (known ++ put ∷ [])
+with_known v w = v
+
+-- the sender has sent one message more
+abbrev pub HasPut : View → Entry → View → Type 0
+HasPut (Sends from put) e w = w ≡ Sends from (put ++ e.message ∷ [])
+HasPut v e w = ⊤
+
+-- the taker has taken one message more, and few in all
+abbrev pub HasGot : View → Entry → View → Type 0
+HasGot (Takes got made known) e w = (w ≡ Takes (got ++ e ∷ []) made known) × IsWithin (2 ^ 41) (messages (got ++ e ∷ []))
+HasGot v e w = ⊤
+
+-- the rule holds of what the lane holds, and of passes among which is one with this view
+abbrev pub Stands : View → List Entry → Type 0
+Stands v items = (views : List View) × (pass : ℕ) × Delivers items views × (get_elem? views pass ≡ some v)
+
+-- the taker has taken few
+abbrev pub HasFew : View → Type 0
+HasFew (Takes got made known) = IsWithin (2 ^ 41) (messages got)
+HasFew v = ⊤
+
+-- what the taker learns of what the lane holds
+abbrev pub HasSeen : View → List Entry → Type 0
+HasSeen v items = Stands v items × HasFew v
+
+-- of each sender, what was taken and what the lane holds is what was told of it: all, once each was taken in
+abbrev pub HasCompared : View → List Entry → Type 0
+HasCompared (Takes got made known) items = length known ≡ made → (f : ℕ) → of f (got ++ items) ≡ slice_index_or known f []
+HasCompared v items = ⊤
+
+-- at one step the lane held nothing: the rule held of no message, and of passes among which is this taker's
+abbrev pub HeldNothing : Taker → Type 0
+HeldNothing taker = Stands (Takes taker.taken taker.senders []) []
