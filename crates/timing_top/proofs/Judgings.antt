@@ -1,25 +1,30 @@
 -- Captures that are judged one after the other, up to the first that can't be read.
-use Rattle.std.proofs.Common.{◌≡◌, ◌≤◌, ◌<◌, ◌+◌, ℕ, zero, suc, List, [], ◌∷◌, ◌++◌, length, Option, Some, None, refl, arith, ap, ◌∙◌, sym, subst, append_assoc, append-nil, length-append, add-one}
+use Rattle.std.proofs.Common.{◌≡◌, ◌≤◌, ◌+◌, ℕ, List, [], ◌∷◌, ◌++◌, length, Option, Some, refl, arith, ap, ◌∙◌, sym, subst, append_assoc, append-nil, length-append}
 use Rattle.std.specs.Prelude.{All, IfOk, IfErr, Result, Ok, Err, slice_index_or}
 use Rattle.std.proofs.lemmas.List.Elements.{All-cons, All-nil, All-tail}
-use Rattle.timing_base.specs.Media.{Media}
-use Rattle.timing_base.specs.declared.capture.FileNote.{FileNote}
-use Rattle.timing_base.specs.declared.row.Row.{Row}
 use Rattle.timing_outside.specs.Causes.{Rose}
 use Rattle.timing_report.specs.declared.status.Input.{Input}
 use Rattle.timing_report.specs.declared.status.Input.TheVariants.{Capture}
-use Rattle.timing_steps.specs.Answers.{AreTold, CaptureRose}
-use Rattle.timing_steps.specs.Fetched.{AreFetched, OnReadFault}
+use Rattle.timing_steps.specs.Answers.{AreTold, CaptureRose, OnReadFault}
+use Rattle.timing_steps.specs.Fetched.{AreFetched}
 use Rattle.timing_steps.specs.declared.failure.Failure.{Failure}
 use Rattle.timing_steps.specs.declared.failure.Failure.TheVariants as failure
-use Rattle.timing_top.specs.Found.{AreFound, FindsNext, Judging}
-use Rattle.timing_top.proofs.Takings.{found-more, found-none}
+use Rattle.timing_top.specs.Found.{Judging}
 
 -- of a read fault, what follows from what holds of it
 pub on-map : (e : Failure) (P Q : Input → Type 0) → ((i : Input) → P i → Q i) → OnReadFault e P → OnReadFault e Q
 on-map (failure.ReadFault i) P Q h p = h i p
 on-map failure.WriteFault P Q h p = absurd p
 on-map failure.OutOfMemory P Q h p = tt
+
+-- of a value, what follows from what holds of it
+pub if_ok-map : {T E : Type 0} (r : Result T E) (P Q : T → Type 0) → ((v : T) → P v → Q v) → IfOk r P → IfOk r Q
+if_ok-map (Ok v) P Q h p = h v p
+if_ok-map (Err e) P Q h p = p
+
+-- of a value that is known
+pub if_ok-at : {T E : Type 0} (r : Result T E) (v : T) (P : T → Type 0) → r ≡ Ok v → IfOk r P → P v
+if_ok-at r v P is h = subst (λ x. IfOk x P) is h
 
 rose-later : (a b c : ℕ) → b ≤ c → Rose a b → Rose a c
 rose-later a b c h r = omega (arith, h, r)
@@ -53,22 +58,22 @@ told-last texts (m ∷ ms) n (t ∷ ts) h =
     let r = told-last texts ms n ts h.1 in
     record { first = t ∷ r.first; text = r.text; whole = ap (λ l. t ∷ l) r.whole; told = (h.0, r.told); last = r.last }
 
--- nothing was judged yet
-pub judging-none : {S : Type 0} (name : S → List ℕ) (left : S → Option (List ℕ)) (faults : S → ℕ) (texts : List ℕ → Option (List ℕ)) (before : List ℕ → ℕ) (media : List Media) (tai : ℕ) (names : List (List ℕ))
-    (sources : List S) → AreFetched name left faults texts names sources → Judging name left faults texts before before media tai names sources (Ok tt) [] []
-judging-none name left faults texts before media tai names sources h = record {
+-- no capture was read yet
+pub judging-none : {S : Type 0} (name : S → List ℕ) (left : S → Option (List ℕ)) (faults : S → ℕ) (texts : List ℕ → Option (List ℕ)) (before : List ℕ → ℕ) (names : List (List ℕ))
+    (sources : List S) (Found : List (List ℕ) → Type 0) → AreFetched name left faults texts names sources → Found [] → Judging name left faults texts before before names sources (Ok tt) 0 Found
+judging-none name left faults texts before names sources Found h none = record {
   done = [];
   ahead = names;
   whole = refl;
   fetched = h;
   count = refl;
-  told = λ read told. none-told texts read told media tai;
+  told = λ read told. none-told texts read told Found none;
   cause = tt;
 }
   where
-    none-told : (texts : List ℕ → Option (List ℕ)) (read : List (List ℕ)) → AreTold texts [] read → (media : List Media) (tai : ℕ) → AreFound read media tai [] []
-    none-told texts [] h media tai = found-none media tai
-    none-told texts (t ∷ ts) h media tai = absurd h
+    none-told : (texts : List ℕ → Option (List ℕ)) (read : List (List ℕ)) → AreTold texts [] read → (Found : List (List ℕ) → Type 0) → Found [] → Found read
+    none-told texts [] h Found none = none
+    none-told texts (t ∷ ts) h Found none = absurd h
 
 -- the name of the next source, and the others
 record Next {S : Type 0} (name : S → List ℕ) (left : S → Option (List ℕ)) (faults : S → ℕ) (texts : List ℕ → Option (List ℕ)) (ahead : List (List ℕ)) (s : S) (rest : List S) : Type 0 where
@@ -84,16 +89,16 @@ next-of : {S : Type 0} (name : S → List ℕ) (left : S → Option (List ℕ)) 
 next-of name left faults texts [] s rest h = absurd h
 next-of name left faults texts (n ∷ ns) s rest h = record { first = n; others = ns; whole = refl; named = h.0; told = h.1; fetched = h.3 }
 
--- the next capture is judged, where those before it were read
-pub judging-next : {S : Type 0} (name : S → List ℕ) (left : S → Option (List ℕ)) (faults : S → ℕ) (texts : List ℕ → Option (List ℕ)) (before mid now : List ℕ → ℕ) (media : List Media) (tai : ℕ) (names : List (List ℕ))
-    (s : S) (rest : List S) (old_notes new_notes : List FileNote) (old_rows new_rows : List Row) (outcome : Result (Unit {0}) Failure)
-    → Judging name left faults texts before mid media tai names (s ∷ rest) (Ok tt) old_notes old_rows
+-- the next capture is read, where those before it were
+pub judging-next : {S : Type 0} (name : S → List ℕ) (left : S → Option (List ℕ)) (faults : S → ℕ) (texts : List ℕ → Option (List ℕ)) (before mid now : List ℕ → ℕ) (names : List (List ℕ))
+    (s : S) (rest : List S) (outcome : Result (Unit {0}) Failure) (number next_number : ℕ) (Found Next : List (List ℕ) → Type 0)
+    → Judging name left faults texts before mid names (s ∷ rest) (Ok tt) number Found
     → ((n : List ℕ) → before n ≤ mid n)
-    → IfOk outcome (λ _. (text : List ℕ) → left s ≡ Some text → FindsNext text media tai (length old_notes) old_notes new_notes old_rows new_rows)
-    → IfOk outcome (λ _. length new_notes ≡ length old_notes + 1)
-    → IfErr outcome (λ e. OnReadFault e (λ i. (i ≡ Capture (length old_notes)) × Rose (mid (name s)) (now (name s))))
-    → Judging name left faults texts before now media tai names rest outcome new_notes new_rows
-judging-next name left faults texts before mid now media tai names s rest old_notes new_notes old_rows new_rows (Ok u) h later found count cause =
+    → IfOk outcome (λ _. (read : List (List ℕ)) (text : List ℕ) → left s ≡ Some text → Found read → Next (read ++ text ∷ []))
+    → IfOk outcome (λ _. next_number ≡ number + 1)
+    → IfErr outcome (λ e. OnReadFault e (λ i. (i ≡ Capture number) × Rose (mid (name s)) (now (name s))))
+    → Judging name left faults texts before now names rest outcome next_number Next
+judging-next name left faults texts before mid now names s rest (Ok u) number next_number Found Next h later found count cause =
     let next = next-of name left faults texts h.ahead s rest h.fetched in
     record {
       done = h.done ++ next.first ∷ [];
@@ -103,15 +108,14 @@ judging-next name left faults texts before mid now media tai names s rest old_no
       count = omega (arith, count, h.count, length-append h.done (next.first ∷ []));
       told = λ read told.
           let last = told-last texts h.done next.first read told in
-          subst (λ r. AreFound r media tai new_notes new_rows) (sym last.whole)
-          (found-more last.first last.text media tai old_notes new_notes old_rows new_rows (h.told last.first last.told) (found last.text (next.told ∙ last.last)));
+          subst Next (sym last.whole) (found last.first last.text (next.told ∙ last.last) (h.told last.first last.told));
       cause = tt;
     }
-judging-next name left faults texts before mid now media tai names s rest old_notes new_notes old_rows new_rows (Err e) h later found count cause =
+judging-next name left faults texts before mid now names s rest (Err e) number next_number Found Next h later found count cause =
     let next = next-of name left faults texts h.ahead s rest h.fetched in
     let all : names ≡ h.done ++ next.first ∷ next.others = h.whole ∙ ap (λ l. h.done ++ l) next.whole in
-    let place : slice_index_or names (length old_notes) [] ≡ next.first =
-    ap (λ l. slice_index_or l (length old_notes) []) all ∙ ap (λ k. slice_index_or (h.done ++ next.first ∷ next.others) k []) h.count ∙ place-of h.done next.first next.others in
+    let place : slice_index_or names number [] ≡ next.first =
+    ap (λ l. slice_index_or l number []) all ∙ ap (λ k. slice_index_or (h.done ++ next.first ∷ next.others) k []) h.count ∙ place-of h.done next.first next.others in
     record {
       done = h.done ++ next.first ∷ [];
       ahead = next.others;
@@ -120,7 +124,7 @@ judging-next name left faults texts before mid now media tai names s rest old_no
       count = tt;
       told = tt;
       cause = on-map e _ (λ i. (number : ℕ) × (i ≡ Capture number) × CaptureRose before now names number) (λ i c. (
-        length old_notes,
+        number,
         c.0,
         record {
           within = let long : length names ≡ length h.done + length (next.first ∷ next.others) = ap length all ∙ length-append h.done (next.first ∷ next.others) in omega (arith, long, h.count);
@@ -130,11 +134,11 @@ judging-next name left faults texts before mid now media tai names s rest old_no
     }
 
 -- the next capture is passed over, where one before it couldn't be read
-pub judging-stopped : {S : Type 0} (name : S → List ℕ) (left : S → Option (List ℕ)) (faults : S → ℕ) (texts : List ℕ → Option (List ℕ)) (before mid now : List ℕ → ℕ) (media : List Media) (tai : ℕ) (names : List (List ℕ))
-    (s : S) (rest : List S) (notes : List FileNote) (rows : List Row) (e : Failure)
-    → Judging name left faults texts before mid media tai names (s ∷ rest) (Err e) notes rows → ((n : List ℕ) → mid n ≤ now n)
-    → Judging name left faults texts before now media tai names rest (Err e) notes rows
-judging-stopped name left faults texts before mid now media tai names s rest notes rows e h later =
+pub judging-stopped : {S : Type 0} (name : S → List ℕ) (left : S → Option (List ℕ)) (faults : S → ℕ) (texts : List ℕ → Option (List ℕ)) (before mid now : List ℕ → ℕ) (names : List (List ℕ))
+    (s : S) (rest : List S) (number : ℕ) (Found : List (List ℕ) → Type 0) (e : Failure)
+    → Judging name left faults texts before mid names (s ∷ rest) (Err e) number Found → ((n : List ℕ) → mid n ≤ now n)
+    → Judging name left faults texts before now names rest (Err e) number Found
+judging-stopped name left faults texts before mid now names s rest number Found e h later =
     let next = next-of name left faults texts h.ahead s rest h.fetched in
     record {
       done = h.done ++ next.first ∷ [];
@@ -146,10 +150,10 @@ judging-stopped name left faults texts before mid now media tai names s rest not
       cause = on-map e _ _ (capture-later before mid now names later) h.cause;
     }
 
--- all were judged
-pub judging-all : {S : Type 0} (name : S → List ℕ) (left : S → Option (List ℕ)) (faults : S → ℕ) (texts : List ℕ → Option (List ℕ)) (before now : List ℕ → ℕ) (media : List Media) (tai : ℕ) (names read : List (List ℕ))
-    (rest : List S) (notes : List FileNote) (rows : List Row) → Judging name left faults texts before now media tai names rest (Ok tt) notes rows → rest ≡ [] → AreTold texts names read → AreFound read media tai notes rows
-judging-all name left faults texts before now media tai names read rest notes rows h none told =
+-- all were read
+pub judging-all : {S : Type 0} (name : S → List ℕ) (left : S → Option (List ℕ)) (faults : S → ℕ) (texts : List ℕ → Option (List ℕ)) (before now : List ℕ → ℕ) (names read : List (List ℕ))
+    (rest : List S) (number : ℕ) (Found : List (List ℕ) → Type 0) → Judging name left faults texts before now names rest (Ok tt) number Found → rest ≡ [] → AreTold texts names read → Found read
+judging-all name left faults texts before now names read rest number Found h none told =
     let empty : h.ahead ≡ [] = none-ahead h.ahead (subst (AreFetched name left faults texts h.ahead) none h.fetched) in
     h.told read (subst (λ l. AreTold texts l read) (h.whole ∙ ap (λ l. h.done ++ l) empty ∙ append-nil h.done) told)
   where
@@ -159,20 +163,19 @@ judging-all name left faults texts before now media tai names read rest notes ro
 
 -- the same at the code's values
 
-pub judging-start : {S : Type 0} (name : S → List ℕ) (left : S → Option (List ℕ)) (faults : S → ℕ) (texts : List ℕ → Option (List ℕ)) (before : List ℕ → ℕ) (media : List Media) (tai : ℕ) (names : List (List ℕ))
-    (sources rest : List S) (notes : List FileNote) (rows : List Row) → rest ≡ sources → notes ≡ [] → rows ≡ [] → AreFetched name left faults texts names sources
-    → Judging name left faults texts before before media tai names rest (Ok tt) notes rows
-judging-start name left faults texts before media tai names sources rest notes rows same no_notes no_rows h =
-    subst (λ l. Judging name left faults texts before before media tai names l (Ok tt) notes rows) (sym same)
-    (subst (λ n. Judging name left faults texts before before media tai names sources (Ok tt) n rows) (sym no_notes)
-    (subst (λ r. Judging name left faults texts before before media tai names sources (Ok tt) [] r) (sym no_rows) (judging-none name left faults texts before media tai names sources h)))
+pub judging-start : {S : Type 0} (name : S → List ℕ) (left : S → Option (List ℕ)) (faults : S → ℕ) (texts : List ℕ → Option (List ℕ)) (before : List ℕ → ℕ) (names : List (List ℕ))
+    (sources rest : List S) (number : ℕ) (Found : List (List ℕ) → Type 0) → rest ≡ sources → number ≡ 0 → Found [] → AreFetched name left faults texts names sources
+    → Judging name left faults texts before before names rest (Ok tt) number Found
+judging-start name left faults texts before names sources rest number Found same first none h =
+    subst (λ l. Judging name left faults texts before before names l (Ok tt) number Found) (sym same)
+    (subst (λ k. Judging name left faults texts before before names sources (Ok tt) k Found) (sym first) (judging-none name left faults texts before names sources Found h none))
 
-pub judging-at : {S : Type 0} (name : S → List ℕ) (left : S → Option (List ℕ)) (faults : S → ℕ) (texts : List ℕ → Option (List ℕ)) (before now : List ℕ → ℕ) (media : List Media) (tai : ℕ) (names : List (List ℕ))
-    (all some : List S) (outcome is : Result (Unit {0}) Failure) (notes : List FileNote) (rows : List Row) → all ≡ some → outcome ≡ is
-    → Judging name left faults texts before now media tai names all outcome notes rows → Judging name left faults texts before now media tai names some is notes rows
-judging-at name left faults texts before now media tai names all some outcome is notes rows same known h =
-    subst (λ l. Judging name left faults texts before now media tai names l is notes rows) same
-    (subst (λ o. Judging name left faults texts before now media tai names all o notes rows) known h)
+pub judging-at : {S : Type 0} (name : S → List ℕ) (left : S → Option (List ℕ)) (faults : S → ℕ) (texts : List ℕ → Option (List ℕ)) (before now : List ℕ → ℕ) (names : List (List ℕ))
+    (all some : List S) (outcome is : Result (Unit {0}) Failure) (number : ℕ) (Found : List (List ℕ) → Type 0) → all ≡ some → outcome ≡ is
+    → Judging name left faults texts before now names all outcome number Found → Judging name left faults texts before now names some is number Found
+judging-at name left faults texts before now names all some outcome is number Found same known h =
+    subst (λ l. Judging name left faults texts before now names l is number Found) same
+    (subst (λ o. Judging name left faults texts before now names all o number Found) known h)
 
 -- what holds of all holds of the others
 pub fresh-tail : {S : Type 0} (P : S → Type 0) (all : List S) (s : S) (rest : List S) → all ≡ s ∷ rest → All P all → All P rest

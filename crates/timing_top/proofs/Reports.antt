@@ -37,9 +37,10 @@ only-records (t ∷ ts) (f ∷ fs) (g ∷ gs) (n ∷ ns) [] h k = absurd k
 -- there is one
 pub some-report : (job : CheckJob) (media : List Media) (texts : List (List ℕ)) → (answer : Answer) × HasReport job media texts answer
 some-report job media texts =
-    let all = some-records texts in
-    (record { text = printed job media all.1 (rows job media all.0); status = status_of media all.1 (rows job media all.0) },
-    record { files = all.0; notes = all.1; records = all.2; text_is = refl; status_is = refl })
+    let all = some-records texts in (
+      record { text = printed job media all.1 (rows job media all.0); status = status_of media all.1 (rows job media all.0) },
+      record { files = all.0; notes = all.1; records = all.2; text_is = refl; status_is = refl },
+    )
 
 same-answer : (a b : Answer) → a.text ≡ b.text → a.status ≡ b.status → a ≡ b
 same-answer a b text status = ap (λ t. record { text = t; status = a.status }) text ∙ ap (λ s. record { text = b.text; status = s }) status

@@ -1,8 +1,11 @@
 -- Captures that are taken and judged one by one.
-use Rattle.std.proofs.Common.{◌≡◌, ◌≤◌, ◌<◌, ◌+◌, ◌^◌, ℕ, zero, suc, List, [], ◌∷◌, ◌++◌, length, Option, Some, None, refl, arith, ap, ◌∙◌, sym, subst, append_assoc, append-nil}
-use Rattle.std.specs.Prelude.{All, map}
+use Rattle.std.proofs.Common.{◌≡◌, ◌≤◌, ◌<◌, ◌+◌, ◌^◌, ℕ, List, [], ◌∷◌, ◌++◌, length, Option, Some, refl, arith, ap, ◌∙◌, sym, subst, append_assoc, append-nil, length-append, true, false, if◌then◌else◌}
+use Rattle.std.specs.Prelude.{All, IfOk, Result, Ok, Err, map}
+use Rattle.timing_steps.specs.declared.failure.Failure.{Failure}
+use Rattle.std.proofs.lemmas.List.{length-map}
 use Rattle.std.proofs.lemmas.List.Elements.{All-nil, All-cons, All-append}
-use Rattle.timing_base.specs.Captures.{Record, raised}
+use Rattle.timing_base.specs.Captures.{Record, joined, joined_after, raised}
+use Rattle.timing_base.specs.Jobs.{CheckJob}
 use Rattle.timing_base.specs.Media.{Media}
 use Rattle.timing_base.specs.declared.capture.FileNote.{FileNote}
 use Rattle.timing_base.specs.declared.row.Row.{Row}
@@ -15,7 +18,8 @@ use Rattle.flow_bank.specs.declared.bank.Bank.{Bank}
 use Rattle.flow_bank.specs.declared.records.Taken.{Taken}
 use Rattle.timing_report.specs.Outcomes.{AreOfSession}
 use Rattle.pcap_reader.specs.Records.{AreRecords}
-use Rattle.timing_top.specs.Found.{AreFound, FindsNext, TakesCapture}
+use Rattle.timing_top.specs.Found.{AreFound, AreJoined, FindsNext, JoinsNext, TakesCapture}
+use Rattle.timing_top.specs.Report.{rows}
 
 -- what was told of the records of a text is told of the text, as each text has its records
 pub takes-capture : (text : List ℕ) (before : ℕ) (old new : Bank) (taken : Taken)
@@ -90,13 +94,13 @@ files-length (t ∷ ts) [] notes h = absurd h
 files-length (t ∷ ts) (f ∷ fs) [] h = absurd h
 
 -- nothing was judged yet
-pub found-none : (media : List Media) (tai : ℕ) → AreFound [] media tai [] []
-found-none media tai = record { files = []; records = tt; rows_are = refl }
+pub found-none : (media : List Media) (tai : ℕ) (notes : List FileNote) (found : List Row) → notes ≡ [] → found ≡ [] → AreFound [] (rows_of_files tai 0 media) notes found
+found-none media tai notes found no_notes no_rows = record { files = []; records = subst (AreRecords [] []) (sym no_notes) tt; rows_are = no_rows }
 
 -- one capture more was judged
 pub found-more : (texts : List (List ℕ)) (text : List ℕ) (media : List Media) (tai : ℕ) (old_notes new_notes : List FileNote) (old_rows new_rows : List Row)
-    → AreFound texts media tai old_notes old_rows → FindsNext text media tai (length old_notes) old_notes new_notes old_rows new_rows
-    → AreFound (texts ++ text ∷ []) media tai new_notes new_rows
+    → AreFound texts (rows_of_files tai 0 media) old_notes old_rows → FindsNext text media tai (length old_notes) old_notes new_notes old_rows new_rows
+    → AreFound (texts ++ text ∷ []) (rows_of_files tai 0 media) new_notes new_rows
 found-more texts text media tai old_notes new_notes old_rows new_rows found next = record {
   files = found.files ++ next.items ∷ [];
   records = subst (AreRecords (texts ++ text ∷ []) (found.files ++ next.items ∷ [])) (sym next.notes) (records-push texts found.files old_notes text next.items next.note found.records next.records);
@@ -107,3 +111,78 @@ found-more texts text media tai old_notes new_notes old_rows new_rows found next
       ∙ ap (λ f. rows_of_files tai 0 media found.files ++ rows_of tai f media next.items) (sym same)
       ∙ sym (rows-push tai 0 media found.files next.items);
 }
+
+-- one capture more behind joined ones
+joined-push : (before : ℕ) (files : List (List Record)) (items : List Record)
+    → joined_after before (files ++ items ∷ []) ≡ joined_after before files ++ map (raised (before + length (joined_after before files))) items
+joined-push before [] items =
+    let same : before + 0 ≡ before = omega arith in
+    append-nil (map (raised before) items) ∙ sym (ap (λ n. map (raised n) items) same)
+joined-push before (f ∷ fs) items =
+    let long : length (map (raised before) f ++ joined_after (before + length f) fs) ≡ length f + length (joined_after (before + length f) fs) =
+    length-append (map (raised before) f) (joined_after (before + length f) fs) ∙ ap (λ n. n + length (joined_after (before + length f) fs)) (length-map f (raised before)) in
+    let same : before + length (map (raised before) f ++ joined_after (before + length f) fs) ≡ (before + length f) + length (joined_after (before + length f) fs) = omega (arith, long) in
+    ap (λ l. map (raised before) f ++ l) (joined-push (before + length f) fs items)
+    ∙ sym (append_assoc (map (raised before) f) (joined_after (before + length f) fs) (map (raised ((before + length f) + length (joined_after (before + length f) fs))) items))
+    ∙ ap (λ n. (map (raised before) f ++ joined_after (before + length f) fs) ++ map (raised n) items) (sym same)
+
+-- no capture was taken yet
+pub joined-none : (media : List Media) (tai : ℕ) (notes : List FileNote) (bank : Bank) → notes ≡ [] → StandsFor media 0 tai bank [] → AreJoined [] media tai notes 0 bank
+joined-none media tai notes bank no_notes stands = record { files = []; records = subst (AreRecords [] []) (sym no_notes) tt; count_is = refl; stands = stands }
+
+-- one capture more was taken
+pub joined-more : (texts : List (List ℕ)) (text : List ℕ) (media : List Media) (tai before after : ℕ) (old new : Bank) (old_notes new_notes : List FileNote)
+    → AreJoined texts media tai old_notes before old → JoinsNext text before after old new old_notes new_notes → AreJoined (texts ++ text ∷ []) media tai new_notes after new
+joined-more texts text media tai before after old new old_notes new_notes done next =
+    let more : joined (done.files ++ next.takes.items ∷ []) ≡ joined done.files ++ map (raised before) next.takes.items =
+    let same : 0 + length (joined done.files) ≡ before = omega (arith, done.count_is) in
+    joined-push 0 done.files next.takes.items ∙ ap (λ n. joined done.files ++ map (raised n) next.takes.items) same in
+    record {
+      files = done.files ++ next.takes.items ∷ [];
+      records = subst (AreRecords (texts ++ text ∷ []) (done.files ++ next.takes.items ∷ [])) (sym next.notes) (records-push texts done.files old_notes text next.takes.items next.taken.note done.records next.takes.records);
+      count_is =
+          let long : length (joined (done.files ++ next.takes.items ∷ [])) ≡ length (joined done.files) + length next.takes.items =
+          ap length more ∙ length-append (joined done.files) (map (raised before) next.takes.items) ∙ ap (λ n. length (joined done.files) + n) (length-map next.takes.items (raised before)) in
+          omega (arith, long, next.count, next.takes.count, done.count_is);
+      stands = subst (StandsFor media 0 tai new) (sym more) (next.takes.stands media 0 tai (joined done.files) done.stands);
+    }
+
+-- the rows of captures that were taken as one
+pub found-joined : (texts : List (List ℕ)) (media : List Media) (tai count : ℕ) (notes : List FileNote) (bank : Bank) (found : List Row)
+    → AreJoined texts media tai notes count bank → ((items : List Record) → StandsFor media 0 tai bank items → found ≡ rows_of tai 0 media items)
+    → AreFound texts (λ files. rows_of tai 0 media (joined files)) notes found
+found-joined texts media tai count notes bank found done rows_are = record { files = done.files; records = done.records; rows_are = rows_are (joined done.files) done.stands }
+
+-- rows that come behind none
+pub rows-alone : (tai : ℕ) (media : List Media) (items : List Record) (old new : List Row) → old ≡ [] → new ≡ old ++ rows_of tai 0 media items → new ≡ rows_of tai 0 media items
+rows-alone tai media items old new none e = e ∙ ap (λ l. l ++ rows_of tai 0 media items) none
+
+-- the rows of a job, by whether its captures are joined
+pub found-if_joined : (texts : List (List ℕ)) (job : CheckJob) (media : List Media) (notes : List FileNote) (found : List Row) → job.joined ≡ true
+    → AreFound texts (λ files. rows_of job.tai 0 media (joined files)) notes found → AreFound texts (rows job media) notes found
+found-if_joined texts job media notes found is h = record {
+  files = h.files;
+  records = h.records;
+  rows_are = h.rows_are ∙ ap (λ b. if b then rows_of job.tai 0 media (joined h.files) else rows_of_files job.tai 0 media h.files) (sym is);
+}
+
+pub found-unless_joined : (texts : List (List ℕ)) (job : CheckJob) (media : List Media) (notes : List FileNote) (found : List Row) → job.joined ≡ false
+    → AreFound texts (rows_of_files job.tai 0 media) notes found → AreFound texts (rows job media) notes found
+found-unless_joined texts job media notes found is h = record {
+  files = h.files;
+  records = h.records;
+  rows_are = h.rows_are ∙ ap (λ b. if b then rows_of job.tai 0 media (joined h.files) else rows_of_files job.tai 0 media h.files) (sym is);
+}
+
+-- the same of a capture that may not have been read
+pub found-if_read : (o : Result (Unit {0}) Failure) (left : Option (List ℕ)) (media : List Media) (tai : ℕ) (old_notes new_notes : List FileNote) (old_rows new_rows : List Row)
+    → IfOk o (λ _. (text : List ℕ) → left ≡ Some text → FindsNext text media tai (length old_notes) old_notes new_notes old_rows new_rows)
+    → IfOk o (λ _. (read : List (List ℕ)) (text : List ℕ) → left ≡ Some text → AreFound read (rows_of_files tai 0 media) old_notes old_rows → AreFound (read ++ text ∷ []) (rows_of_files tai 0 media) new_notes new_rows)
+found-if_read (Ok u) left media tai old_notes new_notes old_rows new_rows h = λ read text whole found. found-more read text media tai old_notes new_notes old_rows new_rows found (h text whole)
+found-if_read (Err e) left media tai old_notes new_notes old_rows new_rows h = tt
+
+pub joined-if_read : (o : Result (Unit {0}) Failure) (left : Option (List ℕ)) (media : List Media) (tai before after : ℕ) (old new : Bank) (old_notes new_notes : List FileNote)
+    → IfOk o (λ _. (text : List ℕ) → left ≡ Some text → JoinsNext text before after old new old_notes new_notes)
+    → IfOk o (λ _. (read : List (List ℕ)) (text : List ℕ) → left ≡ Some text → AreJoined read media tai old_notes before old → AreJoined (read ++ text ∷ []) media tai new_notes after new)
+joined-if_read (Ok u) left media tai before after old new old_notes new_notes h = λ read text whole done. joined-more read text media tai before after old new old_notes new_notes done (h text whole)
+joined-if_read (Err e) left media tai before after old new old_notes new_notes h = tt

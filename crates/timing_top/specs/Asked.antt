@@ -1,5 +1,5 @@
 -- What each request and its texts define, in the order in which its inputs are read.
-use Rattle.std.specs.Prelude.{◌≡◌, ◌==◌, ◌&&◌, not, Bool, true, false, ℕ, ⊤, List, Option, Some, None, Result}
+use Rattle.std.specs.Prelude.{◌≡◌, ◌==◌, Bool, true, false, IsTrue, ℕ, List, [], ◌∷◌, Option, Some, None, Result}
 use Rattle.timing_base.specs.Jobs.{CheckJob}
 use Rattle.timing_base.specs.declared.job.Request.{Request}
 use Rattle.timing_base.specs.declared.job.Request.TheVariants as request
@@ -10,32 +10,33 @@ use Rattle.timing_report.specs.declared.status.Status.TheVariants as status
 use Rattle.timing_steps.specs.Answers.{Answer, CaptureRose, Gives, HasRisen, Inputs, ReadsCaptures, ReadsSession, Yields, silent}
 use Rattle.timing_steps.specs.declared.failure.Failure.{Failure}
 use Rattle.timing_top.specs.Report.{HasReport}
+use Rattle.timing_top.specs.SelfTest.{HasSelfTest}
 
 -- `check`: the description, then the captures, then their report
 abbrev pub FollowsCheck : CheckJob → Inputs → Result Answer Failure → Type 0
 FollowsCheck job i outcome = Yields outcome (ReadsSession i outcome job.sdp (λ media.
     ReadsCaptures i outcome job.captures (λ texts. Gives outcome (HasReport job media texts))))
 
+-- `selftest` with so many frames, for which nothing is read
+abbrev pub FollowsSelfTest : ℕ → Result Answer Failure → Type 0
+FollowsSelfTest frames outcome = Yields outcome (Gives outcome (HasSelfTest frames))
+
 -- one answer, for which nothing is read
 abbrev pub FollowsAtOnce : Status → Result Answer Failure → Type 0
 FollowsAtOnce ends outcome = Yields outcome (Gives outcome (λ answer. answer ≡ silent ends))
 
--- `check` is built on one thread, where the captures aren't joined
-abbrev pub is_built : CheckJob → Bool
-is_built job = (job.workers == 0) && not job.joined
+-- what follows where a request is built, and where it isn't
+abbrev pub FollowsIf : Bool → Type 0 → Result Answer Failure → Type 0
+FollowsIf true Built outcome = Built
+FollowsIf false Built outcome = FollowsAtOnce status.NotBuilt outcome
 
--- `check`, where it is built or isn't
-abbrev pub FollowsIf : Bool → CheckJob → Inputs → Result Answer Failure → Type 0
-FollowsIf true job i outcome = FollowsCheck job i outcome
-FollowsIf false job i outcome = FollowsAtOnce status.NotBuilt outcome
-
--- words that are no request, and a request
+-- words that are no request, and a request; `check` and `selftest` are built on one thread
 abbrev pub Follows : Option Request → Inputs → Result Answer Failure → Type 0
 Follows None i outcome = FollowsAtOnce status.Usage outcome
-Follows (Some (request.Check job)) i outcome = FollowsIf (is_built job) job i outcome
+Follows (Some (request.Check job)) i outcome = FollowsIf (job.workers == 0) (FollowsCheck job i outcome) outcome
 Follows (Some (request.Verify job)) i outcome = FollowsAtOnce status.NotBuilt outcome
 Follows (Some (request.VerifyReport job)) i outcome = FollowsAtOnce status.NotBuilt outcome
-Follows (Some (request.SelfTest job)) i outcome = FollowsAtOnce status.NotBuilt outcome
+Follows (Some (request.SelfTest job)) i outcome = FollowsIf (job.workers == 0) (FollowsSelfTest job.frames outcome) outcome
 Follows (Some (request.Window job)) i outcome = FollowsAtOnce status.NotBuilt outcome
 Follows (Some (request.Shape job)) i outcome = FollowsAtOnce status.NotBuilt outcome
 Follows (Some (request.Skew job)) i outcome = FollowsAtOnce status.NotBuilt outcome
@@ -46,12 +47,16 @@ CheckInputRose job i input.Sdp = HasRisen i job.sdp
 CheckInputRose job i input.Report = ⊥
 CheckInputRose job i (input.Capture number) = CaptureRose i.before i.now job.captures number
 
--- the count of the name of this input of the request rose; what isn't built has none
+-- the count of the name of this input of the request rose; what reads nothing has none
 abbrev pub InputRose : Option Request → Inputs → Input → Type 0
 InputRose (Some (request.Check job)) i input = CheckInputRose job i input
 InputRose other i input = ⊥
 
--- of a status that names an input
-abbrev pub OnReadFault : Status → (Input → Type 0) → Type 0
-OnReadFault (status.ReadFault input) P = P input
-OnReadFault ends P = ⊤
+-- the names of a request's inputs, where it reads any
+abbrev pub names_of : Option Request → List (List ℕ)
+names_of (Some (request.Check job)) = job.sdp ∷ job.captures
+names_of other = []
+
+-- what was seen of a shelf that tells by a test which names it lacks; the laws speak of such shelves
+abbrev pub seen : (texts : List ℕ → Option (List ℕ)) → (lacking : List ℕ → Bool) → (before now : List ℕ → ℕ) → Inputs
+seen texts lacking before now = record { texts = texts; lacks = λ name. IsTrue (lacking name); before = before; now = now }

@@ -1,17 +1,17 @@
 -- What was found in captures, and how their judging goes on.
-use Rattle.std.specs.Prelude.{◌≡◌, ◌+◌, ◌^◌, ℕ, List, [], ◌∷◌, ◌++◌, length, map, Option, Some, Result, IfOk, IfErr}
+use Rattle.std.specs.Prelude.{◌≡◌, ◌+◌, ◌^◌, ℕ, List, [], ◌∷◌, ◌++◌, length, map, Option, Result, IfOk, IfErr}
 use Rattle.timing_base.specs.Captures.{Record, joined, raised}
 use Rattle.timing_base.specs.Media.{Media}
 use Rattle.timing_base.specs.declared.capture.FileNote.{FileNote}
 use Rattle.timing_base.specs.declared.row.Row.{Row}
 use Rattle.pcap_reader.specs.Records.{AreRecords, Records}
-use Rattle.flow_bank.specs.Rows.{rows_of, rows_of_files}
+use Rattle.flow_bank.specs.Rows.{rows_of}
 use Rattle.flow_bank.specs.Stands.{StandsFor}
 use Rattle.flow_bank.specs.declared.bank.Bank.{Bank}
 use Rattle.flow_bank.specs.declared.records.Taken.{Taken}
 use Rattle.timing_report.specs.declared.status.Input.TheVariants.{Capture}
-use Rattle.timing_steps.specs.Answers.{AreTold, CaptureRose}
-use Rattle.timing_steps.specs.Fetched.{AreFetched, OnReadFault}
+use Rattle.timing_steps.specs.Answers.{AreTold, CaptureRose, OnReadFault}
+use Rattle.timing_steps.specs.Fetched.{AreFetched}
 use Rattle.timing_steps.specs.declared.failure.Failure.{Failure}
 
 -- a capture was taken: how it ends, how many records it has, and that the bank took them, numbered on
@@ -30,20 +30,35 @@ pub record FindsNext (text : List ℕ) (media : List Media) (tai file : ℕ) (ol
   pub notes : new_notes ≡ old_notes ++ note ∷ []
   pub rows : new_rows ≡ old_rows ++ rows_of tai file media items
 
--- the captures of these texts end so, and have these rows, each by itself
-pub record AreFound (texts : List (List ℕ)) (media : List Media) (tai : ℕ) (notes : List FileNote) (rows : List Row) : Type 0 where
+-- one capture more was taken behind so many records: its note stands at the end, and its records are counted
+pub record JoinsNext (text : List ℕ) (before after : ℕ) (old new : Bank) (old_notes new_notes : List FileNote) : Type 0 where
+  pub taken : Taken
+  pub takes : TakesCapture text before old new taken
+  pub notes : new_notes ≡ old_notes ++ taken.note ∷ []
+  pub count : after ≡ before + taken.records
+
+-- the captures of these texts end so, and have these rows, which go by their records
+pub record AreFound (texts : List (List ℕ)) (rows_by : List (List Record) → List Row) (notes : List FileNote) (rows : List Row) : Type 0 where
   pub files : List (List Record)
   pub records : AreRecords texts files notes
-  pub rows_are : rows ≡ rows_of_files tai 0 media files
+  pub rows_are : rows ≡ rows_by files
 
--- of the captures of these names some were judged, and the sources of the others are ahead; or one couldn't be read
+-- the captures of these texts were taken as one: how they end, their count of records, and the bank that was fed them
+pub record AreJoined (texts : List (List ℕ)) (media : List Media) (tai : ℕ) (notes : List FileNote) (count : ℕ) (bank : Bank) : Type 0 where
+  pub files : List (List Record)
+  pub records : AreRecords texts files notes
+  pub count_is : count ≡ length (joined files)
+  pub stands : StandsFor media 0 tai bank (joined files)
+
+-- of the captures of these names so many were read, and this holds of their texts; the sources of the others are ahead.
+-- Or one couldn't be read
 pub record Judging {S : Type 0} (name : S → List ℕ) (left : S → Option (List ℕ)) (faults : S → ℕ)
-    (texts : List ℕ → Option (List ℕ)) (before now : List ℕ → ℕ) (media : List Media) (tai : ℕ) (names : List (List ℕ))
-    (rest : List S) (outcome : Result (Unit {0}) Failure) (notes : List FileNote) (rows : List Row) : Type 0 where
+    (texts : List ℕ → Option (List ℕ)) (before now : List ℕ → ℕ) (names : List (List ℕ))
+    (rest : List S) (outcome : Result (Unit {0}) Failure) (number : ℕ) (Found : List (List ℕ) → Type 0) : Type 0 where
   pub done : List (List ℕ)
   pub ahead : List (List ℕ)
   pub whole : names ≡ done ++ ahead
   pub fetched : AreFetched name left faults texts ahead rest
-  pub count : IfOk outcome (λ _. length notes ≡ length done)
-  pub told : IfOk outcome (λ _. (read : List (List ℕ)) → AreTold texts done read → AreFound read media tai notes rows)
+  pub count : IfOk outcome (λ _. number ≡ length done)
+  pub told : IfOk outcome (λ _. (read : List (List ℕ)) → AreTold texts done read → Found read)
   pub cause : IfErr outcome (λ e. OnReadFault e (λ i. (number : ℕ) × (i ≡ Capture number) × CaptureRose before now names number))

@@ -1,5 +1,6 @@
 -- what is promised
 pub mod Asked
 pub mod Report
+pub mod SelfTest
 -- these only serve proofs
 pub mod Found

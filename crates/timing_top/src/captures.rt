@@ -1,11 +1,11 @@
-//! The captures of a job, judged one after the other.
+//! The captures of a job, judged one after the other, each by itself.
 
-ghost use Rattle.std.specs.Prelude.{◌≡◌, ◌≤◌, ◌<◌, ◌+◌, ◌*◌, ◌^◌, ◌++◌, ◌∷◌, [], ℕ, List, Some, IfOk, IfErr, length, All};
+ghost use Rattle.std.specs.Prelude.{◌≡◌, ◌≤◌, ◌<◌, ◌+◌, ◌*◌, ◌^◌, ℕ, List, Some, IfOk, IfErr, length, All};
 ghost use Rattle.timing_outside.specs.Causes.{Rose};
 ghost use Rattle.timing_report.specs.Outcomes.{AreOfSession};
-ghost use Rattle.timing_steps.specs.Answers.{AreTold, CaptureRose};
-ghost use Rattle.timing_steps.specs.Fetched.{AreFetched, OnReadFault};
-ghost use Rattle.flow_bank.specs.Rows.{rows_of};
+ghost use Rattle.timing_steps.specs.Answers.{AreTold, CaptureRose, OnReadFault};
+ghost use Rattle.timing_steps.specs.Fetched.{AreFetched};
+ghost use Rattle.flow_bank.specs.Rows.{rows_of_files};
 ghost use Rattle.flow_bank.specs.Stands.{IsFed, records};
 ghost use Rattle.timing_top.specs.Found.{AreFound, FindsNext, TakesCapture};
 
@@ -30,7 +30,7 @@ pub struct Found {
 
 /// Takes the records of a capture, each number raised by `before`, and gives the source back. The
 /// capture's number, from 0, is named where a read of it failed.
-fn take_capture<H: Shelf>(
+pub fn take_capture<H: Shelf>(
     alloc: Global,
     shelf: &mut H,
     source: H::Source,
@@ -49,6 +49,7 @@ fn take_capture<H: Shelf>(
     ensures cause { IfErr result (λ e. OnReadFault e (λ i. (i ≡ Input.Capture number)
         × Rose (H.faults shelf.old (H.Source.name source))
         (H.faults shelf.new (H.Source.name source)))) }
+    ensures lacks { (n : List ℕ) → H.lacks shelf.old n → H.lacks shelf.new n }
     ensures texts { (n : List ℕ) → H.text shelf.new n ≡ H.text shelf.old n }
     ensures later { (n : List ℕ) → H.faults shelf.old n ≤ H.faults shelf.new n }
 {
@@ -92,6 +93,7 @@ fn judge_next<H: Shelf>(
         (i ≡ Input.Capture (length found.old.notes.items))
         × Rose (H.faults shelf.old (H.Source.name source))
         (H.faults shelf.new (H.Source.name source)))) }
+    ensures lacks { (n : List ℕ) → H.lacks shelf.old n → H.lacks shelf.new n }
     ensures texts { (n : List ℕ) → H.text shelf.new n ≡ H.text shelf.old n }
     ensures later { (n : List ℕ) → H.faults shelf.old n ≤ H.faults shelf.new n }
 {
@@ -125,13 +127,14 @@ pub fn judge_each<H: Shelf>(
     ensures told { IfOk result (λ found. (names texts : List (List ℕ))
         → AreFetched H.Source.name H.Source.left H.Source.faults (H.text shelf.old) names sources.items
         → AreTold (H.text shelf.old) names texts
-        → AreFound texts media.now tai found.notes.items found.rows.items) }
+        → AreFound texts (rows_of_files tai 0 media.now) found.notes.items found.rows.items) }
     ensures count { IfOk result (λ found. length found.notes.items ≡ length sources.items) }
     ensures of_session { IfOk result (λ found. AreOfSession media.now found.rows.items) }
     ensures cause { (names : List (List ℕ))
         → AreFetched H.Source.name H.Source.left H.Source.faults (H.text shelf.old) names sources.items
         → IfErr result (λ e. OnReadFault e (λ i. (number : ℕ) × (i ≡ Input.Capture number)
         × CaptureRose (H.faults shelf.old) (H.faults shelf.new) names number)) }
+    ensures lacks { (n : List ℕ) → H.lacks shelf.old n → H.lacks shelf.new n }
     ensures texts { (n : List ℕ) → H.text shelf.new n ≡ H.text shelf.old n }
     ensures later { (n : List ℕ) → H.faults shelf.old n ≤ H.faults shelf.new n }
 {

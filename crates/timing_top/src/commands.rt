@@ -1,23 +1,34 @@
 //! From the words of a command line to what is printed and the status.
 
-ghost use Rattle.std.specs.Prelude.{◌≡◌, ◌≤◌, ℕ, List, Some, map, IfErr, IfOk, string_bytes};
-ghost use Rattle.timing_steps.specs.Fetched.{OnReadFault as OnFailedRead};
-ghost use Rattle.timing_steps.specs.Ran.{Ran};
+ghost use Rattle.std.specs.Prelude.{◌≡◌, ◌≤◌, ◌==◌, ℕ, List, Some, map, string_bytes};
+ghost use Rattle.timing_steps.specs.Ran.{HasCause, Ran};
 ghost use Rattle.timing_words.specs.Request.{request};
-ghost use Rattle.timing_top.specs.Asked.{Follows, InputRose, OnReadFault};
+ghost use Rattle.timing_top.specs.Asked.{Follows, FollowsIf, FollowsSelfTest, InputRose};
 
 use crate::check::answer_check;
+use crate::self_test::answer_self_test;
 use std::alloc::Global;
 use std::sync::Wait;
 use std::thread::Threads;
-use timing_base::Request;
+use timing_base::{Request, SelfTestJob};
 use timing_outside::{Gate, Shelf, Sink};
 use timing_report::Status;
 use timing_steps::{Answer, Failure, conclude};
 use timing_words::{WordFault, read_words};
 
-/// The answer of a request, or why there is none. Built is `check` on one thread,
-/// where the captures aren't joined.
+/// The answer of `selftest`, which is built on one thread.
+fn answer_frames(alloc: Global, job: &SelfTestJob) -> Result<Answer, Failure>
+    ensures follows { FollowsIf (job.now.workers == 0) (FollowsSelfTest job.now.frames result) result }
+    ensures cause { HasCause result (λ i. ⊥) }
+{
+    if job.workers == 0 {
+        answer_self_test(alloc, job.frames)
+    } else {
+        Ok(Answer::silent(alloc, Status::NotBuilt))
+    }
+}
+
+/// The answer of a request, or why there is none. Built are `check` and `selftest` on one thread.
 fn answer_request<H: Shelf>(
     alloc: Global,
     request: Request,
@@ -25,22 +36,28 @@ fn answer_request<H: Shelf>(
 ) -> Result<Answer, Failure>
     ensures follows { Follows (Some request) (record {
       texts = H.text shelf.old;
+      lacks = H.lacks shelf.old;
       before = H.faults shelf.old;
       now = H.faults shelf.new;
     }) result }
-    ensures cause { IfErr result (λ e. OnFailedRead e (InputRose (Some request)
-        (record { texts = H.text shelf.old; before = H.faults shelf.old; now = H.faults shelf.new }))) }
-    ensures answers { IfOk result (λ answer. OnReadFault answer.status (λ i. ⊥)) }
+    ensures cause { HasCause result (InputRose (Some request) (record {
+      texts = H.text shelf.old;
+      lacks = H.lacks shelf.old;
+      before = H.faults shelf.old;
+      now = H.faults shelf.new;
+    })) }
+    ensures lacks { (n : List ℕ) → H.lacks shelf.old n → H.lacks shelf.new n }
     ensures texts { (n : List ℕ) → H.text shelf.new n ≡ H.text shelf.old n }
     ensures later { (n : List ℕ) → H.faults shelf.old n ≤ H.faults shelf.new n }
 {
     match request {
         Request::Check(job) => {
-            if job.workers == 0 && !job.joined {
+            if job.workers == 0 {
                 return answer_check(alloc, &job, shelf);
             }
             Ok(Answer::silent(alloc, Status::NotBuilt))
         }
+        Request::SelfTest(job) => answer_frames(alloc, &job),
         _ => Ok(Answer::silent(alloc, Status::NotBuilt)),
     }
 }
@@ -49,12 +66,17 @@ fn answer_request<H: Shelf>(
 fn answer<H: Shelf>(alloc: Global, words: &[String], shelf: &mut H) -> Result<Answer, Failure>
     ensures follows { Follows (request (map string_bytes words.now)) (record {
       texts = H.text shelf.old;
+      lacks = H.lacks shelf.old;
       before = H.faults shelf.old;
       now = H.faults shelf.new;
     }) result }
-    ensures cause { IfErr result (λ e. OnFailedRead e (InputRose (request (map string_bytes words.now))
-        (record { texts = H.text shelf.old; before = H.faults shelf.old; now = H.faults shelf.new }))) }
-    ensures answers { IfOk result (λ answer. OnReadFault answer.status (λ i. ⊥)) }
+    ensures cause { HasCause result (InputRose (request (map string_bytes words.now)) (record {
+      texts = H.text shelf.old;
+      lacks = H.lacks shelf.old;
+      before = H.faults shelf.old;
+      now = H.faults shelf.new;
+    })) }
+    ensures lacks { (n : List ℕ) → H.lacks shelf.old n → H.lacks shelf.new n }
     ensures texts { (n : List ℕ) → H.text shelf.new n ≡ H.text shelf.old n }
     ensures later { (n : List ℕ) → H.faults shelf.old n ≤ H.faults shelf.new n }
 {
@@ -68,7 +90,7 @@ fn answer<H: Shelf>(alloc: Global, words: &[String], shelf: &mut H) -> Result<An
 /// Does what the words ask for, the program's name not among them, and answers how that ended.
 ///
 /// A report goes to `out`, whole or not at all, but where a write fails; `err` gets one line where there
-/// is none. Built is `check` with `--serial`, without `--joined`.
+/// is none. Built are `check` with `--serial`, and `selftest` without workers.
 ///
 /// The call may wait for other threads in the forms that use them; it promises what it says if it
 /// returns. None is built yet.
@@ -82,19 +104,24 @@ pub fn run<R: Wait + Threads + Sync, H: Shelf, K: Sink, G: Gate>(
     _gate: &G,
 ) -> Status
     // What the texts of the request define was printed with its status, or nothing was and the status
-    // says why: an input couldn't be read, a write failed, or memory ran out.
-    ensures ran { Ran (Follows (request (map string_bytes words.now)) (record {
-      texts = H.text shelf.old;
-      before = H.faults shelf.old;
-      now = H.faults shelf.new;
-    }))
+    // says why: an input couldn't be read whose count rose, a write failed, or memory ran out.
+    ensures ran { Ran
+        (Follows (request (map string_bytes words.now)) (record {
+          texts = H.text shelf.old;
+          lacks = H.lacks shelf.old;
+          before = H.faults shelf.old;
+          now = H.faults shelf.new;
+        }))
+        (InputRose (request (map string_bytes words.now)) (record {
+          texts = H.text shelf.old;
+          lacks = H.lacks shelf.old;
+          before = H.faults shelf.old;
+          now = H.faults shelf.new;
+        }))
         (record { old = K.written out.old; new = K.written out.new; before = K.faults out.old; now = K.faults out.new })
         (record { old = K.written err.old; new = K.written err.new; before = K.faults err.old; now = K.faults err.new })
         result }
-
-    // A read fault names an input of the request whose count rose.
-    ensures cause { OnReadFault result (InputRose (request (map string_bytes words.now))
-        (record { texts = H.text shelf.old; before = H.faults shelf.old; now = H.faults shelf.new })) }
+    ensures lacks { (n : List ℕ) → H.lacks shelf.old n → H.lacks shelf.new n }
     ensures texts { (n : List ℕ) → H.text shelf.new n ≡ H.text shelf.old n }
     ensures later { (n : List ℕ) → H.faults shelf.old n ≤ H.faults shelf.new n }
 {

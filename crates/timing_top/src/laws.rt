@@ -1,11 +1,21 @@
 //! What holds of the definitions themselves. Each function is a theorem: it does nothing, and its
 //! clauses are proved.
 
-ghost use Rattle.std.specs.Prelude.{◌≡◌, ℕ, List};
+ghost use Rattle.std.specs.Prelude.{◌≡◌, ◌⊎◌, [], ◌∷◌, ℕ, Bool, List, All, Option, Some, None, Ok, Err, false};
 ghost use Rattle.timing_base.specs.Jobs.{CheckJob};
 ghost use Rattle.timing_base.specs.Media.{Media};
-ghost use Rattle.timing_steps.specs.Answers.{Answer};
+ghost use Rattle.timing_base.specs.declared.job.Request.{Request};
+ghost use Rattle.sdp_reader.specs.Session.{session};
+ghost use Rattle.capture_gen.specs.Sdp.{sdp_text};
+ghost use Rattle.timing_report.specs.declared.status.Input.{Input as InputValue};
+ghost use Rattle.timing_steps.specs.Answers.{Answer, AreTold};
+ghost use Rattle.timing_steps.specs.declared.failure.Failure.{Failure};
+ghost use Rattle.timing_steps.specs.declared.failure.Failure.TheVariants as failure;
+ghost use Rattle.timing_top.specs.Asked.{Follows, InputRose, names_of, seen};
 ghost use Rattle.timing_top.specs.Report.{HasReport};
+ghost use Rattle.timing_top.specs.SelfTest.{HasSelfTest};
+
+use timing_base::Kind;
 
 /// Texts have one report: there is one, and there are not two.
 pub fn one_report()
@@ -13,4 +23,50 @@ pub fn one_report()
         → (answer : Answer) × HasReport job media texts answer }
     ensures once { (job : CheckJob) (media : List Media) (texts : List (List ℕ)) (a b : Answer)
         → HasReport job media texts a → HasReport job media texts b → a ≡ b }
+{}
+
+/// `selftest` prints one text: there is one, and there are not two.
+pub fn one_self_test()
+    ensures some { (frames : ℕ) → (answer : Answer) × HasSelfTest frames answer }
+    ensures once { (frames : ℕ) (a b : Answer)
+        → HasSelfTest frames a → HasSelfTest frames b → a ≡ b }
+{}
+
+/// Worked by hand: the media of the plain description, which `selftest` judges.
+pub fn plain_media_by_hand()
+    ensures { session sdp_text ≡ Ok (record {
+      line = 5;
+      address = 0xef000001;
+      port = 50000;
+      pt = 96;
+      width = 1920;
+      height = 1080;
+      interlaced = false;
+      p = 50;
+      q = 1;
+      declared = Some Kind.N;
+      troff = None;
+      cmax = None;
+    } ∷ []) }
+{}
+
+/// The texts of a request define one answer. Where they are told and none is lacking, there is one and
+/// there are not two, and what has none ran out of memory or names an input whose count rose.
+pub fn one_answer()
+    ensures some { (asked : Option Request) (texts : List ℕ → Option (List ℕ))
+        (lacking : List ℕ → Bool) (before now : List ℕ → ℕ) (told : List (List ℕ))
+        → All (λ name. lacking name ≡ false) (names_of asked)
+        → AreTold texts (names_of asked) told
+        → (answer : Answer) × Follows asked (seen texts lacking before now) (Ok answer) }
+    ensures once { (asked : Option Request) (texts : List ℕ → Option (List ℕ))
+        (lacking : List ℕ → Bool) (before now : List ℕ → ℕ) (told : List (List ℕ)) (a b : Answer)
+        → AreTold texts (names_of asked) told
+        → Follows asked (seen texts lacking before now) (Ok a)
+        → Follows asked (seen texts lacking before now) (Ok b) → a ≡ b }
+    ensures failed { (asked : Option Request) (texts : List ℕ → Option (List ℕ))
+        (lacking : List ℕ → Bool) (before now : List ℕ → ℕ) (told : List (List ℕ)) (e : Failure)
+        → AreTold texts (names_of asked) told
+        → Follows asked (seen texts lacking before now) (Err e)
+        → (e ≡ failure.OutOfMemory) ⊎ ((input : InputValue) × (e ≡ failure.ReadFault input)
+        × InputRose asked (seen texts lacking before now) input) }
 {}

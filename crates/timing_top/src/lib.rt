@@ -7,7 +7,9 @@
 mod captures;
 mod check;
 mod commands;
+mod joined;
 pub mod laws;
+mod self_test;
 
 pub use check::check_one;
 pub use commands::run;

@@ -1,16 +1,19 @@
 use Rattle.std.proofs.Common.{rules, refl, ◌≡◌}
-use Rattle.timing_steps.specs.Fetched.{AreFetched}
-use Rattle.timing_top.proofs.Judgings.{fresh-tail, judging-all, judging-at, judging-next, judging-none, judging-start, judging-stopped, none-left}
+use Rattle.flow_bank.specs.Rows.{rows_of_files}
+use Rattle.timing_top.specs.Found.{AreFound}
+use Rattle.timing_top.proofs.Judgings.{fresh-tail, judging-all, judging-at, judging-next, judging-start, judging-stopped, none-left}
+use Rattle.timing_top.proofs.Takings.{found-if_read, found-none}
 use Rattle.timing_top.proofs.captures.judge_each.Goals as goal
 
 pub loop-source-init : goal.loop-source-init
 loop-source-init g c = record {
   judging = λ names fetched.
-      judging-start g.H.Source.Source.name g.H.Source.Source.left g.H.Source.Source.faults (g.H.Shelf.text c.args.shelf.now) (g.H.Shelf.faults c.args.shelf.now) c.args.media.now c.args.tai names c.args.sources.items
-      c.into_iter-source-iterator.result.rest.items _ _ c.into_iter-source-iterator.ensures.into_iter_gives.0 c.new.ensures.items c.new-2.ensures.items fetched;
+      judging-start g.H.Source.Source.name g.H.Source.Source.left g.H.Source.Source.faults (g.H.Shelf.text c.args.shelf.now) (g.H.Shelf.faults c.args.shelf.now) names c.args.sources.items
+      c.into_iter-source-iterator.result.rest.items _ _ c.into_iter-source-iterator.ensures.into_iter_gives.0 (search rules) (found-none c.args.media.now c.args.tai _ _ c.new.ensures.items c.new-2.ensures.items) fetched;
   fresh = search rules;
   count = search rules;
   of_session = search rules;
+  lacks = search rules;
   texts = search rules;
   later = search rules;
 }
@@ -19,13 +22,17 @@ pub loop-source-preserved-in-Ok : goal.loop-source-preserved-in-Ok
 loop-source-preserved-in-Ok g c = record {
   judging = λ names fetched.
       judging-next g.H.Source.Source.name g.H.Source.Source.left g.H.Source.Source.faults (g.H.Shelf.text c.args.shelf.now) (g.H.Shelf.faults c.args.shelf.now) (g.H.Shelf.faults c.loop-source.shelf) (g.H.Shelf.faults c.judge_next-outcome.new.shelf)
-      c.args.media.now c.args.tai names c.in-Some.source c.next.new.self.rest.items c.loop-source.found.notes.items c.judge_next-outcome.new.found.notes.items c.loop-source.found.rows.items c.judge_next-outcome.new.found.rows.items
-      c.judge_next-outcome.result
-      (judging-at _ _ _ _ _ _ _ _ names _ _ _ _ _ _ c.in-Some.ensures.steps.0 c.in-Ok.is (c.loop-source.invariant.judging names fetched))
-      c.loop-source.invariant.later c.judge_next-outcome.ensures.told c.judge_next-outcome.ensures.count c.judge_next-outcome.ensures.cause;
+      names c.in-Some.source c.next.new.self.rest.items c.judge_next-outcome.result _ _
+      (λ read. AreFound read (rows_of_files c.args.tai 0 c.args.media.now) c.loop-source.found.notes.items c.loop-source.found.rows.items)
+      (λ read. AreFound read (rows_of_files c.args.tai 0 c.args.media.now) c.judge_next-outcome.new.found.notes.items c.judge_next-outcome.new.found.rows.items)
+      (judging-at _ _ _ _ _ _ names _ _ _ _ _ _ c.in-Some.ensures.steps.0 c.in-Ok.is (c.loop-source.invariant.judging names fetched))
+      c.loop-source.invariant.later
+      (found-if_read c.judge_next-outcome.result (g.H.Source.Source.left c.in-Some.source) c.args.media.now c.args.tai _ _ _ _ c.judge_next-outcome.ensures.told)
+      c.judge_next-outcome.ensures.count c.judge_next-outcome.ensures.cause;
   fresh = fresh-tail (λ source. g.H.Source.Source.faults source ≡ 0) _ c.in-Some.source _ c.in-Some.ensures.steps.0 c.loop-source.invariant.fresh;
   count = search rules;
   of_session = search rules;
+  lacks = search rules;
   texts = search rules;
   later = search rules;
 }
@@ -34,17 +41,18 @@ pub loop-source-preserved : goal.loop-source-preserved
 loop-source-preserved g c = record {
   judging = λ names fetched.
       judging-stopped g.H.Source.Source.name g.H.Source.Source.left g.H.Source.Source.faults (g.H.Shelf.text c.args.shelf.now) (g.H.Shelf.faults c.args.shelf.now) (g.H.Shelf.faults c.loop-source.shelf) (g.H.Shelf.faults c.give_back.new.self)
-      c.args.media.now c.args.tai names c.in-Some.source c.next.new.self.rest.items c.loop-source.found.notes.items c.loop-source.found.rows.items c.in-Err.failure
-      (judging-at _ _ _ _ _ _ _ _ names _ _ _ _ _ _ c.in-Some.ensures.steps.0 c.in-Err.is (c.loop-source.invariant.judging names fetched)) c.give_back.ensures.later;
+      names c.in-Some.source c.next.new.self.rest.items _ _ c.in-Err.failure
+      (judging-at _ _ _ _ _ _ names _ _ _ _ _ _ c.in-Some.ensures.steps.0 c.in-Err.is (c.loop-source.invariant.judging names fetched)) c.give_back.ensures.later;
   fresh = fresh-tail (λ source. g.H.Source.Source.faults source ≡ 0) _ c.in-Some.source _ c.in-Some.ensures.steps.0 c.loop-source.invariant.fresh;
   count = search rules;
   of_session = search rules;
+  lacks = search rules;
   texts = search rules;
   later = search rules;
 }
 
 pub returns-clause-told : goal.returns-clause-told
 returns-clause-told g c = λ names texts fetched told.
-    judging-all g.H.Source.Source.name g.H.Source.Source.left g.H.Source.Source.faults (g.H.Shelf.text c.args.shelf.now) (g.H.Shelf.faults c.args.shelf.now) (g.H.Shelf.faults c.loop-source.shelf) c.args.media.now c.args.tai names texts
-    c.loop-source.source-iterator.rest.items _ _
-    (judging-at _ _ _ _ _ _ _ _ names _ _ _ _ _ _ refl (search rules) (c.loop-source.invariant.judging names fetched)) (none-left _ (search rules)) told
+    judging-all g.H.Source.Source.name g.H.Source.Source.left g.H.Source.Source.faults (g.H.Shelf.text c.args.shelf.now) (g.H.Shelf.faults c.args.shelf.now) (g.H.Shelf.faults c.loop-source.shelf) names texts
+    c.loop-source.source-iterator.rest.items _ (λ read. AreFound read (rows_of_files c.args.tai 0 c.args.media.now) c.loop-source.found.notes.items c.loop-source.found.rows.items)
+    (judging-at _ _ _ _ _ _ names _ _ _ _ _ _ refl (search rules) (c.loop-source.invariant.judging names fetched)) (none-left _ (search rules)) told

@@ -1,18 +1,20 @@
 use Rattle.std.proofs.Common.{◌≡◌, ◌≤◌, ◌+◌, ℕ, List, length}
 use Rattle.std.specs.Prelude.{All, IfOk}
+use Rattle.flow_bank.specs.Rows.{rows_of_files}
 use Rattle.timing_report.specs.Outcomes.{AreOfSession}
 use Rattle.timing_steps.specs.Fetched.{AreFetched}
-use Rattle.timing_top.specs.Found.{Judging}
+use Rattle.timing_top.specs.Found.{AreFound, Judging}
 use Rattle.timing_top.proofs.captures.judge_each.Given as goal
 
 abbrev pub invariant-loop-source : goal.invariant-loop-source
 invariant-loop-source g l = record {
   judging : (names : List (List ℕ)) → AreFetched g.H.Source.Source.name g.H.Source.Source.left g.H.Source.Source.faults (g.H.Shelf.text l.fn.shelf) names l.fn.sources.items
       → Judging g.H.Source.Source.name g.H.Source.Source.left g.H.Source.Source.faults (g.H.Shelf.text l.fn.shelf) (g.H.Shelf.faults l.fn.shelf) (g.H.Shelf.faults l.shelf)
-      l.media l.tai names l.source-iterator.rest.items l.outcome l.found.notes.items l.found.rows.items;
+      names l.source-iterator.rest.items l.outcome (length l.found.notes.items) (λ read. AreFound read (rows_of_files l.tai 0 l.media) l.found.notes.items l.found.rows.items);
   fresh : All (λ source. g.H.Source.Source.faults source ≡ 0) l.source-iterator.rest.items;
   count : IfOk l.outcome (λ _. length l.found.notes.items + length l.source-iterator.rest.items ≡ length l.fn.sources.items);
   of_session : IfOk l.outcome (λ _. AreOfSession l.media l.found.rows.items);
+  lacks : (n : List ℕ) → g.H.Shelf.lacks l.fn.shelf n → g.H.Shelf.lacks l.shelf n;
   texts : (n : List ℕ) → g.H.Shelf.text l.shelf n ≡ g.H.Shelf.text l.fn.shelf n;
   later : (n : List ℕ) → g.H.Shelf.faults l.fn.shelf n ≤ g.H.Shelf.faults l.shelf n;
 }

@@ -1,0 +1,113 @@
+-- The texts of a request define one answer.
+use Rattle.std.proofs.Common.{◌≡◌, ◌⊎◌, ℕ, Bool, true, false, List, [], ◌∷◌, Option, Some, None, refl}
+use Rattle.std.specs.Prelude.{Result, Ok, Err}
+use Rattle.std.proofs.lemmas.List.Elements.{All-head, All-tail}
+use Rattle.timing_base.specs.Jobs.{CheckJob}
+use Rattle.timing_base.specs.Media.{Media}
+use Rattle.timing_base.specs.declared.job.Request.{Request}
+use Rattle.timing_base.specs.declared.job.Request.TheVariants as request
+use Rattle.timing_report.specs.declared.status.Input.{Input}
+use Rattle.timing_report.specs.declared.status.Status.{Status}
+use Rattle.timing_report.specs.declared.status.Status.TheVariants as status
+use Rattle.timing_steps.specs.Answers.{Answer, AreThere, AreTold, Gives, Inputs, ReadsCaptures, ReadsSession, silent}
+use Rattle.timing_steps.specs.declared.failure.Failure.{Failure}
+use Rattle.timing_steps.specs.declared.failure.Failure.TheVariants as failure
+use Rattle.timing_top.specs.Asked.{CheckInputRose, Follows, FollowsAtOnce, FollowsCheck, FollowsIf, FollowsSelfTest, InputRose, names_of}
+use Rattle.timing_top.specs.Report.{HasReport}
+use Rattle.timing_top.specs.SelfTest.{HasSelfTest}
+use Rattle.timing_top.proofs.Answering.{Caused, captured-failed, described-failed, not-given, only-captured, only-described, only-given, only-silent, only-yielded, some-captured, some-described, some-given, some-yielded, yielded-failed}
+use Rattle.timing_top.proofs.Reports.{only-report, some-report}
+use Rattle.timing_top.proofs.SelfTests.{only-self_test, some-self_test}
+
+-- what follows the session of a `check`
+abbrev AfterSession : CheckJob → Inputs → Result Answer Failure → List Media → Type 0
+AfterSession job i outcome media = ReadsCaptures i outcome job.captures (λ texts. Gives outcome (HasReport job media texts))
+
+some-check : (job : CheckJob) (i : Inputs) (texts : List (List ℕ)) → AreThere i.lacks (job.sdp ∷ job.captures) → AreTold i.texts (job.sdp ∷ job.captures) texts → (answer : Answer) × FollowsCheck job i (Ok answer)
+some-check job i [] there told = absurd told
+some-check job i (sdp ∷ texts) there told =
+    some-yielded (λ answer. ReadsSession i (Ok answer) job.sdp (AfterSession job i (Ok answer)))
+    (some-described i job.sdp sdp (λ answer media. AfterSession job i (Ok answer) media) (All-head (λ n. ¬ i.lacks n) job.sdp job.captures there) told.0
+    (λ media. some-captured i job.captures texts (HasReport job media) (All-tail (λ n. ¬ i.lacks n) job.sdp job.captures there) told.1 (some-report job media texts)))
+
+only-check : (job : CheckJob) (i : Inputs) (texts : List (List ℕ)) (a b : Answer) → AreTold i.texts (job.sdp ∷ job.captures) texts → FollowsCheck job i (Ok a) → FollowsCheck job i (Ok b) → a ≡ b
+only-check job i [] a b told h k = absurd told
+only-check job i (sdp ∷ texts) a b told h k =
+    only-yielded (λ answer. ReadsSession i (Ok answer) job.sdp (AfterSession job i (Ok answer))) a b
+    (λ p q. only-described i job.sdp sdp (λ answer media. AfterSession job i (Ok answer) media) a b told.0
+    (λ media x y. only-captured i job.captures texts (HasReport job media) a b told.1 (only-report job media texts) x y) p q) h k
+
+check-failed : (job : CheckJob) (i : Inputs) (texts : List (List ℕ)) (e : Failure) → AreTold i.texts (job.sdp ∷ job.captures) texts → FollowsCheck job i (Err e) → Caused e (CheckInputRose job i)
+check-failed job i [] e told h = absurd told
+check-failed job i (sdp ∷ texts) e told h =
+    yielded-failed (ReadsSession i (Err e) job.sdp (AfterSession job i (Err e))) e (CheckInputRose job i)
+    (λ p. described-failed i job.sdp sdp (AfterSession job i (Err e)) e (CheckInputRose job i) told.0 (λ r. r)
+    (λ media x. captured-failed i job.captures texts (HasReport job media) e (CheckInputRose job i) told.1 (λ number r. r) x) p) h
+
+-- what is answered without an input
+some-self : (frames : ℕ) → (answer : Answer) × FollowsSelfTest frames (Ok answer)
+some-self frames = some-yielded (λ answer. Gives (Ok answer) (HasSelfTest frames)) (some-given (HasSelfTest frames) (some-self_test frames))
+
+only-self : (frames : ℕ) (a b : Answer) → FollowsSelfTest frames (Ok a) → FollowsSelfTest frames (Ok b) → a ≡ b
+only-self frames a b h k = only-yielded (λ answer. Gives (Ok answer) (HasSelfTest frames)) a b (λ p q. only-given (HasSelfTest frames) a b (only-self_test frames) p q) h k
+
+self-failed : (frames : ℕ) (e : Failure) (Rises : Input → Type 0) → FollowsSelfTest frames (Err e) → Caused e Rises
+self-failed frames e Rises h = yielded-failed (Gives (Err e) (HasSelfTest frames)) e Rises (λ p. absurd (not-given (HasSelfTest frames) e p)) h
+
+some-at_once : (ends : Status) → (answer : Answer) × FollowsAtOnce ends (Ok answer)
+some-at_once ends = some-yielded (λ answer. Gives (Ok answer) (λ x. x ≡ silent ends)) (some-given (λ x. x ≡ silent ends) (silent ends, refl))
+
+only-at_once : (ends : Status) (a b : Answer) → FollowsAtOnce ends (Ok a) → FollowsAtOnce ends (Ok b) → a ≡ b
+only-at_once ends a b h k =
+    only-yielded (λ answer. Gives (Ok answer) (λ x. x ≡ silent ends)) a b (λ p q. only-given (λ x. x ≡ silent ends) a b (λ x y s t. only-silent x y _ s t) p q) h k
+
+at_once-failed : (ends : Status) (e : Failure) (Rises : Input → Type 0) → FollowsAtOnce ends (Err e) → Caused e Rises
+at_once-failed ends e Rises h = yielded-failed (Gives (Err e) (λ x. x ≡ silent ends)) e Rises (λ p. absurd (not-given (λ x. x ≡ silent ends) e p)) h
+
+-- where a request is built, and where it isn't
+some-if : (built : Bool) (Built : Answer → Type 0) → (answer : Answer) × Built answer → (answer : Answer) × FollowsIf built (Built answer) (Ok answer)
+some-if true Built h = h
+some-if false Built h = some-at_once status.NotBuilt
+
+only-if : (built : Bool) (Built : Answer → Type 0) (a b : Answer) → (Built a → Built b → a ≡ b) → FollowsIf built (Built a) (Ok a) → FollowsIf built (Built b) (Ok b) → a ≡ b
+only-if true Built a b once h k = once h k
+only-if false Built a b once h k = only-at_once status.NotBuilt a b h k
+
+if-failed : (built : Bool) (Built : Type 0) (e : Failure) (Rises : Input → Type 0) → (Built → Caused e Rises) → FollowsIf built Built (Err e) → Caused e Rises
+if-failed true Built e Rises caused h = caused h
+if-failed false Built e Rises caused h = at_once-failed status.NotBuilt e Rises h
+
+-- there is one answer
+pub some-answer : (asked : Option Request) (i : Inputs) (texts : List (List ℕ)) → AreThere i.lacks (names_of asked) → AreTold i.texts (names_of asked) texts → (answer : Answer) × Follows asked i (Ok answer)
+some-answer None i texts there told = some-at_once status.Usage
+some-answer (Some (request.Check job)) i texts there told = some-if _ (λ answer. FollowsCheck job i (Ok answer)) (some-check job i texts there told)
+some-answer (Some (request.Verify job)) i texts there told = some-at_once status.NotBuilt
+some-answer (Some (request.VerifyReport job)) i texts there told = some-at_once status.NotBuilt
+some-answer (Some (request.SelfTest job)) i texts there told = some-if _ (λ answer. FollowsSelfTest job.frames (Ok answer)) (some-self job.frames)
+some-answer (Some (request.Window job)) i texts there told = some-at_once status.NotBuilt
+some-answer (Some (request.Shape job)) i texts there told = some-at_once status.NotBuilt
+some-answer (Some (request.Skew job)) i texts there told = some-at_once status.NotBuilt
+
+-- there are not two
+pub only-answer : (asked : Option Request) (i : Inputs) (texts : List (List ℕ)) (a b : Answer) → AreTold i.texts (names_of asked) texts → Follows asked i (Ok a) → Follows asked i (Ok b) → a ≡ b
+only-answer None i texts a b told h k = only-at_once status.Usage a b h k
+only-answer (Some (request.Check job)) i texts a b told h k = only-if _ (λ answer. FollowsCheck job i (Ok answer)) a b (only-check job i texts a b told) h k
+only-answer (Some (request.Verify job)) i texts a b told h k = only-at_once status.NotBuilt a b h k
+only-answer (Some (request.VerifyReport job)) i texts a b told h k = only-at_once status.NotBuilt a b h k
+only-answer (Some (request.SelfTest job)) i texts a b told h k = only-if _ (λ answer. FollowsSelfTest job.frames (Ok answer)) a b (only-self job.frames a b) h k
+only-answer (Some (request.Window job)) i texts a b told h k = only-at_once status.NotBuilt a b h k
+only-answer (Some (request.Shape job)) i texts a b told h k = only-at_once status.NotBuilt a b h k
+only-answer (Some (request.Skew job)) i texts a b told h k = only-at_once status.NotBuilt a b h k
+
+-- what has none has a cause
+pub answer-failed : (asked : Option Request) (i : Inputs) (texts : List (List ℕ)) (e : Failure) → AreTold i.texts (names_of asked) texts → Follows asked i (Err e)
+    → (e ≡ failure.OutOfMemory) ⊎ ((input : Input) × (e ≡ failure.ReadFault input) × InputRose asked i input)
+answer-failed None i texts e told h = at_once-failed status.Usage e (InputRose None i) h
+answer-failed (Some (request.Check job)) i texts e told h = if-failed _ (FollowsCheck job i (Err e)) e (CheckInputRose job i) (check-failed job i texts e told) h
+answer-failed (Some (request.Verify job)) i texts e told h = at_once-failed status.NotBuilt e (InputRose (Some (request.Verify job)) i) h
+answer-failed (Some (request.VerifyReport job)) i texts e told h = at_once-failed status.NotBuilt e (InputRose (Some (request.VerifyReport job)) i) h
+answer-failed (Some (request.SelfTest job)) i texts e told h =
+    if-failed _ (FollowsSelfTest job.frames (Err e)) e (InputRose (Some (request.SelfTest job)) i) (self-failed job.frames e (InputRose (Some (request.SelfTest job)) i)) h
+answer-failed (Some (request.Window job)) i texts e told h = at_once-failed status.NotBuilt e (InputRose (Some (request.Window job)) i) h
+answer-failed (Some (request.Shape job)) i texts e told h = at_once-failed status.NotBuilt e (InputRose (Some (request.Shape job)) i) h
+answer-failed (Some (request.Skew job)) i texts e told h = at_once-failed status.NotBuilt e (InputRose (Some (request.Skew job)) i) h

@@ -1,0 +1,160 @@
+-- What `selftest` prints: there is one text, and what its steps say of it.
+use Rattle.std.proofs.Common.{◌≡◌, ◌^◌, ℕ, zero, suc, List, [], ◌∷◌, ◌++◌, false, Some, None, refl, arith, ap, ◌∙◌, sym}
+use Rattle.std.specs.Prelude.{Result, Ok, Err}
+use Rattle.timing_base.specs.Captures.{Record}
+use Rattle.timing_base.specs.Media.{Media}
+use Rattle.timing_base.specs.declared.capture.FileNote.{FileNote}
+use Rattle.timing_base.specs.declared.media.Kind.TheVariants.{N}
+use Rattle.timing_base.specs.declared.row.Row.{Row}
+use Rattle.timing_outside.specs.Causes.{Rose}
+use Rattle.sdp_reader.specs.Session.{session}
+use Rattle.sdp_reader.specs.declared.fault.SdpFault.{SdpFault}
+use Rattle.pcap_reader.specs.Header.{header}
+use Rattle.pcap_reader.specs.Records.{AreRecords, Records}
+use Rattle.pcap_reader.proofs.Lists.{only_by, some_by}
+use Rattle.flow_bank.specs.Rows.{rows_of, rows_of_files}
+use Rattle.capture_gen.specs.Capture.{capture}
+use Rattle.capture_gen.specs.Sdp.{sdp_text}
+use Rattle.timing_report.specs.declared.status.Input.{Input}
+use Rattle.timing_report.specs.declared.status.Status.TheVariants as status
+use Rattle.timing_steps.specs.Answers.{Answer, OnReadFault}
+use Rattle.timing_steps.specs.declared.failure.Failure.{Failure}
+use Rattle.timing_steps.specs.declared.failure.Failure.TheVariants as failure
+use Rattle.timing_top.specs.Found.{AreFound}
+use Rattle.timing_top.specs.SelfTest.{HasLine, HasLines, HasSelfTest, flaw_line}
+
+-- the media of the plain description
+abbrev pub plain_media : Media
+plain_media = record {
+  line = 5;
+  address = 0xef000001;
+  port = 50000;
+  pt = 96;
+  width = 1920;
+  height = 1080;
+  interlaced = false;
+  p = 50;
+  q = 1;
+  declared = Some N;
+  troff = None;
+  cmax = None;
+}
+
+pub session-plain : session sdp_text ≡ Ok (plain_media ∷ [])
+session-plain = refl
+
+-- the row of the one flow of a capture
+pub one-row : (media : Media) (items : List Record) → (row : Row) × (rows_of 0 0 (media ∷ []) items ≡ row ∷ [])
+one-row media items = (_, refl)
+
+-- there is one line of each flaw
+some-line : (frames flaw : ℕ) → (line : List ℕ) × HasLine frames flaw line
+some-line frames flaw =
+    let all = some_by (header (capture frames frames flaw)) (2 ^ 40) (capture frames frames flaw) in
+    let only = one-row plain_media all.0 in (
+      flaw_line flaw plain_media all.1 only.0,
+      record { media = plain_media; items = all.0; note = all.1; row = only.0; session_is = session-plain; records = all.2; row_is = only.1; line_is = refl },
+    )
+
+some-lines : (frames count : ℕ) → (text : List ℕ) × HasLines frames count text
+some-lines frames zero = ([], refl)
+some-lines frames (suc flaw) =
+    let before = some-lines frames flaw in
+    let line = some-line frames flaw in
+    (before.0 ++ line.0, (before.0, line.0, refl, before.1, line.1))
+
+pub some-self_test : (frames : ℕ) → (answer : Answer) × HasSelfTest frames answer
+some-self_test frames =
+    let all = some-lines frames 5 in
+    (record { text = all.0; status = status.Pass }, record { lines = all.1; status_is = refl })
+
+-- and there are not two
+same-media : (m n : Media) (s : Result (List Media) SdpFault) → s ≡ Ok (m ∷ []) → s ≡ Ok (n ∷ []) → m ≡ n
+same-media m n s h k = cc
+
+same-row : (r s : Row) (l : List Row) → l ≡ r ∷ [] → l ≡ s ∷ [] → r ≡ s
+same-row r s l h k = cc
+
+only-line : (frames flaw : ℕ) (a b : List ℕ) → HasLine frames flaw a → HasLine frames flaw b → a ≡ b
+only-line frames flaw a b h k =
+    let media = same-media h.media k.media (session sdp_text) h.session_is k.session_is in
+    let same = only_by (header (capture frames frames flaw)) (2 ^ 40) (capture frames frames flaw) h.items k.items h.note k.note h.records k.records in
+    let row = same-row h.row k.row _ (h.row_is) (ap (λ m. rows_of 0 0 (m ∷ []) h.items) media ∙ ap (λ l. rows_of 0 0 (k.media ∷ []) l) same.0 ∙ k.row_is) in
+    h.line_is ∙ ap (λ m. flaw_line flaw m h.note h.row) media
+    ∙ ap (λ n. flaw_line flaw k.media n h.row) same.1
+    ∙ ap (λ r. flaw_line flaw k.media k.note r) row
+    ∙ sym k.line_is
+
+only-lines : (frames count : ℕ) (a b : List ℕ) → HasLines frames count a → HasLines frames count b → a ≡ b
+only-lines frames zero a b h k = h ∙ sym k
+only-lines frames (suc flaw) a b h k =
+    h.2 ∙ ap (λ x. x ++ h.1) (only-lines frames flaw h.0 k.0 h.3 k.3) ∙ ap (λ x. k.0 ++ x) (only-line frames flaw h.1 k.1 h.4 k.4) ∙ sym k.2
+
+pub only-self_test : (frames : ℕ) (a b : Answer) → HasSelfTest frames a → HasSelfTest frames b → a ≡ b
+only-self_test frames a b h k =
+    let text = only-lines frames 5 a.text b.text h.lines k.lines in
+    let status : a.status ≡ b.status = h.status_is ∙ sym k.status_is in
+    ap (λ t. record { text = t; status = a.status }) text ∙ ap (λ s. record { text = b.text; status = s }) status
+
+-- what was found in one capture: its records, how it ends, and its row
+pub record OneFound (text : List ℕ) (media : Media) (notes : List FileNote) (found : List Row) : Type 0 where
+  pub items : List Record
+  pub note : FileNote
+  pub row : Row
+  pub records : Records text (2 ^ 40) items note
+  pub notes_are : notes ≡ note ∷ []
+  pub found_is : found ≡ row ∷ []
+  pub row_is : rows_of 0 0 (media ∷ []) items ≡ row ∷ []
+
+pub one-found : (text : List ℕ) (media : Media) (notes : List FileNote) (found : List Row) → AreFound (text ∷ []) (rows_of_files 0 0 (media ∷ [])) notes found → OneFound text media notes found
+unfolding one-row
+one-found text media notes found h = by-files h.files notes h.records h.rows_are
+  where
+    by-files : (files : List (List Record)) (notes : List FileNote) → AreRecords (text ∷ []) files notes → found ≡ rows_of_files 0 0 (media ∷ []) files → OneFound text media notes found
+    by-files [] notes r e = absurd r
+    by-files (f ∷ fs) [] r e = absurd r
+    by-files (f ∷ []) (n ∷ []) r e =
+        let only = one-row media f in
+        record { items = f; note = n; row = only.0; records = r.0; notes_are = refl; found_is = e; row_is = only.1 }
+    by-files (f ∷ []) (n ∷ m ∷ ms) r e = absurd r.1
+    by-files (f ∷ g ∷ gs) (n ∷ []) r e = absurd r.1
+    by-files (f ∷ g ∷ gs) (n ∷ m ∷ ms) r e = absurd r.1
+
+-- a failure that no input has caused is want of memory
+pub no-cause : (e : Failure) (P : Input → Type 0) → ((i : Input) → ¬ P i) → OnReadFault e P → e ≡ failure.OutOfMemory
+no-cause (failure.ReadFault i) P none h = absurd (none i h)
+no-cause failure.WriteFault P none h = absurd h
+no-cause failure.OutOfMemory P none h = refl
+
+-- a count that is 0 hasn't risen
+pub never-rose : ¬ Rose 0 0
+never-rose h = omega (arith, h)
+
+-- one line more
+pub lines-push : (frames flaw : ℕ) (before line text : List ℕ) → HasLines frames flaw before → HasLine frames flaw line → text ≡ before ++ line → HasLines frames (suc flaw) text
+lines-push frames flaw before line text h l e = (before, line, e, h, l)
+
+-- the plain description has no fault
+pub no-fault : (fault : SdpFault) → session sdp_text ≡ Err fault → ⊥
+no-fault fault h = let plain : session sdp_text ≡ Ok (plain_media ∷ []) = session-plain in cc
+
+-- its one media
+pub session-is : (media : List Media) → session sdp_text ≡ Ok media → media ≡ plain_media ∷ []
+session-is media h = let plain : session sdp_text ≡ Ok (plain_media ∷ []) = session-plain in cc
+
+-- the line of what was found
+pub has-line : (frames flaw : ℕ) (line : List ℕ) (notes : List FileNote) (found : List Row)
+    → AreFound (capture frames frames flaw ∷ []) (rows_of_files 0 0 (plain_media ∷ [])) notes found
+    → ((note : FileNote) (row : Row) → notes ≡ note ∷ [] → found ≡ row ∷ [] → line ≡ flaw_line flaw plain_media note row) → HasLine frames flaw line
+has-line frames flaw line notes found h told =
+    let one = one-found (capture frames frames flaw) plain_media notes found h in
+    record {
+      media = plain_media;
+      items = one.items;
+      note = one.note;
+      row = one.row;
+      session_is = session-plain;
+      records = one.records;
+      row_is = one.row_is;
+      line_is = told one.note one.row one.notes_are one.found_is;
+    }

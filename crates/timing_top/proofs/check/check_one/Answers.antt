@@ -1,5 +1,0 @@
-use Rattle.timing_top.proofs.Following.{cause-of}
-use Rattle.timing_top.proofs.check.check_one.Goals as goal
-
-pub returns-clause-cause : goal.returns-clause-cause
-returns-clause-cause g c = cause-of _ _ _ _ c.conclude.ensures.printed c.answer_check-outcome.ensures.answers c.answer_check-outcome.ensures.cause

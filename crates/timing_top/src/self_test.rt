@@ -1,0 +1,114 @@
+//! `selftest`: captures that are made here, judged as those of `check` are.
+
+ghost use Rattle.std.specs.Prelude.{◌≡◌, ◌≤◌, ◌<◌, [], ◌∷◌, IfOk, IfErr, codes, length, string_bytes};
+ghost use Rattle.timing_base.specs.Media.{Media as MediaValue};
+ghost use Rattle.timing_base.specs.declared.capture.FileNote.{FileNote as Note};
+ghost use Rattle.timing_base.specs.declared.row.Row.{Row as RowValue};
+ghost use Rattle.timing_outside.specs.SteadyShelves.{bytes_of};
+ghost use Rattle.capture_gen.specs.Capture.{capture};
+ghost use Rattle.capture_gen.specs.Sdp.{sdp_text};
+ghost use Rattle.timing_report.specs.Outcomes.{AreOfSession};
+ghost use Rattle.timing_top.specs.Asked.{FollowsSelfTest};
+ghost use Rattle.timing_top.specs.SelfTest.{HasLine, flaw_line};
+
+use crate::captures::{Found, judge_each};
+use capture_gen::{capture_len, sdp_bytes, write_capture};
+use std::alloc::{AllocError as OutOfMemory, Global};
+use timing_base::{FileName, Session};
+use timing_outside::{MemorySink, SteadyShelf};
+use timing_report::{Status, status_of, verdict_of};
+use timing_steps::{Answer, Failure, fetch_captures, fetch_session};
+
+/// The flaws that a made capture can have, none among them.
+const FLAWS: u32 = 5;
+
+/// The capture that is made from its number of frames, with this flaw.
+///
+/// `Err` is want of memory. The sink takes its room when it is made, and a capture fits in it.
+fn made(alloc: Global, frames: u32, flaw: u32) -> Result<Vec<u8>, OutOfMemory>
+    requires some { 1 ≤ frames }
+    requires few { frames ≤ 20000 }
+    requires known { flaw ≤ 4 }
+    ensures { IfOk result (λ bytes. bytes.items ≡ capture frames frames flaw) }
+{
+    let mut sink = MemorySink::new(alloc, capture_len(frames, flaw))?;
+    match write_capture(u64::from(frames), frames, flaw, &mut sink) {
+        Ok(()) => Vec::from_slice(alloc, sink.bytes()),
+        Err(_) => Err(OutOfMemory),
+    }
+}
+
+/// A shelf with the plain description and the capture with this flaw.
+fn shelf_with(alloc: Global, frames: u32, flaw: u32) -> Result<SteadyShelf, OutOfMemory>
+    requires some { 1 ≤ frames }
+    requires few { frames ≤ 20000 }
+    requires known { flaw ≤ 4 }
+    ensures sdp { IfOk result (λ shelf. bytes_of shelf (codes "plain.sdp") ≡ sdp_text) }
+    ensures capture { IfOk result (λ shelf. bytes_of shelf (codes "made.pcap")
+        ≡ capture frames frames flaw) }
+{
+    let mut shelf = SteadyShelf::new(alloc);
+    let sdp = Vec::from_slice(alloc, sdp_bytes())?;
+    shelf.put(String::from_str(alloc, "plain.sdp")?, sdp)?;
+    let capture = made(alloc, frames, flaw)?;
+    shelf.put(String::from_str(alloc, "made.pcap")?, capture)?;
+    Ok(shelf)
+}
+
+/// The line of what was found in the one capture of a session of one media.
+fn text_on(
+    alloc: Global,
+    flaw: u32,
+    session: &Session,
+    found: &Found,
+) -> Result<String, OutOfMemory>
+    requires one_media { length session.now ≡ 1 }
+    requires one_row { length found.now.rows.items ≡ 1 }
+    requires of_session { AreOfSession session.now found.now.rows.items }
+    ensures { IfOk result (λ s. (media : MediaValue) (note : Note) (row : RowValue)
+        → session.now ≡ media ∷ [] → found.now.notes.items ≡ note ∷ []
+        → found.now.rows.items ≡ row ∷ [] → string_bytes s ≡ flaw_line flaw media note row) }
+{
+    let media = &session.media.as_slice()[0];
+    let verdict = verdict_of(alloc, media, &found.rows[0].verdict)?;
+    let status = status_of(session, &found.notes, &found.rows).code();
+    format!(in alloc; "flaw {flaw}: {verdict}; status {status}\n")
+}
+
+/// The line of the capture with this flaw. `Err` is want of memory.
+fn line_of(alloc: Global, frames: u32, flaw: u32) -> Result<String, Failure>
+    requires some { 1 ≤ frames }
+    requires few { frames ≤ 20000 }
+    requires known { flaw ≤ 4 }
+    ensures line { IfOk result (λ s. HasLine frames flaw (string_bytes s)) }
+    ensures memory { IfErr result (λ e. e ≡ Failure.OutOfMemory) }
+{
+    let mut shelf = shelf_with(alloc, frames, flaw)?;
+    let Ok(session) = fetch_session(alloc, &mut shelf, "plain.sdp")? else {
+        unreachable!()
+    };
+    let captures = [FileName::from_text(String::from_str(alloc, "made.pcap")?)];
+    let sources = fetch_captures(alloc, &mut shelf, &captures)?;
+    let media = session.media.as_slice();
+    let found = match judge_each(alloc, &mut shelf, sources, media, 0) {
+        Ok(found) => found,
+        Err(failure) => return Err(failure),
+    };
+    Ok(text_on(alloc, flaw, &session, &found)?)
+}
+
+/// The answer of `selftest` with so many frames: a line for each flaw. One capture is held at a time.
+pub fn answer_self_test(alloc: Global, frames: u32) -> Result<Answer, Failure>
+    requires some { 1 ≤ frames }
+    requires few { frames ≤ 20000 }
+    ensures { FollowsSelfTest frames result }
+{
+    let mut text = String::new(alloc);
+    for flaw in 0..FLAWS {
+        text.push_str(line_of(alloc, frames, flaw)?.as_str())?;
+    }
+    Ok(Answer {
+        text,
+        status: Status::Pass,
+    })
+}

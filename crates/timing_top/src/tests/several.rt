@@ -1,0 +1,35 @@
+//! Several captures and media, and JSON.
+
+use super::{CHECK_TWO, HEADER, LINEAR, MEDIA, NARROW, ends, made, over, part, runs, shelf_of};
+use std::test::Fail;
+use timing_report::Status;
+
+#[test]
+fn two_captures_three_media(rt: HostRuntime) -> Result<(), Fail> {
+    let alloc = rt.alloc();
+    let mut setting = over(alloc, made(&rt, 0, 0)?)?;
+    setting.second = made(&rt, 0, 2)?;
+    for port in ["50002", "50004"] {
+        let media = MEDIA.replace(alloc, "50000", port)?;
+        setting.sdp.extend_from_slice(media.as_bytes())?;
+    }
+    let linear = LINEAR.replace(alloc, "flow 1.1", "flow 2.1")?;
+    let text = format!(in alloc;
+        "{HEADER}file 2 end b.pcap\n{NARROW}flow 1.2 239.0.0.1:50002 absent\nflow 1.3 239.0.0.1:50004 absent\n{linear}flow 2.2 239.0.0.1:50002 absent\nflow 2.3 239.0.0.1:50004 absent\nstatus 4\n"
+    )?;
+    let wanted = (Status::NotAllJudged, text.as_str(), "");
+    ends(&rt, CHECK_TWO, &setting, wanted)
+}
+
+#[test]
+fn json_absent(rt: HostRuntime) -> Result<(), Fail> {
+    let plain = made(&rt, 0, 0)?;
+    let text =
+        "{\"files\":[{\"end\":\"end\",\"name\":\"e.pcap\"}],\"flows\":[{\"file\":1,\"media\":1,\"target\":\"239.0.0.1:50000\",\"verdict\":\"absent\"}],\"status\":4}\n";
+    let alloc = rt.alloc();
+    let setting = over(alloc, Vec::from_slice(alloc, part(&rt, &plain, 0, 24))?)?;
+    let mut shelf = shelf_of(&rt, alloc, &setting, "e.pcap")?;
+    let line = "check --serial --json --sdp p.sdp e.pcap";
+    let wanted = (Status::NotAllJudged, text, "");
+    runs(&rt, line, &setting, &mut shelf, wanted)
+}

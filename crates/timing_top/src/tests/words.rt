@@ -1,0 +1,51 @@
+//! Words that are no request, and those that aren't built.
+
+use super::{ends, made, over};
+use std::test::Fail;
+use timing_report::Status;
+
+const USAGE: &str = "usage: check, verify, verify-report or selftest\n";
+
+#[test]
+fn words_that_are_not_built(rt: HostRuntime) -> Result<(), Fail> {
+    let wanted = (Status::NotBuilt, "", "not built\n");
+    let setting = over(rt.alloc(), made(&rt, 0, 0)?)?;
+    for line in [
+        "check --sdp p.sdp a.pcap",
+        "check --workers 1 --sdp p.sdp a.pcap",
+        "check --joined --workers 16 --sdp p.sdp a.pcap",
+        "selftest 2 --workers 3",
+        "verify --sdp p.sdp --media 1 --type N --model Bucket --from 0 --to 4 --count 5 --limit 4 a.pcap",
+        "verify-report --sdp p.sdp --report r.json a.pcap",
+        "window --sdp p.sdp --media 1 a.pcap",
+        "shape --sdp p.sdp --media 1 --type N a.pcap",
+        "skew --sdp p.sdp --media 1 --pair 1 a.pcap",
+    ] {
+        ends(&rt, line, &setting, wanted)?;
+    }
+    Ok(())
+}
+
+#[test]
+fn no_capture(rt: HostRuntime) -> Result<(), Fail> {
+    let setting = over(rt.alloc(), made(&rt, 0, 0)?)?;
+    for line in ["check --sdp p.sdp", ""] {
+        ends(&rt, line, &setting, (Status::Usage, "", USAGE))?;
+    }
+    Ok(())
+}
+
+#[test]
+fn out_of_range_words(rt: HostRuntime) -> Result<(), Fail> {
+    let setting = over(rt.alloc(), made(&rt, 0, 0)?)?;
+    for line in [
+        "check --workers 17 --sdp p.sdp a.pcap",
+        "check --serial --sdp p.sdp a b c d e f g h i j k l m n o p q",
+        "check --serial --tai 1001 --sdp p.sdp a.pcap",
+        "selftest 1",
+        "selftest 20001",
+    ] {
+        ends(&rt, line, &setting, (Status::Usage, "", USAGE))?;
+    }
+    Ok(())
+}
