@@ -1,0 +1,11 @@
+use Rattle.std.proofs.Common.{◌≡◌, ◌≢◌, arith}
+use Rattle.interval_checker.proofs.Outcomes.{finish-absent, finish-says}
+use Rattle.interval_checker.proofs.walk.Walk.finish.Goals as goal
+
+pub returns-then-self-eq0 : goal.returns-then-self-eq0
+returns-then-self-eq0 c = λ packets s. finish-absent c.args.claim.now packets c.args.self.now s c.if-self-eq0.true
+
+pub returns : goal.returns
+returns c = λ packets s.
+    let some : c.args.self.now.fed ≢ 0 = omega (arith, c.if-self-eq0.false) in
+    finish-says c.args.claim.now packets c.args.self.now c.answer_here.result s some c.answer_here.ensures

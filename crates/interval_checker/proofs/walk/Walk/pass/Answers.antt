@@ -1,0 +1,25 @@
+use Rattle.std.proofs.Common.{◌+◌, ap, refl, ◌∙◌, sym}
+use Rattle.timing_base.specs.Flows.{cuts}
+use Rattle.timing_base.specs.declared.packet.Rtp.{Rtp}
+use Rattle.interval_checker.proofs.Faults.{rtp-is}
+use Rattle.interval_checker.proofs.Walking.{marks-behind, pass-keeps}
+use Rattle.interval_checker.proofs.walk.Walk.pass.Goals as goal
+
+pub returns-clause-keeps : goal.returns-clause-keeps
+returns-clause-keeps c = λ packets i k read within none.
+    let marker = ap (λ (r : Rtp). r.marker) (rtp-is packets i c.args.at c.args.rtp read) in
+    pass-keeps c.args.claim.now packets i c.args.self.now _ k within none record {
+      fed = refl;
+      cut_count = refl;
+      start = refl;
+      answer = refl;
+      before = c.next_before-before.result;
+      before_is = refl;
+      after = c.next_before-before.ensures.after c.args.claim.now packets i (cuts packets (i + 1)) k read;
+      begins = c.next_marks-marks.ensures.begins;
+      goes_on = c.next_marks-marks.ensures.goes_on;
+      here = λ marks are e. c.next_marks-marks.ensures.here marks are (sym marker ∙ e);
+      other = λ e. c.next_marks-marks.ensures.other (sym marker ∙ e);
+      sample = λ stamps o e at was. c.next_sample-sample.ensures.sample stamps o e (at ∙ read.at) was;
+      behind = λ o e. marks-behind c.args.self.now o e;
+    }

@@ -1,0 +1,11 @@
+-- what is promised
+pub mod Checked
+pub mod Sources
+-- these only serve proofs
+pub mod Faulty
+pub mod Markers
+pub mod Packets
+pub mod Samples
+pub mod Schedule
+pub mod Walks
+pub mod Taking

@@ -1,0 +1,45 @@
+-- What a `Walk` says of the packets that it was fed. Packets, runs and judged packets count from 0.
+use Rattle.std.specs.Prelude.{◌≡◌, ◌≤◌, ◌<◌, ◌+◌, ◌-◌, ℕ, List, [], ◌∷◌, ◌++◌, length, map, Option, Some, None}
+use Rattle.timing_base.specs.Flows.{cuts, first_fault_below, last_place, markers, packet}
+use Rattle.timing_base.specs.Grouped.{IsSized}
+use Rattle.timing_base.specs.Judged.{FlowRun, run_at, runs_between}
+use Rattle.timing_base.specs.declared.packet.FlowPacket.{FlowPacket}
+use Rattle.interval_checker.specs.Checked.{SaysAt}
+use Rattle.interval_checker.specs.Markers.{AreMarked}
+use Rattle.interval_checker.specs.Packets.{ComesAfter}
+use Rattle.interval_checker.specs.Samples.{IsSample}
+use Rattle.interval_checker.specs.declared.claim.Claim.{Claim}
+use Rattle.interval_checker.specs.declared.marks.Marks.{Marks}
+use Rattle.interval_checker.specs.declared.walk.Walk.{Walk}
+
+-- how many packets were fed
+abbrev pub count_fed : Walk → ℕ
+count_fed w = w.fed
+
+-- the stamp of packet k behind this one, as the capture has it
+abbrev pub stamp_behind : List FlowPacket → ℕ → ℕ → ℕ
+stamp_behind packets first k = (packet packets (first + 1 + k)).at
+
+-- packets i and later are to come, and cuts stand at these places: those below i, or those up to i. Whatever they are,
+-- the packets before have no fault.
+pub record Keeps (claim : Claim) (packets : List FlowPacket) (i : ℕ) (places : List ℕ) (w : Walk) : Type 0 where
+  pub within : i ≤ length packets
+  pub fed : w.fed ≡ i
+  pub sound : first_fault_below packets claim.media.pt i ≡ None
+  pub before : ComesAfter packets i w.before
+  pub cut_count : w.cuts ≡ length places
+  pub start : w.start ≡ last_place (0 ∷ places)
+  pub marks : AreMarked (markers packets (last_place (0 ∷ places)) i) w.marks
+  pub sized : IsSized i (markers packets (last_place (0 ∷ places)) i)
+  pub rising : (j k : ℕ) → j ≤ k → k < i → (packet packets j).at ≤ (packet packets k).at
+  -- the stamps of the open run
+  pub sample : (m : Marks) → w.marks ≡ Some m → IsSample claim.proof (stamp_behind packets m.first) (i - (m.first + 1)) w.sample
+  -- the runs that are over
+  pub done : List FlowRun
+  pub runs : (to : ℕ) → runs_between packets claim.tai to 0 places ≡ done ++ run_at packets claim.tai (last_place (0 ∷ places)) to ∷ []
+  pub count : length done ≡ length places
+  pub answer : SaysAt claim.media claim.kind claim.proof (map (λ r. r.outcome) done) claim.run w.answer
+
+-- the walk was fed these packets and no others, as far as later calls can tell; whatever packets follow
+pub record StandsFor (claim : Claim) (w : Walk) (packets : List FlowPacket) : Type 0 where
+  pub ahead : (rest : List FlowPacket) → Keeps claim (packets ++ rest) (length packets) (cuts (packets ++ rest) (length packets)) w

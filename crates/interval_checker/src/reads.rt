@@ -1,0 +1,117 @@
+//! The reads of one schedule, in whole numbers.
+
+ghost use Rattle.std.specs.Prelude.{◌≡◌, ◌≤◌, ◌<◌, ◌+◌, ◌*◌, ◌/◌, ◌^◌, ℕ, ℤ, Bool};
+ghost use Rattle.std.specs.Prelude.{pos, negsuc, ◌≤ℤ◌, ◌+ℤ◌};
+ghost use Rattle.fraction128.specs.Fractions.{at_most, below, whole};
+ghost use Rattle.timing_base.specs.Media.{Media as MediaValue};
+ghost use Rattle.sender_params.specs.Reads.{anchor_of, read_of};
+
+use sender_params::Params;
+
+/// The groups that a first read may be before 0 of TAI.
+const GROUPS_BEFORE: u32 = 480;
+
+/// The reads of one schedule (SMPTE ST 2110-21, read schedules) in parts of a nanosecond, counted from
+/// 480 groups before 0 of TAI, so that none is below 0.
+#[derive(Clone, Copy)]
+pub struct Reads {
+    /// The parts of a nanosecond.
+    den: u128,
+    /// The reads of one group.
+    n: u64,
+    /// From one read of a group to the next.
+    step: u128,
+    /// From one group to the next.
+    group: u128,
+    /// Read 0.
+    start: u128,
+    ghost den_some: { 1 ≤ den },
+    ghost den_small: { den < 2 ^ 48 },
+    ghost n_some: { 1 ≤ n },
+    ghost n_most: { n ≤ 262144 },
+    ghost step_small: { step < 2 ^ 51 },
+    ghost group_fits: { n * step ≤ group },
+    ghost group_small: { group ≤ n * 2 ^ 51 },
+    ghost start_small: { start < 2 ^ 113 },
+}
+
+impl Reads {
+    ghost use Rattle.interval_checker.specs.Schedule.{AreReads, parts_at, parts_of};
+
+    /// The reads of the schedule, gapped or linear, of a sender whose first packet comes at `a0`, in
+    /// nanoseconds of TAI.
+    pub fn of(params: &Params, gapped: bool, a0: u64) -> Reads
+        requires { a0 < 2 ^ 62 }
+        ensures { AreReads params.now.media params.now.n (anchor_of params.now.media a0) gapped result }
+    {
+        let anchor = params.anchor(a0);
+        let (_, den) = params.step(true);
+        let group = parts(params.group(), den);
+        let step = parts(params.step(gapped), den);
+        let offset = parts(params.offset(), den);
+        Reads {
+            den,
+            n: u64::from(params.n()),
+            step,
+            group,
+            start: lifted(anchor) * group + offset,
+        }
+    }
+
+    /// Where read x is.
+    fn read(&self, x: u64) -> u128
+        ensures { result ≡ parts_at self.now x }
+    {
+        let group = u128::from(x / self.n) * self.group;
+        let place = u128::from(x % self.n) * self.step;
+        self.start + group + place
+    }
+
+    /// Where the instant `at` is, in nanoseconds of TAI.
+    fn instant(&self, at: u64) -> u128
+        requires { at < 2 ^ 62 }
+        ensures { result ≡ parts_of self.now at }
+    {
+        u128::from(at) * self.den + u128::from(GROUPS_BEFORE) * self.group
+    }
+
+    /// Whether read x is at the instant `at` or before it.
+    pub fn is_due(&self, x: u64, at: u64) -> bool
+        requires { at < 2 ^ 62 }
+        ensures { (m : MediaValue) (n : ℕ) (anchor : ℤ) (gapped : Bool)
+            → AreReads m n anchor gapped self.now
+            → result ≡ at_most (read_of m n anchor gapped x) (whole at) }
+    {
+        self.read(x) <= self.instant(at)
+    }
+
+    /// Whether read x is before the instant `at`.
+    pub fn is_before(&self, x: u64, at: u64) -> bool
+        requires { at < 2 ^ 62 }
+        ensures { (m : MediaValue) (n : ℕ) (anchor : ℤ) (gapped : Bool)
+            → AreReads m n anchor gapped self.now
+            → result ≡ below (read_of m n anchor gapped x) (whole at) }
+    {
+        self.read(x) < self.instant(at)
+    }
+}
+
+/// A time in nanoseconds, as numerator and denominator, in parts of which a nanosecond has `den`.
+fn parts(time: (u128, u128), den: u128) -> u128
+    requires some { 1 ≤ time.1 }
+    requires num_small { time.0 < 2 ^ 50 }
+    requires den_small { den < 2 ^ 48 }
+    ensures { result ≡ time.0 * den / time.1 }
+{
+    time.0 * den / time.1
+}
+
+/// The number of a group, counted from the earliest one that there may be.
+fn lifted(anchor: i128) -> u128
+    requires low { negsuc 479 ≤ℤ anchor }
+    requires high { anchor ≤ℤ pos (2 ^ 42) }
+    ensures value { pos result ≡ anchor +ℤ pos 480 }
+    ensures small { result ≤ 2 ^ 42 + 480 }
+{
+    (anchor + i128::from(GROUPS_BEFORE)) as u128
+}

@@ -1,0 +1,252 @@
+//! Claims on captures that were laid out by hand.
+
+use super::*;
+use std::alloc::{AllocError, Global};
+use std::test::Fail;
+use timing_base::{Broken, FailProof, Kind, Media, PacketFault, Unjudged};
+use timing_outside::{MemoryShelf, MemorySource, OpenFault, ReadPlan, Shelf};
+
+// A file header: little-endian, nanoseconds, Ethernet.
+const HEAD: [u8; 24] = [
+    0x4d, 0x3c, 0xb2, 0xa1, 2, 0, 4, 0, 0, 0, 0, 0, 0, 0, 0, 0, 0, 0, 4, 0, 1, 0, 0, 0,
+];
+
+// One packet to 239.0.0.1.
+const FRAME: [u8; 56] = [
+    0x01, 0x00, 0x5e, 0x00, 0x00, 0x01, 0x02, 0x00, 0x00, 0x00, 0x00, 0x01, 0x08, 0x00, // Ethernet
+    0x45, 0x00, 0x00, 0x2a, 0x00, 0x00, 0x40, 0x00, 0x40, 0x11, 0x00, 0x00, // IPv4
+    0xc0, 0x00, 0x02, 0x01, 0xef, 0x00, 0x00, 0x01, // addresses
+    0xc3, 0x50, 0xc3, 0x50, 0x00, 0x16, 0x00, 0x00, // UDP, to port 50000
+    0x80, 0x60, 0x00, 0x00, 0x00, 0x00, 0x07, 0x08, 0x00, 0x00, 0x00, 0x01, // RTP
+    0x00, 0x00, // extended sequence number
+];
+
+// 1080 lines, progressive, at 50 frames per second.
+const HD_50: Media = Media {
+    line: 5,
+    address: 0xef00_0001,
+    port: 50_000,
+    pt: 96,
+    width: 1920,
+    height: 1080,
+    interlaced: false,
+    p: 50,
+    q: 1,
+    declared: Some(Kind::N),
+    troff: None,
+    cmax: None,
+};
+
+// Five packets of 20 at once: five in the bucket, and four are the most.
+const BURST: FailProof = FailProof {
+    model: Broken::Bucket,
+    from: 0,
+    to: 4,
+    count: 5,
+    limit: 4,
+};
+
+// How the packets of the frame come.
+#[derive(Clone, Copy)]
+enum Sender {
+    // The first five at once, and all others 960,000 ns apart.
+    Burst,
+    // 1,000,000 ns apart.
+    Linear,
+}
+
+// When this packet of the frame comes, in nanoseconds behind the frame's start.
+fn nanos(sender: Sender, place: u8) -> u32 {
+    match sender {
+        Sender::Burst if place < 5 => 764_000,
+        Sender::Burst => 764_000 + 960_000 * u32::from(place),
+        Sender::Linear => 764_000 + 1_000_000 * u32::from(place),
+    }
+}
+
+// A record of the packet of this number, of this frame of video, which it ends or not.
+fn put(
+    text: &mut Vec<u8>,
+    seconds: u32,
+    nanos: u32,
+    number: u8,
+    group: u8,
+    marker: bool,
+) -> Result<(), AllocError> {
+    let mut bytes = FRAME;
+    bytes[43] = if marker { 0xe0 } else { 0x60 };
+    bytes[45] = number;
+    bytes[47] = group;
+    for number in [seconds, nanos, 56, 56] {
+        text.extend_from_slice(&number.to_le_bytes())?;
+    }
+    text.extend_from_slice(&bytes)
+}
+
+// A capture of the packets from one number on and below another: number 0 ends the frame before, and
+// a frame has numbers 1 to 20.
+fn capture(alloc: Global, sender: Sender, from: u8, to: u8) -> Result<Vec<u8>, AllocError> {
+    let mut text = Vec::from_slice(alloc, &HEAD)?;
+    for number in from..to {
+        if number == 0 {
+            put(&mut text, 1_599_999_999, 999_000_000, 0, 0, true)?;
+        } else {
+            let nanos = nanos(sender, number - 1);
+            put(&mut text, 1_600_000_000, nanos, number, 1, number == 20)?;
+        }
+    }
+    Ok(text)
+}
+
+// A source of this text, which comes in pieces of 100 bytes. The reads of these numbers fail.
+fn source(alloc: Global, text: Vec<u8>, fails: &[u32]) -> Result<MemorySource, OpenFault> {
+    let plan = ReadPlan {
+        fetch_fails: false,
+        piece: 100,
+        fails: Vec::from_slice(alloc, fails)?,
+    };
+    let mut shelf = MemoryShelf::new(alloc);
+    shelf.put(String::from_str(alloc, "a.pcap")?, text, plan)?;
+    shelf.fetch("a.pcap")
+}
+
+// What a capture says of a claim about this run of a narrow sender.
+fn told(
+    alloc: Global,
+    text: Vec<u8>,
+    run: u32,
+    proof: FailProof,
+) -> Result<Result<bool, CheckFault>, OpenFault> {
+    let mut sources = Vec::new(alloc);
+    sources.push(source(alloc, text, &[])?)?;
+    let (_, answer) = confirm(alloc, &HD_50, Kind::N, run, &proof, 0, sources);
+    Ok(answer)
+}
+
+// Of two captures that are one, the reads of these numbers of the second fail: how many sources come
+// back, and what they say of the burst.
+fn joined(alloc: Global, fails: &[u32]) -> Result<(usize, Result<bool, CheckFault>), OpenFault> {
+    let first = capture(alloc, Sender::Burst, 0, 4)?;
+    let second = capture(alloc, Sender::Burst, 4, 21)?;
+    let mut sources = Vec::new(alloc);
+    sources.push(source(alloc, first, &[])?)?;
+    sources.push(source(alloc, second, fails)?)?;
+    let (back, answer) = confirm(alloc, &HD_50, Kind::N, 0, &BURST, 0, sources);
+    Ok((back.len(), answer))
+}
+
+// A claim is confirmed, and with any of its numbers changed by one it isn't.
+#[test]
+fn verify_burst(rt: HostRuntime) -> Result<(), Fail> {
+    let rows = [
+        (Broken::Bucket, 0, 4, 5, 4, true),
+        (Broken::Bucket, 0, 3, 5, 4, false),
+        (Broken::Bucket, 0, 4, 5, 3, false),
+        (Broken::Bucket, 0, 4, 5, 5, false),
+        (Broken::Bucket, 0, 4, 4, 4, false),
+        (Broken::Bucket, 0, 4, 6, 4, false),
+        (Broken::Bucket, 1, 4, 5, 4, false),
+        (Broken::Bucket, 0, 5, 5, 4, false),
+        (Broken::Bucket, 5, 4, 5, 4, false),
+        (Broken::Bucket, 0, 20, 5, 4, false),
+        (Broken::Over, 0, 4, 5, 4, false),
+        (Broken::Empty, 0, 4, 5, 4, false),
+    ];
+    for (model, from, to, count, limit, want) in rows {
+        let proof = FailProof {
+            model,
+            from,
+            to,
+            count,
+            limit,
+        };
+        let text = capture(rt.alloc(), Sender::Burst, 0, 21)?;
+        let answer = told(rt.alloc(), text, 0, proof)?;
+        assert_eq!(rt; answer, Ok(want), "{from} to {to} count {count} limit {limit}");
+    }
+    Ok(())
+}
+
+// The second read of the gapped schedule is 1,724,444 ns behind the frame's start, and the second
+// packet comes at 1,764,000 ns.
+#[test]
+fn verify_empty(rt: HostRuntime) -> Result<(), Fail> {
+    for (count, want) in [(1, true), (2, false), (0, false)] {
+        let proof = FailProof {
+            model: Broken::Empty,
+            from: 1,
+            to: 1,
+            count,
+            limit: 2,
+        };
+        let text = capture(rt.alloc(), Sender::Linear, 0, 21)?;
+        let answer = told(rt.alloc(), text, 0, proof)?;
+        assert_eq!(rt; answer, Ok(want), "count {count}");
+    }
+    Ok(())
+}
+
+#[test]
+fn no_packets(rt: HostRuntime) -> Result<(), Fail> {
+    let text = capture(rt.alloc(), Sender::Burst, 0, 0)?;
+    let answer = told(rt.alloc(), text, 0, BURST)?;
+    assert_eq!(rt; answer, Err(CheckFault::FlowFault(Unjudged::Absent)));
+    Ok(())
+}
+
+// The packets of a frame but for its last.
+#[test]
+fn no_marker(rt: HostRuntime) -> Result<(), Fail> {
+    let text = capture(rt.alloc(), Sender::Burst, 1, 6)?;
+    let answer = told(rt.alloc(), text, 0, BURST)?;
+    let want = Unjudged::NoWholeFrame { head: 5 };
+    assert_eq!(rt; answer, Err(CheckFault::FlowFault(want)));
+    Ok(())
+}
+
+// There is one run, which has number 0.
+#[test]
+fn another_run(rt: HostRuntime) -> Result<(), Fail> {
+    let text = capture(rt.alloc(), Sender::Burst, 0, 21)?;
+    let answer = told(rt.alloc(), text, 1, BURST)?;
+    assert_eq!(rt; answer, Ok(false));
+    Ok(())
+}
+
+// The second record is stamped one ns before the first.
+#[test]
+fn stamp_back(rt: HostRuntime) -> Result<(), Fail> {
+    let mut text = Vec::from_slice(rt.alloc(), &HEAD)?;
+    put(&mut text, 1_599_999_999, 999_000_000, 0, 0, true)?;
+    put(&mut text, 1_599_999_999, 998_999_999, 1, 1, false)?;
+    let answer = told(rt.alloc(), text, 0, BURST)?;
+    let want = Unjudged::Refused {
+        rec: 2,
+        fault: PacketFault::StampBack {
+            before: 1_599_999_999_999_000_000,
+            got: 1_599_999_999_998_999_999,
+        },
+    };
+    assert_eq!(rt; answer, Err(CheckFault::FlowFault(want)));
+    Ok(())
+}
+
+#[test]
+fn two_captures_are_one(rt: HostRuntime) -> Result<(), Fail> {
+    let (count, answer) = joined(rt.alloc(), &[])?;
+    assert_eq!(rt; count, 2);
+    assert_eq!(rt; answer, Ok(true));
+    Ok(())
+}
+
+// Every source comes back, and that of the failed read is named.
+#[test]
+fn failed_read_names_its_source(rt: HostRuntime) -> Result<(), Fail> {
+    for number in 1..7 {
+        let (count, answer) = joined(rt.alloc(), &[number])?;
+        assert_eq!(rt; count, 2);
+        let want = Err(CheckFault::ReadFault { source: 1 });
+        assert_eq!(rt; answer, want, "at read {number}");
+    }
+    Ok(())
+}
