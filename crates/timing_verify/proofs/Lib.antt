@@ -1,0 +1,6 @@
+mod Confirming
+mod Following
+mod Needing
+mod Reports
+mod Seeing
+mod Unique

@@ -1,0 +1,25 @@
+use Rattle.std.proofs.Common.{rules, ◌≡◌}
+use Rattle.timing_verify.proofs.Following.{follows-none, matched, report-read, unmatched}
+use Rattle.timing_verify.proofs.Seeing.{sees-rest}
+use Rattle.timing_verify.proofs.report.answer_over.Goals as goal
+
+pub returns-in-Some-clause-follows : goal.returns-in-Some-clause-follows
+returns-in-Some-clause-follows g c =
+    let named : c.as_str.result.now ≡ c.args.job.now.report = search rules in
+    report-read
+    (record { texts = g.H.Shelf.text c.args.shelf.now; lacks = g.H.Shelf.lacks c.args.shelf.now; before = g.H.Shelf.faults c.args.shelf.now; now = g.H.Shelf.faults c.answer_on.new.shelf })
+    (record { texts = g.H.Shelf.text c.fetch_report.new.shelf; lacks = g.H.Shelf.lacks c.fetch_report.new.shelf; before = g.H.Shelf.faults c.fetch_report.new.shelf; now = g.H.Shelf.faults c.answer_on.new.shelf })
+    c.args.job.now c.args.media.now c.answer_on.result c.as_str.result.now c.deref.result.now c.in-Some.claims.items
+    (sees-rest (g.H.Shelf.text c.args.shelf.now) (g.H.Shelf.text c.fetch_report.new.shelf) (g.H.Shelf.lacks c.args.shelf.now) (g.H.Shelf.lacks c.fetch_report.new.shelf)
+    (g.H.Shelf.faults c.args.shelf.now) (g.H.Shelf.faults c.fetch_report.new.shelf) (g.H.Shelf.faults c.answer_on.new.shelf) c.fetch_report.ensures.texts c.fetch_report.ensures.lacks c.fetch_report.ensures.later)
+    named c.deref.ensures.value c.in_ok-claims.ensures.there
+    (λ text t. matched _ c.in-Some.claims _ _ c.in-Some.is (c.in_ok-claims.ensures.told text t))
+    c.answer_on.ensures.follows
+
+pub returns-in-None-clause-follows : goal.returns-in-None-clause-follows
+returns-in-None-clause-follows g c =
+    let named : c.as_str.result.now ≡ c.args.job.now.report = search rules in
+    follows-none
+    (record { texts = g.H.Shelf.text c.args.shelf.now; lacks = g.H.Shelf.lacks c.args.shelf.now; before = g.H.Shelf.faults c.args.shelf.now; now = g.H.Shelf.faults c.fetch_report.new.shelf })
+    c.silent.result c.as_str.result.now c.args.job.now.report _ named c.in_ok-claims.ensures.there
+    (λ text t. unmatched _ _ _ c.in-None.is (c.in_ok-claims.ensures.told text t)) c.silent.ensures

@@ -1,0 +1,6 @@
+-- what is promised
+pub mod Asked
+pub mod Findings
+pub mod Verified
+-- these only serve proofs
+pub mod Found

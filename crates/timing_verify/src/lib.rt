@@ -1,0 +1,20 @@
+//! `verify` and `verify-report`: whether captures confirm a fail that is claimed of a sender, and
+//! whether they confirm each fail that a JSON report tells.
+//!
+//! Each claim is checked from the captures alone, by `interval_checker`: no judge runs here.
+#![tactic(auto)]
+
+mod checked;
+mod find;
+pub mod laws;
+mod needs;
+mod report;
+mod verify;
+mod words;
+
+pub use checked::{Checked, Finding};
+pub use report::{answer_report, verify_all};
+pub use verify::{answer_verify, verify_one};
+
+#[cfg(test)]
+mod tests;

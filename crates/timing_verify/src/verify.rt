@@ -1,0 +1,149 @@
+//! `verify`: one fail, checked from the captures alone.
+
+ghost use Rattle.std.specs.Prelude.{◌≡◌, ◌≤◌, ℕ, List, slice_get};
+ghost use Rattle.timing_steps.specs.Answers.{Gives, ReadsCaptures, Yields};
+ghost use Rattle.timing_steps.specs.Ran.{HasCause, Ran};
+ghost use Rattle.timing_verify.specs.Asked.{FollowsVerify, HasVerified, ReadsMedia, VerifyInputRose, claim_of};
+
+use crate::find::find;
+use crate::words::{unconfirmed, verified};
+use std::alloc::Global;
+use timing_base::{FlowKey, Media, VerifyJob};
+use timing_json::ReportProof;
+use timing_outside::{Shelf, Sink};
+use timing_report::Status;
+use timing_steps::{Answer, Failure, conclude, fetch_session};
+
+/// The fail that a job asks about: one of run 0 of its media.
+fn claim_of(job: &VerifyJob) -> ReportProof
+    ensures { result ≡ claim_of job.now }
+{
+    ReportProof {
+        key: FlowKey {
+            file: 0,
+            media: job.media,
+        },
+        run: 0,
+        kind: job.kind,
+        proof: job.proof,
+    }
+}
+
+/// The answer on this media.
+fn answer_on<H: Shelf>(
+    alloc: Global,
+    job: &VerifyJob,
+    shelf: &mut H,
+    media: &Media,
+) -> Result<Answer, Failure>
+    ensures follows { Yields result (ReadsCaptures (record {
+      texts = H.text shelf.old;
+      lacks = H.lacks shelf.old;
+      before = H.faults shelf.old;
+      now = H.faults shelf.new;
+    }) result job.now.captures (λ texts. Gives result (HasVerified job.now media.now texts))) }
+    ensures cause { HasCause result (VerifyInputRose job.now (record {
+      texts = H.text shelf.old;
+      lacks = H.lacks shelf.old;
+      before = H.faults shelf.old;
+      now = H.faults shelf.new;
+    })) }
+    ensures lacks { (n : List ℕ) → H.lacks shelf.old n → H.lacks shelf.new n }
+    ensures texts { (n : List ℕ) → H.text shelf.new n ≡ H.text shelf.old n }
+    ensures later { (n : List ℕ) → H.faults shelf.old n ≤ H.faults shelf.new n }
+{
+    let claim = claim_of(job);
+    let names = job.captures.as_slice();
+    let finding = find(alloc, shelf, names, media, &claim, job.tai)?;
+    Ok(verified(alloc, media, finding)?)
+}
+
+/// The answer over a session of these media.
+fn answer_over<H: Shelf>(
+    alloc: Global,
+    job: &VerifyJob,
+    shelf: &mut H,
+    media: &[Media],
+) -> Result<Answer, Failure>
+    ensures follows { Yields result (ReadsMedia (record {
+      texts = H.text shelf.old;
+      lacks = H.lacks shelf.old;
+      before = H.faults shelf.old;
+      now = H.faults shelf.new;
+    }) result job.now (slice_get media.now job.now.media)) }
+    ensures cause { HasCause result (VerifyInputRose job.now (record {
+      texts = H.text shelf.old;
+      lacks = H.lacks shelf.old;
+      before = H.faults shelf.old;
+      now = H.faults shelf.new;
+    })) }
+    ensures lacks { (n : List ℕ) → H.lacks shelf.old n → H.lacks shelf.new n }
+    ensures texts { (n : List ℕ) → H.text shelf.new n ≡ H.text shelf.old n }
+    ensures later { (n : List ℕ) → H.faults shelf.old n ≤ H.faults shelf.new n }
+{
+    match media.get(job.media as usize) {
+        Some(media) => answer_on(alloc, job, shelf, media),
+        None => Ok(unconfirmed(alloc)?),
+    }
+}
+
+/// The answer of a job, or why there is none. Where the description hasn't the media, the fail is not
+/// confirmed, and no capture is fetched.
+pub fn answer_verify<H: Shelf>(
+    alloc: Global,
+    job: &VerifyJob,
+    shelf: &mut H,
+) -> Result<Answer, Failure>
+    ensures follows { FollowsVerify job.now (record {
+      texts = H.text shelf.old;
+      lacks = H.lacks shelf.old;
+      before = H.faults shelf.old;
+      now = H.faults shelf.new;
+    }) result }
+    ensures cause { HasCause result (VerifyInputRose job.now (record {
+      texts = H.text shelf.old;
+      lacks = H.lacks shelf.old;
+      before = H.faults shelf.old;
+      now = H.faults shelf.new;
+    })) }
+    ensures lacks { (n : List ℕ) → H.lacks shelf.old n → H.lacks shelf.new n }
+    ensures texts { (n : List ℕ) → H.text shelf.new n ≡ H.text shelf.old n }
+    ensures later { (n : List ℕ) → H.faults shelf.old n ≤ H.faults shelf.new n }
+{
+    match fetch_session(alloc, shelf, job.sdp.as_str())? {
+        Ok(session) => answer_over(alloc, job, shelf, session.media.as_slice()),
+        Err(fault) => Ok(Answer::silent(alloc, Status::SdpRefused(fault))),
+    }
+}
+
+/// Checks the fail of a job, and prints on `out` whether its captures confirm it. On `err` it tells
+/// why there is no answer.
+pub fn verify_one<H: Shelf, K: Sink>(
+    alloc: Global,
+    job: &VerifyJob,
+    shelf: &mut H,
+    out: &mut K,
+    err: &mut K,
+) -> Status
+    ensures ran { Ran (FollowsVerify job.now (record {
+      texts = H.text shelf.old;
+      lacks = H.lacks shelf.old;
+      before = H.faults shelf.old;
+      now = H.faults shelf.new;
+    }))
+        (VerifyInputRose job.now (record {
+          texts = H.text shelf.old;
+          lacks = H.lacks shelf.old;
+          before = H.faults shelf.old;
+          now = H.faults shelf.new;
+        }))
+        (record { old = K.written out.old; new = K.written out.new; before = K.faults out.old; now = K.faults out.new })
+        (record { old = K.written err.old; new = K.written err.new; before = K.faults err.old; now = K.faults err.new })
+        result }
+    ensures lacks { (n : List ℕ) → H.lacks shelf.old n → H.lacks shelf.new n }
+    ensures texts { (n : List ℕ) → H.text shelf.new n ≡ H.text shelf.old n }
+    ensures later { (n : List ℕ) → H.faults shelf.old n ≤ H.faults shelf.new n }
+{
+    let outcome = answer_verify(alloc, job, shelf);
+    conclude(out, err, outcome)
+}
