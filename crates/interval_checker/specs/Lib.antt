@@ -1,6 +1,8 @@
 -- what is promised
 pub mod Checked
 pub mod Sources
+-- these serve the laws
+pub mod Examples
 -- these only serve proofs
 pub mod Faulty
 pub mod Markers

@@ -1,13 +1,19 @@
 //! What holds of the definition of an answer itself. Each function is a theorem: it does nothing, and
 //! its clauses are proved.
 
-ghost use Rattle.std.specs.Prelude.{◌≡◌, ℕ, Bool, Result};
-ghost use Rattle.timing_base.specs.Judged.{FlowVerdict};
+ghost use Rattle.std.specs.Prelude.{◌≡◌, ℕ, Bool, true, false, [], Result, Ok, Err};
+ghost use Rattle.timing_base.specs.Judged.{FlowVerdict, judged};
 ghost use Rattle.timing_base.specs.Media.{Media};
+ghost use Rattle.timing_base.specs.declared.fail.Broken.TheVariants.{Bucket};
 ghost use Rattle.timing_base.specs.declared.fail.FailProof.{FailProof};
 ghost use Rattle.timing_base.specs.declared.media.Kind.{Kind};
+ghost use Rattle.timing_base.specs.declared.media.Kind.TheVariants.{N};
+ghost use Rattle.timing_base.specs.declared.packet.PacketFault.TheVariants.{StampBack};
 ghost use Rattle.timing_base.specs.declared.row.Unjudged.{Unjudged};
+ghost use Rattle.timing_base.specs.declared.row.Unjudged.TheVariants.{Absent, NoWholeFrame, Refused};
+ghost use Rattle.sender_params.specs.Worked.{fail, hd_50};
 ghost use Rattle.interval_checker.specs.Checked.{Says};
+ghost use Rattle.interval_checker.specs.Examples.{five_at_once, stamp_back, two_runs};
 
 /// Whatever is judged of a flow, one answer is right of a run and a fail, and no other is.
 pub fn one_answer()
@@ -16,4 +22,25 @@ pub fn one_answer()
     ensures no_other { (m : Media) (kind : Kind) (f : FailProof) (run : ℕ) (verdict : FlowVerdict)
         (a b : Result Bool Unjudged) → Says m kind f run verdict a → Says m kind f run verdict b
         → a ≡ b }
+{}
+
+/// Five packets at once are one more than C_MAX of type N, and four of them aren't five. The flow has
+/// run 0 alone.
+pub fn bucket_by_hand()
+    ensures five { Says hd_50 N (fail Bucket 0 4 5 4) 0 (judged five_at_once 96 0) (Ok true) }
+    ensures four { Says hd_50 N (fail Bucket 0 3 5 4) 0 (judged five_at_once 96 0) (Ok false) }
+    ensures limit { Says hd_50 N (fail Bucket 0 4 5 3) 0 (judged five_at_once 96 0) (Ok false) }
+    ensures no_run { Says hd_50 N (fail Bucket 0 4 5 4) 1 (judged five_at_once 96 0) (Ok false) }
+{}
+
+/// What isn't judged has a cause, and a run that isn't there confirms nothing.
+pub fn unjudged_by_hand()
+    ensures absent { Says hd_50 N (fail Bucket 0 4 5 4) 0 (judged [] 96 0) (Err Absent) }
+    ensures refused { Says hd_50 N (fail Bucket 0 4 5 4) 0 (judged stamp_back 96 0)
+        (Err (Refused 12 (StampBack 9 8))) }
+    ensures first { Says hd_50 N (fail Bucket 0 4 5 4) 0 (judged two_runs 96 0)
+        (Err (NoWholeFrame 1)) }
+    ensures second { Says hd_50 N (fail Bucket 0 4 5 4) 1 (judged two_runs 96 0)
+        (Err (NoWholeFrame 2)) }
+    ensures third { Says hd_50 N (fail Bucket 0 4 5 4) 2 (judged two_runs 96 0) (Ok false) }
 {}

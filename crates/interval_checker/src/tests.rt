@@ -1,5 +1,7 @@
 //! Claims on captures that were laid out by hand.
 
+ghost use Rattle.std.specs.Prelude.{◌≡◌, ◌+◌, IfOk, length};
+
 use super::*;
 use std::alloc::{AllocError, Global};
 use std::test::Fail;
@@ -110,6 +112,16 @@ fn source(alloc: Global, text: Vec<u8>, fails: &[u32]) -> Result<MemorySource, O
     shelf.fetch("a.pcap")
 }
 
+// Puts a source at the end of a list.
+fn add(sources: &mut Vec<MemorySource>, source: MemorySource) -> Result<(), OpenFault>
+    ensures { IfOk result (λ _. length sources.new.items ≡ length sources.old.items + 1) }
+{
+    match sources.push(source) {
+        Ok(()) => Ok(()),
+        Err(_) => Err(OpenFault::OutOfMemory),
+    }
+}
+
 // What a capture says of a claim about this run of a narrow sender.
 fn told(
     alloc: Global,
@@ -118,7 +130,7 @@ fn told(
     proof: FailProof,
 ) -> Result<Result<bool, CheckFault>, OpenFault> {
     let mut sources = Vec::new(alloc);
-    sources.push(source(alloc, text, &[])?)?;
+    add(&mut sources, source(alloc, text, &[])?)?;
     let (_, answer) = confirm(alloc, &HD_50, Kind::N, run, &proof, 0, sources);
     Ok(answer)
 }
@@ -129,8 +141,8 @@ fn joined(alloc: Global, fails: &[u32]) -> Result<(usize, Result<bool, CheckFaul
     let first = capture(alloc, Sender::Burst, 0, 4)?;
     let second = capture(alloc, Sender::Burst, 4, 21)?;
     let mut sources = Vec::new(alloc);
-    sources.push(source(alloc, first, &[])?)?;
-    sources.push(source(alloc, second, fails)?)?;
+    add(&mut sources, source(alloc, first, &[])?)?;
+    add(&mut sources, source(alloc, second, fails)?)?;
     let (back, answer) = confirm(alloc, &HD_50, Kind::N, 0, &BURST, 0, sources);
     Ok((back.len(), answer))
 }
@@ -162,7 +174,11 @@ fn verify_burst(rt: HostRuntime) -> Result<(), Fail> {
         };
         let text = capture(rt.alloc(), Sender::Burst, 0, 21)?;
         let answer = told(rt.alloc(), text, 0, proof)?;
-        assert_eq!(rt; answer, Ok(want), "{from} to {to} count {count} limit {limit}");
+        assert_eq!(rt;
+            answer,
+            Ok(want),
+            "{from} to {to} count {count} limit {limit}"
+        );
     }
     Ok(())
 }

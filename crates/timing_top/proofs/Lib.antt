@@ -1,5 +1,6 @@
 mod Answering
 mod Asking
+mod Verifying
 mod Following
 mod Judgings
 mod Takings

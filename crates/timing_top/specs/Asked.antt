@@ -9,6 +9,7 @@ use Rattle.timing_report.specs.declared.status.Status.{Status}
 use Rattle.timing_report.specs.declared.status.Status.TheVariants as status
 use Rattle.timing_steps.specs.Answers.{Answer, CaptureRose, Gives, HasRisen, Inputs, ReadsCaptures, ReadsSession, Yields, silent}
 use Rattle.timing_steps.specs.declared.failure.Failure.{Failure}
+use Rattle.timing_verify.specs.Asked.{FollowsReport, FollowsVerify, ReportInputRose, VerifyInputRose}
 use Rattle.timing_top.specs.Report.{HasReport}
 use Rattle.timing_top.specs.SelfTest.{HasSelfTest}
 
@@ -30,12 +31,13 @@ abbrev pub FollowsIf : Bool → Type 0 → Result Answer Failure → Type 0
 FollowsIf true Built outcome = Built
 FollowsIf false Built outcome = FollowsAtOnce status.NotBuilt outcome
 
--- words that are no request, and a request; `check` and `selftest` are built on one thread
+-- words that are no request, and a request; `check` and `selftest` are built on one thread, and nothing that looks deeper
+-- into one flow is
 abbrev pub Follows : Option Request → Inputs → Result Answer Failure → Type 0
 Follows None i outcome = FollowsAtOnce status.Usage outcome
 Follows (Some (request.Check job)) i outcome = FollowsIf (job.workers == 0) (FollowsCheck job i outcome) outcome
-Follows (Some (request.Verify job)) i outcome = FollowsAtOnce status.NotBuilt outcome
-Follows (Some (request.VerifyReport job)) i outcome = FollowsAtOnce status.NotBuilt outcome
+Follows (Some (request.Verify job)) i outcome = FollowsVerify job i outcome
+Follows (Some (request.VerifyReport job)) i outcome = FollowsReport job i outcome
 Follows (Some (request.SelfTest job)) i outcome = FollowsIf (job.workers == 0) (FollowsSelfTest job.frames outcome) outcome
 Follows (Some (request.Window job)) i outcome = FollowsAtOnce status.NotBuilt outcome
 Follows (Some (request.Shape job)) i outcome = FollowsAtOnce status.NotBuilt outcome
@@ -50,12 +52,21 @@ CheckInputRose job i (input.Capture number) = CaptureRose i.before i.now job.cap
 -- the count of the name of this input of the request rose; what reads nothing has none
 abbrev pub InputRose : Option Request → Inputs → Input → Type 0
 InputRose (Some (request.Check job)) i input = CheckInputRose job i input
+InputRose (Some (request.Verify job)) i input = VerifyInputRose job i input
+InputRose (Some (request.VerifyReport job)) i input = ReportInputRose job i input
 InputRose other i input = ⊥
 
 -- the names of a request's inputs, where it reads any
 abbrev pub names_of : Option Request → List (List ℕ)
 names_of (Some (request.Check job)) = job.sdp ∷ job.captures
+names_of (Some (request.Verify job)) = job.sdp ∷ job.captures
+names_of (Some (request.VerifyReport job)) = job.sdp ∷ job.report ∷ job.captures
 names_of other = []
+
+-- whether a report is read back; what its text is a report of decides then which captures are read
+abbrev pub reads_report : Option Request → Bool
+reads_report (Some (request.VerifyReport job)) = true
+reads_report other = false
 
 -- what was seen of a shelf that tells by a test which names it lacks; the laws speak of such shelves
 abbrev pub seen : (texts : List ℕ → Option (List ℕ)) → (lacking : List ℕ → Bool) → (before now : List ℕ → ℕ) → Inputs

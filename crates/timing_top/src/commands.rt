@@ -14,6 +14,7 @@ use timing_base::{Request, SelfTestJob};
 use timing_outside::{Gate, Shelf, Sink};
 use timing_report::Status;
 use timing_steps::{Answer, Failure, conclude};
+use timing_verify::{answer_report, answer_verify};
 use timing_words::{WordFault, read_words};
 
 /// The answer of `selftest`, which is built on one thread.
@@ -28,7 +29,8 @@ fn answer_frames(alloc: Global, job: &SelfTestJob) -> Result<Answer, Failure>
     }
 }
 
-/// The answer of a request, or why there is none. Built are `check` and `selftest` on one thread.
+/// The answer of a request, or why there is none. Built are `check` and `selftest` on one
+/// thread, `verify` and `verify-report`.
 fn answer_request<H: Shelf>(
     alloc: Global,
     request: Request,
@@ -57,6 +59,8 @@ fn answer_request<H: Shelf>(
             }
             Ok(Answer::silent(alloc, Status::NotBuilt))
         }
+        Request::Verify(job) => answer_verify(alloc, &job, shelf),
+        Request::VerifyReport(job) => answer_report(alloc, &job, shelf),
         Request::SelfTest(job) => answer_frames(alloc, &job),
         _ => Ok(Answer::silent(alloc, Status::NotBuilt)),
     }
@@ -90,7 +94,7 @@ fn answer<H: Shelf>(alloc: Global, words: &[String], shelf: &mut H) -> Result<An
 /// Does what the words ask for, the program's name not among them, and answers how that ended.
 ///
 /// A report goes to `out`, whole or not at all, but where a write fails; `err` gets one line where there
-/// is none. Built are `check` with `--serial`, and `selftest` without workers.
+/// is none. Built are `check` with `--serial`, `verify`, `verify-report`, and `selftest` without workers.
 ///
 /// The call may wait for other threads in the forms that use them; it promises what it says if it
 /// returns. None is built yet.

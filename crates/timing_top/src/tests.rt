@@ -16,11 +16,12 @@ mod captures;
 mod descriptions;
 mod faults;
 mod joined;
-mod made;
 mod refused;
 mod self_tests;
 mod senders;
 mod several;
+mod variants;
+mod verify;
 mod words;
 
 const CHECK: &str = "check --serial --sdp p.sdp a.pcap";

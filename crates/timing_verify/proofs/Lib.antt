@@ -3,4 +3,4 @@ mod Following
 mod Needing
 mod Reports
 mod Seeing
-mod Unique
+pub mod Unique

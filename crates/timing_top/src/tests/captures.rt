@@ -1,6 +1,6 @@
 //! How captures end, and which of their frames are looked at.
 
-use super::made::{first_cut, largest_record, patch};
+use super::variants::{first_cut, largest_record, patch};
 use super::{ABSENT, CHECK, ends, judges, made, over, part, passes};
 use std::alloc::Global;
 use std::process::Abort;

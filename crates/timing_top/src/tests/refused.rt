@@ -1,6 +1,6 @@
 //! Flows that aren't judged, and those that are cut.
 
-use super::made::{captured_at_40, gaps, large_frame, low_halves, patch};
+use super::variants::{captured_at_40, gaps, large_frame, low_halves, patch};
 use super::{ABSENT, CHECK, judges, made, over, part};
 use std::test::Fail;
 use timing_report::Status;

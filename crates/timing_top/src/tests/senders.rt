@@ -1,6 +1,6 @@
 //! What is said of one flow, by how its sender spreads the packets.
 
-use super::made::{
+use super::variants::{
     at_once, big_endian, earlier, fields, last_second_of, tagged, usual, with_payload,
 };
 use super::{CHECK, LINEAR, NARROW, judges, made, over, passes, sdp_with};

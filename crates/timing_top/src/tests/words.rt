@@ -15,8 +15,6 @@ fn words_that_are_not_built(rt: HostRuntime) -> Result<(), Fail> {
         "check --workers 1 --sdp p.sdp a.pcap",
         "check --joined --workers 16 --sdp p.sdp a.pcap",
         "selftest 2 --workers 3",
-        "verify --sdp p.sdp --media 1 --type N --model Bucket --from 0 --to 4 --count 5 --limit 4 a.pcap",
-        "verify-report --sdp p.sdp --report r.json a.pcap",
         "window --sdp p.sdp --media 1 a.pcap",
         "shape --sdp p.sdp --media 1 --type N a.pcap",
         "skew --sdp p.sdp --media 1 --pair 1 a.pcap",
