@@ -10,7 +10,8 @@ use Rattle.udp_rtp.specs.Flow.{flow}
 use Rattle.fail_interval.specs.Row.{row}
 use Rattle.fail_interval.specs.Stands.{count_fed}
 use Rattle.flow_bank.specs.Few.{HasTakenFew}
-use Rattle.flow_bank.specs.Rows.{key_of, rows_from, rows_of}
+use Rattle.flow_bank.specs.Rows.{rows_from, rows_of}
+use Rattle.timing_base.specs.Keys.{key_of}
 use Rattle.flow_bank.specs.Stands.{AreJudgesOf, IsJudgeOf}
 use Rattle.flow_bank.specs.Taken.{HasRows, TakesRecord, TakesUpTo}
 use Rattle.flow_bank.specs.declared.media_judge.MediaJudge.{MediaJudge}

@@ -9,7 +9,8 @@ use Rattle.udp_rtp.specs.Examples.{group}
 use Rattle.udp_rtp.specs.Flow.{flow}
 use Rattle.fail_interval.specs.Row.{row}
 use Rattle.flow_bank.specs.Examples.{first_capture, joined_captures, next_port, packet_at, second_capture}
-use Rattle.flow_bank.specs.Rows.{key_of, rows_of, rows_of_files}
+use Rattle.flow_bank.specs.Rows.{rows_of, rows_of_files}
+use Rattle.timing_base.specs.Keys.{key_of}
 
 -- the rows of two media by their flows
 rows-by : (tai file : ℕ) (a b : Media) (items : List Record) (p q : List FlowPacket) → flow items a ≡ p → flow items b ≡ q

@@ -14,7 +14,7 @@ use Rattle.udp_rtp.specs.Frames.{Datagram, datagram_of}
 use Rattle.udp_rtp.specs.Reading.{reading}
 use Rattle.udp_rtp.proofs.Flows.{flow-append_none, flow-append_some}
 use Rattle.fail_interval.specs.Stands.{StandsFor}
-use Rattle.flow_bank.specs.Rows.{key_of}
+use Rattle.timing_base.specs.Keys.{key_of}
 use Rattle.flow_bank.specs.Taken.{TakesRecord}
 use Rattle.flow_bank.specs.declared.media_judge.MediaJudge.{MediaJudge}
 

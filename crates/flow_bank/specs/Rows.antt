@@ -1,15 +1,12 @@
 -- The rows of captures: one for each media, over the packets of its flow. Files and media count from 0.
 use Rattle.std.specs.Prelude.{◌+◌, ℕ, List, [], ◌∷◌, ◌++◌}
 use Rattle.timing_base.specs.Captures.{Record}
+use Rattle.timing_base.specs.Keys.{key_of}
 use Rattle.timing_base.specs.Media.{Media}
 use Rattle.timing_base.specs.declared.key.FlowKey.{FlowKey}
 use Rattle.timing_base.specs.declared.row.Row.{Row}
 use Rattle.udp_rtp.specs.Flow.{flow}
 use Rattle.fail_interval.specs.Row.{row}
-
--- the key of a flow
-abbrev pub key_of : (file media : ℕ) → FlowKey
-key_of file media = record { file = file; media = media }
 
 -- the rows of these media, the first of them with this number, over the records of one file
 abbrev pub rows_from : (tai file number : ℕ) → List Media → List Record → List Row

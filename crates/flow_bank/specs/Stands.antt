@@ -6,7 +6,7 @@ use Rattle.timing_base.specs.Media.{Media}
 use Rattle.timing_base.specs.Targets.{target_of}
 use Rattle.udp_rtp.specs.Flow.{flow}
 use Rattle.fail_interval.specs.Stands.{StandsFor as JudgeStandsFor}
-use Rattle.flow_bank.specs.Rows.{key_of}
+use Rattle.timing_base.specs.Keys.{key_of}
 use Rattle.flow_bank.specs.declared.bank.Bank.{Bank}
 use Rattle.flow_bank.specs.declared.media_judge.MediaJudge.{MediaJudge}
 

@@ -9,7 +9,8 @@ ghost use Rattle.udp_rtp.specs.Examples.{group};
 ghost use Rattle.udp_rtp.specs.Flow.{flow};
 ghost use Rattle.fail_interval.specs.Row.{row};
 ghost use Rattle.flow_bank.specs.Examples.{first_capture, joined_captures, next_port, packet_at, second_capture};
-ghost use Rattle.flow_bank.specs.Rows.{key_of, rows_of, rows_of_files};
+ghost use Rattle.flow_bank.specs.Rows.{rows_of, rows_of_files};
+ghost use Rattle.timing_base.specs.Keys.{key_of};
 
 /// Media and files are numbered from 0: the rows of two media over two files, and of one media
 /// over the fourth file alone.

@@ -7,7 +7,7 @@ ghost use Rattle.udp_rtp.specs.Flow.{flow};
 ghost use Rattle.udp_rtp.specs.Frames.{datagram_of};
 ghost use Rattle.fail_interval.specs.Row.{row};
 ghost use Rattle.fail_interval.specs.Stands.{count_fed};
-ghost use Rattle.flow_bank.specs.Rows.{key_of};
+ghost use Rattle.timing_base.specs.Keys.{key_of};
 
 use fail_interval::FlowJudge;
 use std::alloc::{AllocError as OutOfMemory, Global};

@@ -4,7 +4,7 @@ use Rattle.std.specs.Prelude.{flat_map}
 use Rattle.std.proofs.lemmas.Bool.{cases_lt}
 use Rattle.std.proofs.lemmas.List.{drop-append-le, drop_all, length_push, length-drop}
 use Rattle.std.proofs.lemmas.Nat.{mod-mul-add, mod_below}
-use Rattle.flow_worker.specs.Messages.{Packet}
+use Rattle.ruled_intake.specs.Packets.{Packet}
 use Rattle.flow_worker.specs.Opening.{filled, rest}
 
 -- one more, short of the next multiple

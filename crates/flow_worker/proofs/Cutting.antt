@@ -1,8 +1,9 @@
 -- What one packet more makes of what an intake has sent to a lane, and of its open batch. Citations for a loop over the
 -- packets of a file.
 use Rattle.std.proofs.Common.{◌≡◌, ◌<◌, ◌+◌, ℕ, List, [], ◌∷◌, ◌++◌, length, map, refl, sym, ap, ap₂, ◌∙◌, append_assoc, append-nil, arith}
-use Rattle.flow_worker.specs.Messages.{Message, Packet}
-use Rattle.flow_worker.specs.Messages.Message.{batch}
+use Rattle.ruled_intake.specs.Packets.{Packet}
+use Rattle.ruled_intake.specs.declared.message.Message.{Message}
+use Rattle.flow_worker.specs.Messages.{batch}
 use Rattle.flow_worker.specs.Opening.{Addressed, addressed, filled, for_lane, full_batches, lane_packets, last_batches, rest, sent_of, to_each, unless_empty}
 use Rattle.flow_worker.specs.Kept.{IsPrefix}
 use Rattle.flow_worker.specs.Cut.{HasCut}

@@ -2,8 +2,9 @@
 use Rattle.std.proofs.Common.{◌≡◌, ℕ, zero, suc, Bool, true, false, cond, eqb, List, [], ◌∷◌, ◌++◌, length, map, slice_get, Some, None, refl}
 use Rattle.std.specs.Prelude.{Option, ⊤}
 use Rattle.std.specs.List.{cons_option}
-use Rattle.flow_worker.specs.Messages.{Message, Packet, file_of}
-use Rattle.flow_worker.specs.Messages.Message.{ending}
+use Rattle.ruled_intake.specs.Packets.{Packet}
+use Rattle.ruled_intake.specs.declared.message.Message.{Message}
+use Rattle.flow_worker.specs.Messages.{file_of, ending}
 use Rattle.flow_worker.specs.Opening.{Addressed, Capture, Setting, addressed, filled, for_lane, full_batches, lane_packets, last_batches, messages, packet_lane, rest, sends, sends_if, session_packets, to_each, unless_empty}
 
 -- the messages are of the file

@@ -10,7 +10,8 @@ use Rattle.timing_base.specs.declared.packet.FlowPacket.{FlowPacket}
 use Rattle.udp_rtp.specs.Flow.{datagram_packet, flow, flow_packet, is_same_target}
 use Rattle.udp_rtp.specs.Frames.{Datagram, datagram_of}
 use Rattle.udp_rtp.specs.Reading.{reading}
-use Rattle.flow_worker.specs.Messages.{Message, file_packets, media_packets, records_told}
+use Rattle.ruled_intake.specs.declared.message.Message.{Message}
+use Rattle.flow_worker.specs.Messages.{file_packets, media_packets, records_told}
 use Rattle.flow_worker.specs.Opening.{Capture}
 use Rattle.flow_worker.specs.Posting.{joined_packets, raised_packet}
 

@@ -5,8 +5,10 @@ use Rattle.std.proofs.lemmas.Bool.{cases_eq}
 use Rattle.std.proofs.lemmas.List.Concat.{flat_map-append}
 use Rattle.std.proofs.lemmas.List.Elements.{filter-append, filter_map-append}
 use Rattle.timing_base.specs.declared.capture.FileNote.{FileNote}
-use Rattle.flow_worker.specs.Messages.{Message, Packet, packets_in, packets_of}
-use Rattle.flow_worker.specs.Messages.Message.{batch, ending}
+use Rattle.ruled_intake.specs.Packets.{Packet}
+use Rattle.ruled_intake.specs.declared.message.Message.{Message}
+use Rattle.ruled_intake.specs.declared.message.Message.TheVariants.{Batch, End}
+use Rattle.flow_worker.specs.Messages.{packets_in, packets_of, batch, ending}
 use Rattle.flow_worker.specs.Opening.{Addressed, addressed, filled, for_lane, full_batches, lane_packets, last_batches, message_for, rest, sent_of, to_each, unless_empty}
 use Rattle.flow_worker.specs.Cut.{AreBatches, AreWhole}
 use Rattle.flow_worker.proofs.Lists.{for_lane-batches, for_lane-here, for_lane-other, for_lane-others, lane_packets-none, lane_packets-one, lane_packets-push, lane_packets-push_other, packets_in-batches}
@@ -14,8 +16,8 @@ use Rattle.flow_worker.proofs.Batches.{filled-rest, rest-nil}
 
 pub AreBatches-append : (f : ℕ) (xs ys : List Message) → AreBatches f xs → AreBatches f ys → AreBatches f (xs ++ ys)
 AreBatches-append f [] ys h k = k
-AreBatches-append f (batch g ps ∷ xs) ys h k = (h.0, AreBatches-append f xs ys h.1 k)
-AreBatches-append f (ending g note records ∷ xs) ys h k = absurd h
+AreBatches-append f (Batch one ∷ xs) ys h k = (h.0, AreBatches-append f xs ys h.1 k)
+AreBatches-append f (End one ∷ xs) ys h k = absurd h
 
 AreBatches-map : (f : ℕ) (bs : List (List Packet)) → AreBatches f (map (batch f) bs)
 AreBatches-map f [] = tt

@@ -5,8 +5,8 @@ use Rattle.std.specs.List.{cons_option}
 use Rattle.std.proofs.lemmas.Bool.{eqb-true}
 use Rattle.std.proofs.lemmas.List.Elements.{filter-append}
 use Rattle.timing_base.specs.declared.packet.FlowPacket.{FlowPacket}
-use Rattle.flow_worker.specs.Messages.{Packet, media_packet, media_packets, packets_in}
-use Rattle.flow_worker.specs.Messages.Message.{batch}
+use Rattle.ruled_intake.specs.Packets.{Packet, flow_packet}
+use Rattle.flow_worker.specs.Messages.{media_packet, media_packets, packets_in, batch}
 use Rattle.flow_worker.specs.Opening.{Addressed, addressed, for_lane, lane_packets}
 
 -- a message that is for the lane
@@ -67,7 +67,7 @@ media_packets-lane_one lane w k p ps true e h more =
     ap (λ (b : Bool). media_packets k (cond b (p ∷ lane_packets lane w ps) (lane_packets lane w ps))) (eq-eqb (lane p) w (h (eqb-true p.media k e)))
     ∙ ap (cons_option (media_packet k p)) more
 media_packets-lane_one lane w k p ps false e h more =
-    let n : media_packet k p ≡ None = ap (λ (b : Bool). if b then Some p.packet else None) e in
+    let n : media_packet k p ≡ None = ap (λ (b : Bool). if b then Some (flow_packet p) else None) e in
     dropped k p (lane_packets lane w ps) (eqb (lane p) w) n ∙ more ∙ sym (ap (λ (o : Option FlowPacket). cons_option o (media_packets k ps)) n)
 
 -- all packets of a media are of its lane

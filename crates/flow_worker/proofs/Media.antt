@@ -6,15 +6,15 @@ use Rattle.std.proofs.lemmas.Bool.{and_parts, eqb-true}
 use Rattle.std.proofs.lemmas.Option.{cond_some}
 use Rattle.timing_base.specs.Captures.{Record}
 use Rattle.timing_base.specs.Media.{Media}
-use Rattle.timing_base.specs.Targets.{target_of}
+use Rattle.timing_base.specs.Targets.{target_of, HaveOwnTargets}
 use Rattle.timing_base.specs.declared.packet.FlowPacket.{FlowPacket}
 use Rattle.timing_base.specs.declared.target.Target.{Target}
 use Rattle.udp_rtp.specs.Flow.{datagram_packet, flow, flow_packet, is_same_target}
 use Rattle.udp_rtp.specs.Frames.{Datagram, datagram_of}
 use Rattle.udp_rtp.specs.Reading.{reading}
-use Rattle.flow_worker.specs.Messages.{Packet, media_packet, media_packets}
+use Rattle.ruled_intake.specs.Packets.{Packet, packet_of}
+use Rattle.flow_worker.specs.Messages.{media_packet, media_packets}
 use Rattle.flow_worker.specs.Opening.{numbered_or, packet_from, session_packets}
-use Rattle.flow_worker.specs.Kept.{HaveOwnTargets}
 
 -- a target by its parts
 target_at : ℕ → ℕ → Target
@@ -49,11 +49,11 @@ media_packet_if k None = None
 media_packet_if k (Some p) = media_packet k p
 
 -- a packet with this number
-pick_here : (k number : ℕ) (p : FlowPacket) → number ≡ k → media_packet k record { media = number; packet = p } ≡ Some p
+pick_here : (k number : ℕ) (p : FlowPacket) → number ≡ k → media_packet k (packet_of number p) ≡ Some p
 pick_here k number p e = ap (λ (b : Bool). if b then Some p else None) (eq-eqb number k e)
 
 -- a packet with another
-pick_other : (k number : ℕ) (p : FlowPacket) → (number ≡ k → ⊥) → media_packet k record { media = number; packet = p } ≡ None
+pick_other : (k number : ℕ) (p : FlowPacket) → (number ≡ k → ⊥) → media_packet k (packet_of number p) ≡ None
 pick_other k number p n = ap (λ (b : Bool). if b then Some p else None) (ne_eqb number k n)
 
 -- a number below those of these media is that of no packet

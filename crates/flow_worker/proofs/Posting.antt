@@ -11,10 +11,12 @@ use Rattle.timing_base.specs.declared.capture.FileNote.{FileNote}
 use Rattle.timing_base.specs.declared.capture.FileNote.TheVariants.{End}
 use Rattle.timing_base.specs.declared.key.FlowKey.{FlowKey}
 use Rattle.udp_rtp.specs.Flow.{flow}
-use Rattle.flow_bank.specs.Rows.{key_of}
-use Rattle.flow_worker.specs.Messages.{Message, Packet, file_packets, has_end, media_packets, of_file, packets_in, records_told}
+use Rattle.timing_base.specs.Keys.{key_of, no_media, media_of}
+use Rattle.ruled_intake.specs.Packets.{Packet}
+use Rattle.ruled_intake.specs.declared.message.Message.{Message}
+use Rattle.flow_worker.specs.Messages.{file_packets, has_end, media_packets, of_file, packets_in, records_told}
 use Rattle.flow_worker.specs.Opening.{Capture, Setting, for_lane, lane_packets, media_lane, messages, packet_lane, sends_if, session_packets}
-use Rattle.flow_worker.specs.Posting.{is_key, joined_packets, key_lane, key_records, key_row, media_of, no_media, records_if, row_over, taken_packets, taken_row}
+use Rattle.flow_worker.specs.Posting.{is_key, joined_packets, key_lane, key_records, key_row, records_if, row_over, taken_packets, taken_row}
 use Rattle.flow_worker.specs.Kept.{HasTaken, HasTakenAll, IsSetting, is_in_file}
 use Rattle.flow_worker.specs.Cut.{AreWhole}
 use Rattle.flow_worker.proofs.Lists.{media_packets-lane}
@@ -107,4 +109,4 @@ taken_row_is s captures key taken is k has =
     let parts = and_parts (nat_lt key.file (if s.joined then 1 else length captures)) (nat_lt key.media (length s.media)) k in
     let file = ltb-true key.file (if s.joined then 1 else length captures) parts.0 in
     let media = slice_get-get_or s.media key.media no_media (ltb-true key.media (length s.media) parts.1) in
-    ap (row_over s key) (taken_flow s captures key taken (media_of s key) s.joined refl is media file has)
+    ap (row_over s key) (taken_flow s captures key taken (media_of s.media key) s.joined refl is media file has)

@@ -7,26 +7,27 @@ use Rattle.timing_base.specs.Media.{Media}
 use Rattle.timing_base.specs.declared.row.Row.{Row}
 use Rattle.udp_rtp.specs.Flow.{flow}
 use Rattle.fail_interval.specs.Row.{row}
-use Rattle.flow_bank.specs.Rows.{key_of, rows_from, rows_of, rows_of_files}
+use Rattle.flow_bank.specs.Rows.{rows_from, rows_of, rows_of_files}
+use Rattle.timing_base.specs.Keys.{key_of, keys_of_file, keys_of_files, no_media, media_of}
 use Rattle.flow_worker.specs.Opening.{Capture, Setting}
-use Rattle.flow_worker.specs.Posting.{judged_files, key_records, key_row, keys, keys_from, keys_of_files, media_of, no_media, records_if}
+use Rattle.flow_worker.specs.Posting.{judged_files, key_records, key_row, keys, records_if}
 
 -- the rows of the last media of a file
 rows-keys_from : (s : Setting) (captures : List Capture) (file number : ℕ) (ms : List Media) (items : List Record) → key_records s captures (key_of file 0) ≡ items
-    → ((i : ℕ) (m : Media) → slice_get ms i ≡ Some m → media_of s (key_of file (number + i)) ≡ m)
-    → map (key_row s captures) (keys_from file number (length ms)) ≡ rows_from s.tai file number ms items
+    → ((i : ℕ) (m : Media) → slice_get ms i ≡ Some m → media_of s.media (key_of file (number + i)) ≡ m)
+    → map (key_row s captures) (keys_of_file file number (length ms)) ≡ rows_from s.tai file number ms items
 rows-keys_from s captures file number [] items at media = refl
 rows-keys_from s captures file number (m ∷ ms) items at media =
-    let here : media_of s (key_of file number) ≡ m =
-    let z : number ≡ number + 0 = omega arith in ap (λ (x : ℕ). media_of s (key_of file x)) z ∙ media 0 m refl in
+    let here : media_of s.media (key_of file number) ≡ m =
+    let z : number ≡ number + 0 = omega arith in ap (λ (x : ℕ). media_of s.media (key_of file x)) z ∙ media 0 m refl in
     ap₂ (λ (r : Row) (rs : List Row). r ∷ rs)
     (ap₂ (λ (l : List Record) (x : Media). row (flow l x) (key_of file number) x s.tai) at here)
     (rows-keys_from s captures file (number + 1) ms items at
-    (λ i n e. let z : number + 1 + i ≡ number + suc i = omega arith in ap (λ (x : ℕ). media_of s (key_of file x)) z ∙ media (suc i) n e))
+    (λ i n e. let z : number + 1 + i ≡ number + suc i = omega arith in ap (λ (x : ℕ). media_of s.media (key_of file x)) z ∙ media (suc i) n e))
 
 -- the rows of all media of a file
 rows-file : (s : Setting) (captures : List Capture) (file : ℕ) (items : List Record) → key_records s captures (key_of file 0) ≡ items
-    → map (key_row s captures) (keys_from file 0 (length s.media)) ≡ rows_of s.tai file s.media items
+    → map (key_row s captures) (keys_of_file file 0 (length s.media)) ≡ rows_of s.tai file s.media items
 rows-file s captures file items at =
     rows-keys_from s captures file 0 s.media items at
     (λ i m e. let z : 0 + i ≡ i = omega arith in ap (λ (x : ℕ). get_or s.media x no_media) z ∙ get_or_from_slice_get s.media i m no_media e)
@@ -39,7 +40,7 @@ rows-files s captures first [] at = refl
 rows-files s captures first (c ∷ cs) at =
     let here : key_records s captures (key_of first 0) ≡ c.records =
     let z : first ≡ first + 0 = omega arith in ap (λ (x : ℕ). key_records s captures (key_of x 0)) z ∙ at 0 c refl in
-    map-append (key_row s captures) (keys_from first 0 (length s.media)) (keys_of_files (first + 1) (length cs) (length s.media))
+    map-append (key_row s captures) (keys_of_file first 0 (length s.media)) (keys_of_files (first + 1) (length cs) (length s.media))
     ∙ ap₂ (λ (k l : List Row). k ++ l) (rows-file s captures first c.records here)
     (rows-files s captures (first + 1) cs
     (λ i d e. let z : first + 1 + i ≡ first + suc i = omega arith in ap (λ (x : ℕ). key_records s captures (key_of x 0)) z ∙ at (suc i) d e))
@@ -51,7 +52,7 @@ rows-keys_by : (s : Setting) (captures : List Capture) (b : Bool) → s.joined �
 rows-keys_by s captures true e =
     let files : List (List Record) = map (λ (c : Capture). c.records) captures in
     let at : key_records s captures (key_of 0 0) ≡ joined files = ap (λ (b : Bool). if b then joined files else records_if (slice_get captures 0)) e in
-    ap (map (key_row s captures)) (append-nil (keys_from 0 0 (length s.media)))
+    ap (map (key_row s captures)) (append-nil (keys_of_file 0 0 (length s.media)))
     ∙ rows-file s captures 0 (joined files) at ∙ sym (append-nil (rows_of s.tai 0 s.media (joined files)))
 rows-keys_by s captures false e =
     let files : List (List Record) = map (λ (c : Capture). c.records) captures in

@@ -8,8 +8,9 @@ use Rattle.std.proofs.lemmas.Option.{slice_get-get_or}
 use Rattle.timing_base.specs.declared.capture.FileNote.{FileNote}
 use Rattle.timing_base.specs.declared.key.FlowKey.{FlowKey}
 use Rattle.timing_base.specs.declared.row.Row.{Row}
-use Rattle.flow_worker.specs.Messages.{Message, has_end, of_file}
-use Rattle.flow_worker.specs.Messages.Message.{batch, ending}
+use Rattle.ruled_intake.specs.declared.message.Message.{Message}
+use Rattle.ruled_intake.specs.declared.message.Message.TheVariants.{Batch, End}
+use Rattle.flow_worker.specs.Messages.{has_end, of_file, batch, ending}
 use Rattle.flow_worker.specs.Opening.{Addressed, Capture, Setting, for_lane, messages}
 use Rattle.flow_worker.specs.Posting.{has_ends, is_key, is_whole, key_lane, taken_row}
 use Rattle.flow_worker.specs.World.{HasEnded, State, Step, after, after_post, after_send, after_take, is_same_key, may_post, opening, run, times}
@@ -162,8 +163,8 @@ run_kept s captures steps is = run_keeps s captures steps (opening s captures) i
 -- the end is among batches and the end
 has_end-last : (f : ℕ) (note : FileNote) (n : ℕ) (bs : List Message) → has_end f (bs ++ ending f note n ∷ []) ≡ true
 has_end-last f note n [] = or_left (eqb f f) false (eq-eqb f f refl)
-has_end-last f note n (batch g ps ∷ bs) = has_end-last f note n bs
-has_end-last f note n (ending g o k ∷ bs) = or_right (eqb g f) (has_end f (bs ++ ending f note n ∷ [])) (has_end-last f note n bs)
+has_end-last f note n (Batch one ∷ bs) = has_end-last f note n bs
+has_end-last f note n (End one ∷ bs) = or_right (eqb one.file f) (has_end f (bs ++ ending f note n ∷ [])) (has_end-last f note n bs)
 
 -- where nothing is left, the end of each file was taken from each lane
 ended_end : (s : Setting) (captures : List Capture) (state : State) (f lane : ℕ) → IsInOrder s captures state → state.todo f ≡ [] → state.held lane ≡ []

@@ -3,7 +3,8 @@ use Rattle.std.proofs.Common.{◌≡◌, ℕ, Bool, true, false, cond, if◌then
 use Rattle.std.proofs.lemmas.Bool.{cases_eq}
 use Rattle.std.proofs.lemmas.List.Elements.{filter-append}
 use Rattle.timing_base.specs.declared.row.Row.{Row}
-use Rattle.flow_worker.specs.Messages.{Message, file_of, of_file}
+use Rattle.ruled_intake.specs.declared.message.Message.{Message}
+use Rattle.flow_worker.specs.Messages.{file_of, of_file}
 use Rattle.flow_worker.specs.Opening.{Addressed, Capture, Setting, for_lane, messages}
 use Rattle.flow_worker.specs.Posting.{taken_row}
 use Rattle.flow_worker.specs.World.{State, Step, after, after_post, after_send, after_take, changed, may_post, opening}

@@ -4,8 +4,10 @@ use Rattle.std.proofs.lemmas.Bool.{both_ways, false≢true}
 use Rattle.std.proofs.lemmas.List.Elements.{filter-append}
 use Rattle.timing_base.specs.declared.capture.FileNote.{FileNote}
 use Rattle.timing_base.specs.declared.packet.FlowPacket.{FlowPacket}
-use Rattle.flow_worker.specs.Messages.{Message, Packet, before_end, file_of, file_packets, has_end, media_packets, of_file, packets_in, records_told}
-use Rattle.flow_worker.specs.Messages.Message.{batch, ending}
+use Rattle.ruled_intake.specs.Packets.{Packet}
+use Rattle.ruled_intake.specs.declared.message.Message.{Message}
+use Rattle.ruled_intake.specs.declared.message.Message.TheVariants.{Batch, End}
+use Rattle.flow_worker.specs.Messages.{before_end, file_of, file_packets, has_end, media_packets, of_file, packets_in, records_told, batch, ending}
 use Rattle.flow_worker.specs.Posting.{has_ends, joined_packets, raised_packet, told_by}
 use Rattle.flow_worker.proofs.Lanes.{packets_in-append}
 use Rattle.flow_worker.proofs.Rows.{has_ends-at}
@@ -14,9 +16,9 @@ use Rattle.flow_worker.proofs.Steps.{of_file-push_other}
 -- whether the end is among these or those
 pub has_end-append : (f : ℕ) (xs ys : List Message) → has_end f (xs ++ ys) ≡ (has_end f xs || has_end f ys)
 has_end-append f [] ys = refl
-has_end-append f (batch g ps ∷ xs) ys = has_end-append f xs ys
-has_end-append f (ending g o k ∷ xs) ys =
-    elim (eqb g f) as (λ b. (b || has_end f (xs ++ ys)) ≡ (b || has_end f xs || has_end f ys)) [ true ↦ refl | false ↦ has_end-append f xs ys ]
+has_end-append f (Batch one ∷ xs) ys = has_end-append f xs ys
+has_end-append f (End one ∷ xs) ys =
+    elim (eqb one.file f) as (λ b. (b || has_end f (xs ++ ys)) ≡ (b || has_end f xs || has_end f ys)) [ true ↦ refl | false ↦ has_end-append f xs ys ]
 
 ended-ending : (f g : ℕ) (o : FileNote) (k : ℕ) (xs ys : List Message) (b : Bool) → eqb g f ≡ b → (has_end f xs ≡ true → before_end f (xs ++ ys) ≡ before_end f xs)
     → (b || has_end f xs) ≡ true → before_end f (ending g o k ∷ (xs ++ ys)) ≡ before_end f (ending g o k ∷ xs)
@@ -27,8 +29,8 @@ ended-ending f g o k xs ys false e more ended = ap (λ (l : List Message). cond 
 -- nothing that comes behind the end counts
 before_end-ended : (f : ℕ) (xs ys : List Message) → has_end f xs ≡ true → before_end f (xs ++ ys) ≡ before_end f xs
 before_end-ended f [] ys ended = absurd (false≢true ended)
-before_end-ended f (batch g ps ∷ xs) ys ended = ap (λ (l : List Message). batch g ps ∷ l) (before_end-ended f xs ys ended)
-before_end-ended f (ending g o k ∷ xs) ys ended = ended-ending f g o k xs ys (eqb g f) refl (before_end-ended f xs ys) ended
+before_end-ended f (Batch one ∷ xs) ys ended = ap (λ (l : List Message). batch one.file one.packets ∷ l) (before_end-ended f xs ys ended)
+before_end-ended f (End one ∷ xs) ys ended = ended-ending f one.file one.note one.records xs ys (eqb one.file f) refl (before_end-ended f xs ys) ended
 
 open-ending : (f g : ℕ) (o : FileNote) (k : ℕ) (xs ys : List Message) (b : Bool) → eqb g f ≡ b → (has_end f xs ≡ false → before_end f (xs ++ ys) ≡ xs ++ before_end f ys)
     → (b || has_end f xs) ≡ false → before_end f (ending g o k ∷ (xs ++ ys)) ≡ ending g o k ∷ (xs ++ before_end f ys)
@@ -39,8 +41,8 @@ open-ending f g o k xs ys false e more none =
 -- before the end all counts
 before_end-open : (f : ℕ) (xs ys : List Message) → has_end f xs ≡ false → before_end f (xs ++ ys) ≡ xs ++ before_end f ys
 before_end-open f [] ys none = refl
-before_end-open f (batch g ps ∷ xs) ys none = ap (λ (l : List Message). batch g ps ∷ l) (before_end-open f xs ys none)
-before_end-open f (ending g o k ∷ xs) ys none = open-ending f g o k xs ys (eqb g f) refl (before_end-open f xs ys) none
+before_end-open f (Batch one ∷ xs) ys none = ap (λ (l : List Message). batch one.file one.packets ∷ l) (before_end-open f xs ys none)
+before_end-open f (End one ∷ xs) ys none = open-ending f one.file one.note one.records xs ys (eqb one.file f) refl (before_end-open f xs ys) none
 
 -- a file's packets, once its end was taken
 pub file_packets-ended : (f : ℕ) (taken more : List Message) → has_end f taken ≡ true → file_packets f (taken ++ more) ≡ file_packets f taken
@@ -89,8 +91,8 @@ told-ending f g o k xs ys false e more ended = ap (λ (n : ℕ). if eqb g f then
 -- what the first end tells stays
 pub records_told-ended : (f : ℕ) (taken more : List Message) → has_end f taken ≡ true → records_told f (taken ++ more) ≡ records_told f taken
 records_told-ended f [] more ended = absurd (false≢true ended)
-records_told-ended f (batch g ps ∷ xs) more ended = records_told-ended f xs more ended
-records_told-ended f (ending g o k ∷ xs) more ended = told-ending f g o k xs more (eqb g f) refl (records_told-ended f xs more) ended
+records_told-ended f (Batch one ∷ xs) more ended = records_told-ended f xs more ended
+records_told-ended f (End one ∷ xs) more ended = told-ending f one.file one.note one.records xs more (eqb one.file f) refl (records_told-ended f xs more) ended
 
 first-ending : (f g : ℕ) (o : FileNote) (k : ℕ) (xs ys : List Message) (b : Bool) → eqb g f ≡ b → (has_end f xs ≡ false → records_told f (xs ++ ys) ≡ records_told f ys)
     → (b || has_end f xs) ≡ false → records_told f (ending g o k ∷ (xs ++ ys)) ≡ records_told f ys
@@ -99,8 +101,8 @@ first-ending f g o k xs ys false e more none = ap (λ (b : Bool). if b then k el
 
 records_told-open : (f : ℕ) (taken more : List Message) → has_end f taken ≡ false → records_told f (taken ++ more) ≡ records_told f more
 records_told-open f [] more none = refl
-records_told-open f (batch g ps ∷ xs) more none = records_told-open f xs more none
-records_told-open f (ending g o k ∷ xs) more none = first-ending f g o k xs more (eqb g f) refl (records_told-open f xs more) none
+records_told-open f (Batch one ∷ xs) more none = records_told-open f xs more none
+records_told-open f (End one ∷ xs) more none = first-ending f one.file one.note one.records xs more (eqb one.file f) refl (records_told-open f xs more) none
 
 -- the first end of the file is taken
 pub records_told-ending : (f : ℕ) (o : FileNote) (k : ℕ) (taken : List Message) → has_end f taken ≡ false → records_told f (taken ++ ending f o k ∷ []) ≡ k

@@ -1,15 +1,17 @@
 -- What the intake of a file has sent to one lane, so far and in all.
 use Rattle.std.specs.Prelude.{◌≡◌, ℕ, ⊤, List, [], ◌∷◌, ◌++◌}
 use Rattle.timing_base.specs.declared.capture.FileNote.{FileNote}
-use Rattle.flow_worker.specs.Messages.{Message, Packet, packets_in}
-use Rattle.flow_worker.specs.Messages.Message.{batch, ending}
+use Rattle.ruled_intake.specs.Packets.{Packet}
+use Rattle.ruled_intake.specs.declared.message.Message.{Message}
+use Rattle.ruled_intake.specs.declared.message.Message.TheVariants.{Batch, End}
+use Rattle.flow_worker.specs.Messages.{packets_in, batch, ending}
 use Rattle.flow_worker.specs.Opening.{for_lane, full_batches, lane_packets, rest}
 
 -- the messages are batches of the file
 abbrev pub AreBatches : ℕ → List Message → Type 0
 AreBatches f [] = ⊤
-AreBatches f (batch g ps ∷ ms) = (g ≡ f) × AreBatches f ms
-AreBatches f (ending g note records ∷ ms) = ⊥
+AreBatches f (Batch batch ∷ ms) = (batch.file ≡ f) × AreBatches f ms
+AreBatches f (End end ∷ ms) = ⊥
 
 -- the messages are batches of the file with these packets, and then its end
 pub record AreWhole (file : ℕ) (packets : List Packet) (note : FileNote) (records : ℕ) (messages : List Message) : Type 0 where

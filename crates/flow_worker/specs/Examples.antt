@@ -6,21 +6,21 @@ use Rattle.timing_base.specs.declared.capture.FileNote.TheVariants.{End}
 use Rattle.timing_base.specs.declared.target.Target.{Target}
 use Rattle.udp_rtp.specs.Examples.{group}
 use Rattle.flow_bank.specs.Examples.{first_capture, next_port, packet_at, second_capture}
-use Rattle.flow_bank.specs.Rows.{key_of}
-use Rattle.flow_worker.specs.Messages.{Message, Packet}
-use Rattle.flow_worker.specs.Messages.Message.{batch, ending}
+use Rattle.timing_base.specs.Keys.{key_of, no_media}
+use Rattle.ruled_intake.specs.Packets.{Packet, packet_of}
+use Rattle.ruled_intake.specs.declared.message.Message.{Message}
+use Rattle.flow_worker.specs.Messages.{batch, ending}
 use Rattle.flow_worker.specs.Opening.{Addressed, Capture, Setting}
-use Rattle.flow_worker.specs.Posting.{no_media}
 use Rattle.flow_worker.specs.World.{Step}
 use Rattle.flow_worker.specs.World.Step.{posts_row, sends_next, takes_front}
 
 -- a packet of this media, by its record
-abbrev pub packet_of : (media rec : ℕ) → Packet
-packet_of media rec = record { media = media; packet = packet_at rec 0 }
+abbrev pub packet_in : (media rec : ℕ) → Packet
+packet_in media rec = packet_of media (packet_at rec 0)
 
 -- five packets of two media
 abbrev pub five_packets : List Packet
-five_packets = packet_of 1 1 ∷ packet_of 0 2 ∷ packet_of 0 3 ∷ packet_of 1 4 ∷ packet_of 0 5 ∷ []
+five_packets = packet_in 1 1 ∷ packet_in 0 2 ∷ packet_in 0 3 ∷ packet_in 1 4 ∷ packet_in 0 5 ∷ []
 
 -- a message for a lane
 abbrev pub to_lane : ℕ → Message → Addressed
@@ -53,10 +53,10 @@ two_files = record { records = first_capture; note = End } ∷ record { records 
 
 -- what each file has to send to the second worker
 abbrev pub second_of_first : List Message
-second_of_first = batch 0 (record { media = 1; packet = packet_at 1 100 } ∷ []) ∷ ending 0 End 5 ∷ []
+second_of_first = batch 0 (packet_of 1 (packet_at 1 100) ∷ []) ∷ ending 0 End 5 ∷ []
 
 abbrev pub second_of_second : List Message
-second_of_second = batch 1 (record { media = 1; packet = packet_at 1 200 } ∷ []) ∷ ending 1 End 1 ∷ []
+second_of_second = batch 1 (packet_of 1 (packet_at 1 200) ∷ []) ∷ ending 1 End 1 ∷ []
 
 -- the second worker takes a packet of the second file, one of the first, and the end of the second
 abbrev pub early_steps : List Step

@@ -1,18 +1,14 @@
 -- What holds in the machine at every moment, and what its laws ask of a run.
 use Rattle.std.specs.Prelude.{◌≡◌, ◌≤◌, ◌==◌, ℕ, Bool, nat_lt, if◌then◌else◌, List, ◌++◌, length, slice_get, Some, IsTrue, All}
 use Rattle.timing_base.specs.Media.{Media}
-use Rattle.timing_base.specs.Targets.{target_of}
+use Rattle.timing_base.specs.Targets.{target_of, HaveOwnTargets}
 use Rattle.timing_base.specs.declared.key.FlowKey.{FlowKey}
 use Rattle.timing_base.specs.declared.row.Row.{Row}
-use Rattle.flow_worker.specs.Messages.{Message, has_end, of_file}
+use Rattle.ruled_intake.specs.declared.message.Message.{Message}
+use Rattle.flow_worker.specs.Messages.{has_end, of_file}
 use Rattle.flow_worker.specs.Opening.{Capture, Setting, for_lane, messages}
 use Rattle.flow_worker.specs.Posting.{is_key, key_lane, key_row}
 use Rattle.flow_worker.specs.World.{State, times}
-
--- no two media have one target
-abbrev pub HaveOwnTargets : List Media → Type 0
-HaveOwnTargets media = (i j : ℕ) (m n : Media) → slice_get media i ≡ Some m → slice_get media j ≡ Some n
-    → target_of m ≡ target_of n → i ≡ j
 
 -- there is a worker, and no two media of the session have one target
 pub record IsSetting (s : Setting) : Type 0 where

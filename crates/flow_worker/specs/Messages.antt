@@ -4,22 +4,22 @@ use Rattle.std.specs.Prelude.{ℕ, Bool, false, ◌==◌, if◌then◌else◌, L
 use Rattle.std.specs.List.{list_any}
 use Rattle.timing_base.specs.declared.capture.FileNote.{FileNote}
 use Rattle.timing_base.specs.declared.packet.FlowPacket.{FlowPacket}
+use Rattle.ruled_intake.specs.Packets.{Packet, flow_packet}
+use Rattle.ruled_intake.specs.declared.message.Message.{Message}
+use Rattle.ruled_intake.specs.declared.message.Message.TheVariants.{Batch, End}
 
--- a packet of a file that goes to a media of the session
-pub record Packet : Type 0 where
-  -- the number of that media
-  pub media : ℕ
-  pub packet : FlowPacket
+-- a message with packets of a file
+abbrev pub batch : (file : ℕ) (packets : List Packet) → Message
+batch file packets = Batch record { file = file; packets = packets }
 
--- a message of a file: some of its packets, or its end with the number of its records
-pub data Message : Type 0 where
-  batch : (file : ℕ) (packets : List Packet) → Message
-  ending : (file : ℕ) (note : FileNote) (records : ℕ) → Message
+-- the message that a file has ended, with the number of its records
+abbrev pub ending : (file : ℕ) (note : FileNote) (records : ℕ) → Message
+ending file note records = End record { file = file; note = note; records = records }
 
 -- the file that a message is of
 abbrev pub file_of : Message → ℕ
-file_of (batch file packets) = file
-file_of (ending file note records) = file
+file_of (Batch batch) = batch.file
+file_of (End end) = end.file
 
 -- the messages of a file, in order
 abbrev pub of_file : ℕ → List Message → List Message
@@ -27,8 +27,8 @@ of_file file messages = filter (λ m. file_of m == file) messages
 
 -- the packets of a message
 abbrev pub packets_of : Message → List Packet
-packets_of (batch file packets) = packets
-packets_of (ending file note records) = []
+packets_of (Batch batch) = batch.packets
+packets_of (End end) = []
 
 -- the packets of messages: those of the batches, in order
 abbrev pub packets_in : List Message → List Packet
@@ -36,8 +36,8 @@ packets_in messages = flat_map packets_of messages
 
 -- whether a message is an end of the file
 abbrev pub is_end_of : ℕ → Message → Bool
-is_end_of file (batch other packets) = false
-is_end_of file (ending other note records) = other == file
+is_end_of file (Batch batch) = false
+is_end_of file (End end) = end.file == file
 
 -- whether an end of the file is among the messages
 abbrev pub has_end : ℕ → List Message → Bool
@@ -55,12 +55,12 @@ file_packets file messages = packets_in (of_file file (before_end file messages)
 -- the number of records of a file that its first end tells
 abbrev pub records_told : ℕ → List Message → ℕ
 records_told file [] = 0
-records_told file (batch other packets ∷ ms) = records_told file ms
-records_told file (ending other note records ∷ ms) = if other == file then records else records_told file ms
+records_told file (Batch batch ∷ ms) = records_told file ms
+records_told file (End end ∷ ms) = if end.file == file then end.records else records_told file ms
 
 -- a packet as one of this media's flow, if it is
 abbrev pub media_packet : ℕ → Packet → Option FlowPacket
-media_packet media p = if p.media == media then Some p.packet else None
+media_packet media p = if p.media == media then Some (flow_packet p) else None
 
 -- the packets of a media, in order
 abbrev pub media_packets : ℕ → List Packet → List FlowPacket

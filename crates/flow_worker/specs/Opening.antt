@@ -8,9 +8,10 @@ use Rattle.timing_base.specs.declared.capture.FileNote.{FileNote}
 use Rattle.timing_base.specs.declared.key.FlowKey.{FlowKey}
 use Rattle.timing_base.specs.declared.packet.FlowPacket.{FlowPacket}
 use Rattle.udp_rtp.specs.Flow.{flow_packet}
-use Rattle.flow_bank.specs.Rows.{key_of}
-use Rattle.flow_worker.specs.Messages.{Message, Packet}
-use Rattle.flow_worker.specs.Messages.Message.{batch, ending}
+use Rattle.timing_base.specs.Keys.{key_of}
+use Rattle.ruled_intake.specs.Packets.{Packet, packet_of}
+use Rattle.ruled_intake.specs.declared.message.Message.{Message}
+use Rattle.flow_worker.specs.Messages.{batch, ending}
 
 -- a file of a run: its records, and how they end
 pub record Capture : Type 0 where
@@ -30,7 +31,7 @@ pub record Setting : Type 0 where
 
 -- a packet under the number of its media, or else what it is of later media
 abbrev pub numbered_or : ℕ → Option FlowPacket → Option Packet → Option Packet
-numbered_or number (Some packet) later = Some (record { media = number; packet = packet })
+numbered_or number (Some packet) later = Some (packet_of number packet)
 numbered_or number None later = later
 
 -- the packet that a record is of the first of these media that it goes to, where the first of them has this number

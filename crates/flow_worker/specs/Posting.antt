@@ -8,30 +8,10 @@ use Rattle.timing_base.specs.declared.packet.FlowPacket.{FlowPacket}
 use Rattle.timing_base.specs.declared.row.Row.{Row}
 use Rattle.udp_rtp.specs.Flow.{flow}
 use Rattle.fail_interval.specs.Row.{row}
-use Rattle.flow_bank.specs.Rows.{key_of}
-use Rattle.flow_worker.specs.Messages.{Message, file_packets, has_end, media_packets, records_told}
+use Rattle.timing_base.specs.Keys.{key_of, keys_of, media_of}
+use Rattle.ruled_intake.specs.declared.message.Message.{Message}
+use Rattle.flow_worker.specs.Messages.{file_packets, has_end, media_packets, records_told}
 use Rattle.flow_worker.specs.Opening.{Capture, Setting, media_lane}
-
--- a media that isn't there
-abbrev pub no_media : Media
-no_media = record {
-  line = 0;
-  address = 0;
-  port = 0;
-  pt = 0;
-  width = 0;
-  height = 0;
-  interlaced = false;
-  p = 0;
-  q = 0;
-  declared = None;
-  troff = None;
-  cmax = None;
-}
-
--- the media of a flow
-abbrev pub media_of : Setting → FlowKey → Media
-media_of s key = slice_index_or s.media key.media no_media
 
 -- whether this is the key of a flow of a run with so many files; files that are joined are one
 abbrev pub is_key : Setting → (files : ℕ) → FlowKey → Bool
@@ -65,7 +45,7 @@ taken_packets s files taken key =
 
 -- the row of these packets
 abbrev pub row_over : Setting → FlowKey → List FlowPacket → Row
-row_over s key packets = row packets key (media_of s key) s.tai
+row_over s key packets = row packets key (media_of s.media key) s.tai
 
 -- the row that is made of what was taken
 abbrev pub taken_row : Setting → (files : ℕ) → List Message → FlowKey → Row
@@ -91,21 +71,11 @@ key_records s captures key = if s.joined then joined (map (λ c. c.records) capt
 
 -- the row of a flow: that over its packets in these records
 abbrev pub key_row : Setting → List Capture → FlowKey → Row
-key_row s captures key = row_over s key (flow (key_records s captures key) (media_of s key))
-
--- the keys of so many media of a file from one on, rising
-abbrev pub keys_from : (file media count : ℕ) → List FlowKey
-keys_from file media zero = []
-keys_from file media (suc n) = key_of file media ∷ keys_from file (media + 1) n
-
--- the keys of so many files from one on, by rising file and then media
-abbrev pub keys_of_files : (first files media_count : ℕ) → List FlowKey
-keys_of_files first zero media_count = []
-keys_of_files first (suc n) media_count = keys_from first 0 media_count ++ keys_of_files (first + 1) n media_count
+key_row s captures key = row_over s key (flow (key_records s captures key) (media_of s.media key))
 
 -- the keys of a run with so many files
 abbrev pub keys : Setting → (files : ℕ) → List FlowKey
-keys s files = keys_of_files 0 (if s.joined then 1 else files) (length s.media)
+keys s files = keys_of s.joined files (length s.media)
 
 -- those of them that are dealt to this lane
 abbrev pub own_keys : Setting → (files lane : ℕ) → List FlowKey

@@ -3,7 +3,7 @@
 use Rattle.std.specs.Prelude.{◌≡◌, ℕ, Bool, false, ◌==◌, ◌&&◌, if◌then◌else◌, List, [], ◌∷◌, ◌++◌, count_by, length}
 use Rattle.timing_base.specs.declared.key.FlowKey.{FlowKey}
 use Rattle.timing_base.specs.declared.row.Row.{Row}
-use Rattle.flow_worker.specs.Messages.{Message}
+use Rattle.ruled_intake.specs.declared.message.Message.{Message}
 use Rattle.flow_worker.specs.Opening.{Addressed, Capture, Setting, sends}
 use Rattle.flow_worker.specs.Posting.{is_key, is_whole, key_lane, taken_row}
 

@@ -7,10 +7,11 @@ ghost use Rattle.timing_base.specs.Media.{Media};
 ghost use Rattle.timing_base.specs.declared.key.FlowKey.{FlowKey};
 ghost use Rattle.udp_rtp.specs.Flow.{flow};
 ghost use Rattle.flow_bank.specs.Examples.{packet_at};
-ghost use Rattle.flow_bank.specs.Rows.{key_of, rows_of_files};
-ghost use Rattle.flow_worker.specs.Examples.{all_steps, early_steps, five_packets, later_steps, packet_of, second_of_first, second_of_second, to_lane, two_files, two_workers};
-ghost use Rattle.flow_worker.specs.Messages.{Message, media_packets};
-ghost use Rattle.flow_worker.specs.Messages.Message.{batch};
+ghost use Rattle.flow_bank.specs.Rows.{rows_of_files};
+ghost use Rattle.timing_base.specs.Keys.{key_of};
+ghost use Rattle.flow_worker.specs.Examples.{all_steps, early_steps, five_packets, later_steps, packet_in, second_of_first, second_of_second, to_lane, two_files, two_workers};
+ghost use Rattle.ruled_intake.specs.declared.message.Message.{Message};
+ghost use Rattle.flow_worker.specs.Messages.{media_packets, batch};
 ghost use Rattle.flow_worker.specs.Opening.{Capture, Setting, lane_packets, media_lane, messages, packet_lane, sent_of, session_packets};
 ghost use Rattle.flow_worker.specs.Posting.{is_key, is_whole, judged_files, key_row, keys, row_over, taken_packets, taken_row};
 ghost use Rattle.flow_worker.specs.World.{HasEnded, State, Step, after, after_steps, opening, times};
@@ -67,9 +68,9 @@ pub fn keys_in_order()
 /// after the third has filled that of the first; the fifth is left.
 pub fn batches_by_hand()
     ensures sent { (end : Message) → sent_of 2 7 (λ p. p.media) five_packets 3 end
-        ≡ to_lane 0 (batch 7 (packet_of 0 2 ∷ packet_of 0 3 ∷ []))
-        ∷ to_lane 1 (batch 7 (packet_of 1 1 ∷ packet_of 1 4 ∷ []))
-        ∷ to_lane 0 (batch 7 (packet_of 0 5 ∷ []))
+        ≡ to_lane 0 (batch 7 (packet_in 0 2 ∷ packet_in 0 3 ∷ []))
+        ∷ to_lane 1 (batch 7 (packet_in 1 1 ∷ packet_in 1 4 ∷ []))
+        ∷ to_lane 0 (batch 7 (packet_in 0 5 ∷ []))
         ∷ to_lane 0 end ∷ to_lane 1 end ∷ to_lane 2 end ∷ [] }
     ensures first { messages (two_workers false) two_files 0 1 ≡ second_of_first }
     ensures second { messages (two_workers false) two_files 1 1 ≡ second_of_second }

@@ -3,6 +3,7 @@ pub mod Captures
 pub mod Flows
 pub mod Jobs
 pub mod Judged
+pub mod Keys
 pub mod Media
 pub mod Name
 pub mod Routes

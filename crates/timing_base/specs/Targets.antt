@@ -1,5 +1,5 @@
 -- Where the packets of a media go, and how it is written.
-use Rattle.std.specs.Prelude.{ℕ, ◌/◌, ◌%◌, ◌^◌, List, ◌++◌, codes}
+use Rattle.std.specs.Prelude.{◌≡◌, ℕ, ◌/◌, ◌%◌, ◌^◌, List, ◌++◌, codes, slice_get, Some}
 use Rattle.std.specs.Fmt.{decimal}
 use Rattle.timing_base.specs.Media.{Media}
 use Rattle.timing_base.specs.declared.target.Target.{Target}
@@ -16,3 +16,8 @@ target_text target = address_text target.address target.port
 -- the target of a media
 abbrev pub target_of : Media → Target
 target_of media = record { address = media.address; port = media.port }
+
+-- no two media have one target
+abbrev pub HaveOwnTargets : List Media → Type 0
+HaveOwnTargets media = (i j : ℕ) (m n : Media) → slice_get media i ≡ Some m → slice_get media j ≡ Some n
+    → target_of m ≡ target_of n → i ≡ j

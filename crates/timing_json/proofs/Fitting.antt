@@ -27,7 +27,8 @@ use Rattle.timing_base.specs.declared.row.Unjudged.TheVariants as unjudged
 use Rattle.timing_base.specs.declared.row.Verdict.{Verdict}
 use Rattle.timing_base.specs.declared.row.Verdict.TheVariants as verdict
 use Rattle.timing_base.specs.Jobs.{CheckJob}
-use Rattle.timing_report.specs.Outcomes.{verdict_on, first_passing, buffer_peak, media_of, no_media, status_of}
+use Rattle.timing_report.specs.Outcomes.{verdict_on, first_passing, buffer_peak, status_of}
+use Rattle.timing_base.specs.Keys.{media_of, no_media}
 use Rattle.timing_base.specs.Targets.{target_of, target_text}
 use Rattle.timing_report.specs.Words.{kind_name, class_name, declared_name, model_name, packet_fault_text, note_text}
 use Rattle.timing_json.specs.Fails.{IsWord, AreWords, FitsKind, FitsJudged, FitsRunVerdict, FitsRun, FitsUnjudged, FitsVerdict}

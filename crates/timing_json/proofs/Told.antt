@@ -25,7 +25,8 @@ use Rattle.timing_base.specs.declared.row.Unjudged.{Unjudged}
 use Rattle.timing_base.specs.declared.row.Unjudged.TheVariants as unjudged
 use Rattle.timing_base.specs.declared.row.Verdict.{Verdict}
 use Rattle.timing_base.specs.declared.row.Verdict.TheVariants as verdict
-use Rattle.timing_report.specs.Outcomes.{verdict_on, first_passing, media_of}
+use Rattle.timing_report.specs.Outcomes.{verdict_on, first_passing}
+use Rattle.timing_base.specs.Keys.{media_of}
 use Rattle.timing_report.specs.Words.{model_name, kind_name, class_name, declared_name}
 use Rattle.timing_json.specs.Fails.{fail_of, judged_fails, run_fails, runs_fails, verdict_fails, fails_of, FitsVerdict}
 use Rattle.timing_json.specs.Json.{Member, object_of, list_of, count, proof_data, type_members, type_data, types_data, judged_numbers, interlaced_members, expected_members, no_whole_frame_members, run_members, run_verdict_members, run_data, key_members, flow_members, row_data, report_data}

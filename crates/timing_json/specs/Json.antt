@@ -24,7 +24,8 @@ use Rattle.timing_base.specs.declared.row.Unjudged.TheVariants as unjudged
 use Rattle.timing_base.specs.declared.row.Verdict.{Verdict}
 use Rattle.timing_base.specs.declared.row.Verdict.TheVariants as verdict
 use Rattle.sender_params.specs.Limits.{c_max_of, vrx_full_of}
-use Rattle.timing_report.specs.Outcomes.{verdict_on, first_passing, buffer_peak, media_of, status_of}
+use Rattle.timing_report.specs.Outcomes.{verdict_on, first_passing, buffer_peak, status_of}
+use Rattle.timing_base.specs.Keys.{media_of}
 use Rattle.timing_report.specs.Status.{code_of}
 use Rattle.timing_report.specs.Words.{kind_name, declared_name, class_name, model_name, packet_fault_text, note_text}
 

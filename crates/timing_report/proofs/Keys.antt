@@ -7,7 +7,8 @@ use Rattle.timing_base.specs.Jobs.{CheckJob, IsCheckJob}
 use Rattle.timing_base.specs.Media.{Media}
 use Rattle.timing_base.specs.declared.key.FlowKey.{FlowKey}
 use Rattle.timing_base.specs.declared.row.Row.{Row}
-use Rattle.timing_report.specs.Outcomes.{AreRowsOf, flows_of, flows_of_file, flows_of_files}
+use Rattle.timing_report.specs.Outcomes.{AreRowsOf, flows_of}
+use Rattle.timing_base.specs.Keys.{keys_of_file, keys_of_files}
 
 -- a flow of so many captures and media
 abbrev pub IsKeyOf : (files count : ℕ) → FlowKey → Type 0
@@ -17,14 +18,14 @@ each-append : (P : FlowKey → Type 0) (xs ys : List FlowKey) → AllByRecursion
 each-append P [] ys h k = k
 each-append P (x ∷ xs) ys h k = (h.0, each-append P xs ys h.1 k)
 
-file_keys : (files most file media count : ℕ) → file < files → media + count ≤ most → AllByRecursion (IsKeyOf files most) (flows_of_file file media count)
+file_keys : (files most file media count : ℕ) → file < files → media + count ≤ most → AllByRecursion (IsKeyOf files most) (keys_of_file file media count)
 file_keys files most file media zero h k = tt
 file_keys files most file media (suc count) h k = ((h, omega arith), file_keys files most file (media + 1) count h (omega arith))
 
-files_keys : (files file more count : ℕ) → file + more ≤ files → AllByRecursion (IsKeyOf files count) (flows_of_files file more count)
+files_keys : (files file more count : ℕ) → file + more ≤ files → AllByRecursion (IsKeyOf files count) (keys_of_files file more count)
 files_keys files file zero count h = tt
 files_keys files file (suc more) count h =
-    each-append (IsKeyOf files count) (flows_of_file file 0 count) (flows_of_files (file + 1) more count)
+    each-append (IsKeyOf files count) (keys_of_file file 0 count) (keys_of_files (file + 1) more count)
     (file_keys files count file 0 count (omega arith) (omega arith)) (files_keys files (file + 1) more count (omega arith))
 
 few_files : (joined : Bool) (n : ℕ) → n ≤ 16 → (if joined then 1 else n) ≤ 16

@@ -3,6 +3,7 @@
 use Rattle.std.specs.Prelude.{◌≡◌, ◌<◌, ℕ, zero, suc, ◌+◌, Bool, true, false, not, ◌||◌, if◌then◌else◌, List, [], ◌∷◌, ◌++◌, length, map, slice_index_or, Option, Some, None, All}
 use Rattle.std.specs.List.{list_any, list_all}
 use Rattle.timing_base.specs.Jobs.{CheckJob}
+use Rattle.timing_base.specs.Keys.{keys_of, media_of}
 use Rattle.timing_base.specs.Media.{Media}
 use Rattle.timing_base.specs.Verdicts.{Judged}
 use Rattle.timing_base.specs.declared.capture.FileNote.{FileNote}
@@ -49,44 +50,13 @@ buffer_peak judged N = judged.gapped_peak
 buffer_peak judged NL = judged.linear_peak
 buffer_peak judged W = judged.linear_peak
 
--- a media past the end of a session
-abbrev pub no_media : Media
-no_media = record {
-  line = 0;
-  address = 0;
-  port = 0;
-  pt = 0;
-  width = 0;
-  height = 0;
-  interlaced = false;
-  p = 0;
-  q = 0;
-  declared = None;
-  troff = None;
-  cmax = None;
-}
-
--- the media of a flow
-abbrev pub media_of : List Media → FlowKey → Media
-media_of session key = slice_index_or session key.media no_media
-
 -- each row is of a media of the session
 abbrev pub AreOfSession : List Media → List Row → Type 0
 AreOfSession session rows = All (λ row. row.key.media < length session) rows
 
--- the flow of each media of one capture, by rising media from one on
-abbrev pub flows_of_file : (file media count : ℕ) → List FlowKey
-flows_of_file file media zero = []
-flows_of_file file media (suc count) = record { file = file; media = media } ∷ flows_of_file file (media + 1) count
-
--- the same of the captures from one on
-abbrev pub flows_of_files : (file files count : ℕ) → List FlowKey
-flows_of_files file zero count = []
-flows_of_files file (suc files) count = flows_of_file file 0 count ++ flows_of_files (file + 1) files count
-
 -- the flows of a job: each media of each capture, or of joined captures each media once, as of the first
 abbrev pub flows_of : CheckJob → List Media → List FlowKey
-flows_of job session = flows_of_files 0 (if job.joined then 1 else length job.captures) (length session)
+flows_of job session = keys_of job.joined (length job.captures) (length session)
 
 -- one row for each flow of the job, by rising file and then media
 abbrev pub AreRowsOf : CheckJob → List Media → List Row → Type 0

@@ -11,7 +11,8 @@ use Rattle.timing_base.specs.declared.key.FlowKey.{FlowKey}
 use Rattle.timing_base.specs.declared.row.Row.{Row}
 use Rattle.timing_base.specs.declared.row.Verdict.{Verdict}
 use Rattle.timing_base.specs.declared.target.Target.{Target}
-use Rattle.timing_report.specs.Outcomes.{media_of, status_of}
+use Rattle.timing_report.specs.Outcomes.{status_of}
+use Rattle.timing_base.specs.Keys.{media_of}
 use Rattle.timing_report.specs.Status.{code_of}
 use Rattle.timing_report.specs.Verdict.{verdict_text, lines_below}
 use Rattle.timing_report.specs.Words.{note_text}

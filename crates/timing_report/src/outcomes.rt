@@ -2,7 +2,8 @@
 
 ghost use Rattle.std.specs.Prelude.{◌≡◌, ◌<◌, length};
 ghost use Rattle.std.specs.List.{list_any, list_all};
-ghost use Rattle.timing_report.specs.Outcomes.{verdict_on, passes, first_passing, buffer_peak, media_of, is_refused, is_judged, declared_passes, verdict_fails, fails, AreOfSession, status_of};
+ghost use Rattle.timing_report.specs.Outcomes.{verdict_on, passes, first_passing, buffer_peak, is_refused, is_judged, declared_passes, verdict_fails, fails, AreOfSession, status_of};
+ghost use Rattle.timing_base.specs.Keys.{media_of};
 
 use crate::status::Status;
 use timing_base::{

@@ -1,5 +1,5 @@
 use Rattle.udp_rtp.specs.Flow.{flow}
-use Rattle.flow_bank.specs.Rows.{key_of}
+use Rattle.timing_base.specs.Keys.{key_of}
 use Rattle.flow_bank.proofs.media_judge.MediaJudge.finish.Goals as goal
 
 pub returns : goal.returns

@@ -1,0 +1,43 @@
+-- The flows of a run. Files and media count from 0; files that are joined are one, the first.
+use Rattle.std.specs.Prelude.{ℕ, zero, suc, Bool, false, ◌+◌, if◌then◌else◌, List, [], ◌∷◌, ◌++◌, length, slice_index_or, None}
+use Rattle.timing_base.specs.Media.{Media}
+use Rattle.timing_base.specs.declared.key.FlowKey.{FlowKey}
+
+-- the key of the flow of a media in a file
+abbrev pub key_of : (file media : ℕ) → FlowKey
+key_of file media = record { file = file; media = media }
+
+-- a media past the end of a session
+abbrev pub no_media : Media
+no_media = record {
+  line = 0;
+  address = 0;
+  port = 0;
+  pt = 0;
+  width = 0;
+  height = 0;
+  interlaced = false;
+  p = 0;
+  q = 0;
+  declared = None;
+  troff = None;
+  cmax = None;
+}
+
+-- the media of a flow
+abbrev pub media_of : List Media → FlowKey → Media
+media_of session key = slice_index_or session key.media no_media
+
+-- the keys of so many media of a file from one on, rising
+abbrev pub keys_of_file : (file media count : ℕ) → List FlowKey
+keys_of_file file media zero = []
+keys_of_file file media (suc count) = key_of file media ∷ keys_of_file file (media + 1) count
+
+-- the keys of so many files from one on, by rising file and then media
+abbrev pub keys_of_files : (first files media_count : ℕ) → List FlowKey
+keys_of_files first zero media_count = []
+keys_of_files first (suc files) media_count = keys_of_file first 0 media_count ++ keys_of_files (first + 1) files media_count
+
+-- the keys of a run: each media of each file, or of joined files each media once
+abbrev pub keys_of : (joined : Bool) → (files media_count : ℕ) → List FlowKey
+keys_of joined files media_count = keys_of_files 0 (if joined then 1 else files) media_count
