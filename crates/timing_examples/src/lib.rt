@@ -6,7 +6,7 @@ mod description;
 mod spread;
 mod usual;
 
-pub use description::described;
+pub use description::{MEDIA, described, three_media};
 pub use spread::{NARROW, Spread};
 pub use usual::usual_equipment;
 

@@ -43,12 +43,16 @@ fn usual_capture(rt: HostRuntime) -> Result<(), Fail> {
     Ok(())
 }
 
-// A height of one digit less, and a text that isn't there.
+// A height of one digit less, a text that isn't there, and two media more with the same lengths.
 #[test]
 fn other_description(rt: HostRuntime) -> Result<(), Fail> {
     let sdp = described(rt.alloc(), "height=1080;", "height=720;")?;
     assert_eq!(rt; sdp.len(), sdp_bytes().len() - 1);
     let same = described(rt.alloc(), "absent", "")?;
     assert_eq!(rt; same.as_slice(), sdp_bytes());
+    let more = three_media(rt.alloc())?;
+    assert_eq!(rt; more.len(), sdp_bytes().len() + 2 * MEDIA.len());
+    let none = described(rt.alloc(), MEDIA, "")?;
+    assert_eq!(rt; none.len(), sdp_bytes().len() - MEDIA.len());
     Ok(())
 }
