@@ -30,7 +30,11 @@ fn captures_are_as_made(rt: HostRuntime) -> Result<(), Fail> {
     };
     for (spread, flaw) in [(NARROW, 0), (burst, 1), (even, 2)] {
         let sink = made(&rt, rt.alloc(), flaw)?;
-        assert_eq!(rt; spread.capture(rt.alloc())?.as_slice(), sink.bytes(), "flaw {flaw}");
+        assert_eq!(rt;
+            spread.capture(rt.alloc())?.as_slice(),
+            sink.bytes(),
+            "flaw {flaw}"
+        );
     }
     Ok(())
 }

@@ -5,7 +5,6 @@ use super::*;
 use capture_gen::{capture_len, sdp_bytes, write_capture};
 use std::alloc::{AllocError, Global};
 use std::process::Abort;
-use std::str;
 use std::sync::Wait;
 use std::test::Fail;
 use std::thread::Threads;
@@ -41,10 +40,6 @@ const LINEAR: &str =
 
 // The line of a flow without packets.
 const ABSENT: &str = "flow 1.1 239.0.0.1:50000 absent\n";
-
-// The lines 5 to 8 of the plain description.
-const MEDIA: &str =
-    "m=video 50000 RTP/AVP 96\nc=IN IP4 239.0.0.1/32\na=rtpmap:96 raw/90000\na=fmtp:96 sampling=YCbCr-4:2:2; width=1920; height=1080; exactframerate=50; depth=10; TCS=SDR; colorimetry=BT709; PM=2110GPM; SSN=ST2110-20:2017; TP=2110TPN;\n";
 
 // How a text is read: the bytes of a read, the reads that fail, and whether its fetch does.
 #[derive(Drop)]
@@ -94,12 +89,6 @@ fn over(alloc: Global, capture: Vec<u8>) -> Result<Setting, AllocError> {
         out_piece: 65_536,
         out_fails: Vec::new(alloc),
     })
-}
-
-// The plain description, with another text in place of one of its own.
-fn sdp_with(alloc: Global, from: &str, to: &str) -> Result<Vec<u8>, Fail> {
-    let text = str::from_utf8(sdp_bytes())?.replace(alloc, from, to)?;
-    Ok(Vec::from_slice(alloc, text.as_bytes())?)
 }
 
 // A made capture. Asserts what the calls require, since a proof does not follow the rows of a table.

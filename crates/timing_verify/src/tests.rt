@@ -62,7 +62,11 @@ fn part<'a>(rt: &impl Abort, bytes: &'a [u8], from: usize, to: usize) -> &'a [u8
 
 // The front of a capture, which is a capture too, and one of its rest, which begins with a packet of its
 // first frame.
-fn halves(rt: &impl Abort, alloc: Global, capture: &[u8]) -> Result<(Vec<u8>, Vec<u8>), AllocError> {
+fn halves(
+    rt: &impl Abort,
+    alloc: Global,
+    capture: &[u8],
+) -> Result<(Vec<u8>, Vec<u8>), AllocError> {
     let front = Vec::from_slice(alloc, part(rt, capture, 0, 1464))?;
     let mut rest = Vec::from_slice(alloc, part(rt, capture, 0, 24))?;
     rest.extend_from_slice(part(rt, capture, 1464, capture.len()))?;
@@ -303,7 +307,13 @@ fn failing_report(rt: HostRuntime) -> Result<(), Fail> {
     put(alloc, &mut shelf, "r.json", LINEAR.as_bytes(), &[2])?;
     let mut out = MemorySink::new(alloc, 4096)?;
     let mut err = MemorySink::new(alloc, 4096)?;
-    let status = verify_all(alloc, &reported(&rt, 0, false)?, &mut shelf, &mut out, &mut err);
+    let status = verify_all(
+        alloc,
+        &reported(&rt, 0, false)?,
+        &mut shelf,
+        &mut out,
+        &mut err,
+    );
     assert_eq!(rt; status, Status::ReadFault(Input::Report));
     assert_eq!(rt; out.bytes().len(), 0);
     Ok(())

@@ -1,13 +1,14 @@
 //! Session descriptions, most of them refused.
 
 use super::faults::without_text;
-use super::{CHECK, HEADER, MEDIA, ends, made, over, part, runs, sdp_with, shelf_of};
+use super::{CHECK, HEADER, ends, made, over, part, runs, shelf_of};
 use sdp_reader::{SdpCause, SdpFault};
 use std::process::Abort;
 use std::str;
 use std::sync::Wait;
 use std::test::Fail;
 use std::thread::Threads;
+use timing_examples::{MEDIA, described};
 use timing_report::Status;
 
 // The answer on a description of no bytes.
@@ -82,7 +83,7 @@ fn sdp_empty(rt: HostRuntime) -> Result<(), Fail> {
 
 #[test]
 fn sdp_no_connection(rt: HostRuntime) -> Result<(), Fail> {
-    let sdp = sdp_with(rt.alloc(), "c=IN IP4 239.0.0.1/32\n", "")?;
+    let sdp = described(rt.alloc(), "c=IN IP4 239.0.0.1/32\n", "")?;
     let fault = SdpFault {
         line: 5,
         what: SdpCause::NoConnection,
@@ -93,13 +94,13 @@ fn sdp_no_connection(rt: HostRuntime) -> Result<(), Fail> {
 #[test]
 fn sdp_bad_values(rt: HostRuntime) -> Result<(), Fail> {
     let alloc = rt.alloc();
-    let sdp = sdp_with(alloc, "rate=50;", "rate=241;")?;
+    let sdp = described(alloc, "rate=50;", "rate=241;")?;
     let fault = SdpFault {
         line: 8,
         what: SdpCause::BadRate,
     };
     refuses(&rt, &sdp, fault, "sdp refused: line 8 BadRate\n")?;
-    let sdp = sdp_with(alloc, "2110TPN;", "2110TPN; TROFF=1000001;")?;
+    let sdp = described(alloc, "2110TPN;", "2110TPN; TROFF=1000001;")?;
     let fault = SdpFault {
         line: 8,
         what: SdpCause::BadParameter,
@@ -109,7 +110,7 @@ fn sdp_bad_values(rt: HostRuntime) -> Result<(), Fail> {
 
 #[test]
 fn sdp_same_target(rt: HostRuntime) -> Result<(), Fail> {
-    let mut sdp = sdp_with(rt.alloc(), "", "")?;
+    let mut sdp = described(rt.alloc(), "", "")?;
     sdp.extend_from_slice(MEDIA.as_bytes())?;
     let fault = SdpFault {
         line: 11,

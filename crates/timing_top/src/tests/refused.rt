@@ -71,27 +71,24 @@ fn stamp_back(rt: HostRuntime) -> Result<(), Fail> {
 #[test]
 fn equal_low_halves(rt: HostRuntime) -> Result<(), Fail> {
     let alloc = rt.alloc();
-    let plain = made(&rt, 0, 0)?;
     let flows =
         "flow 1.1 239.0.0.1:50000 gaps 1, runs 2\n  run 1 from record 1 number 6: no whole frame, head 1\n  run 2 from record 3 number 65544 expected 8: no whole frame, head 1\n";
-    let setting = over(alloc, low_halves(&rt, alloc, &plain)?)?;
+    let setting = over(alloc, low_halves(alloc)?)?;
     judges(&rt, CHECK, &setting, flows, Status::NotAllJudged)
 }
 
 #[test]
 fn too_many_gaps(rt: HostRuntime) -> Result<(), Fail> {
     let alloc = rt.alloc();
-    let plain = made(&rt, 0, 0)?;
     let flows = "flow 1.1 239.0.0.1:50000 gap at record 1026: expected 2049, got 2050\n";
-    let setting = over(alloc, gaps(&rt, alloc, &plain)?)?;
+    let setting = over(alloc, gaps(alloc)?)?;
     judges(&rt, CHECK, &setting, flows, Status::NotAllJudged)
 }
 
 #[test]
 fn frame_too_large(rt: HostRuntime) -> Result<(), Fail> {
     let alloc = rt.alloc();
-    let plain = made(&rt, 0, 0)?;
     let flows = "flow 1.1 239.0.0.1:50000 refused at record 262146: FrameTooLarge\n";
-    let setting = over(alloc, large_frame(&rt, alloc, &plain)?)?;
+    let setting = over(alloc, large_frame(alloc)?)?;
     judges(&rt, CHECK, &setting, flows, Status::NotAllJudged)
 }

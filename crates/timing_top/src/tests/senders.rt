@@ -1,18 +1,16 @@
 //! What is said of one flow, by how its sender spreads the packets.
 
-use super::variants::{
-    at_once, big_endian, earlier, fields, last_second_of, tagged, usual, with_payload,
-};
-use super::{CHECK, LINEAR, NARROW, judges, made, over, passes, sdp_with};
-use std::process::Abort;
+use super::variants::{big_endian, last_second_of, tagged, with_payload};
+use super::{CHECK, LINEAR, NARROW, Setting, judges, made, over, passes};
+use std::alloc::{AllocError, Global};
 use std::test::Fail;
+use timing_examples::{NARROW as PLAIN, Spread, described, usual_equipment as usual};
 use timing_report::Status;
 
-// The plain capture with so many packets of its first frame on the first one's stamp.
-fn bunched<R: Abort + AllocGlobal>(rt: &R, count: usize) -> Result<Vec<u8>, Fail> {
-    let mut capture = made(rt, 0, 0)?;
-    at_once(rt, &mut capture, count);
-    Ok(capture)
+// The plain description and capture, but that so many packets of the first frame come at once.
+fn bunched(alloc: Global, at_once: u8) -> Result<Setting, AllocError> {
+    let spread = Spread { at_once, ..PLAIN };
+    over(alloc, spread.capture(alloc)?)
 }
 
 #[test]
@@ -39,7 +37,7 @@ fn senders_that_keep_to_their_type(rt: HostRuntime) -> Result<(), Fail> {
 fn four_at_once(rt: HostRuntime) -> Result<(), Fail> {
     let flows =
         "flow 1.1 239.0.0.1:50000 judged: 20 per frame, 2 frames, 40 packets, head 1, tail 0, class narrow, declared N\n  N pass, bucket 4 of 4, buffer 4 of 8\n  NL pass, bucket 4 of 4, buffer 4 of 8\n  W pass, bucket 4 of 16, buffer 4 of 720\n";
-    let setting = over(rt.alloc(), bunched(&rt, 4)?)?;
+    let setting = bunched(rt.alloc(), 4)?;
     judges(&rt, CHECK, &setting, flows, Status::Pass)
 }
 
@@ -47,7 +45,7 @@ fn four_at_once(rt: HostRuntime) -> Result<(), Fail> {
 fn five_at_once(rt: HostRuntime) -> Result<(), Fail> {
     let flows =
         "flow 1.1 239.0.0.1:50000 judged: 20 per frame, 2 frames, 40 packets, head 1, tail 0, class wide, declared N\n  N fail Bucket 0 to 4 count 5 limit 4, bucket 5 of 4, buffer 5 of 8\n  NL fail Bucket 0 to 4 count 5 limit 4, bucket 5 of 4, buffer 5 of 8\n  W pass, bucket 5 of 16, buffer 5 of 720\n";
-    let setting = over(rt.alloc(), bunched(&rt, 5)?)?;
+    let setting = bunched(rt.alloc(), 5)?;
     judges(&rt, CHECK, &setting, flows, Status::Fail)
 }
 
@@ -61,7 +59,7 @@ fn burst_in_second_frame(rt: HostRuntime) -> Result<(), Fail> {
     let mut setting = over(rt.alloc(), made(&rt, 0, 1)?)?;
     let narrow = format!(in rt.alloc(); "{flow} N\n{lines}")?;
     judges(&rt, CHECK, &setting, narrow.as_str(), Status::Fail)?;
-    setting.sdp = sdp_with(rt.alloc(), "2110TPN;", "2110TPW;")?;
+    setting.sdp = described(rt.alloc(), "2110TPN;", "2110TPW;")?;
     let wide = format!(in rt.alloc(); "{flow} W\n{lines}")?;
     judges(&rt, CHECK, &setting, wide.as_str(), Status::Pass)
 }
@@ -76,8 +74,8 @@ fn linear_sender(rt: HostRuntime) -> Result<(), Fail> {
 fn cmax_of_declared(rt: HostRuntime) -> Result<(), Fail> {
     let flows =
         "flow 1.1 239.0.0.1:50000 judged: 20 per frame, 2 frames, 40 packets, head 1, tail 0, class narrow linear, declared N\n  N fail Bucket 0 to 1 count 2 limit 1, bucket 2 of 1, buffer 2 of 8\n  NL pass, bucket 2 of 4, buffer 2 of 8\n  W pass, bucket 2 of 16, buffer 2 of 720\n";
-    let mut setting = over(rt.alloc(), bunched(&rt, 2)?)?;
-    setting.sdp = sdp_with(rt.alloc(), "2110TPN;", "2110TPN; CMAX=1;")?;
+    let mut setting = bunched(rt.alloc(), 2)?;
+    setting.sdp = described(rt.alloc(), "2110TPN;", "2110TPN; CMAX=1;")?;
     judges(&rt, CHECK, &setting, flows, Status::Fail)
 }
 
@@ -88,7 +86,7 @@ fn height_720(rt: HostRuntime) -> Result<(), Fail> {
     let flows =
         "flow 1.1 239.0.0.1:50000 judged: 20 per frame, 2 frames, 40 packets, head 1, tail 0, class none, declared N\n  N fail Empty 0 to 0 count 0 limit 1, bucket 1 of 4, buffer 0 of 8\n  NL fail Empty 0 to 0 count 0 limit 1, bucket 1 of 4, buffer 1 of 8\n  W fail Empty 0 to 0 count 0 limit 1, bucket 1 of 16, buffer 1 of 720\n";
     let mut setting = over(rt.alloc(), made(&rt, 0, 0)?)?;
-    setting.sdp = sdp_with(rt.alloc(), "height=1080;", "height=720;")?;
+    setting.sdp = described(rt.alloc(), "height=1080;", "height=720;")?;
     judges(&rt, CHECK, &setting, flows, Status::Fail)
 }
 
@@ -96,9 +94,8 @@ fn height_720(rt: HostRuntime) -> Result<(), Fail> {
 fn usual_equipment(rt: HostRuntime) -> Result<(), Fail> {
     let flows =
         "flow 1.1 239.0.0.1:50000 judged: 4320 per frame, 2 frames, 8640 packets, head 1, tail 0, class narrow, declared N\n  N pass, bucket 1 of 6, buffer 1 of 9\n  NL fail Over 0 to 219 count 10 limit 9, bucket 1 of 5, buffer 174 of 9\n  W pass, bucket 1 of 16, buffer 174 of 863\n";
-    let plain = made(&rt, 0, 0)?;
-    let mut setting = over(rt.alloc(), usual(&rt, rt.alloc(), &plain)?)?;
-    setting.sdp = sdp_with(rt.alloc(), "rate=50;", "rate=60000/1001;")?;
+    let mut setting = over(rt.alloc(), usual(rt.alloc())?)?;
+    setting.sdp = described(rt.alloc(), "rate=50;", "rate=60000/1001;")?;
     let line = "check --serial --sdp p.sdp --tai 37 a.pcap";
     judges(&rt, line, &setting, flows, Status::Pass)
 }
@@ -107,14 +104,21 @@ fn usual_equipment(rt: HostRuntime) -> Result<(), Fail> {
 #[test]
 fn on_its_read(rt: HostRuntime) -> Result<(), Fail> {
     let alloc = rt.alloc();
-    let plain = made(&rt, 0, 0)?;
-    let mut setting = over(alloc, earlier(&rt, alloc, &plain, 64_000)?)?;
-    setting.sdp = sdp_with(alloc, "2110TPN;", "2110TPN; TROFF=700;")?;
+    let spread = Spread {
+        first: 700_000,
+        ..PLAIN
+    };
+    let mut setting = over(alloc, spread.capture(alloc)?)?;
+    setting.sdp = described(alloc, "2110TPN;", "2110TPN; TROFF=700;")?;
     let flows =
         "flow 1.1 239.0.0.1:50000 judged: 20 per frame, 2 frames, 40 packets, head 1, tail 0, class narrow, declared N\n  N pass, bucket 1 of 4, buffer 0 of 8\n  NL pass, bucket 1 of 4, buffer 1 of 8\n  W pass, bucket 1 of 16, buffer 1 of 720\n";
     judges(&rt, CHECK, &setting, flows, Status::Pass)?;
     // one_ns_late
-    setting.capture = earlier(&rt, alloc, &plain, 63_999)?;
+    let spread = Spread {
+        first: 700_001,
+        ..PLAIN
+    };
+    setting.capture = spread.capture(alloc)?;
     let flows =
         "flow 1.1 239.0.0.1:50000 judged: 20 per frame, 2 frames, 40 packets, head 1, tail 0, class none, declared N\n  N fail Empty 0 to 0 count 0 limit 1, bucket 1 of 4, buffer 0 of 8\n  NL fail Empty 0 to 0 count 0 limit 1, bucket 1 of 4, buffer 1 of 8\n  W fail Empty 0 to 0 count 0 limit 1, bucket 1 of 16, buffer 1 of 720\n";
     judges(&rt, CHECK, &setting, flows, Status::Fail)
@@ -123,9 +127,15 @@ fn on_its_read(rt: HostRuntime) -> Result<(), Fail> {
 #[test]
 fn interlaced_narrow(rt: HostRuntime) -> Result<(), Fail> {
     let alloc = rt.alloc();
-    let plain = made(&rt, 0, 0)?;
-    let mut setting = over(alloc, fields(&rt, alloc, &plain)?)?;
-    setting.sdp = sdp_with(alloc, "rate=50;", "rate=25; interlace;")?;
+    let fields = Spread {
+        first: 782_000,
+        groups: 4,
+        packets: 10,
+        packet_nanos: 1_920_000,
+        ..PLAIN
+    };
+    let mut setting = over(alloc, fields.capture(alloc)?)?;
+    setting.sdp = described(alloc, "rate=50;", "rate=25; interlace;")?;
     let flows =
         "flow 1.1 239.0.0.1:50000 judged: 10 per field, 4 fields, 40 packets, head 1, tail 0, class narrow, declared N\n  N pass, bucket 1 of 4, buffer 1 of 8\n  NL pass, bucket 1 of 4, buffer 1 of 8\n  W pass, bucket 1 of 16, buffer 1 of 720\n";
     judges(&rt, CHECK, &setting, flows, Status::Pass)

@@ -1,7 +1,8 @@
 //! Several captures and media, and JSON.
 
-use super::{CHECK_TWO, HEADER, LINEAR, MEDIA, NARROW, ends, made, over, part, runs, shelf_of};
+use super::{CHECK_TWO, HEADER, LINEAR, NARROW, ends, made, over, part, runs, shelf_of};
 use std::test::Fail;
+use timing_examples::three_media;
 use timing_report::Status;
 
 #[test]
@@ -9,10 +10,7 @@ fn two_captures_three_media(rt: HostRuntime) -> Result<(), Fail> {
     let alloc = rt.alloc();
     let mut setting = over(alloc, made(&rt, 0, 0)?)?;
     setting.second = made(&rt, 0, 2)?;
-    for port in ["50002", "50004"] {
-        let media = MEDIA.replace(alloc, "50000", port)?;
-        setting.sdp.extend_from_slice(media.as_bytes())?;
-    }
+    setting.sdp = three_media(alloc)?;
     let linear = LINEAR.replace(alloc, "flow 1.1", "flow 2.1")?;
     let text = format!(in alloc;
         "{HEADER}file 2 end b.pcap\n{NARROW}flow 1.2 239.0.0.1:50002 absent\nflow 1.3 239.0.0.1:50004 absent\n{linear}flow 2.2 239.0.0.1:50002 absent\nflow 2.3 239.0.0.1:50004 absent\nstatus 4\n"

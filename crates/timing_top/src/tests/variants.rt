@@ -1,11 +1,11 @@
 //! Captures that are made from the plain one.
 
+ghost use Rattle.std.specs.Prelude.{◌≡◌, ◌*◌};
+
 use super::part;
+use capture_gen::{Packet, file_head};
 use std::alloc::{AllocError, Global};
 use std::process::Abort;
-
-// The stamp of the first packet of the first frame, as the head of its record has it.
-pub const FIRST_STAMP: &[u8] = b"\x00\x10\x5e\x5f\x60\xa8\x0b\x00";
 
 // Puts these bytes over those from `at` on.
 pub fn patch(rt: &impl Abort, bytes: &mut [u8], at: usize, with: &[u8]) {
@@ -19,14 +19,6 @@ fn number_at(rt: &impl Abort, bytes: &[u8], at: usize) -> u32 {
     assert!(rt; at <= 100);
     assert!(rt; at + 4 <= bytes.len());
     u32::from_le_bytes([bytes[at], bytes[at + 1], bytes[at + 2], bytes[at + 3]])
-}
-
-// The plain capture with so many packets of its first frame on the first one's stamp.
-pub fn at_once(rt: &impl Abort, capture: &mut [u8], count: usize) {
-    assert!(rt; count <= 20);
-    for packet in 0..count {
-        patch(rt, capture, 96 + 72 * packet, FIRST_STAMP);
-    }
 }
 
 // The capture with big-endian numbers and stamps in microseconds.
@@ -105,24 +97,6 @@ pub fn first_cut(
     Ok(out)
 }
 
-// The capture with each stamp after the first so many nanoseconds earlier.
-pub fn earlier(
-    rt: &impl Abort,
-    alloc: Global,
-    capture: &[u8],
-    by: u32,
-) -> Result<Vec<u8>, AllocError> {
-    let mut out = Vec::from_slice(alloc, part(rt, capture, 0, 96))?;
-    for record in part(rt, capture, 96, capture.len()).chunks(72) {
-        let fraction = number_at(rt, record, 4);
-        assert!(rt; by <= fraction);
-        out.extend_from_slice(part(rt, record, 0, 4))?;
-        out.extend_from_slice(&(fraction - by).to_le_bytes())?;
-        out.extend_from_slice(part(rt, record, 8, 72))?;
-    }
-    Ok(out)
-}
-
 // The plain capture in the last second that a stamp can hold, and its head packet in the one before.
 pub fn last_second_of(
     rt: &impl Abort,
@@ -139,121 +113,47 @@ pub fn last_second_of(
     Ok(out)
 }
 
-// The parts of a capture that its rows set.
-#[derive(Clone, Copy)]
-pub struct Packet {
-    pub at: u64,
-    pub number: u32,
-    pub timestamp: u32,
-    pub marked: bool,
+// A capture of no packets.
+fn begun(alloc: Global) -> Result<Vec<u8>, AllocError> {
+    Vec::from_slice(alloc, &file_head())
 }
 
-// Adds a record like the first one of a frame of the plain capture, of this packet.
-pub fn add_packet(
-    rt: &impl Abort,
-    plain: &[u8],
-    out: &mut Vec<u8>,
-    packet: Packet,
-) -> Result<(), AllocError> {
-    let template = part(rt, plain, 96, 168);
-    let second = 1_000_000_000;
-    out.extend_from_slice(&((packet.at / second % (1 << 32)) as u32).to_le_bytes())?;
-    out.extend_from_slice(&((packet.at % second) as u32).to_le_bytes())?;
-    out.extend_from_slice(part(rt, template, 8, 59))?;
-    out.push(if packet.marked { 0x80 | 96 } else { 96 })?;
-    out.extend_from_slice(&((packet.number % 65_536) as u16).to_be_bytes())?;
-    out.extend_from_slice(&packet.timestamp.to_be_bytes())?;
-    out.extend_from_slice(part(rt, template, 66, 70))?;
-    out.extend_from_slice(&((packet.number / 65_536) as u16).to_be_bytes())
-}
-
-// Two frames of 4,320 packets at 60000/1001 frames per second behind a marked packet, 37 seconds early:
-// each packet 1,000 ns before its read, which is at (172 + p) / 4,500 of its frame.
-pub fn usual(rt: &impl Abort, alloc: Global, plain: &[u8]) -> Result<Vec<u8>, AllocError> {
-    let mut out = Vec::from_slice(alloc, part(rt, plain, 0, 24))?;
-    let start = 1_601_600_000_000_000_000 - 37_000_000_000 - 1_000;
-    let head = Packet {
-        at: start + 172 * 100_100_000 / 27_000 - 1_000_000,
-        number: 0,
-        timestamp: 0,
-        marked: true,
-    };
-    add_packet(rt, plain, &mut out, head)?;
-    for frame in 0..2 {
-        for place in 0..4320 {
-            let reads = u64::from(frame) * 4500 + 172 + u64::from(place);
-            let packet = Packet {
-                at: start + reads * 100_100_000 / 27_000,
-                number: 1 + frame * 4320 + place,
-                timestamp: 1501 * (frame + 1),
-                marked: place == 4319,
-            };
-            add_packet(rt, plain, &mut out, packet)?;
-        }
+// A packet of second 1,600,000,000.
+fn packet(number: u32, timestamp: u32, marker: bool) -> Packet
+    ensures { result.at ≡ 1600000000 * 1000000000 }
+{
+    Packet {
+        at: 1_600_000_000_000_000_000,
+        timestamp,
+        marker,
+        number,
     }
-    Ok(out)
-}
-
-// Four fields of 10 packets behind the head packet, each packet 1,920,000 ns after the one before.
-pub fn fields(rt: &impl Abort, alloc: Global, plain: &[u8]) -> Result<Vec<u8>, AllocError> {
-    let mut out = Vec::from_slice(alloc, part(rt, plain, 0, 96))?;
-    for field in 0..4 {
-        for place in 0..10 {
-            let packet = Packet {
-                at: 1_600_000_000_000_782_000
-                    + 20_000_000 * u64::from(field)
-                    + 1_920_000 * u64::from(place),
-                number: 1 + 10 * field + place,
-                timestamp: 1800 * (field + 1),
-                marked: place == 9,
-            };
-            add_packet(rt, plain, &mut out, packet)?;
-        }
-    }
-    Ok(out)
 }
 
 // The numbers 6, 7 and 65,544, of which the first is marked.
-pub fn low_halves(rt: &impl Abort, alloc: Global, plain: &[u8]) -> Result<Vec<u8>, AllocError> {
-    let mut out = Vec::from_slice(alloc, part(rt, plain, 0, 24))?;
+pub fn low_halves(alloc: Global) -> Result<Vec<u8>, AllocError> {
+    let mut out = begun(alloc)?;
     for (number, timestamp) in [(6, 0), (7, 1800), (65_544, 1800)] {
-        let packet = Packet {
-            at: 1_600_000_000_000_000_000,
-            number,
-            timestamp,
-            marked: number == 6,
-        };
-        add_packet(rt, plain, &mut out, packet)?;
+        out.extend_from_slice(&packet(number, timestamp, number == 6).record())?;
     }
     Ok(out)
 }
 
 // 1,026 packets whose numbers rise by 2 from 0.
-pub fn gaps(rt: &impl Abort, alloc: Global, plain: &[u8]) -> Result<Vec<u8>, AllocError> {
-    let mut out = Vec::from_slice(alloc, part(rt, plain, 0, 24))?;
+pub fn gaps(alloc: Global) -> Result<Vec<u8>, AllocError> {
+    let mut out = begun(alloc)?;
     for place in 0..1026 {
-        let packet = Packet {
-            at: 1_600_000_000_000_000_000,
-            number: 2 * place,
-            timestamp: 0,
-            marked: false,
-        };
-        add_packet(rt, plain, &mut out, packet)?;
+        out.extend_from_slice(&packet(2 * place, 0, false).record())?;
     }
     Ok(out)
 }
 
 // A marked packet, and 262,145 unmarked ones of one other RTP timestamp, all on one stamp.
-pub fn large_frame(rt: &impl Abort, alloc: Global, plain: &[u8]) -> Result<Vec<u8>, AllocError> {
-    let mut out = Vec::from_slice(alloc, part(rt, plain, 0, 24))?;
-    for number in 0..262_146 {
-        let packet = Packet {
-            at: 1_600_000_000_000_000_000,
-            number,
-            timestamp: if number == 0 { 0 } else { 1800 },
-            marked: number == 0,
-        };
-        add_packet(rt, plain, &mut out, packet)?;
+pub fn large_frame(alloc: Global) -> Result<Vec<u8>, AllocError> {
+    let mut out = begun(alloc)?;
+    out.extend_from_slice(&packet(0, 0, true).record())?;
+    for number in 1..262_146 {
+        out.extend_from_slice(&packet(number, 1800, false).record())?;
     }
     Ok(out)
 }

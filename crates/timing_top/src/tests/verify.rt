@@ -1,11 +1,11 @@
 //! Fails that are checked from the captures alone.
 
-use super::variants::{at_once, usual};
-use super::{Setting, ends, made, over, part, sdp_with};
+use super::{Setting, ends, made, over, part};
 use std::process::Abort;
 use std::sync::Wait;
 use std::test::Fail;
 use std::thread::Threads;
+use timing_examples::{NARROW, Spread, described, usual_equipment};
 use timing_report::{Input, Status};
 
 // That each of these lines ends so.
@@ -22,9 +22,11 @@ fn each<R: Abort + AllocGlobal + Wait + Threads + Sync>(
 
 #[test]
 fn verify_burst(rt: HostRuntime) -> Result<(), Fail> {
-    let mut capture = made(&rt, 0, 0)?;
-    at_once(&rt, &mut capture, 5);
-    let mut setting = over(rt.alloc(), capture)?;
+    let spread = Spread {
+        at_once: 5,
+        ..NARROW
+    };
+    let mut setting = over(rt.alloc(), spread.capture(rt.alloc())?)?;
     each(
         &rt,
         &setting,
@@ -76,9 +78,8 @@ fn verify_empty(rt: HostRuntime) -> Result<(), Fail> {
 
 #[test]
 fn verify_over(rt: HostRuntime) -> Result<(), Fail> {
-    let plain = made(&rt, 0, 0)?;
-    let mut setting = over(rt.alloc(), usual(&rt, rt.alloc(), &plain)?)?;
-    setting.sdp = sdp_with(rt.alloc(), "rate=50;", "rate=60000/1001;")?;
+    let mut setting = over(rt.alloc(), usual_equipment(rt.alloc())?)?;
+    setting.sdp = described(rt.alloc(), "rate=50;", "rate=60000/1001;")?;
     each(
         &rt,
         &setting,

@@ -42,6 +42,11 @@ fn out_of_range_words(rt: HostRuntime) -> Result<(), Fail> {
         "check --serial --tai 1001 --sdp p.sdp a.pcap",
         "selftest 1",
         "selftest 20001",
+        "verify --sdp p.sdp --media 0 --type N --model Bucket --from 0 --to 4 --count 5 --limit 4 a.pcap",
+        "verify --sdp p.sdp --media 1 --type N --model Bucket --from -1 --to 4 --count 5 --limit 4 a.pcap",
+        "verify --sdp p.sdp --media 1 --type N --model Empty --from 0 --to -1 --count 0 --limit 1 a.pcap",
+        "verify --sdp p.sdp --media 1 --type N --model Empty --from 0 --to 0 --count -1 --limit 1 a.pcap",
+        "verify --sdp p.sdp --media 1 --type N --model Bucket --from 0 --to 4 --count 5 --limit -1 a.pcap",
     ] {
         ends(&rt, line, &setting, (Status::Usage, "", USAGE))?;
     }
