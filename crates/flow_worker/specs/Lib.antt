@@ -5,5 +5,7 @@ pub mod Posting
 pub mod World
 pub mod Kept
 pub mod Cut
+pub mod Intakes
+pub mod Works
 -- a run that is worked by hand
 pub mod Examples
