@@ -12,3 +12,5 @@ pub mod Cutting
 pub mod Reported
 pub mod Taking
 pub mod Senders
+pub mod Passes
+pub mod Outgoing

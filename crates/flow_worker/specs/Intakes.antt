@@ -5,6 +5,7 @@ use Rattle.timing_base.specs.Media.{Media}
 use Rattle.timing_base.specs.declared.capture.FileNote.{FileNote}
 use Rattle.timing_base.specs.declared.capture.FileNote.TheVariants.{Refused, Stopped}
 use Rattle.timing_base.specs.declared.capture.PcapFault.TheVariants.{ReadFault}
+use Rattle.pcap_reader.specs.Readers.{GivesNote}
 use Rattle.ruled_intake.specs.Lanes.{LaneId, Sender}
 use Rattle.ruled_intake.specs.declared.message.Message.{Message}
 use Rattle.flow_worker.specs.Kept.{IsPrefix}
@@ -32,11 +33,19 @@ intake_setting media workers joined = record { media = media; workers = workers;
 abbrev pub lane_sends : Setting → (file : ℕ) → Capture → (lane : ℕ) → List Message
 lane_sends s file c lane = for_lane lane (file_sends 256 s file c)
 
+-- what there is to send of a capture: all of it, or where a read failed the records before
+pub record IsToSend (whole part : Capture) : Type 0 where
+  pub later : List Record
+  pub records_are : whole.records ≡ part.records ++ later
+  pub ends : GivesNote part.note later whole.note
+
 -- what was sent begins what the file had to send to each lane
 pub record HasBegun (s : Setting) (file : ℕ) (lanes : List LaneId) (c : Capture) (passes : List Sender) : Type 0 where
+  pub part : Capture
+  pub is_part : IsToSend c part
   pub sent : (lane : ℕ) → List Message
   pub have_sent : HaveSent file lanes sent passes
-  pub begins : (lane : ℕ) → IsPrefix (sent lane) (lane_sends s file c lane)
+  pub begins : (lane : ℕ) → IsPrefix (sent lane) (lane_sends s file part lane)
 
 -- a read failed: what was sent is all of the records before
 pub record HasBroken (s : Setting) (file : ℕ) (lanes : List LaneId) (items : List Record) (passes : List Sender) : Type 0 where

@@ -7,5 +7,7 @@ pub mod Kept
 pub mod Cut
 pub mod Intakes
 pub mod Works
+pub mod Targeted
+pub mod Sending
 -- a run that is worked by hand
 pub mod Examples

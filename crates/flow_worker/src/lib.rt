@@ -7,9 +7,12 @@
 //! media and workers count from 0, records from 1.
 #![tactic(auto)]
 
-mod intake;
+mod intakes;
 pub mod laws;
-mod work;
+mod open_batch;
+mod outboxes;
+mod routing;
+mod workers;
 
-pub use intake::{IntakeDone, intake};
-pub use work::{WorkDone, work};
+pub use intakes::{IntakeDone, intake};
+pub use workers::{WorkDone, work};

@@ -1,0 +1,437 @@
+-- What a step of an intake does to its outboxes.
+use Rattle.std.proofs.Common.{◌≡◌, ◌<◌, ◌≤◌, ◌+◌, ◌^◌, ℕ, suc, zero, List, [], ◌∷◌, ◌++◌, length, map, set, inl, inr, refl, sym, ap, ap₂, ◌∙◌, subst, arith, append-nil, append_assoc, length-set, length-append, get_or-set_same, get_or-set_other}
+use Rattle.std.specs.Prelude.{slice_index_or, Result, Ok, Err, OnErr}
+use Rattle.std.proofs.lemmas.Bool.{cases_eq, cases_lt}
+use Rattle.std.proofs.lemmas.List.{get_or_default, set-get_or}
+use Rattle.std.proofs.lemmas.List.Sums.{sum_by_push}
+use Rattle.timing_base.specs.declared.capture.FileNote.{FileNote}
+use Rattle.ruled_intake.specs.Lanes.{IsWithin, LaneId, Sender, count_of, packets, sent_of as sent_by, with_sent}
+use Rattle.ruled_intake.specs.Packets.{Packet}
+use Rattle.ruled_intake.specs.declared.message.Message.{Message}
+use Rattle.flow_worker.specs.Cut.{HasCut}
+use Rattle.flow_worker.specs.Intakes.{HaveSent}
+use Rattle.flow_worker.specs.Kept.{IsPrefix}
+use Rattle.flow_worker.specs.Messages.{batch, ending}
+use Rattle.flow_worker.specs.Opening.{unless_empty}
+use Rattle.flow_worker.specs.Sending.{AreCut, AreOutboxes, AreSame, Cuts, HaveAllFew, HaveFew, Puts, Sends, SendsRest, Stays, open_for, sent_to, with_end, with_rest}
+use Rattle.flow_worker.specs.declared.outboxes.Outboxes.{Outboxes}
+use Rattle.flow_worker.proofs.Cutting.{HasCut-full, HasCut-more, HasCut-other}
+use Rattle.flow_worker.proofs.Passes.{HaveSent-set, sent_of-at, sent_of-set_same, sent_of-set_other, within-more}
+
+-- of a result that may be an error
+pub on_err : {A E : Type 0} (r : Result A E) (P : Type 0) → P → OnErr r P
+on_err (Ok x) P h = tt
+on_err (Err e) P h = h
+
+pub on_err-then : {A E : Type 0} (r : Result A E) (P Q : Type 0) → (P → Q) → OnErr r P → OnErr r Q
+on_err-then (Ok x) P Q f h = tt
+on_err-then (Err e) P Q f h = f h
+
+-- outboxes of which only the passes' use is seen
+AreOutboxes-as : (a b : Outboxes) → b.file ≡ a.file → b.lanes.now ≡ a.lanes.now → b.passes.items ≡ a.passes.items
+    → length b.batches.items ≡ length a.batches.items → AreOutboxes a → AreOutboxes b
+AreOutboxes-as a b file lanes passes long h =
+    let first : HaveSent b.file a.lanes.now (sent_by a.passes.items) a.passes.items =
+    subst (λ (f : ℕ). HaveSent f a.lanes.now (sent_by a.passes.items) a.passes.items) (sym file) h.passes in
+    let second : HaveSent b.file b.lanes.now (sent_by a.passes.items) a.passes.items =
+    subst (λ (l : List LaneId). HaveSent b.file l (sent_by a.passes.items) a.passes.items) (sym lanes) first in
+    record {
+      passes = subst (λ (ps : List Sender). HaveSent b.file b.lanes.now (sent_by ps) ps) (sym passes) second;
+      batch_count = long ∙ h.batch_count ∙ ap length (sym lanes);
+    }
+
+-- the same outboxes
+pub AreSame-refl : (o : Outboxes) → AreOutboxes o → AreSame o o
+AreSame-refl o h = record { are = h; file = refl; lanes = refl }
+
+pub AreSame-then : (a b c : Outboxes) → AreSame a b → AreSame b c → AreSame a c
+AreSame-then a b c x y = record { are = y.are; file = y.file ∙ x.file; lanes = y.lanes ∙ x.lanes }
+
+-- a pass is used
+same-set : (old new : Outboxes) (k : ℕ) (before s : Sender) → AreOutboxes old → k < length old.lanes.now → new.file ≡ old.file → new.lanes.now ≡ old.lanes.now
+    → new.batches.items ≡ old.batches.items → new.passes.items ≡ set old.passes.items k s → before ≡ slice_index_or old.passes.items k before
+    → s.lane ≡ before.lane → s.from ≡ before.from → AreSame old new
+same-set old new k before s h here file lanes batches passes read lane from =
+    let put : HaveSent old.file old.lanes.now (sent_by (set old.passes.items k s)) (set old.passes.items k s) =
+    HaveSent-set old.file old.lanes.now old.passes.items k before s here h.passes read lane from in
+    let first : HaveSent new.file old.lanes.now (sent_by (set old.passes.items k s)) (set old.passes.items k s) =
+    subst (λ (f : ℕ). HaveSent f old.lanes.now (sent_by (set old.passes.items k s)) (set old.passes.items k s)) (sym file) put in
+    let second : HaveSent new.file new.lanes.now (sent_by (set old.passes.items k s)) (set old.passes.items k s) =
+    subst (λ (l : List LaneId). HaveSent new.file l (sent_by (set old.passes.items k s)) (set old.passes.items k s)) (sym lanes) first in
+    record {
+      are = record {
+        passes = subst (λ (ps : List Sender). HaveSent new.file new.lanes.now (sent_by ps) ps) (sym passes) second;
+        batch_count = ap length batches ∙ h.batch_count ∙ ap length (sym lanes);
+      };
+      file = file;
+      lanes = lanes;
+    }
+
+-- a message is sent by a pass
+pub sends-one : (old new : Outboxes) (k : ℕ) (m : Message) (before s : Sender) → AreOutboxes old → k < length old.lanes.now → new.file ≡ old.file → new.lanes.now ≡ old.lanes.now
+    → new.batches.items ≡ old.batches.items → new.passes.items ≡ set old.passes.items k s → before ≡ slice_index_or old.passes.items k before
+    → s ≡ with_sent before m → Sends old new k m
+sends-one old new k m before s h here file lanes batches passes read sent =
+    let within : k < length old.passes.items = omega (arith, h.passes.count) in
+    let was : before.sent ≡ sent_to old k =
+    ap (λ (x : Sender). x.sent) read ∙ sym (sent_of-at old.passes.items k before within) in
+    record {
+      same = same-set old new k before s h here file lanes batches passes read (ap (λ (x : Sender). x.lane) sent) (ap (λ (x : Sender). x.from) sent);
+      here =
+          ap (λ (ps : List Sender). sent_by ps k) passes ∙ sent_of-set_same old.passes.items k s within ∙ ap (λ (x : Sender). x.sent) sent
+          ∙ ap (λ (l : List Message). l ++ m ∷ []) was;
+      others = λ w n. ap (λ (ps : List Sender). sent_by ps w) passes ∙ sent_of-set_other old.passes.items k w s n;
+      open_same = λ w. ap (λ (l : List (List Packet)). slice_index_or l w []) batches;
+    }
+
+-- or it isn't
+pub stays-same : (old new : Outboxes) → AreOutboxes old → new.file ≡ old.file → new.lanes.now ≡ old.lanes.now → length new.batches.items ≡ length old.batches.items
+    → new.passes.items ≡ old.passes.items → Stays old new
+stays-same old new h file lanes batches passes = record {
+  same = record { are = AreOutboxes-as old new file lanes passes batches h; file = file; lanes = lanes };
+  sent = λ w. ap (λ (ps : List Sender). sent_by ps w) passes;
+}
+
+-- a pass is put back as it was
+pub set-same : (ps : List Sender) (k : ℕ) (before s : Sender) → before ≡ slice_index_or ps k before → s ≡ before → set ps k s ≡ ps
+set-same ps k before s read same = ap (λ (x : Sender). set ps k x) (same ∙ read) ∙ set-get_or ps k before
+
+-- a message was sent, and then nothing more is seen
+pub sends-then : (old mid new : Outboxes) (k : ℕ) (m : Message) → Sends old mid k m → new.file ≡ mid.file → new.lanes.now ≡ mid.lanes.now
+    → new.batches.items ≡ mid.batches.items → new.passes.items ≡ mid.passes.items → Sends old new k m
+sends-then old mid new k m h file lanes batches passes =
+    let same : (w : ℕ) → sent_to new w ≡ sent_to mid w = λ w. ap (λ (ps : List Sender). sent_by ps w) passes in
+    record {
+      same = record {
+        are = AreOutboxes-as mid new file lanes passes (ap length batches) h.same.are;
+        file = file ∙ h.same.file;
+        lanes = lanes ∙ h.same.lanes;
+      };
+      here = same k ∙ h.here;
+      others = λ w n. same w ∙ h.others w n;
+      open_same = λ w. ap (λ (l : List (List Packet)). slice_index_or l w []) batches ∙ h.open_same w;
+    }
+
+-- nothing was sent, twice
+pub stays-then : (old mid new : Outboxes) → Stays old mid → Stays mid new → Stays old new
+stays-then old mid new a b = record { same = AreSame-then old mid new a.same b.same; sent = λ w. b.sent w ∙ a.sent w }
+
+-- a batch is put in its place, and no pass is used
+pub same-batches : (old new : Outboxes) (k : ℕ) (b : List Packet) → AreOutboxes old → new.file ≡ old.file → new.lanes.now ≡ old.lanes.now
+    → new.passes.items ≡ old.passes.items → new.batches.items ≡ set old.batches.items k b → Stays old new
+same-batches old new k b h file lanes passes batches =
+    stays-same old new h file lanes (ap length batches ∙ length-set old.batches.items k b) passes
+
+-- the batch that is put in its place
+open-here : (old new : Outboxes) (k : ℕ) (b : List Packet) → AreOutboxes old → k < length old.lanes.now → new.batches.items ≡ set old.batches.items k b → open_for new k ≡ b
+open-here old new k b h here batches =
+    let within : k < length old.batches.items = omega (arith, h.batch_count) in
+    ap (λ (l : List (List Packet)). slice_index_or l k []) batches ∙ get_or-set_same old.batches.items k b [] within
+
+-- and the others
+open-others : (old new : Outboxes) (k w : ℕ) (b : List Packet) → new.batches.items ≡ set old.batches.items k b → (k ≡ w → ⊥) → open_for new w ≡ open_for old w
+open-others old new k w b batches n =
+    ap (λ (l : List (List Packet)). slice_index_or l w []) batches ∙ get_or-set_other old.batches.items k w b [] (λ e. n (sym e))
+
+-- the batch at a place
+open-at : (old : Outboxes) (k : ℕ) (b : List Packet) → AreOutboxes old → k < length old.lanes.now → b ≡ slice_index_or old.batches.items k b → b ≡ open_for old k
+open-at old k b h here read =
+    let within : k < length old.batches.items = omega (arith, h.batch_count) in
+    read ∙ get_or_default old.batches.items k b [] within
+
+-- a packet is put into its batch
+pub puts-more : (old new : Outboxes) (k : ℕ) (p : Packet) (before b : List Packet) → AreOutboxes old → k < length old.lanes.now → new.file ≡ old.file → new.lanes.now ≡ old.lanes.now
+    → new.passes.items ≡ old.passes.items → new.batches.items ≡ set old.batches.items k b → before ≡ slice_index_or old.batches.items k before
+    → b ≡ before ++ p ∷ [] → length before + 1 < 256 → Puts old new k p
+puts-more old new k p before b h here file lanes passes batches read put few =
+    let stays = same-batches old new k b h file lanes passes batches in
+    let was : before ≡ open_for old k = open-at old k before h here read in
+    let long : length before ≡ length (open_for old k) = ap length was in
+    record {
+      same = stays.same;
+      within = omega (arith, long, few);
+      more = λ _. (stays.sent k, open-here old new k b h here batches ∙ put ∙ ap (λ (l : List Packet). l ++ p ∷ []) was);
+      full = λ e. absurd (omega (arith, long, few, e));
+      others = λ w n. (stays.sent w, open-others old new k w b batches n);
+    }
+
+-- a packet fills its batch, which is sent
+pub puts-full : (old mid new : Outboxes) (k : ℕ) (p : Packet) (before b packets : List Packet) → AreOutboxes old → k < length old.lanes.now → mid.file ≡ old.file → mid.lanes.now ≡ old.lanes.now
+    → mid.passes.items ≡ old.passes.items → mid.batches.items ≡ set old.batches.items k b → before ≡ slice_index_or old.batches.items k before
+    → b ≡ [] → packets ≡ before ++ p ∷ [] → length before + 1 ≡ 256 → Sends mid new k (batch mid.file packets) → Puts old new k p
+puts-full old mid new k p before b ps h here file lanes passes batches read none all full sends =
+    let stays = same-batches old mid k b h file lanes passes batches in
+    let was : before ≡ open_for old k = open-at old k before h here read in
+    let long : length before ≡ length (open_for old k) = ap length was in
+    let it : batch mid.file ps ≡ batch old.file (open_for old k ++ p ∷ []) =
+    ap₂ batch file (all ∙ ap (λ (l : List Packet). l ++ p ∷ []) was) in
+    record {
+      same = AreSame-then old mid new stays.same sends.same;
+      within = omega (arith, long, full);
+      more = λ e. absurd (omega (arith, long, full, e));
+      full = λ _. (
+        sends.here ∙ ap₂ (λ (l : List Message) (m : Message). l ++ m ∷ []) (stays.sent k) it,
+        sends.open_same k ∙ open-here old mid k b h here batches ∙ none,
+      );
+      others = λ w n. (sends.others w n ∙ stays.sent w, sends.open_same w ∙ open-others old mid k w b batches n);
+    }
+
+one-batch : (f : ℕ) (ps : List Packet) → 1 ≤ length ps → map (batch f) (unless_empty ps) ≡ batch f ps ∷ []
+one-batch f [] some = absurd (omega (arith, some))
+one-batch f (p ∷ ps) some = refl
+
+-- nothing fills no batch
+pub rest-none : (old new : Outboxes) (k : ℕ) (before b : List Packet) → AreOutboxes old → k < length old.lanes.now → new.file ≡ old.file → new.lanes.now ≡ old.lanes.now
+    → new.passes.items ≡ old.passes.items → new.batches.items ≡ set old.batches.items k b → before ≡ slice_index_or old.batches.items k before
+    → before ≡ [] → SendsRest old new k
+rest-none old new k before b h here file lanes passes batches read none =
+    let stays = same-batches old new k b h file lanes passes batches in
+    let was : open_for old k ≡ [] = sym (open-at old k before h here read) ∙ none in
+    record {
+      same = stays.same;
+      here =
+          stays.sent k ∙ sym (append-nil (sent_to old k))
+          ∙ ap (λ (l : List Packet). sent_to old k ++ map (batch old.file) (unless_empty l)) (sym was);
+      others = λ w n. (stays.sent w, open-others old new k w b batches n);
+    }
+
+-- what fills no batch is sent
+pub rest-some : (old mid new : Outboxes) (k : ℕ) (before b packets : List Packet) → AreOutboxes old → k < length old.lanes.now → mid.file ≡ old.file → mid.lanes.now ≡ old.lanes.now
+    → mid.passes.items ≡ old.passes.items → mid.batches.items ≡ set old.batches.items k b → before ≡ slice_index_or old.batches.items k before
+    → packets ≡ before → 1 ≤ length packets → Sends mid new k (batch mid.file packets) → SendsRest old new k
+rest-some old mid new k before b ps h here file lanes passes batches read all some sends =
+    let stays = same-batches old mid k b h file lanes passes batches in
+    let was : ps ≡ open_for old k = all ∙ open-at old k before h here read in
+    record {
+      same = AreSame-then old mid new stays.same sends.same;
+      here =
+          sends.here ∙ ap₂ (λ (l : List Message) (f : ℕ). l ++ batch f ps ∷ []) (stays.sent k) file
+          ∙ ap (λ (l : List Message). sent_to old k ++ l) (sym (one-batch old.file ps some))
+          ∙ ap (λ (l : List Packet). sent_to old k ++ map (batch old.file) (unless_empty l)) was;
+      others = λ w n. (sends.others w n ∙ stays.sent w, sends.open_same w ∙ open-others old mid k w b batches n);
+    }
+
+-- counts of a packet that fills no batch
+few-more : (n : ℕ) (sent now : List Message) (left left_now : List Packet) (p : Packet) → now ≡ sent → left_now ≡ left ++ p ∷ []
+    → length sent ≤ n → packets sent + length left ≤ n → (length now ≤ n + 1) × (packets now + length left_now ≤ n + 1)
+few-more n sent now left left_now p s l few small =
+    let long : length left_now ≡ length left + 1 = ap length l ∙ length-append left (p ∷ []) in
+    (omega (arith, ap length s), omega (arith, ap packets s, long))
+
+-- counts of a packet that fills a batch
+few-full : (n file : ℕ) (sent now : List Message) (left left_now : List Packet) (p : Packet) → now ≡ sent ++ batch file (left ++ p ∷ []) ∷ [] → left_now ≡ []
+    → length sent ≤ n → packets sent + length left ≤ n → (length now ≤ n + 1) × (packets now + length left_now ≤ n + 1)
+few-full n file sent now left left_now p s l few small =
+    let long : length now ≡ length sent + 1 = ap length s ∙ length-append sent (batch file (left ++ p ∷ []) ∷ []) in
+    let put : length (left ++ p ∷ []) ≡ length left + 1 = length-append left (p ∷ []) in
+    let all : packets now ≡ packets sent + length (left ++ p ∷ []) = ap packets s ∙ sum_by_push count_of sent (batch file (left ++ p ∷ [])) in
+    (omega (arith, long), omega (arith, all, put, ap length l))
+
+-- a packet more, of those that are counted
+pub puts-few : (old new : Outboxes) (k : ℕ) (p : Packet) (n : ℕ) → Puts old new k p → HaveAllFew n old → HaveAllFew (n + 1) new
+puts-few old new k p n h few = λ w below.
+    let within : w < length old.lanes.now = omega (arith, ap length h.same.lanes) in
+    let was = few w within in
+    elim (cases_eq k w) as (λ _. HaveFew (n + 1) new w) [
+      | inl e ↦
+          let first : length (sent_to old k) ≤ n = subst (λ (v : ℕ). length (sent_to old v) ≤ n) (sym e) was.messages in
+          let second : packets (sent_to old k) + length (open_for old k) ≤ n = subst (λ (v : ℕ). packets (sent_to old v) + length (open_for old v) ≤ n) (sym e) was.all_packets in
+          elim (cases_lt (length (open_for old k) + 1) 256) as (λ _. HaveFew (n + 1) new w) [
+            | inl less ↦
+                let t = h.more less in
+                let counts = few-more n (sent_to old k) (sent_to new k) (open_for old k) (open_for new k) p t.0 t.1 first second in
+                subst (λ (v : ℕ). HaveFew (n + 1) new v) e (record { messages = counts.0; all_packets = counts.1 })
+            | inr most ↦
+                let t = h.full (omega (arith, most, h.within)) in
+                let counts = few-full n old.file (sent_to old k) (sent_to new k) (open_for old k) (open_for new k) p t.0 t.1 first second in
+                subst (λ (v : ℕ). HaveFew (n + 1) new v) e (record { messages = counts.0; all_packets = counts.1 })
+          ]
+      | inr other ↦
+          let t = h.others w other in
+          record {
+            messages = omega (arith, ap length t.0, was.messages);
+            all_packets = omega (arith, ap packets t.0, ap length t.1, was.all_packets);
+          }
+    ]
+
+-- what was cut, under another name of the file and with what is equal
+cut-as : (lane : Packet → ℕ) (w f g : ℕ) (ps : List Packet) (sent now : List Message) (left left_now : List Packet) → g ≡ f → now ≡ sent → left_now ≡ left
+    → HasCut 256 f lane w ps sent left → HasCut 256 g lane w ps now left_now
+cut-as lane w f g ps sent now left left_now file s l h =
+    let first : HasCut 256 g lane w ps sent left = subst (λ (x : ℕ). HasCut 256 x lane w ps sent left) (sym file) h in
+    let second : HasCut 256 g lane w ps now left = subst (λ (x : List Message). HasCut 256 g lane w ps x left) (sym s) first in
+    subst (λ (x : List Packet). HasCut 256 g lane w ps now x) (sym l) second
+
+-- a packet more is cut
+pub puts-cut : (old new : Outboxes) (lane : Packet → ℕ) (k : ℕ) (p : Packet) → lane p ≡ k → Puts old new k p → Cuts lane old new (p ∷ [])
+puts-cut old new lane k p e h ps cut w below =
+    let within : w < length old.lanes.now = omega (arith, ap length h.same.lanes) in
+    let was = cut w within in
+    let goal_at : ℕ → Type 0 = λ (v : ℕ). HasCut 256 new.file lane v (ps ++ p ∷ []) (sent_to new v) (open_for new v) in
+    elim (cases_eq k w) as (λ _. HasCut 256 new.file lane w (ps ++ p ∷ []) (sent_to new w) (open_for new w)) [
+      | inl same ↦
+          let here : HasCut 256 old.file lane k ps (sent_to old k) (open_for old k) =
+          subst (λ (v : ℕ). HasCut 256 old.file lane v ps (sent_to old v) (open_for old v)) (sym same) was in
+          elim (cases_lt (length (open_for old k) + 1) 256) as (λ _. HasCut 256 new.file lane w (ps ++ p ∷ []) (sent_to new w) (open_for new w)) [
+            | inl less ↦
+                let t = h.more less in
+                subst goal_at same (cut-as lane k old.file new.file (ps ++ p ∷ []) (sent_to old k) (sent_to new k) (open_for old k ++ p ∷ []) (open_for new k) h.same.file t.0 t.1
+                (HasCut-more 256 old.file lane k ps (sent_to old k) (open_for old k) p e less here))
+            | inr most ↦
+                let full : length (open_for old k) + 1 ≡ 256 = omega (arith, most, h.within) in
+                let t = h.full full in
+                subst goal_at same (cut-as lane k old.file new.file (ps ++ p ∷ []) (sent_to old k ++ batch old.file (open_for old k ++ p ∷ []) ∷ []) (sent_to new k) [] (open_for new k) h.same.file t.0 t.1
+                (HasCut-full 256 old.file lane k ps (sent_to old k) (open_for old k) p e full here))
+          ]
+      | inr other ↦
+          let t = h.others w other in
+          cut-as lane w old.file new.file (ps ++ p ∷ []) (sent_to old w) (sent_to new w) (open_for old w) (open_for new w) h.same.file t.0 t.1
+          (HasCut-other 256 old.file lane w ps (sent_to old w) (open_for old w) p (λ x. other (sym e ∙ x)) was)
+    ]
+
+-- of lanes below one each was sent what fills no batch, and the others are as they were
+pub record RestsUpTo (old now : Outboxes) (i : ℕ) : Type 0 where
+  pub same : AreSame old now
+  pub done : (w : ℕ) → w < i → sent_to now w ≡ with_rest old w
+  pub todo : (w : ℕ) → i ≤ w → (sent_to now w ≡ sent_to old w) × (open_for now w ≡ open_for old w)
+
+-- no lane was sent anything yet
+pub rests-none : (old : Outboxes) → AreOutboxes old → RestsUpTo old old 0
+rests-none old h = record { same = AreSame-refl old h; done = λ w below. absurd (omega (arith, below)); todo = λ w _. (refl, refl) }
+
+-- one lane more
+pub rests-more : (old now next : Outboxes) (i : ℕ) → RestsUpTo old now i → SendsRest now next i → RestsUpTo old next (i + 1)
+rests-more old now next i h step = record {
+  same = AreSame-then old now next h.same step.same;
+  done = λ w below.
+      elim (cases_eq i w) as (λ _. sent_to next w ≡ with_rest old w) [
+        | inl e ↦
+            let t = h.todo i (omega arith) in
+            let here : sent_to next i ≡ with_rest old i =
+            step.here
+            ∙ ap₂ (λ (m : List Message) (l : List Packet). m ++ map (batch now.file) (unless_empty l)) t.0 t.1
+            ∙ ap (λ (f : ℕ). sent_to old i ++ map (batch f) (unless_empty (open_for old i))) h.same.file in
+            subst (λ (v : ℕ). sent_to next v ≡ with_rest old v) e here
+        | inr other ↦
+            let t = step.others w other in
+            t.0 ∙ h.done w (omega (arith, below, other))
+      ];
+  todo = λ w above.
+      let other : i ≡ w → ⊥ = λ e. omega (arith, above, e) in
+      let t = step.others w other in
+      let was = h.todo w (omega (arith, above)) in
+      (t.0 ∙ was.0, t.1 ∙ was.1);
+}
+
+-- the counts of a lane that is still to be sent its last batch
+pub rests-few : (old now : Outboxes) (i n : ℕ) → i < length old.lanes.now → RestsUpTo old now i → HaveAllFew n old → HaveFew n now i
+rests-few old now i n below h few =
+    let t = h.todo i (omega arith) in
+    let was = few i below in
+    record { messages = omega (arith, ap length t.0, was.messages); all_packets = omega (arith, ap packets t.0, ap length t.1, was.all_packets) }
+
+-- all lanes
+pub rests-all : (old now : Outboxes) (i : ℕ) → length old.lanes.now ≤ i → RestsUpTo old now i → (w : ℕ) → w < length old.lanes.now → sent_to now w ≡ with_rest old w
+rests-all old now i all h w below = h.done w (omega (arith, all, below))
+
+-- where it stops, what was sent begins what was to be sent
+pub rests-stopped : (old now next : Outboxes) (i : ℕ) → RestsUpTo old now i → Stays now next → (w : ℕ) → IsPrefix (sent_to next w) (with_rest old w)
+rests-stopped old now next i h stays w =
+    elim (cases_lt w i) as (λ _. IsPrefix (sent_to next w) (with_rest old w)) [
+      | inl below ↦ ([], append-nil (sent_to next w) ∙ stays.sent w ∙ h.done w below)
+      | inr above ↦
+          let more = map (batch old.file) (unless_empty (open_for old w)) in
+          (more, ap (λ (l : List Message). l ++ more) (stays.sent w ∙ (h.todo w above).0))
+    ]
+
+-- of lanes below one each was sent a message, and the others are as they were
+pub record EndsUpTo (old now : Outboxes) (m : Message) (i : ℕ) : Type 0 where
+  pub same : AreSame old now
+  pub done : (w : ℕ) → w < i → sent_to now w ≡ sent_to old w ++ m ∷ []
+  pub todo : (w : ℕ) → i ≤ w → sent_to now w ≡ sent_to old w
+
+pub ends-none : (old : Outboxes) (m : Message) → AreOutboxes old → EndsUpTo old old m 0
+ends-none old m h = record { same = AreSame-refl old h; done = λ w below. absurd (omega (arith, below)); todo = λ w _. refl }
+
+-- one lane more
+pub ends-more : (old now next : Outboxes) (m : Message) (i : ℕ) → EndsUpTo old now m i → Sends now next i m → EndsUpTo old next m (i + 1)
+ends-more old now next m i h step = record {
+  same = AreSame-then old now next h.same step.same;
+  done = λ w below.
+      elim (cases_eq i w) as (λ _. sent_to next w ≡ sent_to old w ++ m ∷ []) [
+        | inl e ↦
+            let here : sent_to next i ≡ sent_to old i ++ m ∷ [] = step.here ∙ ap (λ (l : List Message). l ++ m ∷ []) (h.todo i (omega arith)) in
+            subst (λ (v : ℕ). sent_to next v ≡ sent_to old v ++ m ∷ []) e here
+        | inr other ↦ step.others w other ∙ h.done w (omega (arith, below, other))
+      ];
+  todo = λ w above.
+      let other : i ≡ w → ⊥ = λ e. omega (arith, above, e) in
+      step.others w other ∙ h.todo w (omega (arith, above));
+}
+
+-- there is room for the end at a lane that is still to be sent it
+pub ends-few : (old now : Outboxes) (m : Message) (i most : ℕ) → i < length old.lanes.now → EndsUpTo old now m i → count_of m ≡ 0
+    → ((w : ℕ) → w < length old.lanes.now → (length (sent_to old w) + 1 ≤ most) × (packets (sent_to old w) ≤ most))
+    → IsWithin most (sent_to now i ++ m ∷ [])
+ends-few old now m i most below h none few =
+    let same : sent_to now i ≡ sent_to old i = h.todo i (omega arith) in
+    let t = few i below in
+    within-more most (sent_to now i) m (omega (arith, ap length same, t.0)) (omega (arith, ap packets same, none, t.1))
+
+pub ends-all : (old now : Outboxes) (m : Message) (i : ℕ) → length old.lanes.now ≤ i → EndsUpTo old now m i → (w : ℕ) → w < length old.lanes.now
+    → sent_to now w ≡ sent_to old w ++ m ∷ []
+ends-all old now m i all h w below = h.done w (omega (arith, all, below))
+
+pub ends-stopped : (old now next : Outboxes) (m : Message) (i : ℕ) → EndsUpTo old now m i → Stays now next → (w : ℕ)
+    → IsPrefix (sent_to next w) (sent_to old w ++ m ∷ [])
+ends-stopped old now next m i h stays w =
+    elim (cases_lt w i) as (λ _. IsPrefix (sent_to next w) (sent_to old w ++ m ∷ [])) [
+      | inl below ↦ ([], append-nil (sent_to next w) ∙ stays.sent w ∙ h.done w below)
+      | inr above ↦ (m ∷ [], ap (λ (l : List Message). l ++ m ∷ []) (stays.sent w ∙ h.todo w above))
+    ]
+
+-- what is sent of the last batch counts for one message, and no packet more
+rest-counts : (f : ℕ) (sent : List Message) (left : List Packet) (n : ℕ) → length sent ≤ n → packets sent + length left ≤ n
+    → (length (sent ++ map (batch f) (unless_empty left)) ≤ n + 1) × (packets (sent ++ map (batch f) (unless_empty left)) ≤ n)
+rest-counts f sent [] n few small =
+    let e = append-nil sent in (omega (arith, ap length e), omega (arith, ap packets e))
+rest-counts f sent (p ∷ left) n few small =
+    let long : length (sent ++ batch f (p ∷ left) ∷ []) ≡ length sent + 1 = length-append sent (batch f (p ∷ left) ∷ []) in
+    let all : packets (sent ++ batch f (p ∷ left) ∷ []) ≡ packets sent + length (p ∷ left) = sum_by_push count_of sent (batch f (p ∷ left)) in
+    (omega (arith, long), omega (arith, all))
+
+-- so there is room for the ends
+pub rests-room : (old now : Outboxes) (n most : ℕ) → n + 2 ≤ most → AreSame old now → HaveAllFew n old
+    → ((w : ℕ) → w < length old.lanes.now → sent_to now w ≡ with_rest old w)
+    → (w : ℕ) → w < length now.lanes.now → (length (sent_to now w) + 1 ≤ most) × (packets (sent_to now w) ≤ most)
+rests-room old now n most room same few all w below =
+    let within : w < length old.lanes.now = omega (arith, ap length same.lanes) in
+    let was = few w within in
+    let t = rest-counts old.file (sent_to old w) (open_for old w) n was.messages was.all_packets in
+    (omega (arith, ap length (all w within), t.0), omega (arith, ap packets (all w within), t.1))
+
+-- all was sent up to the end
+pub finish-all : (old mid new : Outboxes) (note : FileNote) (records : ℕ) → AreSame old mid
+    → ((w : ℕ) → w < length old.lanes.now → sent_to mid w ≡ with_rest old w)
+    → ((w : ℕ) → w < length mid.lanes.now → sent_to new w ≡ sent_to mid w ++ ending mid.file note records ∷ [])
+    → (w : ℕ) → w < length old.lanes.now → sent_to new w ≡ with_end old note records w
+finish-all old mid new note records same rests ends w below =
+    let within : w < length mid.lanes.now = omega (arith, ap length same.lanes) in
+    ends w within ∙ ap₂ (λ (l : List Message) (f : ℕ). l ++ ending f note records ∷ []) (rests w below) same.file
+
+-- or a part of it: while the last batches were sent
+pub finish-begun : (old new : Outboxes) (note : FileNote) (records : ℕ) → ((w : ℕ) → IsPrefix (sent_to new w) (with_rest old w))
+    → (w : ℕ) → IsPrefix (sent_to new w) (with_end old note records w)
+finish-begun old new note records begun w =
+    let h = begun w in
+    let end = ending old.file note records ∷ [] in
+    (h.0 ++ end, sym (append_assoc (sent_to new w) h.0 end) ∙ ap (λ (l : List Message). l ++ end) h.1)
+
+-- and while the ends were
+pub finish-ending : (old mid new : Outboxes) (note : FileNote) (records : ℕ) → AreSame old mid
+    → ((w : ℕ) → w < length old.lanes.now → sent_to mid w ≡ with_rest old w)
+    → ((w : ℕ) → IsPrefix (sent_to new w) (sent_to mid w ++ ending mid.file note records ∷ []))
+    → (w : ℕ) → w < length old.lanes.now → IsPrefix (sent_to new w) (with_end old note records w)
+finish-ending old mid new note records same rests begun w below =
+    let h = begun w in
+    (h.0, h.1 ∙ ap₂ (λ (l : List Message) (f : ℕ). l ++ ending f note records ∷ []) (rests w below) same.file)
