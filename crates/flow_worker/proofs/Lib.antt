@@ -14,3 +14,5 @@ pub mod Taking
 pub mod Senders
 pub mod Passes
 pub mod Outgoing
+pub mod Targeting
+pub mod Dealt

@@ -1,6 +1,6 @@
 -- What a step of an intake does to its outboxes.
 use Rattle.std.proofs.Common.{◌≡◌, ◌<◌, ◌≤◌, ◌+◌, ◌^◌, ℕ, suc, zero, List, [], ◌∷◌, ◌++◌, length, map, set, inl, inr, refl, sym, ap, ap₂, ◌∙◌, subst, arith, append-nil, append_assoc, length-set, length-append, get_or-set_same, get_or-set_other}
-use Rattle.std.specs.Prelude.{slice_index_or, Result, Ok, Err, OnErr}
+use Rattle.std.specs.Prelude.{slice_index_or, Result, Ok, Err, IfOk, MatchResult, OnErr}
 use Rattle.std.proofs.lemmas.Bool.{cases_eq, cases_lt}
 use Rattle.std.proofs.lemmas.List.{get_or_default, set-get_or}
 use Rattle.std.proofs.lemmas.List.Sums.{sum_by_push}
@@ -26,6 +26,22 @@ on_err (Err e) P h = h
 pub on_err-then : {A E : Type 0} (r : Result A E) (P Q : Type 0) → (P → Q) → OnErr r P → OnErr r Q
 on_err-then (Ok x) P Q f h = tt
 on_err-then (Err e) P Q f h = f h
+
+-- of one that may be a value
+pub if_ok : {A E : Type 0} (r : Result A E) (P Q : A → Type 0) (R : E → Type 0) → ((x : A) → P x → Q x) → MatchResult r P R → IfOk r Q
+if_ok (Ok x) P Q R f h = f x h
+if_ok (Err e) P Q R f h = tt
+
+-- one batch more without a packet
+none-push : (xs : List (List Packet)) (b : List Packet) → ((w : ℕ) → slice_index_or xs w [] ≡ []) → b ≡ [] → (w : ℕ) → slice_index_or (xs ++ b ∷ []) w [] ≡ []
+none-push [] b none empty zero = empty
+none-push [] b none empty (suc w) = refl
+none-push (x ∷ xs) b none empty zero = none zero
+none-push (x ∷ xs) b none empty (suc w) = none-push xs b (λ v. none (suc v)) empty w
+
+pub none-more : (xs ys : List (List Packet)) (b : List Packet) → ((w : ℕ) → slice_index_or xs w [] ≡ []) → b ≡ [] → ys ≡ xs ++ b ∷ []
+    → (w : ℕ) → slice_index_or ys w [] ≡ []
+none-more xs ys b none empty all w = ap (λ (l : List (List Packet)). slice_index_or l w []) all ∙ none-push xs b none empty w
 
 -- outboxes of which only the passes' use is seen
 AreOutboxes-as : (a b : Outboxes) → b.file ≡ a.file → b.lanes.now ≡ a.lanes.now → b.passes.items ≡ a.passes.items

@@ -6,7 +6,7 @@ use Rattle.std.proofs.lemmas.List.{get_or-map, get_or_past, get_or_default, leng
 use Rattle.std.proofs.lemmas.List.Sums.{sum_by-append}
 use Rattle.ruled_intake.specs.Lanes.{IsWithin, LaneId, Sender, count_of, packets, sent_of, with_sent}
 use Rattle.ruled_intake.specs.declared.message.Message.{Message}
-use Rattle.flow_worker.specs.Intakes.{HaveSent}
+use Rattle.flow_worker.specs.Intakes.{HaveSent, HaveSentNothing}
 
 -- a sender by its parts
 sender-is : (s : Sender) (lane : LaneId) (from : ℕ) (sent : List Message) → s.lane ≡ lane → s.from ≡ from → s.sent ≡ sent
@@ -37,6 +37,13 @@ pub sent_of-set_other : (ps : List Sender) (k w : ℕ) (s : Sender) → (k ≡ w
 sent_of-set_other ps k w s n =
     ap (λ (l : List (List Message)). slice_index_or l w []) (map-set (λ (x : Sender). x.sent) ps k s)
     ∙ get_or-set_other (map (λ (x : Sender). x.sent) ps) k w s.sent [] (λ e. n (sym e))
+
+-- nothing was sent to any lane
+pub sent_of-none : (file : ℕ) (lanes : List LaneId) (ps : List Sender) (w : ℕ) → HaveSentNothing file lanes ps → w < length lanes → sent_of ps w ≡ []
+sent_of-none file lanes [] w h below = absurd (omega (arith, h.count, below))
+sent_of-none file lanes (p ∷ ps) w h below =
+    let within : w < length (p ∷ ps) = omega (arith, h.count, below) in
+    sent_of-at (p ∷ ps) w p within ∙ ap (λ (s : Sender). s.sent) (h.each w p p.lane below)
 
 -- passes by which something was sent, at what was sent
 pub HaveSent-own : (file : ℕ) (lanes : List LaneId) (ps : List Sender) (sent : (lane : ℕ) → List Message) → HaveSent file lanes sent ps

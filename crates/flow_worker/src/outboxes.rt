@@ -49,6 +49,7 @@ impl<'a> Outboxes<'a> {
         ensures are { IfOk result AreOutboxes }
         ensures lanes { IfOk result (λ o. o.lanes.now ≡ lanes.now) }
         ensures file { IfOk result (λ o. o.file ≡ file) }
+        ensures passes { IfOk result (λ o. o.passes ≡ passes) }
         ensures sent { IfOk result (λ o. (w : ℕ) → w < length lanes.now → sent_to o w ≡ []) }
         ensures batches { IfOk result (λ o. (w : ℕ) → open_for o w ≡ []) }
         ensures back { IfErr result (λ back. back ≡ passes) }

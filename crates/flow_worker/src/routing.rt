@@ -32,7 +32,7 @@ fn find_media(media: &[Media], target: Target) -> Option<u32>
     ensures { result ≡ media_to target 0 media.now }
 {
     for (number, each) in media.iter().enumerate() {
-        if each.target() == target {
+        if target == each.target() {
             return Some(number as u32);
         }
     }
