@@ -159,7 +159,7 @@ sends-are r joined file w items note e =
     ap (λ (f : ℕ). for_lane w (sent_of 256 file (λ p. route (key_of f p.media) (length r.media.now) r.lanes) (session_packets r.media.now items) r.lanes (ending file note (length items)))) e
 
 -- what is to be sent of a file with such a note was sent by these passes
-SentTo : (s : Setting) (file : ℕ) → List LaneId → List Sender → List Record → FileNote → Type 0
+abbrev SentTo : (s : Setting) (file : ℕ) → List LaneId → List Sender → List Record → FileNote → Type 0
 SentTo s file lanes passes items note = HaveSent file lanes (lane_sends s file (record { records = items; note = note })) passes
 
 -- all was sent: the note is that of the capture
@@ -249,3 +249,10 @@ told-nothing s file lanes passes items end h = record {
   have_sent = h;
   begins = λ w. (lane_sends s file (record { records = items; note = end }) w, refl);
 }
+
+-- memory ran out, and the passes are those that were left
+pub told-stop : (s : Setting) (file : ℕ) (lanes : List LaneId) (c : Capture) (passes now : List Sender) (note : FileNote) → note ≡ file_note.Stopped → now ≡ passes
+    → HasBegun s file lanes c passes → HasTold s file lanes c note now
+told-stop s file lanes c passes now note e same h =
+    let here : HasBegun s file lanes c now = subst (λ (ps : List Sender). HasBegun s file lanes c ps) (sym same) h in
+    subst (λ (x : FileNote). HasTold s file lanes c x now) (sym e) here

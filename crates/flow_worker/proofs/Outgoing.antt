@@ -27,6 +27,10 @@ pub on_err-then : {A E : Type 0} (r : Result A E) (P Q : Type 0) → (P → Q) �
 on_err-then (Ok x) P Q f h = tt
 on_err-then (Err e) P Q f h = f h
 
+-- of one that is an error
+pub match_err : {A E : Type 0} (r : Result A E) (e : E) (P : A → Type 0) (Q : E → Type 0) → r ≡ Err e → Q e → MatchResult r P Q
+match_err {A = A} {E = E} r e P Q is h = let F : Result A E → Type 0 = λ x. MatchResult x P Q in subst F (sym is) h
+
 -- of one that may be a value
 pub if_ok : {A E : Type 0} (r : Result A E) (P Q : A → Type 0) (R : E → Type 0) → ((x : A) → P x → Q x) → MatchResult r P R → IfOk r Q
 if_ok (Ok x) P Q R f h = f x h
