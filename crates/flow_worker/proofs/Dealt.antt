@@ -113,9 +113,11 @@ begun-late r mid new note count items end lanes same begun h = record {
   ends = h.ends;
   begins = λ w below.
       let within : w < length mid.lanes.now = omega (arith, ap length same.lanes) in
-      let t = begun w within in
-      (t.0, t.1 ∙ ends-are r mid note count w h.before h.count_is (omega (arith, within, lanes)) (h.cut w within)
-      ∙ ap (λ (f : ℕ). sends_to r f w h.before note) (sym same.file));
+      let t = begun w within in (
+        t.0,
+        t.1 ∙ ends-are r mid note count w h.before h.count_is (omega (arith, within, lanes)) (h.cut w within)
+            ∙ ap (λ (f : ℕ). sends_to r f w h.before note) (sym same.file),
+      );
 }
 
 -- a note and nothing before it
@@ -147,9 +149,11 @@ begun-early r o items end h =
           let last = ending o.file end (length items) in
           let full = for_lane w (full_batches 256 o.file (route_of r) [] ps) in
           let cut : HasCut 256 o.file (route_of r) w ps full (rest 256 (lane_packets (route_of r) w ps)) = record { full = refl; open_batch = refl } in
-          let t = HasCut-prefix 256 o.file (route_of r) w ps more full (rest 256 (lane_packets (route_of r) w ps)) r.lanes last cut in
-          (t.0, ap (λ (l : List Message). l ++ t.0) (h.full w below) ∙ t.1
-          ∙ ap (λ (l : List Packet). for_lane w (sent_of 256 o.file (route_of r) l r.lanes last)) (sym all));
+          let t = HasCut-prefix 256 o.file (route_of r) w ps more full (rest 256 (lane_packets (route_of r) w ps)) r.lanes last cut in (
+            t.0,
+            ap (λ (l : List Message). l ++ t.0) (h.full w below) ∙ t.1
+                ∙ ap (λ (l : List Packet). for_lane w (sent_of 256 o.file (route_of r) l r.lanes last)) (sym all),
+          );
     }
 
 -- what is to be sent of a file, for the whole run

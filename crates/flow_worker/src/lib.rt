@@ -16,3 +16,6 @@ mod workers;
 
 pub use intakes::{IntakeDone, intake};
 pub use workers::{WorkDone, work};
+
+#[cfg(test)]
+mod tests;

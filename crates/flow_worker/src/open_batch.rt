@@ -69,9 +69,6 @@ impl OpenBatch {
         if self.packets.is_empty() {
             return None;
         }
-        Some(Items::from_vec(mem::replace(
-            &mut self.packets,
-            Vec::new(alloc),
-        )))
+        Some(Items::from_vec(mem::replace(&mut self.packets, Vec::new(alloc))))
     }
 }
