@@ -1,6 +1,6 @@
 -- The records of a file, as their packets are cut one after the other, and what an intake has sent of them when it ends.
-use Rattle.std.proofs.Common.{◌≡◌, ◌≢◌, ◌<◌, ◌≤◌, ◌+◌, ℕ, Bool, if◌then◌else◌, List, [], ◌∷◌, ◌++◌, length, inl, inr, refl, sym, ap, ap₂, ◌∙◌, subst, append-nil, append_assoc, length-append, arith}
-use Rattle.std.specs.Prelude.{Option, Some, None, filter_map}
+use Rattle.std.proofs.Common.{◌≡◌, ◌<◌, ◌+◌, ℕ, Bool, if◌then◌else◌, List, [], ◌∷◌, ◌++◌, length, inl, inr, refl, sym, ap, ◌∙◌, subst, append-nil, append_assoc, length-append, arith}
+use Rattle.std.specs.Prelude.{Option, None}
 use Rattle.std.proofs.lemmas.Bool.{cases_lt}
 use Rattle.std.proofs.lemmas.List.Elements.{filter_map-append}
 use Rattle.timing_base.specs.Captures.{Record}
@@ -11,26 +11,21 @@ use Rattle.timing_base.specs.declared.capture.FileNote.{FileNote}
 use Rattle.timing_base.specs.declared.capture.FileNote.TheVariants as file_note
 use Rattle.timing_base.specs.declared.capture.PcapFault.TheVariants as fault
 use Rattle.pcap_reader.specs.Readers.{GivesNote, WillGive}
-use Rattle.pcap_reader.specs.Records.{IsGiven, OnReadFault, UnlessReadFault}
+use Rattle.pcap_reader.specs.Records.{IsGiven}
 use Rattle.pcap_reader.specs.declared.reader.PcapReader.{PcapReader}
-use Rattle.ruled_intake.specs.Lanes.{LaneId, Sender, sent_of as sent_by}
+use Rattle.ruled_intake.specs.Lanes.{LaneId, Sender}
 use Rattle.ruled_intake.specs.Packets.{Packet}
 use Rattle.ruled_intake.specs.declared.message.Message.{Message}
 use Rattle.flow_worker.specs.Cut.{HasCut}
-use Rattle.flow_worker.specs.Intakes.{AreOfFile, HasBegun, HasBroken, HasSentAll, HasTold, HaveSent, HaveSentNothing, intake_setting, lane_sends}
+use Rattle.flow_worker.specs.Intakes.{HasBegun, HasSentAll, HasTold, HaveSent, HaveSentNothing, intake_setting, lane_sends}
 use Rattle.flow_worker.specs.Kept.{IsPrefix}
 use Rattle.flow_worker.specs.Messages.{ending}
 use Rattle.flow_worker.specs.Opening.{Capture, Setting, for_lane, full_batches, lane_packets, packet_from, rest, sent_of, session_packets}
-use Rattle.flow_worker.specs.Sending.{AreCut, AreSame, CutsNext, HasBegunFile, HasCutAll, HasCutSome, HasLeftOff, HasSentFile, Stays, open_for, route_of, sends_to, sent_to, with_end}
+use Rattle.flow_worker.specs.Sending.{AreCut, AreSame, CutsNext, HasBegunFile, HasCutAll, HasCutSome, HasLeftOff, HasSentFile, open_for, route_of, sends_to, sent_to, with_end}
 use Rattle.flow_worker.specs.declared.outboxes.Outboxes.{Outboxes}
 use Rattle.flow_worker.specs.declared.routing.Routing.{Routing}
 use Rattle.flow_worker.proofs.Cutting.{HasCut-all, HasCut-prefix}
 use Rattle.flow_worker.proofs.Passes.{HaveSent-as, sent_of-past}
-
--- no record is read yet
-pub cut-none : {S : Type 0} (left : S → Option (List ℕ)) (r : Routing) (o : Outboxes) (reader : PcapReader S) (count : ℕ) (items : List Record) (end : FileNote) → count ≡ 0
-    → AreCut (route_of r) [] o → WillGive left reader items end → HasCutSome left r o reader count items end
-cut-none left r o reader count items end none cut given = record { before = []; later = items; whole = refl; given = given; count_is = sym none; cut = cut }
 
 -- the packets of records and then of more
 pub session_packets-append : (ms : List Media) (xs ys : List Record) → session_packets ms (xs ++ ys) ≡ session_packets ms xs ++ session_packets ms ys
@@ -52,34 +47,6 @@ cut-more left r old new reader next count more o items end e one h takes =
           subst (λ (ps : List Packet). AreCut (route_of r) ps new) (sym (session_packets-append r.media.now h.before (t.0 ∷ [])))
           (t.4 (session_packets r.media.now h.before) h.cut);
     }
-
--- there is no record more, or a read failed
-pub cut-all : {S : Type 0} (left : S → Option (List ℕ)) (r : Routing) (old new : Outboxes) (reader next : PcapReader S) (count many : ℕ) (o : Option FileNote) (note : FileNote) (items : List Record) (end : FileNote)
-    → o ≡ Some note → many ≡ count → HasCutSome left r old reader count items end
-    → ((later : List Record) → WillGive left reader later end → CutsNext left r old new next o later end) → HasCutAll r new note many items end
-cut-all left r old new reader next count many o note items end e same h takes =
-    let t = subst (λ (x : Option FileNote). CutsNext left r old new next x h.later end) e (takes h.later h.given) in
-    record {
-      before = h.before;
-      later = h.later;
-      whole = h.whole;
-      ends = t.0;
-      count_is = h.count_is ∙ sym same;
-      cut = subst (AreCut (route_of r) (session_packets r.media.now h.before)) (sym t.1) h.cut;
-    }
-
--- memory ran out at a record
-pub cut-stopped : {S : Type 0} (left : S → Option (List ℕ)) (r : Routing) (old new : Outboxes) (reader : PcapReader S) (count : ℕ) (items : List Record) (end : FileNote)
-    → HasCutSome left r old reader count items end → Stays old new → HasLeftOff r new items
-cut-stopped left r old new reader count items end h stays = record {
-  before = h.before;
-  later = h.later;
-  whole = h.whole;
-  full = λ w below.
-      let within : w < length old.lanes.now = omega (arith, ap length stays.same.lanes) in
-      stays.sent w ∙ (h.cut w within).full
-      ∙ ap (λ (f : ℕ). for_lane w (full_batches 256 f (route_of r) [] (session_packets r.media.now h.before))) (sym stays.same.file);
-}
 
 -- all that is sent to a lane, once its packets are cut
 ends-are : (r : Routing) (o : Outboxes) (note : FileNote) (count w : ℕ) (items : List Record) → length items ≡ count → w < r.lanes

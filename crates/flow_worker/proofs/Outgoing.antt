@@ -1,11 +1,11 @@
 -- What a step of an intake does to its outboxes.
-use Rattle.std.proofs.Common.{◌≡◌, ◌<◌, ◌≤◌, ◌+◌, ◌^◌, ℕ, suc, zero, List, [], ◌∷◌, ◌++◌, length, map, set, inl, inr, refl, sym, ap, ap₂, ◌∙◌, subst, arith, append-nil, append_assoc, length-set, length-append, get_or-set_same, get_or-set_other}
+use Rattle.std.proofs.Common.{◌≡◌, ◌<◌, ◌≤◌, ◌+◌, ℕ, suc, zero, List, [], ◌∷◌, ◌++◌, length, map, set, inl, inr, refl, sym, ap, ap₂, ◌∙◌, subst, arith, append-nil, append_assoc, length-append}
 use Rattle.std.specs.Prelude.{slice_index_or, Result, Ok, Err, IfOk, MatchResult, OnErr}
 use Rattle.std.proofs.lemmas.Bool.{cases_eq, cases_lt}
-use Rattle.std.proofs.lemmas.List.{get_or_default, set-get_or}
+use Rattle.std.proofs.lemmas.List.{set-get_or}
 use Rattle.std.proofs.lemmas.List.Sums.{sum_by_push}
 use Rattle.timing_base.specs.declared.capture.FileNote.{FileNote}
-use Rattle.ruled_intake.specs.Lanes.{IsWithin, LaneId, Sender, count_of, packets, sent_of as sent_by, with_sent}
+use Rattle.ruled_intake.specs.Lanes.{LaneId, Sender, count_of, packets, sent_of as sent_by, with_sent}
 use Rattle.ruled_intake.specs.Packets.{Packet}
 use Rattle.ruled_intake.specs.declared.message.Message.{Message}
 use Rattle.flow_worker.specs.Cut.{HasCut}
@@ -13,10 +13,10 @@ use Rattle.flow_worker.specs.Intakes.{HaveSent}
 use Rattle.flow_worker.specs.Kept.{IsPrefix}
 use Rattle.flow_worker.specs.Messages.{batch, ending}
 use Rattle.flow_worker.specs.Opening.{unless_empty}
-use Rattle.flow_worker.specs.Sending.{AreCut, AreOutboxes, AreSame, Cuts, HaveAllFew, HaveFew, Puts, Sends, SendsRest, Stays, open_for, sent_to, with_end, with_rest}
+use Rattle.flow_worker.specs.Sending.{AreOutboxes, AreSame, Cuts, HaveAllFew, HaveFew, Puts, Sends, Stays, open_for, sent_to, with_end, with_rest}
 use Rattle.flow_worker.specs.declared.outboxes.Outboxes.{Outboxes}
 use Rattle.flow_worker.proofs.Cutting.{HasCut-full, HasCut-more, HasCut-other}
-use Rattle.flow_worker.proofs.Passes.{HaveSent-set, sent_of-at, sent_of-set_same, sent_of-set_other, within-more}
+use Rattle.flow_worker.proofs.Passes.{HaveSent-set, sent_of-at, sent_of-set_same, sent_of-set_other}
 
 -- of a result that may be an error
 pub on_err : {A E : Type 0} (r : Result A E) (P : Type 0) → P → OnErr r P
@@ -132,10 +132,6 @@ sends-then old mid new k m h file lanes batches passes =
       open_same = λ w. ap (λ (l : List (List Packet)). slice_index_or l w []) batches ∙ h.open_same w;
     }
 
--- nothing was sent, twice
-pub stays-then : (old mid new : Outboxes) → Stays old mid → Stays mid new → Stays old new
-stays-then old mid new a b = record { same = AreSame-then old mid new a.same b.same; sent = λ w. b.sent w ∙ a.sent w }
-
 -- counts of a packet that fills no batch
 few-more : (n : ℕ) (sent now : List Message) (left left_now : List Packet) (p : Packet) → now ≡ sent → left_now ≡ left ++ p ∷ []
     → length sent ≤ n → packets sent + length left ≤ n → (length now ≤ n + 1) × (packets now + length left_now ≤ n + 1)
@@ -220,45 +216,6 @@ pub record RestsUpTo (old now : Outboxes) (i : ℕ) : Type 0 where
   pub done : (w : ℕ) → w < i → sent_to now w ≡ with_rest old w
   pub todo : (w : ℕ) → i ≤ w → (sent_to now w ≡ sent_to old w) × (open_for now w ≡ open_for old w)
 
--- no lane was sent anything yet
-pub rests-none : (old : Outboxes) → AreOutboxes old → RestsUpTo old old 0
-rests-none old h = record { same = AreSame-refl old h; done = λ w below. absurd (omega (arith, below)); todo = λ w _. (refl, refl) }
-
--- one lane more
-pub rests-more : (old now next : Outboxes) (i : ℕ) → RestsUpTo old now i → SendsRest now next i → RestsUpTo old next (i + 1)
-rests-more old now next i h step = record {
-  same = AreSame-then old now next h.same step.same;
-  done = λ w below.
-      elim (cases_eq i w) as (λ _. sent_to next w ≡ with_rest old w) [
-        | inl e ↦
-            let t = h.todo i (omega arith) in
-            let here : sent_to next i ≡ with_rest old i =
-            step.here
-            ∙ ap₂ (λ (m : List Message) (l : List Packet). m ++ map (batch now.file) (unless_empty l)) t.0 t.1
-            ∙ ap (λ (f : ℕ). sent_to old i ++ map (batch f) (unless_empty (open_for old i))) h.same.file in
-            subst (λ (v : ℕ). sent_to next v ≡ with_rest old v) e here
-        | inr other ↦
-            let t = step.others w other in
-            t.0 ∙ h.done w (omega (arith, below, other))
-      ];
-  todo = λ w above.
-      let other : i ≡ w → ⊥ = λ e. omega (arith, above, e) in
-      let t = step.others w other in
-      let was = h.todo w (omega (arith, above)) in
-      (t.0 ∙ was.0, t.1 ∙ was.1);
-}
-
--- the counts of a lane that is still to be sent its last batch
-pub rests-few : (old now : Outboxes) (i n : ℕ) → i < length old.lanes.now → RestsUpTo old now i → HaveAllFew n old → HaveFew n now i
-rests-few old now i n below h few =
-    let t = h.todo i (omega arith) in
-    let was = few i below in
-    record { messages = omega (arith, ap length t.0, was.messages); all_packets = omega (arith, ap packets t.0, ap length t.1, was.all_packets) }
-
--- all lanes
-pub rests-all : (old now : Outboxes) (i : ℕ) → length old.lanes.now ≤ i → RestsUpTo old now i → (w : ℕ) → w < length old.lanes.now → sent_to now w ≡ with_rest old w
-rests-all old now i all h w below = h.done w (omega (arith, all, below))
-
 -- where it stops, what was sent begins what was to be sent
 pub rests-stopped : (old now next : Outboxes) (i : ℕ) → RestsUpTo old now i → Stays now next → (w : ℕ) → IsPrefix (sent_to next w) (with_rest old w)
 rests-stopped old now next i h stays w =
@@ -275,38 +232,6 @@ pub record EndsUpTo (old now : Outboxes) (m : Message) (i : ℕ) : Type 0 where
   pub done : (w : ℕ) → w < i → sent_to now w ≡ sent_to old w ++ m ∷ []
   pub todo : (w : ℕ) → i ≤ w → sent_to now w ≡ sent_to old w
 
-pub ends-none : (old : Outboxes) (m : Message) → AreOutboxes old → EndsUpTo old old m 0
-ends-none old m h = record { same = AreSame-refl old h; done = λ w below. absurd (omega (arith, below)); todo = λ w _. refl }
-
--- one lane more
-pub ends-more : (old now next : Outboxes) (m : Message) (i : ℕ) → EndsUpTo old now m i → Sends now next i m → EndsUpTo old next m (i + 1)
-ends-more old now next m i h step = record {
-  same = AreSame-then old now next h.same step.same;
-  done = λ w below.
-      elim (cases_eq i w) as (λ _. sent_to next w ≡ sent_to old w ++ m ∷ []) [
-        | inl e ↦
-            let here : sent_to next i ≡ sent_to old i ++ m ∷ [] = step.here ∙ ap (λ (l : List Message). l ++ m ∷ []) (h.todo i (omega arith)) in
-            subst (λ (v : ℕ). sent_to next v ≡ sent_to old v ++ m ∷ []) e here
-        | inr other ↦ step.others w other ∙ h.done w (omega (arith, below, other))
-      ];
-  todo = λ w above.
-      let other : i ≡ w → ⊥ = λ e. omega (arith, above, e) in
-      step.others w other ∙ h.todo w (omega (arith, above));
-}
-
--- there is room for the end at a lane that is still to be sent it
-pub ends-few : (old now : Outboxes) (m : Message) (i most : ℕ) → i < length old.lanes.now → EndsUpTo old now m i → count_of m ≡ 0
-    → ((w : ℕ) → w < length old.lanes.now → (length (sent_to old w) + 1 ≤ most) × (packets (sent_to old w) ≤ most))
-    → IsWithin most (sent_to now i ++ m ∷ [])
-ends-few old now m i most below h none few =
-    let same : sent_to now i ≡ sent_to old i = h.todo i (omega arith) in
-    let t = few i below in
-    within-more most (sent_to now i) m (omega (arith, ap length same, t.0)) (omega (arith, ap packets same, none, t.1))
-
-pub ends-all : (old now : Outboxes) (m : Message) (i : ℕ) → length old.lanes.now ≤ i → EndsUpTo old now m i → (w : ℕ) → w < length old.lanes.now
-    → sent_to now w ≡ sent_to old w ++ m ∷ []
-ends-all old now m i all h w below = h.done w (omega (arith, all, below))
-
 pub ends-stopped : (old now next : Outboxes) (m : Message) (i : ℕ) → EndsUpTo old now m i → Stays now next → (w : ℕ)
     → IsPrefix (sent_to next w) (sent_to old w ++ m ∷ [])
 ends-stopped old now next m i h stays w =
@@ -314,35 +239,6 @@ ends-stopped old now next m i h stays w =
       | inl below ↦ ([], append-nil (sent_to next w) ∙ stays.sent w ∙ h.done w below)
       | inr above ↦ (m ∷ [], ap (λ (l : List Message). l ++ m ∷ []) (stays.sent w ∙ h.todo w above))
     ]
-
--- what is sent of the last batch counts for one message, and no packet more
-rest-counts : (f : ℕ) (sent : List Message) (left : List Packet) (n : ℕ) → length sent ≤ n → packets sent + length left ≤ n
-    → (length (sent ++ map (batch f) (unless_empty left)) ≤ n + 1) × (packets (sent ++ map (batch f) (unless_empty left)) ≤ n)
-rest-counts f sent [] n few small =
-    let e = append-nil sent in (omega (arith, ap length e), omega (arith, ap packets e))
-rest-counts f sent (p ∷ left) n few small =
-    let long : length (sent ++ batch f (p ∷ left) ∷ []) ≡ length sent + 1 = length-append sent (batch f (p ∷ left) ∷ []) in
-    let all : packets (sent ++ batch f (p ∷ left) ∷ []) ≡ packets sent + length (p ∷ left) = sum_by_push count_of sent (batch f (p ∷ left)) in
-    (omega (arith, long), omega (arith, all))
-
--- so there is room for the ends
-pub rests-room : (old now : Outboxes) (n most : ℕ) → n + 2 ≤ most → AreSame old now → HaveAllFew n old
-    → ((w : ℕ) → w < length old.lanes.now → sent_to now w ≡ with_rest old w)
-    → (w : ℕ) → w < length now.lanes.now → (length (sent_to now w) + 1 ≤ most) × (packets (sent_to now w) ≤ most)
-rests-room old now n most room same few all w below =
-    let within : w < length old.lanes.now = omega (arith, ap length same.lanes) in
-    let was = few w within in
-    let t = rest-counts old.file (sent_to old w) (open_for old w) n was.messages was.all_packets in
-    (omega (arith, ap length (all w within), t.0), omega (arith, ap packets (all w within), t.1))
-
--- all was sent up to the end
-pub finish-all : (old mid new : Outboxes) (note : FileNote) (records : ℕ) → AreSame old mid
-    → ((w : ℕ) → w < length old.lanes.now → sent_to mid w ≡ with_rest old w)
-    → ((w : ℕ) → w < length mid.lanes.now → sent_to new w ≡ sent_to mid w ++ ending mid.file note records ∷ [])
-    → (w : ℕ) → w < length old.lanes.now → sent_to new w ≡ with_end old note records w
-finish-all old mid new note records same rests ends w below =
-    let within : w < length mid.lanes.now = omega (arith, ap length same.lanes) in
-    ends w within ∙ ap₂ (λ (l : List Message) (f : ℕ). l ++ ending f note records ∷ []) (rests w below) same.file
 
 -- or a part of it: while the last batches were sent
 pub finish-begun : (old new : Outboxes) (note : FileNote) (records : ℕ) → ((w : ℕ) → IsPrefix (sent_to new w) (with_rest old w))

@@ -1,15 +1,14 @@
 -- The passes of a file for some lanes, and what was sent by them, where one of them is used.
-use Rattle.std.proofs.Common.{◌≡◌, ◌<◌, ◌≤◌, ◌+◌, ◌^◌, ℕ, suc, zero, List, [], ◌∷◌, ◌++◌, length, map, set, inl, inr, refl, sym, ap, ◌∙◌, subst, arith, length-set, length-append, get_or-set_same, get_or-set_other}
+use Rattle.std.proofs.Common.{◌≡◌, ◌<◌, ◌≤◌, ℕ, List, [], ◌∷◌, length, map, set, inl, inr, sym, ap, ◌∙◌, subst, arith, length-set, get_or-set_same, get_or-set_other}
 use Rattle.std.specs.Prelude.{slice_index_or}
 use Rattle.std.proofs.lemmas.Bool.{cases_eq}
-use Rattle.std.proofs.lemmas.List.{get_or-map, get_or_past, get_or_default, length-map, map-set, set-get_or}
-use Rattle.std.proofs.lemmas.List.Sums.{sum_by-append}
-use Rattle.ruled_intake.specs.Lanes.{IsWithin, LaneId, Sender, count_of, packets, sent_of, with_sent}
+use Rattle.std.proofs.lemmas.List.{get_or-map, get_or_past, length-map, map-set}
+use Rattle.ruled_intake.specs.Lanes.{LaneId, Sender, sent_of}
 use Rattle.ruled_intake.specs.declared.message.Message.{Message}
 use Rattle.flow_worker.specs.Intakes.{HaveSent, HaveSentNothing}
 
 -- a sender by its parts
-sender-is : (s : Sender) (lane : LaneId) (from : ℕ) (sent : List Message) → s.lane ≡ lane → s.from ≡ from → s.sent ≡ sent
+pub sender-is : (s : Sender) (lane : LaneId) (from : ℕ) (sent : List Message) → s.lane ≡ lane → s.from ≡ from → s.sent ≡ sent
     → s ≡ record { lane = lane; from = from; sent = sent }
 sender-is s lane from sent l f m =
     let first : s ≡ record { lane = lane; from = s.from; sent = s.sent } = ap (λ (x : LaneId). record { lane = x; from = s.from; sent = s.sent }) l in
@@ -45,18 +44,6 @@ sent_of-none file lanes (p ∷ ps) w h below =
     let within : w < length (p ∷ ps) = omega (arith, h.count, below) in
     sent_of-at (p ∷ ps) w p within ∙ ap (λ (s : Sender). s.sent) (h.each w p p.lane below)
 
--- passes by which something was sent, at what was sent
-pub HaveSent-own : (file : ℕ) (lanes : List LaneId) (ps : List Sender) (sent : (lane : ℕ) → List Message) → HaveSent file lanes sent ps
-    → HaveSent file lanes (sent_of ps) ps
-HaveSent-own file lanes ps sent h = record {
-  count = h.count;
-  each = λ w d l below.
-      let within : w < length ps = omega (arith, h.count) in
-      h.each w d l below
-      ∙ ap (λ (m : List Message). record { lane = slice_index_or lanes w l; from = file; sent = m })
-      (sym (sent_of-at ps w d within ∙ ap (λ (s : Sender). s.sent) (h.each w d l below)));
-}
-
 -- passes that have sent the same
 pub HaveSent-as : (file : ℕ) (lanes : List LaneId) (ps : List Sender) (sent other : (lane : ℕ) → List Message) → ((w : ℕ) → w < length lanes → sent w ≡ other w)
     → HaveSent file lanes sent ps → HaveSent file lanes other ps
@@ -88,11 +75,3 @@ HaveSent-set file lanes ps k before s here h read lane from =
                 ∙ ap (λ (m : List Message). record { lane = slice_index_or lanes w l; from = file; sent = m }) (sym (sent_of-set_other ps k w s n))
           ];
     }
-
--- a message more is within the limits
-pub within-more : (most : ℕ) (sent : List Message) (m : Message) → length sent + 1 ≤ most → packets sent + count_of m ≤ most → IsWithin most (sent ++ m ∷ [])
-within-more most sent m few small =
-    let long = length-append sent (m ∷ []) in
-    let all : packets (sent ++ m ∷ []) ≡ packets sent + packets (m ∷ []) = sum_by-append count_of sent (m ∷ []) in
-    let one : packets (m ∷ []) ≡ count_of m = omega arith in
-    record { few_messages = omega (arith, long); few_packets = omega (arith, all, one) }

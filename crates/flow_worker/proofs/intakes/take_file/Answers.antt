@@ -1,4 +1,4 @@
-use Rattle.std.proofs.Common.{◌≡◌, ◌∙◌, List, sym, subst, rules}
+use Rattle.std.proofs.Common.{◌≡◌, List, sym, subst, rules}
 use Rattle.ruled_intake.specs.Lanes.{Sender}
 use Rattle.flow_worker.specs.Intakes.{HasTold, intake_setting}
 use Rattle.flow_worker.proofs.Dealt.{told-file, told-stop, told-stopped}

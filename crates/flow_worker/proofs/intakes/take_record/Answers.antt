@@ -1,8 +1,8 @@
-use Rattle.std.proofs.Common.{◌≡◌, ◌+◌, ℕ, ◌∷◌, [], sym, ap, ◌∙◌, subst, List}
-use Rattle.std.specs.Prelude.{IfOk, MatchResult, Option}
+use Rattle.std.proofs.Common.{[], sym, ◌∙◌, subst}
+use Rattle.std.specs.Prelude.{Option}
 use Rattle.std.specs.List.{cons_option}
 use Rattle.ruled_intake.specs.Packets.{Packet}
-use Rattle.flow_worker.specs.Sending.{Cuts, HaveAllFew, Puts, route_of}
+use Rattle.flow_worker.specs.Sending.{Cuts, route_of}
 use Rattle.flow_worker.proofs.Outgoing.{if_ok, puts-cut, puts-few}
 use Rattle.flow_worker.proofs.intakes.take_record.Goals as goal
 

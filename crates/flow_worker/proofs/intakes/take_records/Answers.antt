@@ -1,6 +1,5 @@
-use Rattle.std.proofs.Common.{◌≡◌, ◌-◌, rules}
-use Rattle.pcap_reader.specs.Readers.{frame_count}
-use Rattle.flow_worker.proofs.Dealt.{cut-all, cut-more, cut-none, cut-stopped}
+use Rattle.std.proofs.Common.{rules}
+use Rattle.flow_worker.proofs.Dealt.{cut-more}
 use Rattle.flow_worker.proofs.Outgoing.{AreSame-then}
 use Rattle.flow_worker.proofs.intakes.take_records.Goals as goal
 

@@ -1,4 +1,3 @@
-use Rattle.std.proofs.Common.{refl}
 use Rattle.flow_worker.proofs.Passes.{sent_of-none}
 use Rattle.flow_worker.proofs.outboxes.Outboxes.new.Goals as goal
 

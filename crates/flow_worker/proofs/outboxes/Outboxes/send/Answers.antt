@@ -1,4 +1,4 @@
-use Rattle.std.proofs.Common.{◌≡◌, refl}
+use Rattle.std.proofs.Common.{refl}
 use Rattle.flow_worker.proofs.Outgoing.{sends-one, set-same, stays-same}
 use Rattle.flow_worker.proofs.outboxes.Outboxes.send.Goals as goal
 use Rattle.flow_worker.proofs.outboxes.Outboxes.send.Goals.{in-Ok, in-Err}

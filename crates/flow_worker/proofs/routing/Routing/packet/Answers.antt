@@ -1,4 +1,4 @@
-use Rattle.std.proofs.Common.{◌≡◌, ◌<◌, ◌+◌, ℕ, length, ap, sym, ◌∙◌, Some, rules, arith}
+use Rattle.std.proofs.Common.{◌≡◌, ◌<◌, ◌+◌, length, ap, sym, ◌∙◌, Some, rules, arith}
 use Rattle.timing_base.specs.Captures.{Record}
 use Rattle.udp_rtp.specs.Frames.{Datagram, datagram_of}
 use Rattle.ruled_intake.specs.Packets.{Packet}
