@@ -19,7 +19,7 @@ two-passes a b (p ∷ []) (q ∷ r ∷ qs) h g = absurd (omega (arith, g.count))
 two-passes a b (p ∷ o ∷ ps) qs h g = absurd (omega (arith, h.count))
 
 pub intake-done-requires-clause-passes : goal.intake-done-requires-clause-passes
-intake-done-requires-clause-passes g c =
+intake-done-requires-clause-passes g c = λ _.
     let all : c.append.new.self.items ≡ c.in_ok-first.passes.items ++ c.in_ok-second.more.items = c.in_ok-append.ensures.items in
     subst (HaveSentNothing 0 (c.in_ok-first.first ∷ c.in_ok-second.second ∷ [])) (sym all)
     (two-passes c.in_ok-first.first c.in_ok-second.second c.in_ok-first.passes.items c.in_ok-second.more.items c.in_ok-first.ensures.passes c.in_ok-second.ensures.passes)
