@@ -1,4 +1,4 @@
-use Rattle.std.proofs.Common.{◌≡◌, ◌<◌, ◌+◌, ℕ, List, [], ◌∷◌, length, sym, ap, ◌∙◌, arith}
+use Rattle.std.proofs.Common.{◌≡◌, ◌<◌, ℕ, List, [], ◌∷◌, length, sym, ap, ◌∙◌, arith}
 use Rattle.std.specs.Prelude.{slice_index_or, Result, Ok, Err, IfOk}
 use Rattle.ruled_intake.specs.Lanes.{AreSenders, LaneId, Sender, sent_of}
 use Rattle.flow_worker.specs.Intakes.{HaveSentNothing}
