@@ -12,3 +12,7 @@ pub mod Cutting
 pub mod Reported
 pub mod Taking
 pub mod Senders
+pub mod Passes
+pub mod Outgoing
+pub mod Targeting
+pub mod Dealt

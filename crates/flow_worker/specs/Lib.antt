@@ -5,5 +5,9 @@ pub mod Posting
 pub mod World
 pub mod Kept
 pub mod Cut
+pub mod Intakes
+pub mod Works
+pub mod Targeted
+pub mod Sending
 -- a run that is worked by hand
 pub mod Examples

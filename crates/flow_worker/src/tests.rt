@@ -1,0 +1,233 @@
+//! The intake of captures in memory, with each message compared.
+
+ghost use Rattle.std.specs.Prelude.{◌≡◌, ◌∷◌, [], IfOk};
+ghost use Rattle.flow_worker.specs.Intakes.{AreOfFile, HaveSentNothing};
+
+use super::*;
+use capture_gen::{capture_len, sdp_bytes, write_capture};
+use ruled_intake::{Closed, Halt, Lane, Message, SendPass, TakePass};
+use sdp_reader::read_sdp;
+use std::alloc::{AllocError, Global};
+use std::process::Abort;
+use std::slice;
+use std::sync::Wait;
+use std::test::Fail;
+use timing_base::{FileNote, Media, PcapFault};
+use timing_outside::{MemoryShelf, MemorySink, MemorySource, NoGate, OpenFault, ReadPlan, Shelf};
+
+// A file header: little-endian, nanoseconds, Ethernet.
+const HEAD: [u8; 24] = [
+    0x4d, 0x3c, 0xb2, 0xa1, 2, 0, 4, 0, 0, 0, 0, 0, 0, 0, 0, 0, 0, 0, 4, 0, 1, 0, 0, 0,
+];
+
+// One packet to 239.0.0.1, laid out by hand.
+const FRAME: [u8; 56] = [
+    0x01, 0x00, 0x5e, 0x00, 0x00, 0x01, 0x02, 0x00, 0x00, 0x00, 0x00, 0x01, 0x08, 0x00, // Ethernet
+    0x45, 0x00, 0x00, 0x2a, 0x00, 0x00, 0x40, 0x00, 0x40, 0x11, 0x00, 0x00, // IPv4
+    0xc0, 0x00, 0x02, 0x01, 0xef, 0x00, 0x00, 0x01, // addresses
+    0xc3, 0x50, 0xc3, 0x50, 0x00, 0x16, 0x00, 0x00, // UDP, to port 50000
+    0x80, 0x60, 0x00, 0x00, 0x00, 0x00, 0x07, 0x08, 0x00, 0x00, 0x00, 0x01, // RTP
+    0x00, 0x00, // extended sequence number
+];
+
+// A source of this text, which comes in pieces of so many bytes. The reads of these numbers fail.
+fn source_of(
+    alloc: Global,
+    text: &[u8],
+    piece: u32,
+    fails: &[u32],
+) -> Result<MemorySource, OpenFault> {
+    let plan = ReadPlan {
+        fetch_fails: false,
+        piece: piece.max(1),
+        fails: Vec::from_slice(alloc, fails)?,
+    };
+    let mut shelf = MemoryShelf::new(alloc);
+    shelf.put(
+        String::from_str(alloc, "a.pcap")?,
+        Vec::from_slice(alloc, text)?,
+        plan,
+    )?;
+    shelf.fetch("a.pcap")
+}
+
+// The made capture of 13 frames of 20 packets: with the packet before them it has 261 records.
+fn made(alloc: Global) -> Result<MemorySink, Fail> {
+    let mut sink = MemorySink::new(alloc, capture_len(13, 0))?;
+    write_capture(0, 13, 0, &mut sink)?;
+    Ok(sink)
+}
+
+// A lane with one sender, for file 0.
+fn one_lane(alloc: Global) -> Result<(Lane, Vec<SendPass>, TakePass), AllocError>
+    ensures passes { IfOk result (λ made. HaveSentNothing 0 (made.0 ∷ []) made.1.items) }
+    ensures lane { IfOk result (λ made. made.2.lane ≡ made.0) }
+    ensures senders { IfOk result (λ made. made.2.senders ≡ 1) }
+{
+    Lane::new(alloc, 1)
+}
+
+// Takes the front message.
+fn take<R: Wait>(rt: &R, lane: &Lane, taker: &mut TakePass) -> Option<Message>
+    requires lane { taker.old.lane ≡ lane.now }
+    ensures lane { taker.new.lane ≡ taker.old.lane }
+    ensures senders { taker.new.senders ≡ taker.old.senders }
+{
+    lane.take(rt, taker)
+}
+
+// Ends a lane with one sender.
+fn close<R: Wait>(rt: &R, lane: Lane, passes: Vec<SendPass>, taker: TakePass) -> Closed
+    requires passes { AreOfFile 0 (lane ∷ []) passes.items }
+    requires lane { taker.lane ≡ lane }
+    requires senders { taker.senders ≡ 1 }
+{
+    lane.close(rt, passes, taker)
+}
+
+// Asserts that a message is a batch of file 0, with the packets of a media that have these records.
+fn is_batch(rt: &impl Abort, message: Option<Message>, media: u32, records: &[u64]) {
+    match &message {
+        Some(Message::Batch(batch)) => {
+            assert_eq!(rt; batch.file, 0);
+            assert_eq!(rt; batch.packets.len(), records.len());
+            for (packet, record) in batch.packets.as_slice().iter().zip(records) {
+                assert_eq!(rt; packet.media(), media);
+                assert_eq!(rt; packet.flow_packet().rec, *record);
+            }
+        }
+        _ => panic!(rt; "no batch"),
+    }
+}
+
+// Asserts that a message is the end of file 0, with this note and so many records.
+fn is_end(rt: &impl Abort, message: Option<Message>, note: FileNote, records: u64) {
+    match &message {
+        Some(Message::End(end)) => {
+            assert_eq!(rt; end.file, 0);
+            assert_eq!(rt; end.note, note);
+            assert_eq!(rt; end.records, records);
+        }
+        _ => panic!(rt; "no end"),
+    }
+}
+
+#[test]
+fn batches(rt: HostRuntime) -> Result<(), Fail> {
+    let alloc = rt.alloc();
+    let session = read_sdp(alloc, sdp_bytes())?;
+    let media = session.media.as_slice();
+    assert_eq!(rt; media.len(), 1);
+    let source = source_of(alloc, made(alloc)?.bytes(), 65_536, &[])?;
+    let (lane, passes, mut taker) = one_lane(alloc)?;
+    let lanes = slice::from_ref(&lane);
+    let halt = Halt::new();
+    let done = intake(
+        &rt, alloc, 0, false, media, source, lanes, passes, &halt, &NoGate,
+    );
+    assert_eq!(rt; done.note, FileNote::End);
+    assert!(rt; !halt.raised());
+    let first: Vec<u64> = (1..257).collect(alloc)?;
+    is_batch(&rt, take(&rt, &lane, &mut taker), 0, &first);
+    is_batch(
+        &rt,
+        take(&rt, &lane, &mut taker),
+        0,
+        &[257, 258, 259, 260, 261],
+    );
+    is_end(&rt, take(&rt, &lane, &mut taker), FileNote::End, 261);
+    assert!(rt; take(&rt, &lane, &mut taker).is_none());
+    let closed = close(&rt, lane, done.passes, taker);
+    assert_eq!(rt; closed, Closed { sent: 3, taken: 3 });
+    Ok(())
+}
+
+// The first read gives the file header, 99 records and 48 bytes of the hundredth; the second fails.
+#[test]
+fn failed_read(rt: HostRuntime) -> Result<(), Fail> {
+    let alloc = rt.alloc();
+    let session = read_sdp(alloc, sdp_bytes())?;
+    let media = session.media.as_slice();
+    assert_eq!(rt; media.len(), 1);
+    let source = source_of(alloc, made(alloc)?.bytes(), 7200, &[2])?;
+    let (lane, passes, mut taker) = one_lane(alloc)?;
+    let lanes = slice::from_ref(&lane);
+    let halt = Halt::new();
+    let done = intake(
+        &rt, alloc, 0, false, media, source, lanes, passes, &halt, &NoGate,
+    );
+    let note = FileNote::Refused(PcapFault::ReadFault);
+    assert_eq!(rt; done.note, note);
+    assert!(rt; !halt.raised());
+    let before: Vec<u64> = (1..100).collect(alloc)?;
+    is_batch(&rt, take(&rt, &lane, &mut taker), 0, &before);
+    is_end(&rt, take(&rt, &lane, &mut taker), note, 99);
+    assert!(rt; take(&rt, &lane, &mut taker).is_none());
+    Ok(())
+}
+
+// A video stream to this port of 239.0.0.1.
+fn media_to(port: u16) -> Media {
+    Media {
+        line: 5,
+        address: 0xef00_0001,
+        port: port.max(1),
+        pt: 96,
+        width: 1920,
+        height: 1080,
+        interlaced: false,
+        p: 50,
+        q: 1,
+        declared: None,
+        troff: None,
+        cmax: None,
+    }
+}
+
+// A capture with a record for each of these, to port 50000 and so many more.
+fn capture(alloc: Global, ports: &[u8]) -> Result<Vec<u8>, AllocError> {
+    let mut text = Vec::from_slice(alloc, &HEAD)?;
+    for more in ports {
+        let mut frame = FRAME;
+        frame[37] = more.saturating_add(0x50);
+        for number in [1_600_000_000_u32, 1000, 56, 56] {
+            text.extend_from_slice(&number.to_le_bytes())?;
+        }
+        text.extend_from_slice(&frame)?;
+    }
+    Ok(text)
+}
+
+// The fourth of five records goes to no media.
+#[test]
+fn two_lanes(rt: HostRuntime) -> Result<(), Fail> {
+    let alloc = rt.alloc();
+    let media = [media_to(50_000), media_to(50_001)];
+    let source = source_of(alloc, &capture(alloc, &[0, 1, 1, 9, 0])?, 65_536, &[])?;
+    let (first, mut passes, mut first_taker) = one_lane(alloc)?;
+    let (second, mut more, mut second_taker) = one_lane(alloc)?;
+    passes.append(&mut more)?;
+    let lanes = [first, second];
+    let halt = Halt::new();
+    let done = intake(
+        &rt, alloc, 0, false, &media, source, &lanes, passes, &halt, &NoGate,
+    );
+    assert_eq!(rt; done.note, FileNote::End);
+    is_batch(&rt, take(&rt, &lanes[0], &mut first_taker), 0, &[1, 5]);
+    is_end(
+        &rt,
+        take(&rt, &lanes[0], &mut first_taker),
+        FileNote::End,
+        5,
+    );
+    assert!(rt; take(&rt, &lanes[0], &mut first_taker).is_none());
+    is_batch(&rt, take(&rt, &lanes[1], &mut second_taker), 1, &[2, 3]);
+    is_end(
+        &rt,
+        take(&rt, &lanes[1], &mut second_taker),
+        FileNote::End,
+        5,
+    );
+    assert!(rt; take(&rt, &lanes[1], &mut second_taker).is_none());
+    Ok(())
+}
