@@ -12,3 +12,6 @@ pub mod Cutting
 pub mod Reported
 pub mod Taking
 pub mod Senders
+pub mod Each
+pub mod Judging
+pub mod Posted

@@ -10,7 +10,7 @@ use Rattle.timing_base.specs.declared.key.FlowKey.{FlowKey}
 use Rattle.timing_base.specs.declared.row.Row.{Row}
 use Rattle.ruled_intake.specs.declared.message.Message.{Message}
 use Rattle.ruled_intake.specs.declared.message.Message.TheVariants.{Batch, End}
-use Rattle.flow_worker.specs.Messages.{has_end, of_file, batch, ending}
+use Rattle.flow_worker.specs.Messages.{has_end, of_file, ending}
 use Rattle.flow_worker.specs.Opening.{Addressed, Capture, Setting, for_lane, messages}
 use Rattle.flow_worker.specs.Posting.{has_ends, is_key, is_whole, key_lane, taken_row}
 use Rattle.flow_worker.specs.World.{HasEnded, State, Step, after, after_post, after_send, after_take, is_same_key, may_post, opening, run, times}

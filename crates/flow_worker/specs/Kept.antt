@@ -1,7 +1,6 @@
 -- What holds in the machine at every moment, and what its laws ask of a run.
-use Rattle.std.specs.Prelude.{◌≡◌, ◌≤◌, ◌==◌, ℕ, Bool, nat_lt, if◌then◌else◌, List, ◌++◌, length, slice_get, Some, IsTrue, All}
-use Rattle.timing_base.specs.Media.{Media}
-use Rattle.timing_base.specs.Targets.{target_of, HaveOwnTargets}
+use Rattle.std.specs.Prelude.{◌≡◌, ◌≤◌, ◌==◌, ℕ, Bool, nat_lt, if◌then◌else◌, List, ◌++◌, length, IsTrue, All}
+use Rattle.timing_base.specs.Targets.{HaveOwnTargets}
 use Rattle.timing_base.specs.declared.key.FlowKey.{FlowKey}
 use Rattle.timing_base.specs.declared.row.Row.{Row}
 use Rattle.ruled_intake.specs.declared.message.Message.{Message}

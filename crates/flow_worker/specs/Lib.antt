@@ -9,3 +9,5 @@ pub mod Intakes
 pub mod Works
 -- a run that is worked by hand
 pub mod Examples
+-- what the judges of a worker were fed
+pub mod Judging

@@ -1,14 +1,13 @@
 -- The row that a worker makes for a flow of its own, from the messages that it took, and the row that it is to be.
 -- Files and media count from 0, records from 1.
-use Rattle.std.specs.Prelude.{ℕ, zero, suc, Bool, true, ◌&&◌, ◌==◌, ◌+◌, filter, nat_lt, if◌then◌else◌, false, List, [], ◌∷◌, ◌++◌, length, map, slice_get, slice_index_or, Option, Some, None}
+use Rattle.std.specs.Prelude.{ℕ, zero, suc, Bool, true, ◌&&◌, ◌==◌, ◌+◌, filter, nat_lt, if◌then◌else◌, List, [], ◌∷◌, ◌++◌, length, map, slice_get, Option, Some, None}
 use Rattle.timing_base.specs.Captures.{Record, joined}
-use Rattle.timing_base.specs.Media.{Media}
 use Rattle.timing_base.specs.declared.key.FlowKey.{FlowKey}
 use Rattle.timing_base.specs.declared.packet.FlowPacket.{FlowPacket}
 use Rattle.timing_base.specs.declared.row.Row.{Row}
 use Rattle.udp_rtp.specs.Flow.{flow}
 use Rattle.fail_interval.specs.Row.{row}
-use Rattle.timing_base.specs.Keys.{key_of, keys_of, media_of}
+use Rattle.timing_base.specs.Keys.{keys_of, media_of}
 use Rattle.ruled_intake.specs.declared.message.Message.{Message}
 use Rattle.flow_worker.specs.Messages.{file_packets, has_end, media_packets, records_told}
 use Rattle.flow_worker.specs.Opening.{Capture, Setting, media_lane}
