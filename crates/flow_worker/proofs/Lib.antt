@@ -13,5 +13,7 @@ pub mod Reported
 pub mod Taking
 pub mod Senders
 pub mod Each
-pub mod Judging
+pub mod Fed
 pub mod Posted
+pub mod Few
+pub mod ApartFiles

@@ -1,10 +1,11 @@
 -- What the judges of a worker were fed of what it took. Files, media and workers count from 0.
-use Rattle.std.specs.Prelude.{◌≡◌, ◌≤◌, ◌+◌, ◌^◌, ◌==◌, ℕ, Bool, true, false, ⊤, List, [], ◌∷◌, ◌++◌, All, if◌then◌else◌, length, map, Option, Some, None}
+use Rattle.std.specs.Prelude.{◌≡◌, ◌≤◌, ◌+◌, ◌^◌, ◌==◌, ℕ, Bool, true, false, ⊤, List, [], ◌∷◌, ◌++◌, All, if◌then◌else◌, flat_map, length, map, Option, Some, None}
 use Rattle.timing_base.specs.declared.key.FlowKey.{FlowKey}
 use Rattle.timing_base.specs.declared.packet.FlowPacket.{FlowPacket}
 use Rattle.timing_base.specs.Keys.{key_of, media_of}
 use Rattle.fail_interval.specs.Stands.{StandsFor, count_fed}
 use Rattle.fail_interval.specs.declared.judge.FlowJudge.{FlowJudge}
+use Rattle.ruled_intake.specs.Messages.{Batch}
 use Rattle.ruled_intake.specs.Packets.{Packet}
 use Rattle.flow_worker.specs.Messages.{media_packets}
 use Rattle.flow_worker.specs.Opening.{Setting}
@@ -51,3 +52,7 @@ HaveRoom more judges = All (λ place. fed_at place + more ≤ 2 ^ 41) judges.pla
 -- the flows of the file are dealt out under its own number: where files are joined, it is the first
 abbrev pub IsDealt : (joined : Bool) → (file : ℕ) → Type 0
 IsDealt joined file = (if joined then 0 else file) ≡ file
+
+-- the packets of batches, in order
+abbrev pub batched : List Batch → List Packet
+batched batches = flat_map (λ (batch : Batch). batch.packets) batches

@@ -11,3 +11,4 @@ pub mod Works
 pub mod Examples
 -- what the judges of a worker were fed
 pub mod Judging
+pub mod Standing

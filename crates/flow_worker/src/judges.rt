@@ -11,7 +11,7 @@ ghost use Rattle.flow_worker.specs.Opening.{Setting};
 ghost use Rattle.flow_worker.specs.Posting.{row_over};
 
 use fail_interval::FlowJudge;
-use ruled_intake::Packet;
+use ruled_intake::{Batch, Packet};
 use std::alloc::{AllocError as OutOfMemory, Global};
 use std::sync::Wait;
 use timing_base::{FlowKey, FlowPacket, Media, Row, route};
@@ -25,7 +25,7 @@ pub struct Judges {
 }
 
 impl Judges {
-    ghost use Rattle.flow_worker.specs.Judging.{AreFed, Feeds, HaveRoom, IsDealt, is_own};
+    ghost use Rattle.flow_worker.specs.Judging.{AreFed, Feeds, HaveRoom, IsDealt, batched, is_own};
 
     /// The judges of a file, or of the first of files that are joined, for this worker. `Err` is
     /// want of memory.
@@ -65,9 +65,23 @@ impl Judges {
         requires before { before ≤ 2 ^ 41 }
         requires room { HaveRoom (length packets.now) self.old }
         ensures feeds { IfOk result (λ _. Feeds before packets.now self.old self.new) }
+        ensures room { IfOk result (λ _. (more : ℕ) → HaveRoom (length packets.now + more) self.old
+            → HaveRoom more self.new) }
     {
         for packet in packets {
             self.feed(packet, before)?;
+        }
+        Ok(())
+    }
+
+    /// Feeds the packets of batches, one batch after the other, as [`Judges::take`] does.
+    pub fn take_batches(&mut self, batches: Vec<Batch>, before: u64) -> Result<(), OutOfMemory>
+        requires before { before ≤ 2 ^ 41 }
+        requires room { HaveRoom (length (batched batches.items)) self.old }
+        ensures feeds { IfOk result (λ _. Feeds before (batched batches.items) self.old self.new) }
+    {
+        for batch in &batches {
+            self.take(batch.packets.as_slice(), before)?;
         }
         Ok(())
     }

@@ -7,8 +7,11 @@
 //! media and workers count from 0, records from 1.
 #![tactic(auto)]
 
+mod apart_files;
 mod intakes;
+mod joined_files;
 mod judges;
+mod judging;
 pub mod laws;
 mod workers;
 

@@ -1,6 +1,6 @@
 use Rattle.std.proofs.Common.{rules, ◌≤◌, ◌<◌, length, Some, refl, sym, ◌∙◌}
 use Rattle.std.specs.Vec.{with_item}
-use Rattle.flow_worker.proofs.Judging.{feeds-beyond, feeds-none, feeds-some_if}
+use Rattle.flow_worker.proofs.Fed.{feeds-beyond, feeds-none, feeds-some_if}
 use Rattle.flow_worker.proofs.judges.Judges.feed.Goals as goal
 
 pub returns-then-media-len-clause-feeds : goal.returns-then-media-len-clause-feeds

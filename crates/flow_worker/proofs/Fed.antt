@@ -1,9 +1,10 @@
 -- What the judges of a file are fed: when they are made, when a packet comes, and packets.
-use Rattle.std.proofs.Common.{◌≡◌, ◌≤◌, ◌<◌, ◌+◌, ℕ, Bool, true, false, if◌then◌else◌, eqb, List, [], ◌∷◌, ◌++◌, length, map, get_or, set, take, Some, None, refl, sym, ap, ◌∙◌, subst, eq-eqb, ne_eqb, append_assoc, append-nil, length-set, arith}
+use Rattle.std.proofs.Common.{◌≡◌, ◌≤◌, ◌<◌, ◌+◌, ℕ, Bool, true, false, if◌then◌else◌, eqb, List, [], ◌∷◌, ◌++◌, length, map, get_or, set, take, Some, None, refl, sym, ap, ◌∙◌, subst, eq-eqb, ne_eqb, append_assoc, append-nil, length-set, arith, ◌^◌, drop, length-append}
 use Rattle.std.specs.Prelude.{Option, Result, Ok, Err, IfOk, IfSome, IfNone, OnOk, IsTrue}
 use Rattle.std.specs.List.{cons_option}
-use Rattle.std.proofs.lemmas.List.{get_or_default, map-append, take_more}
-use Rattle.std.proofs.lemmas.List.Elements.{filter_map-append}
+use Rattle.std.proofs.lemmas.List.{drop_more, get_or_default, map-append, take_more}
+use Rattle.std.proofs.lemmas.List.Concat.{flat_map-append}
+use Rattle.std.proofs.lemmas.List.Elements.{All-weaker, filter_map-append}
 use Rattle.timing_base.specs.Media.{Media}
 use Rattle.timing_base.specs.Keys.{key_of, media_of, no_media}
 use Rattle.timing_base.specs.Routes.{route}
@@ -11,11 +12,12 @@ use Rattle.timing_base.specs.declared.key.FlowKey.{FlowKey}
 use Rattle.timing_base.specs.declared.packet.FlowPacket.{FlowPacket}
 use Rattle.fail_interval.specs.Stands.{StandsFor}
 use Rattle.fail_interval.specs.declared.judge.FlowJudge.{FlowJudge}
+use Rattle.ruled_intake.specs.Messages.{Batch}
 use Rattle.ruled_intake.specs.Packets.{Packet, flow_packet}
 use Rattle.flow_worker.specs.Messages.{media_packet, media_packets}
 use Rattle.flow_worker.specs.Opening.{Setting}
 use Rattle.flow_worker.specs.Posting.{raised_packet}
-use Rattle.flow_worker.specs.Judging.{AreFed, EachFrom, Feeds, HaveRoom, IsPlace, is_own, with_packets}
+use Rattle.flow_worker.specs.Judging.{AreFed, EachFrom, Feeds, HaveRoom, IsPlace, batched, fed_at, is_own, with_packets}
 use Rattle.flow_worker.specs.declared.judges.Judges.{Judges}
 use Rattle.flow_worker.proofs.Each.{each-at, each-set, each-weaker}
 
@@ -157,3 +159,24 @@ place-new s worker file n m (Some judge) own within media dealt e some none =
 place-new s worker file n m None own within media dealt e some none =
     let own_is : is_own s worker (key_of file n) ≡ own = ap (λ (f : ℕ). eqb (route (key_of f n) (length s.media) s.workers) worker) dealt ∙ sym e in
     own_is ∙ elim own as (λ b. (IsTrue b → ⊥) → b ≡ false) [ true ↦ λ none. absurd (none refl) | false ↦ λ none. refl ] none
+
+-- room for more is room for fewer
+pub room-less : (m n : ℕ) (judges : Judges) → n ≤ m → HaveRoom m judges → HaveRoom n judges
+room-less m n judges less h =
+    All-weaker (λ place. fed_at place + m ≤ 2 ^ 41) (λ place. fed_at place + n ≤ 2 ^ 41) (λ place few. omega (arith, few, less)) judges.places.items h
+
+-- the packets of one batch more
+pub feeds-batch : (before i : ℕ) (batches : List Batch) (one : Batch) (old mid new : Judges) → i < length batches → get_or batches i one ≡ one → Feeds before (batched (take i batches)) old mid
+    → Feeds before one.packets mid new → Feeds before (batched (take (i + 1) batches)) old new
+feeds-batch before i batches one old mid new within at first second =
+    subst (λ (l : List Packet). Feeds before l old new)
+    (sym (ap batched (take_more batches i one within ∙ ap (λ (x : Batch). take i batches ++ x ∷ []) at)
+    ∙ flat_map-append (λ (b : Batch). b.packets) (take i batches) (one ∷ []) ∙ ap (λ (l : List Packet). batched (take i batches) ++ l) (append-nil one.packets)))
+    (feeds-append before (batched (take i batches)) one.packets old mid new first second)
+
+-- the packets of the batches that are left
+pub left-batch : (i : ℕ) (batches : List Batch) (one : Batch) → i < length batches → get_or batches i one ≡ one
+    → length (batched (drop i batches)) ≡ length one.packets + length (batched (drop (i + 1) batches))
+left-batch i batches one within at =
+    ap (λ (l : List Batch). length (batched l)) (drop_more batches i one within) ∙ ap (λ (x : Batch). length (batched (x ∷ drop (i + 1) batches))) at
+    ∙ length-append one.packets (batched (drop (i + 1) batches))
