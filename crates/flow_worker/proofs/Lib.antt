@@ -17,3 +17,4 @@ pub mod Fed
 pub mod Posted
 pub mod Few
 pub mod ApartFiles
+pub mod JoinedFiles
