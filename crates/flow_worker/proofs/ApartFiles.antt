@@ -1,5 +1,5 @@
 -- What one message more makes of files that are judged each for itself.
-use Rattle.std.proofs.Common.{◌≡◌, ◌≤◌, ◌<◌, ◌+◌, ◌^◌, ℕ, suc, Bool, true, false, cond, if◌then◌else◌, eqb, ◌&&◌, ◌||◌, List, [], ◌∷◌, ◌++◌, length, map, get_or, set, refl, sym, ap, ap₂, ◌∙◌, subst, inl, inr, eq-eqb, ne_eqb, append_assoc, append-nil, length-set, arith}
+use Rattle.std.proofs.Common.{◌≡◌, ◌≤◌, ◌<◌, ◌+◌, ℕ, suc, Bool, true, false, if◌then◌else◌, ◌&&◌, ◌||◌, List, [], ◌∷◌, ◌++◌, length, map, get_or, set, refl, sym, ap, ap₂, ◌∙◌, subst, inl, inr, eq-eqb, ne_eqb, append_assoc, append-nil, length-set, arith}
 use Rattle.std.specs.Prelude.{◌⊎◌, Result, Ok, Err, IfOk, filter}
 use Rattle.std.specs.List.{list_all}
 use Rattle.std.proofs.lemmas.Bool.{cases_eq, or_right}
@@ -21,7 +21,6 @@ use Rattle.flow_worker.specs.Posting.{has_ends, joined_packets, own_keys, raised
 use Rattle.flow_worker.specs.Standing.{ApartStandsFor, IsFew, IsFile}
 use Rattle.flow_worker.specs.declared.apart_files.Apart.{Apart}
 use Rattle.flow_worker.specs.declared.apart_files.OneFile.{OneFile}
-use Rattle.flow_worker.specs.declared.judges.Judges.{Judges}
 use Rattle.flow_worker.proofs.Each.{each-at, each-set, each-weaker}
 use Rattle.flow_worker.proofs.Fed.{fed-same}
 use Rattle.flow_worker.proofs.Few.{file_packets-few, media_packets-few, room-from}

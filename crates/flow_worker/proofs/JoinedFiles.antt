@@ -1,6 +1,6 @@
 -- What one message more makes of files that are joined, and what the end of the next file does.
-use Rattle.std.proofs.Common.{◌≡◌, ◌≤◌, ◌<◌, ◌+◌, ◌*◌, ◌^◌, ℕ, zero, suc, Bool, true, false, cond, if◌then◌else◌, eqb, leb, leb-false, leb-true, min, ◌&&◌, ◌||◌, List, [], ◌∷◌, ◌++◌, length, map, get_or, set, Some, None, refl, sym, ap, ap₂, ◌∙◌, subst, inl, inr, append_assoc, append-nil, length-append, length-set, arith}
-use Rattle.std.specs.Prelude.{◌⊎◌, Option, Result, Ok, Err, IfOk, filter, is_some}
+use Rattle.std.proofs.Common.{◌≡◌, ◌≤◌, ◌<◌, ◌+◌, ◌*◌, ◌^◌, ℕ, zero, suc, Bool, true, false, if◌then◌else◌, leb, leb-false, leb-true, min, ◌||◌, List, [], ◌∷◌, ◌++◌, length, map, get_or, set, Some, None, refl, sym, ap, ap₂, ◌∙◌, subst, inl, inr, append_assoc, append-nil, length-set, arith}
+use Rattle.std.specs.Prelude.{◌⊎◌, Option, Result, Ok, Err, IfOk, is_some}
 use Rattle.std.proofs.lemmas.Bool.{and_from, and_parts, both_ways, cases_eq, false≢true}
 use Rattle.std.proofs.lemmas.List.{map-append}
 use Rattle.std.proofs.lemmas.List.Concat.{flat_map-append}
@@ -15,14 +15,13 @@ use Rattle.ruled_intake.specs.Lanes.{IsWithin, count_of, packets}
 use Rattle.ruled_intake.specs.Messages.{Batch, FileEnd}
 use Rattle.ruled_intake.specs.Packets.{Packet}
 use Rattle.ruled_intake.specs.declared.message.Message.{Message}
-use Rattle.flow_worker.specs.Judging.{AreFed, EachFrom, Feeds, HaveRoom, batched, is_own, with_packets}
+use Rattle.flow_worker.specs.Judging.{AreFed, EachFrom, Feeds, HaveRoom, batched, with_packets}
 use Rattle.flow_worker.specs.Messages.{batch, ending, file_packets, has_end, media_packet, media_packets, records_told}
 use Rattle.flow_worker.specs.Opening.{Setting}
-use Rattle.flow_worker.specs.Posting.{has_ends, joined_packets, own_keys, raised_packet, row_over, taken_packets, taken_row, told_by}
+use Rattle.flow_worker.specs.Posting.{has_ends, joined_packets, own_keys, raised_packet, taken_packets, taken_row, told_by}
 use Rattle.flow_worker.specs.Standing.{HasEnded, IsFew, IsFirstEnd, IsWaiting, JoinedIsAt, JoinedStandsFor, of_first}
 use Rattle.flow_worker.specs.declared.joined_files.Joined.{Joined}
 use Rattle.flow_worker.specs.declared.joined_files.Waiting.{Waiting}
-use Rattle.flow_worker.specs.declared.judges.Judges.{Judges}
 use Rattle.flow_worker.proofs.ApartFiles.{has_end-batch, has_end-here, has_end-other}
 use Rattle.flow_worker.proofs.Each.{each-at, each-set, each-weaker}
 use Rattle.flow_worker.proofs.Fed.{fed-same}
@@ -452,4 +451,22 @@ joined-new s files worker joined one some few count next before each fed = recor
     fed = fed-same s worker 0 (λ key. []) (of_first (min (joined.next + 1) files) []) joined.judges (λ n. sym (none-joined n 0 0 (min (joined.next + 1) files))) fed;
   };
   going = λ below. refl;
+}
+
+-- where the files that have ended are gone through
+pub joined-ended_if : {X E : Type 0} (r : Result X E) (g : ℕ) (o : FileNote) (k : ℕ) (it : FileEnd) (old mid new : Joined) (d w : Waiting) → g < length old.files.items
+    → it.records ≡ k → (get_or old.files.items g d).end ≡ None → w.end ≡ Some it → w.batches.items ≡ (get_or old.files.items g d).batches.items
+    → mid.next ≡ old.next → mid.before ≡ old.before → mid.judges ≡ old.judges → mid.files.items ≡ set old.files.items g w
+    → IfOk r (λ _. (s : Setting) (files worker : ℕ) (taken : List Message) → JoinedIsAt s files worker taken mid → JoinedStandsFor s files worker taken new)
+    → IfOk r (λ _. (s : Setting) (files worker : ℕ) (taken : List Message) → JoinedStandsFor s files worker taken old → JoinedStandsFor s files worker (taken ++ ending g o k ∷ []) new)
+joined-ended_if (Ok x) g o k it old mid new d w within records none end batches next before judges written goes =
+    λ s files worker taken h.
+    goes s files worker (taken ++ ending g o k ∷ []) (joined-ended s files worker taken g o k it old mid d w within records none end batches next before judges written h.at)
+joined-ended_if (Err e) g o k it old mid new d w within records none end batches next before judges written goes = tt
+
+-- a file of which nothing came
+pub waiting-new : (f : ℕ) (w : Waiting) → w.end ≡ None → w.batches.items ≡ [] → IsWaiting 0 [] f w
+waiting-new f w end none = record {
+  end = subst (IsFirstEnd [] f) (sym end) refl;
+  waits = λ later. ap batched none;
 }

@@ -18,3 +18,4 @@ pub mod Posted
 pub mod Few
 pub mod ApartFiles
 pub mod JoinedFiles
+pub mod Passes

@@ -1,11 +1,10 @@
-use Rattle.std.proofs.Common.{rules, ◌≡◌, ◌≤◌, ◌<◌, List, false, true, length, get_or, set, refl, sym, ap, ◌∙◌, subst, inl, inr}
+use Rattle.std.proofs.Common.{rules, ◌≡◌, ◌≤◌, ◌<◌, List, false, length, get_or, set, sym, ap, ◌∙◌, subst, inl, inr}
 use Rattle.std.specs.Prelude.{IfOk}
 use Rattle.std.specs.Vec.{with_item}
 use Rattle.std.proofs.lemmas.List.{get_or_default}
 use Rattle.ruled_intake.specs.Packets.{Packet}
 use Rattle.flow_worker.specs.Judging.{Feeds, HaveRoom}
 use Rattle.flow_worker.specs.declared.apart_files.OneFile.{OneFile}
-use Rattle.flow_worker.specs.declared.judges.Judges.{Judges}
 use Rattle.flow_worker.proofs.ApartFiles.{apart-fed_if, apart-passed, apart-room, ended-at}
 use Rattle.flow_worker.proofs.apart_files.Apart.feed.Goals.{then-file-len-via-then-file-len, then-file-len-via-else-file-len+then-index}
 use Rattle.flow_worker.proofs.apart_files.Apart.feed.Goals as goal

@@ -1,4 +1,4 @@
-use Rattle.std.proofs.Common.{rules, ◌≡◌, ◌+◌, [], false, length, refl}
+use Rattle.std.proofs.Common.{rules, [], false, refl}
 use Rattle.flow_worker.specs.Opening.{Setting}
 use Rattle.flow_worker.specs.Standing.{IsFile}
 use Rattle.flow_worker.specs.declared.apart_files.OneFile.{OneFile}

@@ -1,6 +1,5 @@
-use Rattle.std.proofs.Common.{rules, ◌≡◌, ◌≤◌, ◌<◌, ◌++◌, ◌∷◌, [], List, None, false, true, length, get_or, set, refl, sym, ap, ◌∙◌, subst, inl, inr}
+use Rattle.std.proofs.Common.{rules, ◌≡◌, ◌≤◌, ◌<◌, ◌++◌, ◌∷◌, [], List, None, true, length, get_or, set, refl, sym, ap, ◌∙◌, subst, inl, inr}
 use Rattle.std.specs.Prelude.{IfOk, is_some}
-use Rattle.std.specs.Vec.{with_item}
 use Rattle.std.proofs.lemmas.List.{get_or_default}
 use Rattle.ruled_intake.specs.Packets.{Packet}
 use Rattle.flow_worker.specs.Judging.{Feeds, HaveRoom}

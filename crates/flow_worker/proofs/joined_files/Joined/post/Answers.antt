@@ -1,4 +1,4 @@
-use Rattle.std.proofs.Common.{rules, ◌≡◌, map, ap, refl, ◌∙◌}
+use Rattle.std.proofs.Common.{map, ap}
 use Rattle.verdict_book.specs.Receipts.{row_of}
 use Rattle.flow_worker.specs.Posting.{taken_packets}
 use Rattle.flow_worker.proofs.JoinedFiles.{joined-rows, joined-whole}

@@ -1,4 +1,4 @@
-use Rattle.std.proofs.Common.{rules, ◌≡◌, ◌≤◌, ◌<◌, ◌+◌, ◌-◌, length, sym, arith}
+use Rattle.std.proofs.Common.{rules, ◌≤◌, ◌<◌, ◌+◌, ◌-◌, length, sym, arith}
 use Rattle.flow_worker.proofs.Fed.{feeds-more, feeds-nothing, room-less, room-same}
 use Rattle.flow_worker.proofs.judges.Judges.take.Goals as goal
 
