@@ -17,3 +17,6 @@ mod workers;
 
 pub use intakes::{IntakeDone, intake};
 pub use workers::{WorkDone, work};
+
+#[cfg(test)]
+mod work_tests;
