@@ -1,15 +1,18 @@
 //! A worker over messages that are laid out by hand, with each row read from the book.
 
 ghost use Rattle.std.specs.Prelude.{◌≡◌, ◌≤◌, ◌<◌, All, IfOk, IfSome, length};
+ghost use Rattle.ruled_intake.specs.Lanes.{AreSenders};
 ghost use Rattle.verdict_book.specs.Receipts.{IsOf};
 
 use super::*;
-use ruled_intake::{Batch, FileEnd, Halt, Lane, Message, Packet};
+use ruled_intake::{Batch, FileEnd, Halt, Lane, Message, Packet, SendPass};
 use std::alloc::{AllocError, Global};
 use std::process::Abort;
 use std::sync::Wait;
 use std::test::Fail;
-use timing_base::{FileNote, FlowKey, FlowPacket, Items, Media, PacketFault, Row, Rtp, Unjudged, Verdict};
+use timing_base::{
+    FileNote, FlowKey, FlowPacket, Items, Media, PacketFault, Row, Rtp, Unjudged, Verdict,
+};
 use timing_outside::NoGate;
 use verdict_book::{Book, Receipt};
 
@@ -78,6 +81,27 @@ fn end(file: u32, records: u32) -> Message {
     })
 }
 
+// Sends a message by the first pass of a lane, and asserts that there is room and memory.
+fn send_first<R: Wait + Abort>(rt: &R, lane: &Lane, passes: &mut Vec<SendPass>, message: Message)
+    requires each { AreSenders lane.now passes.old.items }
+    ensures each { AreSenders lane.now passes.new.items }
+{
+    assert!(rt; !passes.is_empty());
+    let pass = &mut passes[0];
+    assert!(rt; pass.has_room(&message));
+    assert!(rt; lane.send(rt, pass, message).is_ok());
+}
+
+// Sends messages by the first pass of a lane.
+fn send_all<R: Wait + Abort>(rt: &R, lane: &Lane, passes: Vec<SendPass>, messages: Vec<Message>)
+    requires each { AreSenders lane.now passes.items }
+{
+    let mut passes = passes;
+    for message in messages {
+        send_first(rt, lane, &mut passes, message);
+    }
+}
+
 // What is asked of a worker.
 #[derive(Clone, Copy)]
 struct Asked {
@@ -104,12 +128,7 @@ fn worked<R: Wait + Abort>(
     } = asked;
     assert!(rt; worker < workers && workers <= 16);
     let (lane, passes, taker) = Lane::new(alloc, 1)?;
-    let mut passes = passes;
-    let pass = &mut passes[0];
-    for message in messages {
-        assert!(rt; pass.has_room(&message));
-        assert!(rt; lane.send(rt, pass, message).is_ok());
-    }
+    send_all(rt, &lane, passes, messages);
     let media = [VIDEO; 2];
     let done = work(
         rt, alloc, worker, workers, joined, &media, 2, 37, &lane, taker, book, halt, &NoGate,
