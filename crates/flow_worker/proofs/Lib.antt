@@ -16,3 +16,10 @@ pub mod Passes
 pub mod Outgoing
 pub mod Targeting
 pub mod Dealt
+pub mod Each
+pub mod Fed
+pub mod Posted
+pub mod Few
+pub mod ApartFiles
+pub mod JoinedFiles
+pub mod TakerPasses

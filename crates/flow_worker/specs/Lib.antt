@@ -11,3 +11,6 @@ pub mod Targeted
 pub mod Sending
 -- a run that is worked by hand
 pub mod Examples
+-- what the judges of a worker were fed
+pub mod Judging
+pub mod Standing

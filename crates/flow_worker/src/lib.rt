@@ -7,7 +7,11 @@
 //! media and workers count from 0, records from 1.
 #![tactic(auto)]
 
+mod apart_files;
 mod intakes;
+mod joined_files;
+mod judges;
+mod judging;
 pub mod laws;
 mod open_batch;
 mod outboxes;
@@ -19,3 +23,5 @@ pub use workers::{WorkDone, work};
 
 #[cfg(test)]
 mod tests;
+#[cfg(test)]
+mod work_tests;

@@ -1,10 +1,16 @@
 //! A worker: it takes the messages of one lane, and judges the flows that are dealt to it.
 
-ghost use Rattle.std.specs.Prelude.{◌≡◌, ◌≤◌, ◌<◌, IfSome, length};
+ghost use Rattle.std.specs.Prelude.{◌≡◌, ◌≤◌, ◌<◌, ◌^◌, ℕ, IfOk, IfSome, IsErr, IsTrue, length};
+ghost use Rattle.ruled_intake.specs.Lanes.{HasTaken, IsWithin, messages};
+ghost use Rattle.flow_worker.specs.Opening.{Setting};
+ghost use Rattle.flow_worker.specs.Posting.{has_ends};
+ghost use Rattle.flow_worker.specs.Standing.{StandsFor};
 ghost use Rattle.flow_worker.specs.Works.{HasJudged, HasTakenNothing};
 
-use ruled_intake::{Halt, Lane, TakePass};
-use std::alloc::Global;
+use crate::judging::Judging;
+use crossbeam_utils::Backoff;
+use ruled_intake::{Halt, Lane, Message, TakePass};
+use std::alloc::{AllocError as OutOfMemory, Global};
 use std::sync::Wait;
 use timing_base::Media;
 use timing_outside::Gate;
@@ -58,6 +64,104 @@ pub fn work<R: Wait, G: Gate>(
         (record { media = media.now; workers = workers; joined = joined; tai = tai })
         files worker result.pass book.now receipts.items) }
 {
-    for _ in rt.forever() {}
-    unreachable!()
+    let mut pass = pass;
+    let receipts = judged(
+        rt, alloc, worker, workers, joined, media, files, tai, lane, &mut pass, book, halt, gate,
+    );
+    WorkDone {
+        pass,
+        receipts: receipts.ok(),
+    }
+}
+
+// Takes messages until an end of each file came, and posts the rows.
+fn judged<R: Wait, G: Gate>(
+    rt: &R,
+    alloc: Global,
+    worker: u32,
+    workers: u32,
+    joined: bool,
+    media: &[Media],
+    files: u32,
+    tai: u64,
+    lane: &Lane,
+    pass: &mut TakePass,
+    book: &Book,
+    halt: &Halt,
+    gate: &G,
+) -> Result<Vec<Receipt>, OutOfMemory>
+    requires worker { worker < workers }
+    requires few_workers { workers ≤ 16 }
+    requires few_media { length media.now ≤ 64 }
+    requires some_files { 1 ≤ files }
+    requires few_files { files ≤ 16 }
+    requires tai { tai ≤ 1000 }
+    requires pass { HasTakenNothing lane.now pass.old }
+    ensures lane { pass.new.lane ≡ lane.now }
+    ensures senders { pass.new.senders ≡ pass.old.senders }
+    ensures receipts { IfOk result (λ receipts. HasJudged
+        (record { media = media.now; workers = workers; joined = joined; tai = tai })
+        files worker pass.new book.now receipts.items) }
+{
+    let mut judging = Judging::new(alloc, worker, workers, joined, media, files, tai)?;
+    gate.meet(rt, 16 + u64::from(worker));
+    let first = next_message(rt, lane, pass, halt)?;
+    gate.meet(rt, 32 + u64::from(worker));
+    judging.take(first)?;
+    take_all(rt, lane, pass, halt, &mut judging)?;
+    judging.post(rt, alloc, book)
+}
+
+// Takes the messages that are left, until an end of each file came.
+fn take_all<R: Wait>(
+    rt: &R,
+    lane: &Lane,
+    pass: &mut TakePass,
+    halt: &Halt,
+    judging: &mut Judging,
+) -> Result<(), OutOfMemory>
+    requires lane { pass.old.lane ≡ lane.now }
+    requires stands { (s : Setting) × (files : ℕ) × (worker : ℕ)
+        × StandsFor s files worker (messages pass.old.taken) judging.old }
+    ensures lane { pass.new.lane ≡ lane.now }
+    ensures senders { pass.new.senders ≡ pass.old.senders }
+    ensures stands { IfOk result (λ _. (s : Setting) (files worker : ℕ)
+        → StandsFor s files worker (messages pass.old.taken) judging.old
+        → StandsFor s files worker (messages pass.new.taken) judging.new
+        × IsTrue (has_ends files (messages pass.new.taken))) }
+{
+    for _ in rt.forever() {
+        if judging.has_ended() {
+            break;
+        }
+        let message = next_message(rt, lane, pass, halt)?;
+        judging.take(message)?;
+    }
+    Ok(())
+}
+
+// Takes the next message, and waits for it. `Err` says that the lane held nothing and the halt was
+// raised.
+fn next_message<R: Wait>(
+    rt: &R,
+    lane: &Lane,
+    pass: &mut TakePass,
+    halt: &Halt,
+) -> Result<Message, OutOfMemory>
+    requires lane { pass.old.lane ≡ lane.now }
+    ensures taken { IfOk result (λ message. HasTaken pass.old pass.new message) }
+    ensures few { IfOk result (λ _. IsWithin (2 ^ 41) (messages pass.new.taken)) }
+    ensures same { IsErr result → pass.new ≡ pass.old }
+{
+    let backoff = Backoff::new();
+    for _ in rt.forever() {
+        if let Some(message) = lane.take(rt, pass) {
+            return Ok(message);
+        }
+        if halt.raised() {
+            break;
+        }
+        backoff.snooze();
+    }
+    Err(OutOfMemory)
 }

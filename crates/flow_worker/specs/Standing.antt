@@ -1,0 +1,77 @@
+-- What the judges of a worker stand for: for what it took, where files are judged each for itself, and where they are
+-- joined. Files and workers count from 0.
+use Rattle.std.specs.Prelude.{◌≡◌, ◌≤◌, ◌<◌, ◌+◌, ◌*◌, ◌^◌, ℕ, true, false, List, ◌++◌, ◌∷◌, [], IsTrue, length, min, Option, Some, None}
+use Rattle.timing_base.specs.declared.key.FlowKey.{FlowKey}
+use Rattle.timing_base.specs.declared.packet.FlowPacket.{FlowPacket}
+use Rattle.ruled_intake.specs.Lanes.{IsWithin}
+use Rattle.ruled_intake.specs.Messages.{FileEnd}
+use Rattle.ruled_intake.specs.declared.message.Message.{Message}
+use Rattle.flow_worker.specs.Messages.{file_packets, has_end, records_told}
+use Rattle.flow_worker.specs.Opening.{Setting}
+use Rattle.flow_worker.specs.Posting.{has_ends, joined_packets, taken_packets, told_by}
+use Rattle.flow_worker.specs.Judging.{AreFed, EachFrom, batched}
+use Rattle.flow_worker.specs.declared.apart_files.Apart.{Apart}
+use Rattle.flow_worker.specs.declared.apart_files.OneFile.{OneFile}
+use Rattle.flow_worker.specs.declared.joined_files.Joined.{Joined}
+use Rattle.flow_worker.specs.declared.joined_files.Waiting.{Waiting}
+use Rattle.flow_worker.specs.declared.judging.Judging.{Judging}
+use Rattle.flow_worker.specs.declared.judging.Judging.TheVariants as judging
+
+-- a file that is judged for itself: whether its end was taken, and judges that were fed what was taken of it
+pub record IsFile (s : Setting) (files worker : ℕ) (taken : List Message) (file : ℕ) (one : OneFile) : Type 0 where
+  pub ended : one.ended ≡ has_end file taken
+  pub fed : AreFed s worker file (taken_packets s files taken) one.judges
+
+-- the files are judged each for itself, and their judges were fed what was taken
+pub record ApartStandsFor (s : Setting) (files worker : ℕ) (taken : List Message) (apart : Apart) : Type 0 where
+  pub alone : s.joined ≡ false
+  pub count : length apart.files.items ≡ files
+  pub each : EachFrom (IsFile s files worker taken) 0 apart.files.items
+
+-- the end of a file that was taken first, if one was
+abbrev pub IsFirstEnd : List Message → (file : ℕ) → Option FileEnd → Type 0
+IsFirstEnd taken file None = has_end file taken ≡ false
+IsFirstEnd taken file (Some end) = (has_end file taken ≡ true) × (end.records ≡ records_told file taken)
+
+-- a file of those that are joined: its end, and behind the file whose packets are fed all packets of it that were taken
+pub record IsWaiting (next : ℕ) (taken : List Message) (file : ℕ) (waiting : Waiting) : Type 0 where
+  pub end : IsFirstEnd taken file waiting.end
+  pub waits : next < file → batched waiting.batches.items ≡ file_packets file taken
+
+-- what a flow of joined files has of the first of them
+abbrev pub of_first : (files : ℕ) → List Message → FlowKey → List FlowPacket
+of_first files taken key = joined_packets key.media 0 0 files taken
+
+-- the files are judged as one, and the judges were fed what was taken of the files up to the next one; all files before
+-- that have ended
+pub record JoinedIsAt (s : Setting) (files worker : ℕ) (taken : List Message) (joined : Joined) : Type 0 where
+  pub one : s.joined ≡ true
+  pub few : files ≤ 16
+  pub count : length joined.files.items ≡ files
+  pub next : joined.next ≤ files
+  pub done : IsTrue (has_ends joined.next taken)
+  pub before : joined.before ≡ told_by 0 joined.next taken
+  pub below : joined.before ≤ joined.next * 2 ^ 37
+  pub each : EachFrom (IsWaiting joined.next taken) 0 joined.files.items
+  pub fed : AreFed s worker 0 (of_first (min (joined.next + 1) files) taken) joined.judges
+
+-- and the next file has not
+pub record JoinedStandsFor (s : Setting) (files worker : ℕ) (taken : List Message) (joined : Joined) : Type 0 where
+  pub at : JoinedIsAt s files worker taken joined
+  pub going : joined.next < files → has_end joined.next taken ≡ false
+
+-- the file is there, and the first end of it that was taken tells so many records
+pub record HasEnded (files : ℕ) (taken : List Message) (file records : ℕ) : Type 0 where
+  pub there : file < files
+  pub ended : has_end file taken ≡ true
+  pub told : records ≡ records_told file taken
+  pub few : records < 2 ^ 37
+
+-- the judges of a worker were fed what was taken, and no more
+abbrev pub StandsFor : Setting → (files worker : ℕ) → List Message → Judging → Type 0
+StandsFor s files worker taken (judging.Apart apart) = ApartStandsFor s files worker taken apart
+StandsFor s files worker taken (judging.Joined joined) = JoinedStandsFor s files worker taken joined
+
+-- with this message, what was taken is within the limits of a lane
+abbrev pub IsFew : List Message → Message → Type 0
+IsFew taken message = IsWithin (2 ^ 41) (taken ++ message ∷ [])

@@ -1,0 +1,146 @@
+//! Files that are judged each for itself.
+
+ghost use Rattle.std.specs.Prelude.{◌≡◌, ◌≤◌, ◌<◌, ◌++◌, ◌∷◌, [], ℕ, List, All, false, IfOk, length, map};
+ghost use Rattle.std.specs.List.{list_all};
+ghost use Rattle.ruled_intake.specs.declared.message.Message.{Message as MessageValue};
+ghost use Rattle.verdict_book.specs.Receipts.{IsOf, row_of};
+ghost use Rattle.flow_worker.specs.Messages.{batch as batch_of, ending};
+ghost use Rattle.flow_worker.specs.Opening.{Setting};
+ghost use Rattle.flow_worker.specs.Posting.{has_ends, own_keys, taken_row};
+
+use crate::judges::Judges;
+use ruled_intake::{Batch, FileEnd, Message};
+use std::alloc::{AllocError as OutOfMemory, Global};
+use std::sync::Wait;
+use timing_base::Media;
+use verdict_book::{Book, Receipt};
+
+/// A file that is judged for itself.
+#[derive(Drop)]
+struct OneFile {
+    judges: Judges,
+    /// Whether its end was taken.
+    ended: bool,
+}
+
+/// The files of a run, in order.
+#[derive(Drop)]
+pub struct Apart {
+    files: Vec<OneFile>,
+}
+
+impl Apart {
+    ghost use Rattle.flow_worker.specs.Standing.{ApartStandsFor, IsFew};
+
+    /// So many files, of which nothing was taken yet. `Err` is want of memory.
+    pub fn new(
+        alloc: Global,
+        media: &[Media],
+        files: u32,
+        worker: u32,
+        workers: u32,
+        tai: u64,
+    ) -> Result<Apart, OutOfMemory>
+        requires few_files { files ≤ 16 }
+        requires few_media { length media.now ≤ 64 }
+        requires worker { worker < workers }
+        requires few_workers { workers ≤ 16 }
+        requires tai { tai ≤ 1000 }
+        ensures stands { IfOk result (λ apart. ApartStandsFor (record { media = media.now; workers = workers; joined = false; tai = tai })
+            files worker [] apart) }
+    {
+        let mut all = Vec::new(alloc);
+        for file in 0..files {
+            let judges = Judges::new(alloc, media, file, worker, workers, tai)?;
+            all.push(OneFile {
+                judges,
+                ended: false,
+            })?;
+        }
+        Ok(Apart { files: all })
+    }
+
+    /// Takes a message. What is of a file that isn't there, or comes behind its file's first end, is
+    /// passed over. `Err` is want of memory; what the judges were fed isn't known from then on.
+    pub fn take(&mut self, message: Message) -> Result<(), OutOfMemory>
+        requires few { (s : Setting) × (files : ℕ) × (worker : ℕ) × (taken : List MessageValue)
+            × ApartStandsFor s files worker taken self.old × IsFew taken message }
+        ensures stands { IfOk result (λ _. (s : Setting) (files worker : ℕ) (taken : List MessageValue)
+            → ApartStandsFor s files worker taken self.old
+            → ApartStandsFor s files worker (taken ++ message ∷ []) self.new) }
+    {
+        match message {
+            Message::Batch(batch) => self.feed(&batch),
+            Message::End(end) => {
+                self.end(&end);
+                Ok(())
+            }
+        }
+    }
+
+    // Feeds a batch to the judges of its file.
+    fn feed(&mut self, batch: &Batch) -> Result<(), OutOfMemory>
+        requires few { (s : Setting) × (files : ℕ) × (worker : ℕ) × (taken : List MessageValue)
+            × ApartStandsFor s files worker taken self.old
+            × IsFew taken (batch_of batch.now.file batch.now.packets) }
+        ensures stands { IfOk result (λ _. (s : Setting) (files worker : ℕ) (taken : List MessageValue)
+            → ApartStandsFor s files worker taken self.old
+            → ApartStandsFor s files worker (taken ++ batch_of batch.now.file batch.now.packets ∷ [])
+            self.new) }
+    {
+        let file = batch.file as usize;
+        if file >= self.files.len() || self.files[file].ended {
+            return Ok(());
+        }
+        self.files[file].judges.take(batch.packets.as_slice(), 0)
+    }
+
+    // Marks a file as ended.
+    fn end(&mut self, end: &FileEnd)
+        ensures stands { (s : Setting) (files worker : ℕ) (taken : List MessageValue)
+            → ApartStandsFor s files worker taken self.old
+            → ApartStandsFor s files worker
+            (taken ++ ending end.now.file end.now.note end.now.records ∷ []) self.new }
+    {
+        let file = end.file as usize;
+        if file < self.files.len() {
+            self.files[file].ended = true;
+        }
+    }
+
+    /// Whether an end of each file was taken.
+    pub fn has_ended(&self) -> bool
+        ensures { (s : Setting) (files worker : ℕ) (taken : List MessageValue)
+            → ApartStandsFor s files worker taken self.now → result ≡ has_ends files taken }
+    {
+        all_ended(&self.files)
+    }
+
+    /// Posts the rows of the worker's flows, by rising file and then media. `Err` is want of memory.
+    pub fn post<R: Wait>(
+        self,
+        rt: &R,
+        alloc: Global,
+        book: &Book,
+    ) -> Result<Vec<Receipt>, OutOfMemory>
+        ensures posted { IfOk result (λ receipts. All (IsOf book.now) receipts.items) }
+        ensures rows { IfOk result (λ receipts.
+            (s : Setting) (files worker : ℕ) (taken : List MessageValue)
+            → ApartStandsFor s files worker taken self
+            → map row_of receipts.items ≡ map (taken_row s files taken) (own_keys s files worker)) }
+    {
+        let mut receipts = Vec::new(alloc);
+        let Apart { files } = self;
+        for file in files {
+            let OneFile { judges, ended: _ } = file;
+            judges.post(rt, book, &mut receipts)?;
+        }
+        Ok(receipts)
+    }
+}
+
+fn all_ended(files: &[OneFile]) -> bool
+    ensures { result ≡ list_all (λ file. file.ended) files.now }
+{
+    files.iter().all(|file| file.ended)
+}

@@ -1,0 +1,211 @@
+//! Files that are joined: they are judged as one, in their order.
+
+ghost use Rattle.std.specs.Prelude.{◌≡◌, ◌≤◌, ◌<◌, ◌+◌, ◌^◌, ◌++◌, ◌∷◌, [], ℕ, List, All, false, true, IfNone, IfOk, IfSome, IsTrue, length, map};
+ghost use Rattle.ruled_intake.specs.declared.message.Message.{Message as MessageValue};
+ghost use Rattle.ruled_intake.specs.Lanes.{IsWithin};
+ghost use Rattle.verdict_book.specs.Receipts.{IsOf, row_of};
+ghost use Rattle.flow_worker.specs.Messages.{batch as batch_of, ending, has_end};
+ghost use Rattle.flow_worker.specs.Opening.{Setting};
+ghost use Rattle.flow_worker.specs.Posting.{has_ends, own_keys, taken_row};
+
+use crate::judges::Judges;
+use ruled_intake::{Batch, FileEnd, Message};
+use std::alloc::{AllocError as OutOfMemory, Global};
+use std::mem;
+use std::sync::Wait;
+use timing_base::Media;
+use verdict_book::{Book, Receipt};
+
+/// What came of one of the files.
+#[derive(Drop)]
+struct Waiting {
+    /// Its packets that came before the files before it had ended.
+    batches: Vec<Batch>,
+    end: Option<FileEnd>,
+}
+
+/// The files of a run, in order, and one judge for each media.
+#[derive(Drop)]
+pub struct Joined {
+    alloc: Global,
+    judges: Judges,
+    files: Vec<Waiting>,
+    /// The file whose packets are fed as they come: all files before it have ended.
+    next: usize,
+    /// The records of the files before it.
+    before: u64,
+}
+
+impl Joined {
+    ghost use Rattle.flow_worker.specs.Standing.{HasEnded, IsFew, JoinedIsAt, JoinedStandsFor};
+
+    /// So many files, of which nothing was taken yet. `Err` is want of memory.
+    pub fn new(
+        alloc: Global,
+        media: &[Media],
+        files: u32,
+        worker: u32,
+        workers: u32,
+        tai: u64,
+    ) -> Result<Joined, OutOfMemory>
+        requires some_files { 1 ≤ files }
+        requires few_files { files ≤ 16 }
+        requires few_media { length media.now ≤ 64 }
+        requires worker { worker < workers }
+        requires few_workers { workers ≤ 16 }
+        requires tai { tai ≤ 1000 }
+        ensures stands { IfOk result (λ joined. JoinedStandsFor (record { media = media.now; workers = workers; joined = true; tai = tai })
+            files worker [] joined) }
+    {
+        let judges = Judges::new(alloc, media, 0, worker, workers, tai)?;
+        let mut all = Vec::new(alloc);
+        for _ in 0..files {
+            all.push(Waiting {
+                batches: Vec::new(alloc),
+                end: None,
+            })?;
+        }
+        Ok(Joined {
+            alloc,
+            judges,
+            files: all,
+            next: 0,
+            before: 0,
+        })
+    }
+
+    /// Takes a message. What is of a file that isn't there, or comes behind its file's first end, is
+    /// passed over. `Err` is want of memory; what the judges were fed isn't known from then on.
+    pub fn take(&mut self, message: Message) -> Result<(), OutOfMemory>
+        requires few { (s : Setting) × (files : ℕ) × (worker : ℕ) × (taken : List MessageValue)
+            × JoinedStandsFor s files worker taken self.old × IsFew taken message }
+        ensures stands { IfOk result (λ _. (s : Setting) (files worker : ℕ) (taken : List MessageValue)
+            → JoinedStandsFor s files worker taken self.old
+            → JoinedStandsFor s files worker (taken ++ message ∷ []) self.new) }
+    {
+        match message {
+            Message::Batch(batch) => self.feed(batch),
+            Message::End(end) => self.end(end),
+        }
+    }
+
+    // Feeds a batch of the next file, and keeps one of a file behind it.
+    fn feed(&mut self, batch: Batch) -> Result<(), OutOfMemory>
+        requires few { (s : Setting) × (files : ℕ) × (worker : ℕ) × (taken : List MessageValue)
+            × JoinedStandsFor s files worker taken self.old
+            × IsFew taken (batch_of batch.file batch.packets) }
+        ensures stands { IfOk result (λ _. (s : Setting) (files worker : ℕ) (taken : List MessageValue)
+            → JoinedStandsFor s files worker taken self.old
+            → JoinedStandsFor s files worker (taken ++ batch_of batch.file batch.packets ∷ [])
+            self.new) }
+    {
+        let file = batch.file as usize;
+        if file >= self.files.len() || self.files[file].end.is_some() {
+            return Ok(());
+        }
+        if file == self.next {
+            return self.judges.take(batch.packets.as_slice(), self.before);
+        }
+        self.files[file].batches.push(batch)?;
+        Ok(())
+    }
+
+    // Notes the end of a file, and goes on behind each file that has ended.
+    fn end(&mut self, end: FileEnd) -> Result<(), OutOfMemory>
+        requires few { (s : Setting) × (files : ℕ) × (worker : ℕ) × (taken : List MessageValue)
+            × JoinedStandsFor s files worker taken self.old
+            × IsFew taken (ending end.file end.note end.records) }
+        ensures stands { IfOk result (λ _. (s : Setting) (files worker : ℕ) (taken : List MessageValue)
+            → JoinedStandsFor s files worker taken self.old
+            → JoinedStandsFor s files worker
+            (taken ++ ending end.file end.note end.records ∷ []) self.new) }
+    {
+        let file = end.file as usize;
+        if file >= self.files.len() || self.files[file].end.is_some() {
+            return Ok(());
+        }
+        self.files[file].end = Some(end);
+        self.advance()
+    }
+
+    // Goes on behind each file that has ended.
+    fn advance(&mut self) -> Result<(), OutOfMemory>
+        requires few { (s : Setting) × (files : ℕ) × (worker : ℕ) × (taken : List MessageValue)
+            × JoinedIsAt s files worker taken self.old × IsWithin (2 ^ 41) taken }
+        ensures stands { IfOk result (λ _. (s : Setting) (files worker : ℕ) (taken : List MessageValue)
+            → JoinedIsAt s files worker taken self.old
+            → JoinedStandsFor s files worker taken self.new) }
+    {
+        while let Some(records) = self.ended() {
+            self.go_on(records)?;
+        }
+        Ok(())
+    }
+
+    // The records of the next file, if it is there and has ended.
+    fn ended(&self) -> Option<u64>
+        ensures some { IfSome result (λ records. (s : Setting) (files worker : ℕ)
+            (taken : List MessageValue) → JoinedIsAt s files worker taken self.now
+            → HasEnded files taken self.now.next records) }
+        ensures none { IfNone result ((s : Setting) (files worker : ℕ) (taken : List MessageValue)
+            → JoinedIsAt s files worker taken self.now
+            → self.now.next < files → has_end self.now.next taken ≡ false) }
+    {
+        if self.next >= self.files.len() {
+            return None;
+        }
+        match &self.files[self.next].end {
+            Some(end) => Some(end.records),
+            None => None,
+        }
+    }
+
+    // Goes on to the file behind the next one, which has ended with so many records, and feeds what
+    // waited of it.
+    fn go_on(&mut self, records: u64) -> Result<(), OutOfMemory>
+        requires few { (s : Setting) × (files : ℕ) × (worker : ℕ) × (taken : List MessageValue)
+            × JoinedIsAt s files worker taken self.old × IsWithin (2 ^ 41) taken
+            × HasEnded files taken self.old.next records }
+        ensures next { self.new.next ≡ self.old.next + 1 }
+        ensures count { length self.new.files.items ≡ length self.old.files.items }
+        ensures stands { IfOk result (λ _. (s : Setting) (files worker : ℕ) (taken : List MessageValue)
+            → JoinedIsAt s files worker taken self.old
+            → HasEnded files taken self.old.next records
+            → JoinedIsAt s files worker taken self.new) }
+    {
+        self.before += records;
+        self.next += 1;
+        if self.next >= self.files.len() {
+            return Ok(());
+        }
+        let batches = mem::replace(&mut self.files[self.next].batches, Vec::new(self.alloc));
+        self.judges.take_batches(batches, self.before)
+    }
+
+    /// Whether an end of each file was taken.
+    pub fn has_ended(&self) -> bool
+        ensures { (s : Setting) (files worker : ℕ) (taken : List MessageValue)
+            → JoinedStandsFor s files worker taken self.now → result ≡ has_ends files taken }
+    {
+        self.next >= self.files.len()
+    }
+
+    /// Posts the rows of the worker's flows, by rising media, where all files have ended. `Err` is
+    /// want of memory.
+    pub fn post<R: Wait>(
+        self,
+        rt: &R,
+        alloc: Global,
+        book: &Book,
+    ) -> Result<Vec<Receipt>, OutOfMemory>
+        ensures posted { IfOk result (λ receipts. All (IsOf book.now) receipts.items) }
+        ensures rows { IfOk result (λ receipts.
+            (s : Setting) (files worker : ℕ) (taken : List MessageValue)
+            → JoinedStandsFor s files worker taken self → IsTrue (has_ends files taken)
+            → map row_of receipts.items ≡ map (taken_row s files taken) (own_keys s files worker)) }
+    {
+        let mut receipts = Vec::new(alloc);
+        self.judges.post(rt, book, &mut receipts)?;
+        Ok(receipts)
+    }
+}

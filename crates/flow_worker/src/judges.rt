@@ -1,0 +1,163 @@
+//! The judges of a worker for one file, or for files that are joined.
+
+ghost use Rattle.std.specs.Prelude.{◌≡◌, ◌≤◌, ◌<◌, ◌+◌, ◌^◌, ◌++◌, ◌∷◌, [], ℕ, Bool, List, All, IfOk, IfNone, IfSome, IsTrue, filter, length, map};
+ghost use Rattle.timing_base.specs.declared.key.FlowKey.{FlowKey as KeyValue};
+ghost use Rattle.timing_base.specs.declared.packet.FlowPacket.{FlowPacket as PacketValue};
+ghost use Rattle.timing_base.specs.Keys.{keys_of_file};
+ghost use Rattle.timing_base.specs.Routes.{route};
+ghost use Rattle.fail_interval.specs.Stands.{StandsFor};
+ghost use Rattle.verdict_book.specs.Receipts.{IsOf, row_of};
+ghost use Rattle.flow_worker.specs.Opening.{Setting};
+ghost use Rattle.flow_worker.specs.Posting.{row_over};
+
+use fail_interval::FlowJudge;
+use ruled_intake::{Batch, Packet};
+use std::alloc::{AllocError as OutOfMemory, Global};
+use std::sync::Wait;
+use timing_base::{FlowKey, FlowPacket, Media, Row, route};
+use verdict_book::{Book, Receipt};
+
+/// A place for each media of the session, in order. It has a judge where the flow of the media is
+/// the worker's own.
+#[derive(Drop)]
+pub struct Judges {
+    places: Vec<Option<FlowJudge>>,
+}
+
+impl Judges {
+    ghost use Rattle.flow_worker.specs.Judging.{AreFed, Feeds, HaveRoom, IsDealt, batched, is_own};
+
+    /// The judges of a file, or of the first of files that are joined, for this worker. `Err` is
+    /// want of memory.
+    pub fn new(
+        alloc: Global,
+        media: &[Media],
+        file: u32,
+        worker: u32,
+        workers: u32,
+        tai: u64,
+    ) -> Result<Judges, OutOfMemory>
+        requires file { file < 16 }
+        requires few_media { length media.now ≤ 64 }
+        requires worker { worker < workers }
+        requires few_workers { workers ≤ 16 }
+        requires tai { tai ≤ 1000 }
+        ensures fed { IfOk result (λ judges. (joined : Bool) → IsDealt joined file
+            → AreFed (record { media = media.now; workers = workers; joined = joined; tai = tai })
+            worker file (λ key. []) judges) }
+    {
+        let mut places = Vec::new(alloc);
+        for (number, each) in media.iter().enumerate() {
+            let key = FlowKey {
+                file,
+                media: number as u32,
+            };
+            let own = route(key, media.len() as u32, workers) == worker;
+            places.push(own_judge(alloc, each, key, tai, own))?;
+        }
+        Ok(Judges { places })
+    }
+
+    /// Feeds the packets of a file to the judges of their media, with their record numbers raised.
+    /// Those of a media without a judge are passed over. `Err` is want of memory; what the judges
+    /// were fed isn't known from then on.
+    pub fn take(&mut self, packets: &[Packet], before: u64) -> Result<(), OutOfMemory>
+        requires before { before ≤ 2 ^ 41 }
+        requires room { HaveRoom (length packets.now) self.old }
+        ensures feeds { IfOk result (λ _. Feeds before packets.now self.old self.new) }
+        ensures room { IfOk result (λ _. (more : ℕ) → HaveRoom (length packets.now + more) self.old
+            → HaveRoom more self.new) }
+    {
+        for packet in packets {
+            self.feed(packet, before)?;
+        }
+        Ok(())
+    }
+
+    /// Feeds the packets of batches, one batch after the other, as [`Judges::take`] does.
+    pub fn take_batches(&mut self, batches: Vec<Batch>, before: u64) -> Result<(), OutOfMemory>
+        requires before { before ≤ 2 ^ 41 }
+        requires room { HaveRoom (length (batched batches.items)) self.old }
+        ensures feeds { IfOk result (λ _. Feeds before (batched batches.items) self.old self.new) }
+    {
+        for batch in &batches {
+            self.take(batch.packets.as_slice(), before)?;
+        }
+        Ok(())
+    }
+
+    // Feeds one packet to the judge of its media, if there is one.
+    fn feed(&mut self, packet: &Packet, before: u64) -> Result<(), OutOfMemory>
+        requires before { before ≤ 2 ^ 41 }
+        requires room { HaveRoom 1 self.old }
+        ensures feeds { IfOk result (λ _. Feeds before (packet.now ∷ []) self.old self.new) }
+        ensures room { (more : ℕ) → HaveRoom (more + 1) self.old → HaveRoom more self.new }
+    {
+        let media = packet.media() as usize;
+        if media >= self.places.len() {
+            return Ok(());
+        }
+        let FlowPacket { rec, at, rtp } = packet.flow_packet();
+        match &mut self.places[media] {
+            Some(judge) => judge.feed(before + rec, at, rtp),
+            None => Ok(()),
+        }
+    }
+
+    /// Posts the rows of the flows that have a judge, by rising media, and puts the receipts at the
+    /// end of a list. `Err` is want of memory.
+    pub fn post<R: Wait>(
+        self,
+        rt: &R,
+        book: &Book,
+        receipts: &mut Vec<Receipt>,
+    ) -> Result<(), OutOfMemory>
+        ensures posted { All (IsOf book.now) receipts.old.items
+            → All (IsOf book.now) receipts.new.items }
+        ensures rows { IfOk result (λ _. (s : Setting) (worker file : ℕ)
+            (fed : KeyValue → List PacketValue) → AreFed s worker file fed self
+            → map row_of receipts.new.items ≡ map row_of receipts.old.items
+            ++ map (λ key. row_over s key (fed key))
+            (filter (is_own s worker) (keys_of_file file 0 (length s.media)))) }
+    {
+        let Judges { places } = self;
+        for judge in places {
+            if let Some(judge) = judge {
+                post_row(rt, book, judge.finish(), receipts)?;
+            }
+        }
+        Ok(())
+    }
+}
+
+// The judge of a flow that is the worker's own.
+fn own_judge(alloc: Global, media: &Media, key: FlowKey, tai: u64, own: bool) -> Option<FlowJudge>
+    requires { tai ≤ 1000 }
+    ensures judge { IfSome result (λ judge. IsTrue own × StandsFor media.now key tai judge []) }
+    ensures none { IfNone result (¬ IsTrue own) }
+{
+    if own {
+        Some(FlowJudge::new(alloc, media, key, tai))
+    } else {
+        None
+    }
+}
+
+// Posts a row, and puts its receipt at the end of a list.
+fn post_row<R: Wait>(
+    rt: &R,
+    book: &Book,
+    row: Row,
+    receipts: &mut Vec<Receipt>,
+) -> Result<(), OutOfMemory>
+    ensures posted { All (IsOf book.now) receipts.old.items
+        → All (IsOf book.now) receipts.new.items }
+    ensures row { IfOk result (λ _. map row_of receipts.new.items
+        ≡ map row_of receipts.old.items ++ row ∷ []) }
+{
+    let Ok(receipt) = book.post(rt, row) else {
+        return Err(OutOfMemory);
+    };
+    receipts.push(receipt)?;
+    Ok(())
+}

@@ -1,0 +1,284 @@
+//! A worker over messages that are laid out by hand, with each row read from the book.
+
+ghost use Rattle.std.specs.Prelude.{◌≡◌, ◌≤◌, ◌<◌, All, IfOk, IfSome, length};
+ghost use Rattle.ruled_intake.specs.Lanes.{AreSenders};
+ghost use Rattle.verdict_book.specs.Receipts.{IsOf};
+
+use super::*;
+use ruled_intake::{Batch, FileEnd, Halt, Lane, Message, Packet, SendPass};
+use std::alloc::{AllocError, Global};
+use std::process::Abort;
+use std::sync::Wait;
+use std::test::Fail;
+use timing_base::{
+    FileNote, FlowKey, FlowPacket, Items, Media, PacketFault, Row, Rtp, Unjudged, Verdict,
+};
+use timing_outside::NoGate;
+use verdict_book::{Book, Receipt};
+
+// A video stream.
+const VIDEO: Media = Media {
+    line: 5,
+    address: 0xef00_0001,
+    port: 50_000,
+    pt: 96,
+    width: 1920,
+    height: 1080,
+    interlaced: false,
+    p: 50,
+    q: 1,
+    declared: None,
+    troff: None,
+    cmax: None,
+};
+
+// The packet of a media with this number, of this record. It doesn't end its frame.
+fn packet(media: u32, rec: u32, number: u32) -> Packet {
+    let rtp = Rtp {
+        number,
+        timestamp: 1800,
+        marker: false,
+        pt: 96,
+        ssrc: 1,
+    };
+    Packet::new(
+        media,
+        FlowPacket {
+            rec: u64::from(rec),
+            at: u64::from(rec) * 1000,
+            rtp: Ok(rtp),
+        },
+    )
+}
+
+// A packet of a media, of this record, that is too short.
+fn short(media: u32, rec: u32) -> Packet {
+    Packet::new(
+        media,
+        FlowPacket {
+            rec: u64::from(rec),
+            at: u64::from(rec) * 1000,
+            rtp: Err(PacketFault::Short),
+        },
+    )
+}
+
+// Two packets of a file.
+fn two(alloc: Global, file: u32, packets: [Packet; 2]) -> Result<Message, AllocError> {
+    let packets = Vec::from_array(alloc, packets)?;
+    Ok(Message::Batch(Batch {
+        file,
+        packets: Items::from_vec(packets),
+    }))
+}
+
+// The end of a file with so many records.
+fn end(file: u32, records: u32) -> Message {
+    Message::End(FileEnd {
+        file,
+        note: FileNote::End,
+        records: u64::from(records),
+    })
+}
+
+// Sends a message by the first pass of a lane, and asserts that there is room and memory.
+fn send_first<R: Wait + Abort>(rt: &R, lane: &Lane, passes: &mut Vec<SendPass>, message: Message)
+    requires each { AreSenders lane.now passes.old.items }
+    ensures each { AreSenders lane.now passes.new.items }
+{
+    assert!(rt; !passes.is_empty());
+    let pass = &mut passes[0];
+    assert!(rt; pass.has_room(&message));
+    assert!(rt; lane.send(rt, pass, message).is_ok());
+}
+
+// Sends messages by the first pass of a lane.
+fn send_all<R: Wait + Abort>(rt: &R, lane: &Lane, passes: Vec<SendPass>, messages: Vec<Message>)
+    requires each { AreSenders lane.now passes.items }
+{
+    let mut passes = passes;
+    for message in messages {
+        send_first(rt, lane, &mut passes, message);
+    }
+}
+
+// What is asked of a worker.
+#[derive(Clone, Copy)]
+struct Asked {
+    worker: u32,
+    workers: u32,
+    joined: bool,
+}
+
+// The receipts of a worker that takes these messages, of two media and two files.
+fn worked<R: Wait + Abort>(
+    rt: &R,
+    alloc: Global,
+    asked: Asked,
+    messages: Vec<Message>,
+    book: &Book,
+    halt: &Halt,
+) -> Result<Option<Vec<Receipt>>, AllocError>
+    ensures { IfOk result (λ some. IfSome some (λ receipts. All (IsOf book.now) receipts.items)) }
+{
+    let Asked {
+        worker,
+        workers,
+        joined,
+    } = asked;
+    assert!(rt; worker < workers && workers <= 16);
+    let (lane, passes, taker) = Lane::new(alloc, 1)?;
+    send_all(rt, &lane, passes, messages);
+    let media = [VIDEO; 2];
+    let done = work(
+        rt, alloc, worker, workers, joined, &media, 2, 37, &lane, taker, book, halt, &NoGate,
+    );
+    Ok(done.receipts)
+}
+
+// Asserts that a row is that of this flow, which isn't judged.
+fn is_row(rt: &impl Abort, found: &Row, want: (u32, u32, Unjudged)) {
+    let (file, media, why) = want;
+    assert_eq!(rt; found.key, FlowKey { file, media });
+    match &found.verdict {
+        Verdict::Unjudged(unjudged) => assert_eq!(rt; *unjudged, why),
+        _ => assert!(rt; false, "a judged flow"),
+    }
+}
+
+// Asserts that the receipts are of these rows.
+fn are_rows(
+    rt: &impl Abort,
+    book: &Book,
+    receipts: Option<Vec<Receipt>>,
+    want: &[(u32, u32, Unjudged)],
+)
+    requires { IfSome receipts (λ receipts. All (IsOf book.now) receipts.items) }
+{
+    let Some(receipts) = receipts else {
+        assert!(rt; false, "there are receipts");
+        return;
+    };
+    assert_eq!(rt; receipts.len(), want.len());
+    for place in 0..want.len() {
+        is_row(rt, book.read(&receipts[place]), want[place]);
+    }
+}
+
+#[test]
+fn files_each_for_itself(rt: HostRuntime) -> Result<(), Fail> {
+    let alloc = rt.alloc();
+    let book = Book::new(alloc)?;
+    let mut messages = Vec::new(alloc);
+    messages.push(two(alloc, 0, [packet(0, 1, 0), short(1, 2)])?)?;
+    messages.push(two(alloc, 1, [packet(0, 1, 0), packet(0, 2, 1)])?)?;
+    messages.push(end(1, 2))?;
+    // Behind the end, and of a file and a media that aren't there.
+    messages.push(two(alloc, 1, [short(0, 3), short(1, 4)])?)?;
+    messages.push(two(alloc, 7, [short(0, 1), short(1, 2)])?)?;
+    messages.push(two(alloc, 0, [packet(0, 3, 1), short(9, 4)])?)?;
+    messages.push(two(alloc, 0, [packet(0, 5, 2), short(1, 6)])?)?;
+    messages.push(end(0, 6))?;
+    let asked = Asked {
+        worker: 0,
+        workers: 1,
+        joined: false,
+    };
+    let receipts = worked(&rt, alloc, asked, messages, &book, &Halt::new())?;
+    let want = [
+        (0, 0, Unjudged::NoWholeFrame { head: 3 }),
+        (
+            0,
+            1,
+            Unjudged::Refused {
+                rec: 2,
+                fault: PacketFault::Short,
+            },
+        ),
+        (1, 0, Unjudged::NoWholeFrame { head: 2 }),
+        (1, 1, Unjudged::Absent),
+    ];
+    are_rows(&rt, &book, receipts, &want);
+    Ok(())
+}
+
+// The second file comes first. The first has 6 records, so that record 1 of the second is the
+// seventh.
+#[test]
+fn second_file_waits_for_the_first(rt: HostRuntime) -> Result<(), Fail> {
+    let alloc = rt.alloc();
+    let book = Book::new(alloc)?;
+    let mut messages = Vec::new(alloc);
+    messages.push(two(alloc, 1, [short(0, 1), short(1, 2)])?)?;
+    messages.push(end(1, 2))?;
+    messages.push(two(alloc, 1, [short(1, 3), short(1, 4)])?)?;
+    messages.push(two(alloc, 0, [packet(0, 3, 0), short(1, 5)])?)?;
+    messages.push(end(0, 6))?;
+    messages.push(two(alloc, 0, [short(0, 7), short(1, 8)])?)?;
+    let asked = Asked {
+        worker: 0,
+        workers: 1,
+        joined: true,
+    };
+    let receipts = worked(&rt, alloc, asked, messages, &book, &Halt::new())?;
+    let want = [
+        (
+            0,
+            0,
+            Unjudged::Refused {
+                rec: 7,
+                fault: PacketFault::Short,
+            },
+        ),
+        (
+            0,
+            1,
+            Unjudged::Refused {
+                rec: 5,
+                fault: PacketFault::Short,
+            },
+        ),
+    ];
+    are_rows(&rt, &book, receipts, &want);
+    Ok(())
+}
+
+// Of three workers the third has the flows of the first media of the second file alone.
+#[test]
+fn flows_of_others_are_passed_over(rt: HostRuntime) -> Result<(), Fail> {
+    let alloc = rt.alloc();
+    let book = Book::new(alloc)?;
+    let mut messages = Vec::new(alloc);
+    messages.push(two(alloc, 1, [packet(0, 1, 0), short(1, 2)])?)?;
+    messages.push(two(alloc, 0, [short(0, 1), short(1, 2)])?)?;
+    messages.push(end(0, 2))?;
+    messages.push(end(1, 2))?;
+    let asked = Asked {
+        worker: 2,
+        workers: 3,
+        joined: false,
+    };
+    let receipts = worked(&rt, alloc, asked, messages, &book, &Halt::new())?;
+    let want = [(1, 0, Unjudged::NoWholeFrame { head: 1 })];
+    are_rows(&rt, &book, receipts, &want);
+    Ok(())
+}
+
+// An end is missing, and the halt is raised.
+#[test]
+fn halt_stops_without_receipts(rt: HostRuntime) -> Result<(), Fail> {
+    let alloc = rt.alloc();
+    let book = Book::new(alloc)?;
+    let mut messages = Vec::new(alloc);
+    messages.push(end(1, 2))?;
+    let halt = Halt::new();
+    halt.raise();
+    let asked = Asked {
+        worker: 0,
+        workers: 1,
+        joined: true,
+    };
+    let receipts = worked(&rt, alloc, asked, messages, &book, &halt)?;
+    assert!(rt; receipts.is_none());
+    Ok(())
+}
