@@ -7,9 +7,9 @@
 //! media and workers count from 0, records from 1.
 #![tactic(auto)]
 
-mod intake;
+mod intakes;
 pub mod laws;
-mod work;
+mod workers;
 
-pub use intake::{IntakeDone, intake};
-pub use work::{WorkDone, work};
+pub use intakes::{IntakeDone, intake};
+pub use workers::{WorkDone, work};

@@ -1,0 +1,2 @@
+-- these only serve proofs
+pub mod Columns

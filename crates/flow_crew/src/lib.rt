@@ -1,0 +1,4 @@
+//! All files of a job, read and judged beside each other.
+#![tactic(auto)]
+
+mod columns;
