@@ -47,3 +47,11 @@ deal_step f olds news row done rest x old new e h whole at put =
     ∙ ap (λ l. slice_set l (length done) (f new)) e
     ∙ ap (λ l. slice_set (dealt done (map f olds)) (length done) l) (put ∙ ap (λ l. l ++ x ∷ []) was)
     ∙ sym (dealt-more done x (map f olds) room)
+
+-- what each list has then
+pub dealt-at : {X : Type 0} (row : List X) (lists : List (List X)) (n : ℕ) (d : X) → n < length row → length row ≤ length lists
+    → slice_index_or (dealt row lists) n [] ≡ slice_index_or lists n [] ++ slice_index_or row n d ∷ []
+dealt-at [] lists n d h k = absurd (omega (arith, h))
+dealt-at (x ∷ row) [] n d h k = absurd (omega (arith, k))
+dealt-at (x ∷ row) (l ∷ ls) zero d h k = refl
+dealt-at (x ∷ row) (l ∷ ls) (suc n) d h k = dealt-at row ls n d (omega (arith, h)) (omega (arith, k))

@@ -1,2 +1,3 @@
 -- these only serve proofs
 pub mod Columns
+pub mod Jobs
