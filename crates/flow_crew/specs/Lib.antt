@@ -1,3 +1,4 @@
 -- these only serve proofs
 pub mod Columns
 pub mod Jobs
+pub mod Threads

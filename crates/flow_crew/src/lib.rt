@@ -3,3 +3,4 @@
 
 mod columns;
 mod jobs;
+mod threads;
