@@ -1,7 +1,8 @@
 -- Rows that are dealt out, one item after the other.
-use Rattle.std.proofs.Common.{◌≡◌, ◌≤◌, ◌<◌, ◌+◌, ℕ, zero, suc, List, [], ◌∷◌, ◌++◌, length, map, slice_set, slice_index_or, refl, sym, ap, ◌∙◌, subst, arith}
-use Rattle.std.proofs.lemmas.List.{get_or-map, length-append, length-map, map-set}
-use Rattle.flow_crew.specs.Columns.{dealt}
+use Rattle.std.proofs.Common.{◌≡◌, ◌≤◌, ◌<◌, ◌+◌, ℕ, zero, suc, List, [], ◌∷◌, ◌++◌, length, map, replicate, slice_set, slice_index_or, refl, sym, ap, ◌∙◌, subst, arith}
+use Rattle.std.specs.Prelude.{All}
+use Rattle.std.proofs.lemmas.List.{get_or-map, length-append, length-map, length-replicate, map-append, map-set}
+use Rattle.flow_crew.specs.Columns.{dealt, dealt_all}
 
 -- one item more
 dealt-more : {X : Type 0} (row : List X) (x : X) (lists : List (List X)) → length row < length lists
@@ -55,3 +56,26 @@ dealt-at [] lists n d h k = absurd (omega (arith, h))
 dealt-at (x ∷ row) [] n d h k = absurd (omega (arith, k))
 dealt-at (x ∷ row) (l ∷ ls) zero d h k = refl
 dealt-at (x ∷ row) (l ∷ ls) (suc n) d h k = dealt-at row ls n d (omega (arith, h)) (omega (arith, k))
+
+-- one row more
+pub dealt_all-more : {X : Type 0} (rows : List (List X)) (row : List X) (lists : List (List X)) → dealt_all (rows ++ row ∷ []) lists ≡ dealt row (dealt_all rows lists)
+dealt_all-more [] row lists = refl
+dealt_all-more (r ∷ rows) row lists = dealt_all-more rows row (dealt r lists)
+
+pub length-dealt_all : {X : Type 0} (rows : List (List X)) (lists : List (List X)) → length (dealt_all rows lists) ≡ length lists
+length-dealt_all [] lists = refl
+length-dealt_all (r ∷ rows) lists = length-dealt_all rows (dealt r lists) ∙ length-dealt r lists
+
+-- the next row is dealt out
+pub deal_next : {A X : Type 0} (f : A → List X) (n : ℕ) (rows : List A) (row : A) (olds news : List A) → map f olds ≡ dealt_all (map f rows) (replicate n [])
+    → map f news ≡ dealt (f row) (map f olds) → (map f news ≡ dealt_all (map f (rows ++ row ∷ [])) (replicate n [])) × (length news ≡ n)
+deal_next f n rows row olds news e now =
+    let is : map f news ≡ dealt_all (map f (rows ++ row ∷ [])) (replicate n []) =
+    now ∙ ap (dealt (f row)) e ∙ sym (dealt_all-more (map f rows) (f row) (replicate n [])) ∙ ap (λ l. dealt_all l (replicate n [])) (sym (map-append f rows (row ∷ []))) in
+    (is, sym (length-map news f) ∙ ap length is ∙ length-dealt_all (map f (rows ++ row ∷ [])) (replicate n []) ∙ length-replicate n [])
+
+-- what holds of each holds of each behind the first
+pub behind_first : {A : Type 0} (P : A → Type 0) (x : A) (xs all : List A) → all ≡ x ∷ xs → All P all → All P xs
+behind_first P x xs all e each =
+    let whole : All P (x ∷ xs) = subst (All P) e each in
+    λ k d m. whole (suc k) d (omega (arith, m))

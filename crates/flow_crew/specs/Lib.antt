@@ -2,3 +2,4 @@
 pub mod Columns
 pub mod Jobs
 pub mod Threads
+pub mod Ends

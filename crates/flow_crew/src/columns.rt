@@ -1,7 +1,7 @@
 //! Passes that are dealt out: rows come in, columns go out.
 
-ghost use Rattle.std.specs.Prelude.{◌≡◌, ◌≤◌, [], IfOk, length, map, replicate};
-ghost use Rattle.flow_crew.specs.Columns.{dealt};
+ghost use Rattle.std.specs.Prelude.{◌≡◌, ◌≤◌, [], All, IfOk, length, map, replicate};
+ghost use Rattle.flow_crew.specs.Columns.{dealt, dealt_all};
 
 use ruled_intake::SendPass;
 use std::alloc::{AllocError as OutOfMemory, Global};
@@ -29,4 +29,21 @@ pub fn deal(columns: &mut Vec<Vec<SendPass>>, row: Vec<SendPass>) -> Result<(), 
         place += 1;
     }
     Ok(())
+}
+
+/// Deals rows of so many passes out, one after the other. `Err` is want of memory.
+pub fn deal_all(
+    alloc: Global,
+    count: usize,
+    rows: Vec<Vec<SendPass>>,
+) -> Result<Vec<Vec<SendPass>>, OutOfMemory>
+    requires { All (λ row. length row.items ≡ count) rows.items }
+    ensures { IfOk result (λ columns. map (λ c. c.items) columns.items
+        ≡ dealt_all (map (λ c. c.items) rows.items) (replicate count [])) }
+{
+    let mut columns = no_columns(alloc, count)?;
+    for row in rows {
+        deal(&mut columns, row)?;
+    }
+    Ok(columns)
 }

@@ -2,5 +2,6 @@
 #![tactic(auto)]
 
 mod columns;
+mod ends;
 mod jobs;
 mod threads;
