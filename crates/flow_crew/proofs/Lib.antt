@@ -1,3 +1,5 @@
 pub mod Dealing
 pub mod Making
 pub mod Telling
+pub mod Keys
+pub mod Queues

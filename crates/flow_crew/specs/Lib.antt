@@ -3,3 +3,5 @@ pub mod Columns
 pub mod Jobs
 pub mod Threads
 pub mod Ends
+pub mod Closing
+pub mod Gathering

@@ -1,7 +1,9 @@
 //! All files of a job, read and judged beside each other.
 #![tactic(auto)]
 
+mod close;
 mod columns;
 mod ends;
+mod gather;
 mod jobs;
 mod threads;
