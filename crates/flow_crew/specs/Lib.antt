@@ -2,6 +2,7 @@
 pub mod Columns
 pub mod Jobs
 pub mod Threads
+pub mod Judging
 pub mod Ends
 pub mod Closing
 pub mod Gathering

@@ -120,7 +120,8 @@ pub fn run_workers<R: Threads + Wait + Sync, G: Gate>(
     thread::map_vec(rt, jobs, &one)
 }
 
-/// Runs the intakes in the same way. `Err` is want of memory.
+/// Runs the intakes in the same way. `Err` is want of memory; the halt is then raised, since an intake
+/// that didn't run sends no end.
 pub fn run_intakes<R: Threads + Wait + Sync, S: Source, G: Gate>(
     rt: &R,
     alloc: Global,
@@ -141,5 +142,11 @@ pub fn run_intakes<R: Threads + Wait + Sync, S: Source, G: Gate>(
         requires { IsAsked media.now asked × (length lanes.now ≡ asked.workers) × IsIntakeJob lanes.now job }
         ensures { HasRead S.name S.left S.faults (setting_of media.entry.now asked) lanes.entry.now job result }
     { read_one(rt, alloc, asked, media, lanes, halt, gate, job) };
-    thread::map_vec(rt, jobs, &one)
+    match thread::map_vec(rt, jobs, &one) {
+        Ok(dones) => Ok(dones),
+        Err(refused) => {
+            halt.raise();
+            Err(refused)
+        }
+    }
 }
