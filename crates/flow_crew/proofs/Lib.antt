@@ -3,3 +3,4 @@ pub mod Making
 pub mod Telling
 pub mod Keys
 pub mod Queues
+pub mod Listing

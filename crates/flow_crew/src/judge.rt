@@ -1,6 +1,6 @@
 //! All files of a job, by intakes and workers.
 
-ghost use Rattle.std.specs.Prelude.{◌≡◌, ◌≤◌, ◌≢◌, ℕ, List, IfOk, IfSome, IsTrue, All, length, map};
+ghost use Rattle.std.specs.Prelude.{◌≡◌, ◌≤◌, if◌then◌else◌, ℕ, List, IfOk, IfSome, All, length, map};
 ghost use Rattle.timing_base.specs.Keys.{keys_of};
 ghost use Rattle.timing_base.specs.Targets.{HaveOwnTargets};
 ghost use Rattle.timing_base.specs.declared.key.FlowKey.{FlowKey as KeyValue};
@@ -91,6 +91,13 @@ fn run_threads<R: Threads + Wait + Sync, S: Source, G: Gate>(
     Ok((worked?, read?))
 }
 
+/// How many files the keys of a run are of: files that are joined are one.
+fn file_count(asked: Asked) -> u32
+    ensures { result ≡ (if asked.joined then 1 else asked.files) }
+{
+    if asked.joined { 1 } else { asked.files }
+}
+
 /// The rows of what the workers posted. `Err` is want of memory: also where a worker has no receipts.
 fn rows_on(
     alloc: Global,
@@ -111,10 +118,37 @@ fn rows_on(
         → ArePosted book.now row_for media asked.workers (keys_of asked.joined asked.files media) posted.items
         → rows.items ≡ map row_for (keys_of asked.joined asked.files media)) }
 {
-    let files = if asked.joined { 1 } else { asked.files };
-    let keys = list_keys(alloc, files, media)?;
+    let keys = list_keys(alloc, file_count(asked), media)?;
     let queues = take_posted(alloc, posted)?;
     gather(alloc, book, &keys, media, asked.workers, queues)
+}
+
+/// The rows, where each file was read to its end, or to where it is refused. `None` is also want of memory.
+fn rows_if_whole(
+    alloc: Global,
+    asked: Asked,
+    media: u32,
+    book: &Book,
+    notes: &[FileNote],
+    posted: Vec<Option<Vec<Receipt>>>,
+) -> Option<Vec<Row>>
+    requires few_media { media ≤ 64 }
+    requires few_files { asked.files ≤ 16 }
+    requires some_files { 1 ≤ asked.files }
+    requires some_workers { 1 ≤ asked.workers }
+    requires few_workers { asked.workers ≤ 16 }
+    requires count { length posted.items ≡ asked.workers }
+    requires posted { (row_for : KeyValue → RowValue) × ArePosted book.now row_for media asked.workers
+        (keys_of asked.joined asked.files media) posted.items }
+    ensures whole { IfSome result (λ rows. All IsWhole notes.now) }
+    ensures rows { IfSome result (λ rows. (row_for : KeyValue → RowValue)
+        → ArePosted book.now row_for media asked.workers (keys_of asked.joined asked.files media) posted.items
+        → rows.items ≡ map row_for (keys_of asked.joined asked.files media)) }
+{
+    if !notes.iter().all(|note| is_whole(*note)) {
+        return None;
+    }
+    rows_on(alloc, asked, media, book, posted).ok()
 }
 
 /// Judges the media in files, each by itself, or in all of them as in one where they are `joined`. The
@@ -172,11 +206,7 @@ pub fn judge_files<R: Threads + Wait + Sync, S: Source, G: Gate>(
     let Worked { takers, posted } = take_worked(alloc, worked)?;
     let senders = deal_all(alloc, workers as usize, rows)?;
     close_all(rt, lanes, senders, takers);
-    let rows = if notes.iter().all(|note| is_whole(*note)) {
-        rows_on(alloc, asked, media.len() as u32, &book, posted).ok()
-    } else {
-        None
-    };
+    let rows = rows_if_whole(alloc, asked, media.len() as u32, &book, &notes, posted);
     Ok(Judged {
         sources,
         notes,
