@@ -4,3 +4,7 @@ pub mod Telling
 pub mod Keys
 pub mod Queues
 pub mod Listing
+pub mod Lists
+pub mod Starting
+pub mod Running
+pub mod Finding
