@@ -1,5 +1,5 @@
 -- What a run finds in the texts of its files.
-use Rattle.std.proofs.Common.{◌≡◌, ◌≤◌, ◌<◌, ◌+◌, ◌^◌, ℕ, zero, suc, Bool, true, false, cond, eqb, nat_lt, if◌then◌else◌, List, [], ◌∷◌, ◌++◌, length, map, filter, slice_index_or, Some, None, refl, sym, ap, ap₂, ◌∙◌, subst, eqb-true, ltb-true, lt-ltb, arith, append-nil, Vec, Global}
+use Rattle.std.proofs.Common.{◌≡◌, ◌≤◌, ◌<◌, ◌+◌, ◌^◌, ℕ, zero, suc, Bool, true, false, cond, eqb, nat_lt, if◌then◌else◌, List, [], ◌∷◌, ◌++◌, length, map, filter, replicate, slice_index_or, Some, None, refl, sym, ap, ap₂, ◌∙◌, subst, eqb-true, ltb-true, lt-ltb, arith, append-nil, Vec, Global}
 use Rattle.std.specs.Prelude.{All, IfSome, IsTrue, Option}
 use Rattle.std.proofs.lemmas.Bool.{and_from, false≢true}
 use Rattle.std.proofs.lemmas.List.{get_or-map, length-map}
@@ -45,8 +45,10 @@ use Rattle.flow_crew.specs.declared.jobs.IntakeJob.{IntakeJob}
 use Rattle.flow_crew.specs.declared.jobs.WorkJob.{WorkJob}
 use Rattle.flow_crew.proofs.Listing.{keys-all}
 use Rattle.flow_crew.proofs.Lists.{at_map, filter-agree, map-same, map_kept-agree, same_at, some_item}
+use Rattle.flow_crew.specs.Closing.{AreClosed}
+use Rattle.flow_crew.specs.Columns.{dealt_all}
 use Rattle.flow_crew.proofs.Running.{HasRun, HaveSentAll, taken_begins}
-use Rattle.flow_crew.proofs.Starting.{job_number, read_at, row_at, work_count}
+use Rattle.flow_crew.proofs.Starting.{AreRows, job_number, read_at, row_at, row_count, rows_are, taker_count, takers_are, work_count}
 
 -- of receipts that are there
 receipts_are : (P : List Receipt → Type 0) (o : Option (Vec Receipt Global)) → IfSome o (λ v. P v.items) → IfSome (receipts_in o) P
@@ -227,3 +229,91 @@ rows-over_by s captures false e = refl
 -- the rows of the keys are those over the records
 key_rows : (s : Setting) (captures : List Capture) → map (key_row s captures) (keys s (length captures)) ≡ rows_over s.joined s.tai s.media (map (λ (c : Capture). c.records) captures)
 key_rows s captures = rows-keys s captures ∙ rows-over_by s captures s.joined refl
+
+-- what came back of a run
+pub run_is : {S : Type 0} (name : S → List ℕ) (left : S → Option (List ℕ)) (faults : S → ℕ) (s : Setting) (files : ℕ) (book : Book) (lanes : List LaneId) (columns : List (List Sender)) (sources : List S)
+    (wjobs : List WorkJob) (wdones : List WorkDone) (takers : List Taker) (ijobs : List (IntakeJob S)) (idones : List (IntakeDone S)) (passes : List (Vec SendPass Global)) (senders : List (List Sender))
+    → AreMade files s.workers lanes wjobs columns → AreIntakes sources columns ijobs → length sources ≡ files → AreWorked s files book wjobs wdones → takers ≡ map (λ d. d.pass) wdones
+    → AreRead name left faults s lanes ijobs idones → passes ≡ map (λ d. d.passes) idones → senders ≡ dealt_all (map (λ v. v.items) passes) (replicate s.workers [])
+    → HasRun files s.workers lanes (map (λ v. v.items) passes) senders takers
+run_is {S} name left faults s files book lanes columns sources wjobs wdones takers ijobs idones passes senders made intakes long worked a read b dealt_out = record {
+  lane_count = made.lane_count;
+  row_count = length-map passes (λ (v : Vec SendPass Global). v.items) ∙ row_count name left faults s lanes columns sources ijobs idones passes intakes read b ∙ long;
+  taker_count = taker_count files s.workers s book lanes wjobs columns wdones takers made worked a;
+  are_rows = rows_are name left faults s lanes columns sources ijobs idones passes intakes read b;
+  are_takers = takers_are files s.workers s book lanes wjobs columns wdones takers made worked a;
+  dealt_out = dealt_out;
+}
+
+-- so many rows of passes
+pub each_long : (lanes : List LaneId) (workers : ℕ) (passes : List (Vec SendPass Global)) → length lanes ≡ workers → AreRows lanes (map (λ v. v.items) passes)
+    → All (λ (v : Vec SendPass Global). length v.items ≡ workers) passes
+each_long lanes workers passes long are = λ k d h.
+    let there : k < length (map (λ (v : Vec SendPass Global). v.items) passes) = let a = length-map passes (λ (v : Vec SendPass Global). v.items) in omega (arith, h, a) in
+    ap (λ (l : List Sender). length l) (sym (at_map (λ (v : Vec SendPass Global). v.items) passes (map (λ v. v.items) passes) k d [] refl h))
+    ∙ (are k there).1.count ∙ long
+
+-- the files of a run are found, where each is whole
+pub found : {S : Type 0} (name : S → List ℕ) (left : S → Option (List ℕ)) (faults : S → ℕ) (s : Setting) (files : ℕ) (book : Book) (lanes : List LaneId) (columns : List (List Sender)) (sources : List S)
+    (wjobs : List WorkJob) (wdones : List WorkDone) (takers : List Taker) (posted : List (Option (Vec Receipt Global))) (ijobs : List (IntakeJob S)) (idones : List (IntakeDone S)) (notes : List FileNote)
+    (passes : List (Vec SendPass Global)) (senders : List (List Sender)) (rows : List Row) (texts : List (List ℕ))
+    → IsSetting s → AreMade files s.workers lanes wjobs columns → AreIntakes sources columns ijobs → length sources ≡ files → AreWorked s files book wjobs wdones → takers ≡ map (λ d. d.pass) wdones
+    → posted ≡ map (λ d. d.receipts) wdones → AreRead name left faults s lanes ijobs idones → notes ≡ map (λ d. d.note) idones → passes ≡ map (λ d. d.passes) idones
+    → senders ≡ dealt_all (map (λ v. v.items) passes) (replicate s.workers []) → AreClosed senders takers → All IsWhole notes
+    → ((row_for : FlowKey → Row) → ArePosted book row_for (length s.media) s.workers (keys s files) posted → rows ≡ map row_for (keys s files))
+    → AreTexts left texts sources → AreFound texts (rows_over s.joined s.tai s.media) notes rows
+found {S} name left faults s files book lanes columns sources wjobs wdones takers posted ijobs idones notes passes senders rows texts
+    is made intakes long worked takers_is posted_is read notes_is passes_is dealt_out closed whole rows_are are_texts =
+    let captures : List Capture = map capture_of texts in
+    let same : length captures ≡ length sources = length-map texts capture_of ∙ text_count left texts sources are_texts in
+    let count : files ≡ length captures = sym long ∙ sym same in
+    let run : HasRun (length captures) s.workers lanes (map (λ v. v.items) passes) senders takers =
+    subst (λ n. HasRun n s.workers lanes (map (λ v. v.items) passes) senders takers) count
+    (run_is name left faults s files book lanes columns sources wjobs wdones takers ijobs idones passes senders made intakes long worked takers_is read passes_is dealt_out) in
+    let sent = λ (f : ℕ) (c : Capture) (n : FileNote) (h : f < length sources).
+    all_sent name left faults s lanes columns sources ijobs idones texts notes passes f c n intakes read are_texts notes_is passes_is whole h in
+    let all : HaveSentAll s lanes captures (map (λ v. v.items) passes) = λ f c h. (sent f c End (omega (arith, h, same))).have_sent in
+    let note_count : length notes ≡ length sources =
+    ap length notes_is ∙ length-map idones (λ (d : IntakeDone S). d.note) ∙ read.count ∙ sym (length-map ijobs (λ (j : IntakeJob S). j.source)) ∙ ap length intakes.file_sources in
+    let none : Capture = record { records = []; note = End } in
+    let notes_of : notes ≡ map (λ (c : Capture). c.note) captures =
+    same_at notes (map (λ c. c.note) captures) (note_count ∙ sym same ∙ sym (length-map captures (λ (c : Capture). c.note)))
+    (λ n a h.
+    let below : n < length sources = omega (arith, h, note_count) in
+    (sent n none a below).note_is ∙ sym (at_map (λ (c : Capture). c.note) captures (map (λ c. c.note) captures) n none a refl (omega (arith, below, same)))) in
+    let begins : (w : ℕ) (d : WorkDone) → w < length wdones → (g : ℕ) → IsPrefix (of g (slice_index_or wdones w d).pass.taken) (file_messages s captures g w) = λ w d there g.
+    let below : w < s.workers =
+    let a = worked.count in let b = work_count files s.workers lanes wjobs columns made in let k = made.lane_count in omega (arith, there, a, b, k) in
+    subst (λ (t : Taker). IsPrefix (of g t.taken) (file_messages s captures g w)) (at_map (λ (x : WorkDone). x.pass) wdones takers w d d.pass takers_is there)
+    (taken_begins s captures s.workers lanes (map (λ v. v.items) passes) senders takers w d.pass run below all closed g) in
+    let made_of : AreMade (length captures) s.workers lanes wjobs columns = subst (λ n. AreMade n s.workers lanes wjobs columns) count made in
+    let worked_of : AreWorked s (length captures) book wjobs wdones = subst (λ n. AreWorked s n book wjobs wdones) count worked in
+    let is_posted : ArePosted book (key_row s captures) (length s.media) s.workers (keys s files) posted =
+    subst (λ n. ArePosted book (key_row s captures) (length s.media) s.workers (keys s n) posted) (sym count)
+    (rows_posted s captures book lanes columns wjobs wdones posted is made_of worked_of posted_is begins) in
+    record {
+      files = map (λ (c : Capture). c.records) captures;
+      records = subst (AreRecords texts (map (λ (c : Capture). c.records) captures)) (sym notes_of) (captures_records texts);
+      rows_are = rows_are (key_row s captures) is_posted ∙ ap (λ n. map (key_row s captures) (keys s n)) count ∙ key_rows s captures;
+    }
+
+-- the keys of the rows
+pub keys-found : (s : Setting) (files : ℕ) (book : Book) (lanes : List LaneId) (columns : List (List Sender)) (wjobs : List WorkJob) (wdones : List WorkDone) (posted : List (Option (Vec Receipt Global))) (rows : List Row)
+    → AreMade files s.workers lanes wjobs columns → AreWorked s files book wjobs wdones → posted ≡ map (λ d. d.receipts) wdones
+    → ((row_for : FlowKey → Row) → ArePosted book row_for (length s.media) s.workers (keys s files) posted → rows ≡ map row_for (keys s files))
+    → map (λ r. r.key) rows ≡ keys s files
+keys-found s files book lanes columns wjobs wdones posted rows made worked e rows_are =
+    let row_for : FlowKey → Row = λ key. taken_row s files (taken_by wdones (key_lane s key)) key in
+    ap (λ (l : List Row). map (λ r. r.key) l) (rows_are row_for (some_posted s files book lanes columns wjobs wdones posted made worked e))
+    ∙ map-same row_for (λ r. r.key) (keys s files) (λ key. refl)
+
+-- a count of those that the workers left
+pub posted_count : (s : Setting) (files : ℕ) (book : Book) (lanes : List LaneId) (columns : List (List Sender)) (wjobs : List WorkJob) (wdones : List WorkDone) (posted : List (Option (Vec Receipt Global)))
+    → AreMade files s.workers lanes wjobs columns → AreWorked s files book wjobs wdones → posted ≡ map (λ d. d.receipts) wdones → length posted ≡ s.workers
+posted_count s files book lanes columns wjobs wdones posted made worked e =
+    ap length e ∙ length-map wdones (λ (d : WorkDone). d.receipts) ∙ worked.count ∙ work_count files s.workers lanes wjobs columns made ∙ made.lane_count
+
+-- lanes that are the same
+pub read_on : {S : Type 0} (name : S → List ℕ) (left : S → Option (List ℕ)) (faults : S → ℕ) (s : Setting) (lanes news : List LaneId) (jobs : List (IntakeJob S)) (dones : List (IntakeDone S))
+    → news ≡ lanes → AreRead name left faults s news jobs dones → AreRead name left faults s lanes jobs dones
+read_on name left faults s lanes news jobs dones e read = subst (λ (l : List LaneId). AreRead name left faults s l jobs dones) e read
