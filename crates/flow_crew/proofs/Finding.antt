@@ -317,3 +317,8 @@ posted_count s files book lanes columns wjobs wdones posted made worked e =
 pub read_on : {S : Type 0} (name : S → List ℕ) (left : S → Option (List ℕ)) (faults : S → ℕ) (s : Setting) (lanes news : List LaneId) (jobs : List (IntakeJob S)) (dones : List (IntakeDone S))
     → news ≡ lanes → AreRead name left faults s news jobs dones → AreRead name left faults s lanes jobs dones
 read_on name left faults s lanes news jobs dones e read = subst (λ (l : List LaneId). AreRead name left faults s l jobs dones) e read
+
+-- what follows of two things that hold of a value
+pub if_both : {T : Type 0} (o : Option T) (P Q R : T → Type 0) → IfSome o P → IfSome o Q → ((x : T) → P x → Q x → R x) → IfSome o R
+if_both None P Q R a b more = a
+if_both (Some x) P Q R a b more = more x a b
