@@ -1,11 +1,10 @@
 -- What a run finds in the texts of its files.
-use Rattle.std.proofs.Common.{◌≡◌, ◌≤◌, ◌<◌, ◌+◌, ◌^◌, ℕ, zero, suc, Bool, true, false, cond, eqb, nat_lt, if◌then◌else◌, List, [], ◌∷◌, ◌++◌, length, map, filter, replicate, slice_index_or, Some, None, refl, sym, ap, ap₂, ◌∙◌, subst, eqb-true, ltb-true, lt-ltb, arith, append-nil, Vec, Global}
+use Rattle.std.proofs.Common.{◌≡◌, ◌<◌, ◌^◌, ℕ, zero, suc, Bool, true, false, eqb, nat_lt, if◌then◌else◌, List, [], ◌∷◌, length, map, filter, replicate, slice_index_or, Some, None, refl, sym, ap, ◌∙◌, subst, eqb-true, ltb-true, lt-ltb, arith, append-nil, Vec, Global}
 use Rattle.std.specs.Prelude.{All, IfSome, IsTrue, Option}
 use Rattle.std.proofs.lemmas.Bool.{and_from, false≢true}
-use Rattle.std.proofs.lemmas.List.{get_or-map, length-map}
-use Rattle.timing_base.specs.Captures.{Record, joined as joined_records}
-use Rattle.timing_base.specs.Keys.{key_of, keys_of}
-use Rattle.timing_base.specs.Media.{Media}
+use Rattle.std.proofs.lemmas.List.{length-map}
+use Rattle.timing_base.specs.Captures.{joined as joined_records}
+use Rattle.timing_base.specs.Keys.{key_of}
 use Rattle.timing_base.specs.Routes.{route}
 use Rattle.timing_base.specs.declared.capture.FileNote.{FileNote}
 use Rattle.timing_base.specs.declared.capture.FileNote.TheVariants.{Cut, End, Refused, Stopped}
@@ -19,16 +18,15 @@ use Rattle.ruled_intake.specs.Lanes.{IsPrefix, LaneId, Sender, Taker, messages, 
 use Rattle.ruled_intake.specs.declared.message.Message.{Message}
 use Rattle.ruled_intake.specs.declared.passes.SendPass.{SendPass}
 use Rattle.ruled_intake.specs.declared.rule.Entry.{Entry}
-use Rattle.verdict_book.specs.Receipts.{row_of}
 use Rattle.verdict_book.specs.declared.book.Book.{Book}
 use Rattle.verdict_book.specs.declared.book.Receipt.{Receipt}
 use Rattle.flow_bank.specs.Found.{AreFound}
 use Rattle.flow_bank.specs.Rows.{rows_of, rows_of_files, rows_over}
 use Rattle.flow_worker.specs.Intakes.{HasSentAll, HasTold}
-use Rattle.flow_worker.specs.Kept.{HasTakenAll, IsSetting, is_in_file}
-use Rattle.flow_worker.specs.Messages.{has_end, of_file}
+use Rattle.flow_worker.specs.Kept.{IsSetting, is_in_file}
+use Rattle.flow_worker.specs.Messages.{of_file}
 use Rattle.flow_worker.specs.Opening.{Capture, Setting, messages as file_messages}
-use Rattle.flow_worker.specs.Posting.{has_ends, is_key, judged_files, key_lane, key_row, keys, own_keys, taken_row}
+use Rattle.flow_worker.specs.Posting.{has_ends, key_lane, key_row, keys, own_keys, taken_row}
 use Rattle.flow_worker.specs.Works.{HasJudged}
 use Rattle.flow_worker.specs.declared.intakes.IntakeDone.{IntakeDone}
 use Rattle.flow_worker.specs.declared.workers.WorkDone.{WorkDone}
@@ -37,10 +35,10 @@ use Rattle.flow_worker.proofs.Reported.{rows-keys}
 use Rattle.flow_worker.proofs.Rows.{has_ends-at}
 use Rattle.flow_worker.proofs.Senders.{in_order-by_sender}
 use Rattle.flow_crew.specs.Ends.{receipts_in}
-use Rattle.flow_crew.specs.Gathering.{ArePosted, IsQueue}
+use Rattle.flow_crew.specs.Gathering.{ArePosted}
 use Rattle.flow_crew.specs.Jobs.{AreIntakes, AreMade}
 use Rattle.flow_crew.specs.Judging.{AreTexts, IsWhole}
-use Rattle.flow_crew.specs.Threads.{AreRead, AreWorked, HasRead}
+use Rattle.flow_crew.specs.Threads.{AreRead, AreWorked}
 use Rattle.flow_crew.specs.declared.jobs.IntakeJob.{IntakeJob}
 use Rattle.flow_crew.specs.declared.jobs.WorkJob.{WorkJob}
 use Rattle.flow_crew.proofs.Listing.{keys-all}
@@ -77,7 +75,7 @@ own-keys s files w =
 pub posted_by : (s : Setting) (files : ℕ) (book : Book) (lanes : List LaneId) (columns : List (List Sender)) (jobs : List WorkJob) (dones : List WorkDone) (posted : List (Option (Vec Receipt Global))) (row_for : FlowKey → Row)
     → AreMade files s.workers lanes jobs columns → AreWorked s files book jobs dones → posted ≡ map (λ d. d.receipts) dones
     → ((w : ℕ) (d : WorkDone) → w < length dones → IsTrue (has_ends files (messages (slice_index_or dones w d).pass.taken))
-        → All (λ key. key_lane s key ≡ w → taken_row s files (messages (slice_index_or dones w d).pass.taken) key ≡ row_for key) (keys s files))
+    → All (λ key. key_lane s key ≡ w → taken_row s files (messages (slice_index_or dones w d).pass.taken) key ≡ row_for key) (keys s files))
     → ArePosted book row_for (length s.media) s.workers (keys s files) posted
 posted_by s files book lanes columns jobs dones posted row_for made worked e right = λ w below receipts is.
     let long : length posted ≡ length dones = ap length e ∙ length-map dones (λ (d : WorkDone). d.receipts) in

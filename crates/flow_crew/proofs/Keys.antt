@@ -1,5 +1,5 @@
 -- Keys that are listed one after the other.
-use Rattle.std.proofs.Common.{◌≡◌, ◌+◌, ℕ, zero, suc, List, [], ◌∷◌, ◌++◌, refl, sym, ap, ◌∙◌, append_assoc, append-nil, arith}
+use Rattle.std.proofs.Common.{◌≡◌, ◌+◌, ℕ, zero, suc, List, [], ◌∷◌, ◌++◌, sym, ap, ◌∙◌, append_assoc, append-nil, arith}
 use Rattle.timing_base.specs.Keys.{key_of, keys_of_file, keys_of_files}
 use Rattle.timing_base.specs.declared.key.FlowKey.{FlowKey}
 

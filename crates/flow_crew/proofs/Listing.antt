@@ -1,6 +1,6 @@
 -- The keys of a run, and the receipts for their rows.
-use Rattle.std.proofs.Common.{◌≡◌, ◌≤◌, ◌<◌, ◌+◌, ℕ, zero, suc, Bool, true, false, List, [], ◌∷◌, ◌++◌, length, map, slice_index_or, Some, None, if◌then◌else◌, sym, ap, ◌∙◌, subst, refl, arith, Vec, Global}
-use Rattle.std.specs.Prelude.{All, IfOk, Option, Result}
+use Rattle.std.proofs.Common.{◌≡◌, ◌≤◌, ◌<◌, ◌+◌, ℕ, zero, suc, Bool, true, false, List, [], ◌∷◌, length, map, slice_index_or, Some, None, if◌then◌else◌, sym, ap, ◌∙◌, subst, refl, arith, Vec, Global}
+use Rattle.std.specs.Prelude.{All, Option}
 use Rattle.std.proofs.lemmas.List.{length-map}
 use Rattle.std.proofs.lemmas.List.Elements.{All-append, All-cons, All-nil}
 use Rattle.timing_base.specs.Keys.{key_of, keys_of, keys_of_file, keys_of_files}

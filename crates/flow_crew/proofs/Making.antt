@@ -1,12 +1,11 @@
 -- One lane more, and one intake more.
-use Rattle.std.proofs.Common.{◌≡◌, ◌≤◌, ◌<◌, ◌+◌, ℕ, zero, suc, List, [], ◌∷◌, ◌++◌, length, map, replicate, slice_index_or, Ok, Err, inl, inr, refl, sym, ap, ap₂, ◌∙◌, subst, arith}
+use Rattle.std.proofs.Common.{◌≡◌, ◌≤◌, ◌<◌, ◌+◌, ℕ, zero, suc, List, [], ◌∷◌, ◌++◌, length, replicate, slice_index_or, Ok, Err, inl, inr, refl, sym, ap, ap₂, ◌∙◌, subst, arith}
 use Rattle.std.proofs.Math.Seq.{get_or-append_seam}
 use Rattle.std.specs.Prelude.{IfOk, Result}
 use Rattle.std.proofs.lemmas.Bool.{cases_lt}
-use Rattle.std.proofs.lemmas.List.{get_or-map, get_or_append_left, length-append, length-map, length-replicate, map-append}
+use Rattle.std.proofs.lemmas.List.{get_or-map, get_or_append_left, length-append, length-replicate, map-append}
 use Rattle.ruled_intake.specs.Lanes.{AreSenders, LaneId, Sender, Taker, sent_of}
-use Rattle.ruled_intake.specs.declared.message.Message.{Message}
-use Rattle.flow_worker.specs.Intakes.{HaveSent, HaveSentNothing}
+use Rattle.flow_worker.specs.Intakes.{HaveSentNothing}
 use Rattle.flow_crew.specs.declared.jobs.WorkJob.{WorkJob}
 use Rattle.flow_crew.specs.Columns.{dealt}
 use Rattle.flow_crew.specs.Jobs.{AreMade, new_pass, numbers}

@@ -1,6 +1,5 @@
 -- Receipts that are taken in the order of keys.
-use Rattle.std.proofs.Common.{◌≡◌, ◌≢◌, ◌<◌, ◌==◌, ◌+◌, ℕ, zero, suc, Bool, true, false, cond, eqb, List, [], ◌∷◌, ◌++◌, length, map, filter, slice_set, slice_index_or, inl, inr, refl, sym, ap, ◌∙◌, subst, eq-eqb, ne_eqb, arith, length-set, take, drop, ap₂}
-use Rattle.std.specs.Prelude.{All}
+use Rattle.std.proofs.Common.{◌≡◌, ◌<◌, ◌+◌, ℕ, suc, cond, eqb, List, [], ◌∷◌, ◌++◌, length, map, filter, slice_set, slice_index_or, inl, inr, sym, ap, ◌∙◌, subst, eq-eqb, ne_eqb, arith, length-set, take, drop, ap₂}
 use Rattle.std.proofs.Math.Seq.{drop-cons, take-suc}
 use Rattle.std.proofs.lemmas.Bool.{cases_eq}
 use Rattle.std.proofs.lemmas.List.{get_or-map, get_or-set_other, get_or-set_same, length-map, map-append, map-set}
@@ -67,22 +66,21 @@ take_receipt f book row_for media workers keys i k d queues worker old new r que
     let left : IsQueue book row_for (own media workers worker later) (f new) = record { posted = λ j e n. mine.posted (suc j) e (omega (arith, n)); rows = others } in
     let one : suc i ≡ i + 1 = omega arith in
     let news : map f (slice_set queues worker new) ≡ slice_set (map f queues) worker (f new) = map-set f queues worker new in
-    let there : worker < length (map f queues) = let e = length-map queues f in omega (arith, room, e) in
-    (
+    let there : worker < length (map f queues) = let e = length-map queues f in omega (arith, room, e) in (
       first,
       mine.posted 0 r (omega arith),
       λ w below. subst (λ n. IsQueue book row_for (own media workers w (drop n keys)) (slice_index_or (map f (slice_set queues worker new)) w [])) one
-      (subst (λ (l : List (List Receipt)). IsQueue book row_for (own media workers w later) (slice_index_or l w [])) (sym news)
-      (elim (cases_eq w worker) as (λ _. IsQueue book row_for (own media workers w later) (slice_index_or (slice_set (map f queues) worker (f new)) w [])) [
-        | inl same ↦
-            subst (λ x. IsQueue book row_for (own media workers x later) (slice_index_or (slice_set (map f queues) worker (f new)) x [])) (sym same)
-            (subst (IsQueue book row_for (own media workers worker later)) (sym (get_or-set_same (map f queues) worker (f new) [] there)) left)
-        | inr other ↦
-            let long : w < length (map f queues) = let a = ap length news in let b = length-set (map f queues) worker (f new) in omega (arith, below, a, b) in
-            subst (IsQueue book row_for (own media workers w later)) (sym (get_or-set_other (map f queues) worker w (f new) [] other))
-            (subst (λ (l : List FlowKey). IsQueue book row_for l (slice_index_or (map f queues) w [])) (own-other media workers w k later (λ e. other (sym e ∙ sym here)))
-            (subst (λ (l : List FlowKey). IsQueue book row_for (own media workers w l) (slice_index_or (map f queues) w [])) (front_key keys i k d m key) (queued w long)))
-      ])),
+          (subst (λ (l : List (List Receipt)). IsQueue book row_for (own media workers w later) (slice_index_or l w [])) (sym news)
+          (elim (cases_eq w worker) as (λ _. IsQueue book row_for (own media workers w later) (slice_index_or (slice_set (map f queues) worker (f new)) w [])) [
+            | inl same ↦
+                subst (λ x. IsQueue book row_for (own media workers x later) (slice_index_or (slice_set (map f queues) worker (f new)) x [])) (sym same)
+                (subst (IsQueue book row_for (own media workers worker later)) (sym (get_or-set_same (map f queues) worker (f new) [] there)) left)
+            | inr other ↦
+                let long : w < length (map f queues) = let a = ap length news in let b = length-set (map f queues) worker (f new) in omega (arith, below, a, b) in
+                subst (IsQueue book row_for (own media workers w later)) (sym (get_or-set_other (map f queues) worker w (f new) [] other))
+                (subst (λ (l : List FlowKey). IsQueue book row_for l (slice_index_or (map f queues) w [])) (own-other media workers w k later (λ e. other (sym e ∙ sym here)))
+                (subst (λ (l : List FlowKey). IsQueue book row_for (own media workers w l) (slice_index_or (map f queues) w [])) (front_key keys i k d m key) (queued w long)))
+          ])),
     )
 
 -- a row more

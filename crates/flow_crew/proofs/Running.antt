@@ -1,12 +1,12 @@
 -- Lanes whose passes came back: they can be closed, and what was taken then begins what was sent.
-use Rattle.std.proofs.Common.{◌≡◌, ◌≤◌, ◌<◌, ◌+◌, ℕ, zero, suc, List, [], ◌∷◌, ◌++◌, length, map, replicate, slice_get, slice_index_or, Some, None, inl, inr, refl, sym, ap, ap₂, ◌∙◌, subst, arith}
+use Rattle.std.proofs.Common.{◌≡◌, ◌<◌, ℕ, zero, suc, List, [], ◌∷◌, ◌++◌, length, map, replicate, slice_index_or, inl, inr, refl, sym, ap, ◌∙◌, subst, arith}
 use Rattle.std.specs.Prelude.{All, Option}
 use Rattle.std.proofs.lemmas.Bool.{cases_lt}
 use Rattle.std.proofs.lemmas.List.{get_or_past, length-map, length-replicate}
 use Rattle.std.proofs.lemmas.Option.{slice_get-get_or, slice_get_past}
-use Rattle.ruled_intake.specs.Lanes.{AreSenders, IsPrefix, LaneId, Sender, Taker, of, sent_of}
+use Rattle.ruled_intake.specs.Lanes.{IsPrefix, LaneId, Sender, Taker, of, sent_of}
 use Rattle.ruled_intake.specs.declared.message.Message.{Message}
-use Rattle.flow_worker.specs.Intakes.{AreOfFile, HaveSent, lane_sends}
+use Rattle.flow_worker.specs.Intakes.{HaveSent, lane_sends}
 use Rattle.flow_worker.specs.Opening.{Capture, Setting, for_lane, sends_if, messages as file_messages}
 use Rattle.flow_crew.specs.Closing.{AreClosed, CanClose, HasAll, IsClosed}
 use Rattle.flow_crew.specs.Columns.{dealt_all}

@@ -1,7 +1,7 @@
 -- What the threads of a run begin with, and what they leave, place by place.
-use Rattle.std.proofs.Common.{◌≡◌, ◌≤◌, ◌<◌, ◌+◌, ℕ, zero, suc, List, [], ◌∷◌, ◌++◌, length, map, replicate, slice_index_or, refl, sym, ap, ap₂, ◌∙◌, subst, arith, Vec, Global}
-use Rattle.std.specs.Prelude.{All, Option}
-use Rattle.std.proofs.lemmas.List.{length-map, length-replicate}
+use Rattle.std.proofs.Common.{◌≡◌, ◌≤◌, ◌<◌, ℕ, suc, List, [], ◌∷◌, length, map, slice_index_or, refl, sym, ap, ◌∙◌, subst, arith, Vec, Global}
+use Rattle.std.specs.Prelude.{Option}
+use Rattle.std.proofs.lemmas.List.{length-map}
 use Rattle.timing_base.specs.declared.capture.FileNote.{FileNote}
 use Rattle.ruled_intake.specs.Lanes.{LaneId, Sender, Taker}
 use Rattle.ruled_intake.specs.declared.passes.SendPass.{SendPass}
@@ -14,7 +14,7 @@ use Rattle.flow_crew.specs.declared.jobs.IntakeJob.{IntakeJob}
 use Rattle.flow_crew.specs.declared.jobs.WorkJob.{WorkJob}
 use Rattle.flow_crew.specs.Jobs.{AreIntakes, AreMade, new_pass, numbers}
 use Rattle.flow_crew.specs.Judging.{AreBack}
-use Rattle.flow_crew.specs.Threads.{AreIntakeJobs, AreRead, AreWorkJobs, AreWorked, HasRead, IsIntakeJob, IsWorkJob}
+use Rattle.flow_crew.specs.Threads.{AreIntakeJobs, AreRead, AreWorkJobs, AreWorked, HasRead}
 use Rattle.flow_crew.proofs.Lists.{at_map, numbers-at, some_item}
 
 -- each worker's job is that of its place
@@ -95,8 +95,7 @@ takers_are files workers s book lanes jobs columns dones takers made worked e = 
     let d : WorkDone = some_item dones w there in
     let has = worked.each w j d here in
     let is : slice_index_or takers w t ≡ (slice_index_or dones w d).pass = at_map (λ (k : WorkDone). k.pass) dones takers w d t e there in
-    let pass = job_pass files workers lanes jobs columns w j l made here in
-    (
+    let pass = job_pass files workers lanes jobs columns w j l made here in (
       ap (λ (k : Taker). k.lane) is ∙ has.lane_is ∙ ap (λ (k : Taker). k.lane) pass,
       ap (λ (k : Taker). k.senders) is ∙ has.senders_is ∙ ap (λ (k : Taker). k.senders) pass,
     )

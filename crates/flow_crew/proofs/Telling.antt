@@ -1,11 +1,11 @@
 -- What an intake has sent doesn't depend on the seconds that are added to stamps.
-use Rattle.std.proofs.Common.{◌≡◌, ℕ, Bool, List, length, sym, subst}
+use Rattle.std.proofs.Common.{◌≡◌, ℕ, Bool, List, length, subst}
 use Rattle.timing_base.specs.Media.{Media}
 use Rattle.timing_base.specs.declared.capture.FileNote.{FileNote}
 use Rattle.timing_base.specs.declared.capture.FileNote.TheVariants.{Cut, End, Refused, Stopped}
 use Rattle.timing_base.specs.declared.capture.PcapFault.TheVariants as fault
 use Rattle.ruled_intake.specs.Lanes.{LaneId, Sender}
-use Rattle.flow_worker.specs.Intakes.{HasBegun, HasBroken, HasSentAll, HasTold, intake_setting}
+use Rattle.flow_worker.specs.Intakes.{HasSentAll, HasTold, intake_setting}
 use Rattle.flow_worker.specs.Opening.{Capture, Setting}
 
 -- with these seconds

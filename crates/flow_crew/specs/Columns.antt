@@ -1,5 +1,5 @@
 -- Passes that are dealt out. A lane gives a row of passes, one for each file; each file gets one of each lane; and back.
-use Rattle.std.specs.Prelude.{ℕ, List, [], ◌∷◌, ◌++◌}
+use Rattle.std.specs.Prelude.{List, [], ◌∷◌, ◌++◌}
 
 -- one item of a row more for each list, in order
 abbrev pub dealt : {X : Type 0} → List X → List (List X) → List (List X)

@@ -123,7 +123,8 @@ fn rows_on(
     gather(alloc, book, &keys, media, asked.workers, queues)
 }
 
-/// The rows, where each file was read to its end, or to where it is refused. `None` is also want of memory.
+/// The rows, where each file was read to its end, or to where it is refused. `None` is also want of
+/// memory.
 fn rows_if_whole(
     alloc: Global,
     asked: Asked,

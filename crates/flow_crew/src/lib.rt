@@ -5,8 +5,8 @@ mod close;
 mod columns;
 mod ends;
 mod gather;
-mod judge;
 mod jobs;
+mod judge;
 mod threads;
 
 pub use judge::{Judged, judge_files};

@@ -1,8 +1,7 @@
-use Rattle.std.proofs.Common.{◌≡◌, ◌<◌, ◌+◌, ◌∷◌, ◌++◌, [], List, map, length, sym, ap, subst, ◌∙◌, arith, slice_index_or, slice_set, Vec, Global, append_assoc}
+use Rattle.std.proofs.Common.{◌≡◌, ◌∷◌, ◌++◌, [], List, map, length, sym, ap, ◌∙◌, arith, slice_index_or, slice_set, Vec, Global, append_assoc}
 use Rattle.std.proofs.lemmas.List.{length-append}
 use Rattle.ruled_intake.specs.Lanes.{Sender}
 use Rattle.ruled_intake.specs.declared.passes.SendPass.{SendPass}
-use Rattle.flow_crew.specs.Columns.{dealt}
 use Rattle.flow_crew.proofs.Dealing.{deal_room, deal_step}
 use Rattle.flow_crew.proofs.columns.deal.Goals as goal
 

@@ -1,4 +1,4 @@
-use Rattle.std.proofs.Common.{◌≡◌, ◌-◌, [], map, replicate}
+use Rattle.std.proofs.Common.{◌≡◌, [], map, replicate}
 use Rattle.flow_crew.proofs.columns.no_columns.Given as goal
 
 abbrev pub invariant-loop : goal.invariant-loop

@@ -1,6 +1,5 @@
-use Rattle.std.proofs.Common.{◌≡◌, ◌<◌, List, drop, length, map, slice_index_or, sym, ap, refl, ◌∙◌, arith, length-set}
+use Rattle.std.proofs.Common.{◌≡◌, ◌<◌, drop, length, map, slice_index_or, refl, ◌∙◌, arith, length-set}
 use Rattle.std.specs.Vec.Iter.{into_iter_items}
-use Rattle.timing_base.specs.Routes.{route}
 use Rattle.timing_base.specs.declared.key.FlowKey.{FlowKey}
 use Rattle.timing_base.specs.declared.row.Row.{Row}
 use Rattle.flow_crew.specs.Gathering.{AreQueued}
@@ -27,8 +26,8 @@ read-requires c =
     let room : c.route-worker.result < length loop.queues.items = omega (arith, c.route-worker.ensures.within, loop.invariant.count) in
     record {
       book = (take_receipt into_iter_items c.args.book.now loop.invariant.some.0 c.args.media c.args.workers c.args.keys.now loop.key-index (slice_index_or c.args.keys.now loop.key-index no_key) no_key
-      loop.queues.items c.route-worker.result c.index_mut.result.now c.next.new.self c.in-Some.receipt
-      loop.invariant.some.1 c.loop-key-test.true refl c.route-worker.ensures.value room c.index_mut.ensures.value c.in-Some.ensures.items).1;
+          loop.queues.items c.route-worker.result c.index_mut.result.now c.next.new.self c.in-Some.receipt
+          loop.invariant.some.1 c.loop-key-test.true refl c.route-worker.ensures.value room c.index_mut.ensures.value c.in-Some.ensures.items).1;
     }
 
 pub loop-key-preserved : goal.loop-key-preserved

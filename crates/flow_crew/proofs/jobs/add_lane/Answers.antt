@@ -1,5 +1,4 @@
-use Rattle.std.proofs.Common.{◌≡◌, refl, map, Vec, Global}
-use Rattle.ruled_intake.specs.Lanes.{Sender}
+use Rattle.std.proofs.Common.{refl, map, Vec, Global}
 use Rattle.ruled_intake.specs.declared.passes.SendPass.{SendPass}
 use Rattle.flow_crew.proofs.Making.{made-next, on_ok}
 use Rattle.flow_crew.proofs.jobs.add_lane.Goals as goal

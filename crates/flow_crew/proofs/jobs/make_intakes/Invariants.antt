@@ -1,6 +1,5 @@
-use Rattle.std.proofs.Common.{◌≡◌, ◌+◌, ◌++◌, List, length, map}
-use Rattle.ruled_intake.specs.Lanes.{Sender}
-use Rattle.flow_crew.specs.Jobs.{AreIntakes, numbers}
+use Rattle.std.proofs.Common.{◌≡◌, ◌+◌, ◌++◌, length, map}
+use Rattle.flow_crew.specs.Jobs.{numbers}
 use Rattle.flow_crew.proofs.jobs.make_intakes.Given as goal
 
 abbrev pub invariant-loop-source : goal.invariant-loop-source
