@@ -1,6 +1,6 @@
 -- The rows of captures: one for each media, over the packets of its flow. Files and media count from 0.
-use Rattle.std.specs.Prelude.{◌+◌, ℕ, List, [], ◌∷◌, ◌++◌}
-use Rattle.timing_base.specs.Captures.{Record}
+use Rattle.std.specs.Prelude.{◌+◌, ℕ, Bool, if◌then◌else◌, List, [], ◌∷◌, ◌++◌}
+use Rattle.timing_base.specs.Captures.{Record, joined as joined_records}
 use Rattle.timing_base.specs.Keys.{key_of}
 use Rattle.timing_base.specs.Media.{Media}
 use Rattle.timing_base.specs.declared.key.FlowKey.{FlowKey}
@@ -21,3 +21,7 @@ rows_of tai file media items = rows_from tai file 0 media items
 abbrev pub rows_of_files : (tai first : ℕ) → List Media → List (List Record) → List Row
 rows_of_files tai first media [] = []
 rows_of_files tai first media (items ∷ files) = rows_of tai first media items ++ rows_of_files tai (first + 1) media files
+
+-- the rows over files: of each for itself, or where they are joined, of all as one
+abbrev pub rows_over : (joined : Bool) → (tai : ℕ) → List Media → List (List Record) → List Row
+rows_over joined tai media files = if joined then rows_of tai 0 media (joined_records files) else rows_of_files tai 0 media files

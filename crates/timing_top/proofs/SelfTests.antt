@@ -20,7 +20,7 @@ use Rattle.timing_report.specs.declared.status.Status.TheVariants as status
 use Rattle.timing_steps.specs.Answers.{Answer, OnReadFault}
 use Rattle.timing_steps.specs.declared.failure.Failure.{Failure}
 use Rattle.timing_steps.specs.declared.failure.Failure.TheVariants as failure
-use Rattle.timing_top.specs.Found.{AreFound}
+use Rattle.flow_bank.specs.Found.{AreFound}
 use Rattle.timing_top.specs.SelfTest.{HasLine, HasLines, HasSelfTest, flaw_line}
 
 -- the media of the plain description

@@ -18,7 +18,8 @@ use Rattle.flow_bank.specs.declared.bank.Bank.{Bank}
 use Rattle.flow_bank.specs.declared.records.Taken.{Taken}
 use Rattle.timing_report.specs.Outcomes.{AreOfSession}
 use Rattle.pcap_reader.specs.Records.{AreRecords}
-use Rattle.timing_top.specs.Found.{AreFound, AreJoined, FindsNext, JoinsNext, TakesCapture}
+use Rattle.flow_bank.specs.Found.{AreFound}
+use Rattle.timing_top.specs.Found.{AreJoined, FindsNext, JoinsNext, TakesCapture}
 use Rattle.timing_top.specs.Report.{rows}
 
 -- what was told of the records of a text is told of the text, as each text has its records

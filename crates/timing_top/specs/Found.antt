@@ -37,12 +37,6 @@ pub record JoinsNext (text : List ℕ) (before after : ℕ) (old new : Bank) (ol
   pub notes : new_notes ≡ old_notes ++ taken.note ∷ []
   pub count : after ≡ before + taken.records
 
--- the captures of these texts end so, and have these rows, which go by their records
-pub record AreFound (texts : List (List ℕ)) (rows_by : List (List Record) → List Row) (notes : List FileNote) (rows : List Row) : Type 0 where
-  pub files : List (List Record)
-  pub records : AreRecords texts files notes
-  pub rows_are : rows ≡ rows_by files
-
 -- the captures of these texts were taken as one: how they end, their count of records, and the bank that was fed them
 pub record AreJoined (texts : List (List ℕ)) (media : List Media) (tai : ℕ) (notes : List FileNote) (count : ℕ) (bank : Bank) : Type 0 where
   pub files : List (List Record)

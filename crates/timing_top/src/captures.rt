@@ -7,7 +7,8 @@ ghost use Rattle.timing_steps.specs.Answers.{AreTold, CaptureRose, OnReadFault};
 ghost use Rattle.timing_steps.specs.Fetched.{AreFetched};
 ghost use Rattle.flow_bank.specs.Rows.{rows_of_files};
 ghost use Rattle.flow_bank.specs.Stands.{IsFed, records};
-ghost use Rattle.timing_top.specs.Found.{AreFound, FindsNext, TakesCapture};
+ghost use Rattle.flow_bank.specs.Found.{AreFound};
+ghost use Rattle.timing_top.specs.Found.{FindsNext, TakesCapture};
 
 use flow_bank::{Bank, Taken, take_records};
 use pcap_reader::PcapReader;

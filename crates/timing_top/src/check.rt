@@ -6,7 +6,7 @@ ghost use Rattle.timing_steps.specs.Answers.{AreTold, CaptureRose, OnReadFault};
 ghost use Rattle.timing_steps.specs.Fetched.{AreFetched};
 ghost use Rattle.timing_steps.specs.Ran.{HasCause, IsAnswered, Ran};
 ghost use Rattle.timing_top.specs.Asked.{CheckInputRose, FollowsCheck};
-ghost use Rattle.timing_top.specs.Found.{AreFound};
+ghost use Rattle.flow_bank.specs.Found.{AreFound};
 ghost use Rattle.timing_top.specs.Report.{printed, rows};
 
 use crate::captures::{Found, judge_each};

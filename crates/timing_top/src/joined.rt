@@ -8,7 +8,8 @@ ghost use Rattle.timing_steps.specs.Answers.{AreTold, CaptureRose, OnReadFault};
 ghost use Rattle.timing_steps.specs.Fetched.{AreFetched};
 ghost use Rattle.flow_bank.specs.Rows.{rows_of};
 ghost use Rattle.flow_bank.specs.Stands.{IsFed, records};
-ghost use Rattle.timing_top.specs.Found.{AreFound, JoinsNext};
+ghost use Rattle.flow_bank.specs.Found.{AreFound};
+ghost use Rattle.timing_top.specs.Found.{JoinsNext};
 
 use crate::captures::{Found, take_capture};
 use flow_bank::Bank;

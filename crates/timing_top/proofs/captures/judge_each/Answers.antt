@@ -1,6 +1,6 @@
 use Rattle.std.proofs.Common.{rules, refl, ◌≡◌}
 use Rattle.flow_bank.specs.Rows.{rows_of_files}
-use Rattle.timing_top.specs.Found.{AreFound}
+use Rattle.flow_bank.specs.Found.{AreFound}
 use Rattle.timing_top.proofs.Judgings.{fresh-tail, judging-all, judging-at, judging-next, judging-start, judging-stopped, none-left}
 use Rattle.timing_top.proofs.Takings.{found-if_read, found-none}
 use Rattle.timing_top.proofs.captures.judge_each.Goals as goal

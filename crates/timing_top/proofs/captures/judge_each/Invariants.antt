@@ -3,7 +3,8 @@ use Rattle.std.specs.Prelude.{All, IfOk}
 use Rattle.flow_bank.specs.Rows.{rows_of_files}
 use Rattle.timing_report.specs.Outcomes.{AreOfSession}
 use Rattle.timing_steps.specs.Fetched.{AreFetched}
-use Rattle.timing_top.specs.Found.{AreFound, Judging}
+use Rattle.flow_bank.specs.Found.{AreFound}
+use Rattle.timing_top.specs.Found.{Judging}
 use Rattle.timing_top.proofs.captures.judge_each.Given as goal
 
 abbrev pub invariant-loop-source : goal.invariant-loop-source

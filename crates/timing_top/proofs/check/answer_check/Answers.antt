@@ -2,7 +2,7 @@ use Rattle.std.proofs.Common.{rules, ◌≡◌, ◌∙◌, ap, arith, subst, Lis
 use Rattle.timing_base.specs.Media.{Media}
 use Rattle.timing_steps.specs.Answers.{AreThere}
 use Rattle.timing_steps.specs.Fetched.{AreFetched}
-use Rattle.timing_top.specs.Found.{AreFound}
+use Rattle.flow_bank.specs.Found.{AreFound}
 use Rattle.timing_top.specs.Report.{rows}
 use Rattle.timing_top.proofs.Following.{capture-earlier, fetched-same, follows-failed, follows-report, input-rose, there-before, told-same}
 use Rattle.timing_top.proofs.Judgings.{fetched-fresh, fetched-length}

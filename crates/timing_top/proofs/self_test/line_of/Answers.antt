@@ -8,7 +8,7 @@ use Rattle.capture_gen.specs.Sdp.{sdp_text}
 use Rattle.timing_report.specs.declared.status.Input.{Input}
 use Rattle.timing_report.specs.declared.status.Input.TheVariants.{Capture}
 use Rattle.timing_steps.specs.Answers.{CaptureRose}
-use Rattle.timing_top.specs.Found.{AreFound}
+use Rattle.flow_bank.specs.Found.{AreFound}
 use Rattle.timing_top.proofs.Following.{fetched-same}
 use Rattle.timing_top.proofs.SelfTests.{has-line, never-rose, no-cause, one-found, plain_media, session-is}
 use Rattle.timing_top.proofs.self_test.line_of.Goals as goal

@@ -1,0 +1,10 @@
+pub mod Dealing
+pub mod Making
+pub mod Telling
+pub mod Keys
+pub mod Queues
+pub mod Listing
+pub mod Lists
+pub mod Starting
+pub mod Running
+pub mod Finding

@@ -1,0 +1,33 @@
+use Rattle.std.proofs.Common.{◌∙◌, map, ap}
+use Rattle.std.specs.Vec.Iter.{into_iter_items}
+use Rattle.timing_base.specs.Keys.{keys_of}
+use Rattle.flow_crew.proofs.Listing.{keys-are, keys-within, queued_by}
+use Rattle.flow_crew.proofs.Making.{on_ok}
+use Rattle.flow_crew.proofs.judge.rows_on.Goals as goal
+
+pub gather-requires-clause-keys : goal.gather-requires-clause-keys
+gather-requires-clause-keys c =
+    let asked = c.args.asked in
+    let listed = keys-are asked.joined asked.files c.args.media c.file_count.result c.deref.result.now c.file_count.ensures (c.deref.ensures.value ∙ c.in_ok-keys.ensures) in
+    λ i d h. keys-within asked.joined asked.files c.args.media c.deref.result.now c.requires.few_files listed i d h
+
+pub gather-requires-clause-queued : goal.gather-requires-clause-queued
+gather-requires-clause-queued c =
+    let asked = c.args.asked in
+    let listed = keys-are asked.joined asked.files c.args.media c.file_count.result c.deref.result.now c.file_count.ensures (c.deref.ensures.value ∙ c.in_ok-keys.ensures) in (
+      c.requires.posted.0,
+      queued_by into_iter_items c.args.book.now c.requires.posted.0 c.args.media asked.workers (keys_of asked.joined asked.files c.args.media) c.deref.result.now
+          c.args.posted.items c.in_ok-queues.queues.items c.in_ok-queues.ensures listed c.requires.posted.1,
+    )
+
+pub returns : goal.returns
+returns c =
+    let asked = c.args.asked in
+    let listed = keys-are asked.joined asked.files c.args.media c.file_count.result c.deref.result.now c.file_count.ensures (c.deref.ensures.value ∙ c.in_ok-keys.ensures) in
+    on_ok c.gather.result _ _
+    (λ _ gathered row_for posted.
+    gathered row_for
+    (queued_by into_iter_items c.args.book.now row_for c.args.media asked.workers (keys_of asked.joined asked.files c.args.media) c.deref.result.now
+    c.args.posted.items c.in_ok-queues.queues.items c.in_ok-queues.ensures listed posted)
+    ∙ ap (map row_for) listed)
+    c.gather.ensures

@@ -1,0 +1,216 @@
+//! All files of a job, by intakes and workers.
+
+ghost use Rattle.std.specs.Prelude.{◌≡◌, ◌≤◌, if◌then◌else◌, ℕ, List, IfOk, IfSome, All, length, map};
+ghost use Rattle.timing_base.specs.Keys.{keys_of};
+ghost use Rattle.timing_base.specs.Targets.{HaveOwnTargets};
+ghost use Rattle.timing_base.specs.declared.key.FlowKey.{FlowKey as KeyValue};
+ghost use Rattle.timing_base.specs.declared.row.Row.{Row as RowValue};
+ghost use Rattle.flow_crew.specs.Gathering.{ArePosted};
+ghost use Rattle.flow_bank.specs.Found.{AreFound};
+ghost use Rattle.flow_bank.specs.Rows.{rows_over};
+ghost use Rattle.flow_crew.specs.Judging.{AreBack, AreTexts, IsWhole, is_whole};
+ghost use Rattle.flow_crew.specs.Threads.{AreIntakeJobs, AreRead, AreWorkJobs, AreWorked, IsAsked, setting_of};
+
+use crate::close::close_all;
+use crate::columns::deal_all;
+use crate::ends::{Read, Worked, take_posted, take_read, take_worked};
+use crate::gather::{gather, list_keys};
+use crate::jobs::{IntakeJob, Made, WorkJob, make_intakes, make_lanes};
+use crate::threads::{Asked, run_intakes, run_workers};
+use flow_worker::{IntakeDone, WorkDone};
+use ruled_intake::{Halt, Lane};
+use std::alloc::{AllocError as OutOfMemory, Global};
+use std::sync::Wait;
+use std::thread::{self, Threads};
+use timing_base::{FileNote, Media, PcapFault, Row};
+use timing_outside::{Gate, Source};
+use verdict_book::{Book, Receipt};
+
+/// What a run leaves.
+#[derive(Drop)]
+pub struct Judged<S: Source> {
+    /// In the order in which they came.
+    pub sources: Vec<S>,
+    /// How each file ends.
+    pub notes: Vec<FileNote>,
+    /// By rising file and then media. `None` where a read failed or memory ran out.
+    pub rows: Option<Vec<Row>>,
+}
+
+/// Whether a file was read to its end, or to where it is refused.
+fn is_whole(note: FileNote) -> bool
+    ensures { result ≡ is_whole note }
+{
+    match note {
+        FileNote::Stopped => false,
+        FileNote::Refused(PcapFault::ReadFault) => false,
+        _ => true,
+    }
+}
+
+/// The intakes and the workers, beside each other. `Err` is want of memory.
+///
+/// Where no thread can be made, the intakes run first: `join` then runs its second closure first.
+fn run_threads<R: Threads + Wait + Sync, S: Source, G: Gate>(
+    rt: &R,
+    alloc: Global,
+    asked: Asked,
+    media: &[Media],
+    lanes: &[Lane],
+    book: &Book,
+    gate: &G,
+    workers: Vec<WorkJob>,
+    intakes: Vec<IntakeJob<S>>,
+) -> Result<(Vec<WorkDone>, Vec<IntakeDone<S>>), OutOfMemory>
+    requires asked { IsAsked media.now asked }
+    requires lanes { length lanes.now ≡ asked.workers }
+    requires workers { AreWorkJobs lanes.now workers.items }
+    requires intakes { AreIntakeJobs lanes.now intakes.items }
+    ensures worked { IfOk result (λ done. AreWorked (setting_of media.now asked) asked.files book.now
+        workers.items done.0.items) }
+    ensures read { IfOk result (λ done. AreRead S.name S.left S.faults (setting_of media.now asked)
+        lanes.now intakes.items done.1.items) }
+{
+    let halt = Halt::new();
+    let stop = &halt;
+    let (worked, read) = thread::join(
+        rt,
+        || -> Result<Vec<WorkDone>, OutOfMemory>
+            requires { IsAsked media.now asked × (length lanes.now ≡ asked.workers)
+                × AreWorkJobs lanes.now workers.items }
+            ensures { IfOk result (λ dones. AreWorked (setting_of media.entry.now asked) asked.files
+                book.entry.now workers.items dones.items) }
+        { run_workers(rt, alloc, asked, media, lanes, book, stop, gate, workers) },
+        || -> Result<Vec<IntakeDone<S>>, OutOfMemory>
+            requires { IsAsked media.now asked × (length lanes.now ≡ asked.workers)
+                × AreIntakeJobs lanes.now intakes.items }
+            ensures { IfOk result (λ dones. AreRead S.name S.left S.faults
+                (setting_of media.entry.now asked) lanes.entry.now intakes.items dones.items) }
+        { run_intakes(rt, alloc, asked, media, lanes, stop, gate, intakes) },
+    );
+    Ok((worked?, read?))
+}
+
+/// How many files the keys of a run are of: files that are joined are one.
+fn file_count(asked: Asked) -> u32
+    ensures { result ≡ (if asked.joined then 1 else asked.files) }
+{
+    if asked.joined { 1 } else { asked.files }
+}
+
+/// The rows of what the workers posted. `Err` is want of memory: also where a worker has no receipts.
+fn rows_on(
+    alloc: Global,
+    asked: Asked,
+    media: u32,
+    book: &Book,
+    posted: Vec<Option<Vec<Receipt>>>,
+) -> Result<Vec<Row>, OutOfMemory>
+    requires few_media { media ≤ 64 }
+    requires few_files { asked.files ≤ 16 }
+    requires some_files { 1 ≤ asked.files }
+    requires some_workers { 1 ≤ asked.workers }
+    requires few_workers { asked.workers ≤ 16 }
+    requires count { length posted.items ≡ asked.workers }
+    requires posted { (row_for : KeyValue → RowValue) × ArePosted book.now row_for media asked.workers
+        (keys_of asked.joined asked.files media) posted.items }
+    ensures { IfOk result (λ rows. (row_for : KeyValue → RowValue)
+        → ArePosted book.now row_for media asked.workers (keys_of asked.joined asked.files media) posted.items
+        → rows.items ≡ map row_for (keys_of asked.joined asked.files media)) }
+{
+    let keys = list_keys(alloc, file_count(asked), media)?;
+    let queues = take_posted(alloc, posted)?;
+    gather(alloc, book, &keys, media, asked.workers, queues)
+}
+
+/// The rows, where each file was read to its end, or to where it is refused. `None` is also want of
+/// memory.
+fn rows_if_whole(
+    alloc: Global,
+    asked: Asked,
+    media: u32,
+    book: &Book,
+    notes: &[FileNote],
+    posted: Vec<Option<Vec<Receipt>>>,
+) -> Option<Vec<Row>>
+    requires few_media { media ≤ 64 }
+    requires few_files { asked.files ≤ 16 }
+    requires some_files { 1 ≤ asked.files }
+    requires some_workers { 1 ≤ asked.workers }
+    requires few_workers { asked.workers ≤ 16 }
+    requires count { length posted.items ≡ asked.workers }
+    requires posted { (row_for : KeyValue → RowValue) × ArePosted book.now row_for media asked.workers
+        (keys_of asked.joined asked.files media) posted.items }
+    ensures whole { IfSome result (λ rows. All IsWhole notes.now) }
+    ensures rows { IfSome result (λ rows. (row_for : KeyValue → RowValue)
+        → ArePosted book.now row_for media asked.workers (keys_of asked.joined asked.files media) posted.items
+        → rows.items ≡ map row_for (keys_of asked.joined asked.files media)) }
+{
+    if !notes.iter().all(|note| is_whole(*note)) {
+        return None;
+    }
+    rows_on(alloc, asked, media, book, posted).ok()
+}
+
+/// Judges the media in files, each by itself, or in all of them as in one where they are `joined`. The
+/// files are read by an intake each, and the flows are dealt out to so many workers, all beside each
+/// other. `tai` seconds are added to the stamps.
+///
+/// After a read that failed the other files are read to their ends. `Err` is want of memory, and the
+/// sources are gone. The call may wait, and promises if it returns.
+pub fn judge_files<R: Threads + Wait + Sync, S: Source, G: Gate>(
+    rt: &R,
+    alloc: Global,
+    sources: Vec<S>,
+    media: &[Media],
+    joined: bool,
+    tai: u64,
+    workers: u32,
+    gate: &G,
+) -> Result<Judged<S>, OutOfMemory>
+    requires some_files { 1 ≤ length sources.items }
+    requires few_files { length sources.items ≤ 16 }
+    requires some_media { 1 ≤ length media.now }
+    requires few_media { length media.now ≤ 64 }
+    requires targets { HaveOwnTargets media.now }
+    requires tai { tai ≤ 1000 }
+    requires some_workers { 1 ≤ workers }
+    requires few_workers { workers ≤ 16 }
+    ensures back { IfOk result (λ judged. AreBack S.name S.faults sources.items judged.notes.items
+        judged.sources.items) }
+    ensures whole { IfOk result (λ judged. IfSome judged.rows (λ rows. All IsWhole judged.notes.items)) }
+    ensures keys { IfOk result (λ judged. IfSome judged.rows (λ rows. map (λ r. r.key) rows.items
+        ≡ keys_of joined (length sources.items) (length media.now))) }
+    ensures told { IfOk result (λ judged. IfSome judged.rows (λ rows. (texts : List (List ℕ))
+        → AreTexts S.left texts sources.items
+        → AreFound texts (rows_over joined tai media.now) judged.notes.items rows.items)) }
+{
+    let asked = Asked {
+        files: sources.len() as u32,
+        workers,
+        joined,
+        tai,
+    };
+    let Made {
+        lanes,
+        workers: jobs,
+        columns,
+    } = make_lanes(alloc, asked.files, workers)?;
+    let intakes = make_intakes(alloc, sources, columns)?;
+    let book = Book::new(alloc)?;
+    let (worked, read) = run_threads(rt, alloc, asked, media, &lanes, &book, gate, jobs, intakes)?;
+    let Read {
+        sources,
+        notes,
+        rows,
+    } = take_read(alloc, read)?;
+    let Worked { takers, posted } = take_worked(alloc, worked)?;
+    let senders = deal_all(alloc, workers as usize, rows)?;
+    close_all(rt, lanes, senders, takers);
+    let rows = rows_if_whole(alloc, asked, media.len() as u32, &book, &notes, posted);
+    Ok(Judged {
+        sources,
+        notes,
+        rows,
+    })
+}
