@@ -20,7 +20,7 @@ sent_all s tai file lanes c note passes h = record { note_is = h.note_is; have_s
 told_with : (s : Setting) (tai file : ℕ) (lanes : List LaneId) (c : Capture) (note : FileNote) (passes : List Sender)
     → HasTold s file lanes c note passes → HasTold (with_tai s tai) file lanes c note passes
 unfolding with_tai
-told_with s tai file lanes c Stopped passes h = record { sent = h.sent; have_sent = h.have_sent; begins = h.begins }
+told_with s tai file lanes c Stopped passes h = record { part = h.part; is_part = h.is_part; sent = h.sent; have_sent = h.have_sent; begins = h.begins }
 told_with s tai file lanes c End passes h = sent_all s tai file lanes c End passes h
 told_with s tai file lanes c (Cut at) passes h = sent_all s tai file lanes c (Cut at) passes h
 told_with s tai file lanes c (Refused fault.ReadFault) passes h = record { before = h.before; later = h.later; whole = h.whole; have_sent = h.have_sent }
