@@ -16,7 +16,8 @@ mod sdp;
 
 pub use capture::{capture_len, write_capture};
 pub use heads::{file_head, record_head};
-pub use sdp::sdp_bytes;
+pub use packet::Packet;
+pub use sdp::{description, sdp_bytes};
 
 #[cfg(test)]
 mod tests;

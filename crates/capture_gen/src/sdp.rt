@@ -18,8 +18,15 @@ a=ts-refclk:ptp=IEEE1588-2008:39-A7-94-FF-FE-07-CB-D0:37
 
 /// The session description of the flow that the captures hold: 1080p at 50 frames per second to
 /// 239.0.0.1, port 50000, from a narrow sender.
+pub fn description() -> &'static str
+    ensures { result.now ≡ sdp_text }
+{
+    SDP
+}
+
+/// Its bytes.
 pub fn sdp_bytes() -> &'static [u8]
     ensures { result.now ≡ sdp_text }
 {
-    SDP.as_bytes()
+    description().as_bytes()
 }

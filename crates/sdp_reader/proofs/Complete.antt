@@ -29,7 +29,8 @@ both_none (Some f) (Some g) h = absurd (some_of _ _ _ h)
 pub append-none : (xs ys : List SdpFault) → least (xs ++ ys) ≡ None → (least xs ≡ None) × (least ys ≡ None)
 append-none xs ys h = both_none (least xs) (least ys) (sym (least-append xs ys) ∙ h)
 
-at-none : (line : ℕ) (cause : SdpCause) (stands : Bool) → least (at line cause stands) ≡ None → stands ≡ false
+-- a fault that isn't told doesn't stand
+pub at-none : (line : ℕ) (cause : SdpCause) (stands : Bool) → least (at line cause stands) ≡ None → stands ≡ false
 at-none line cause true h = absurd (cc)
 at-none line cause false h = refl
 

@@ -9,3 +9,4 @@ pub mod Summaries
 pub mod Complete
 pub mod Sessions
 pub mod First
+pub mod Targets

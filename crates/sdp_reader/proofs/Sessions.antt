@@ -122,15 +122,27 @@ answer_ok : (o : Option SdpFault) (rs : List RawPart) (media : List Media) → u
 answer_ok (Some f) rs media h = absurd (cc)
 answer_ok None rs media h = (refl, streams_ok rs media h)
 
-session_ok : (large : Bool) (f : SdpFault) (rest : Result (List Media) SdpFault) (media : List Media) → cond large (Err f) rest ≡ Ok media → rest ≡ Ok media
+-- a text with a session isn't too large
+pub session_ok : (large : Bool) (f : SdpFault) (rest : Result (List Media) SdpFault) (media : List Media) → cond large (Err f) rest ≡ Ok media → rest ≡ Ok media
 session_ok true f rest media h = absurd (cc)
 session_ok false f rest media h = h
 
--- a text with a session has a media for each raw part
-pub media-each : (bytes : List ℕ) (media : List Media) → session bytes ≡ Ok media → map media_of (raw_parts (lines bytes)) ≡ map (λ m. Some m) media
-media-each bytes media h =
-    let ls = lines bytes in
+-- lines with a session have a media for each raw part
+pub answer-each : (ls : List TextLine) (media : List Media) → answer ls ≡ Ok media → map media_of (raw_parts ls) ≡ map (λ m. Some m) media
+answer-each ls media h =
     let rs = raw_parts ls in
-    let ok = answer_ok (least (faults ls)) rs media (session_ok (nat_lt 1048576 (length bytes)) _ (answer ls) media h) in
+    let ok = answer_ok (least (faults ls)) rs media h in
     let none = append-none (flat_map part_faults rs) (target_faults (map destination_of rs) ++ too_many_faults (map destination_of rs)) (raw_none ls ok.0) in
     media_each rs none.0 ∙ ap (map (λ m. Some m)) ok.1
+
+-- and no part whose target an earlier part has
+pub answer-targets : (ls : List TextLine) (media : List Media) → answer ls ≡ Ok media → least (target_faults (map destination_of (raw_parts ls))) ≡ None
+answer-targets ls media h =
+    let ds = map destination_of (raw_parts ls) in
+    let ok = answer_ok (least (faults ls)) (raw_parts ls) media h in
+    let parts = append-none (flat_map part_faults (raw_parts ls)) (target_faults ds ++ too_many_faults ds) (raw_none ls ok.0) in
+    (append-none (target_faults ds) (too_many_faults ds) parts.1).0
+
+-- a text with a session has a media for each raw part
+pub media-each : (bytes : List ℕ) (media : List Media) → session bytes ≡ Ok media → map media_of (raw_parts (lines bytes)) ≡ map (λ m. Some m) media
+media-each bytes media h = answer-each (lines bytes) media (session_ok (nat_lt 1048576 (length bytes)) _ (answer (lines bytes)) media h)

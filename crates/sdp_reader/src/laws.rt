@@ -4,6 +4,7 @@
 ghost use Rattle.std.specs.Prelude.{◌≡◌, ◌<◌, ◌≤◌, ℕ, List, [], ◌∷◌, ◌++◌, map, length, replicate, Some, None, Ok, Err, codes, true, false};
 ghost use Rattle.std.specs.Fmt.{decimal};
 ghost use Rattle.timing_base.specs.Media.{Media};
+ghost use Rattle.timing_base.specs.Targets.{HaveOwnTargets};
 ghost use Rattle.sdp_reader.specs.Bytes.{before, after, number};
 ghost use Rattle.sdp_reader.specs.Examples.{line, fault, item, causes, part, lost_part, raw_0, one_part, one_media};
 ghost use Rattle.sdp_reader.specs.Fault.{number_of, fault_text, comes_before, least};
@@ -32,6 +33,12 @@ pub fn told_fault_is_first()
 pub fn each_part_has_a_media()
     ensures { (bytes : List ℕ) (media : List Media) → session bytes ≡ Ok media
         → map media_of (raw_parts (lines bytes)) ≡ map (λ m. Some m) media }
+{}
+
+/// No two media of a session have one target.
+pub fn targets_are_own()
+    ensures { (bytes : List ℕ) (media : List Media) → session bytes ≡ Ok media
+        → HaveOwnTargets media }
 {}
 
 /// A text of more than 1,048,576 bytes is too large, whatever it holds.

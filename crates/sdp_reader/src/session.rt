@@ -3,6 +3,7 @@
 ghost use Rattle.std.specs.Prelude.{◌≡◌, [], map, IfOk, Err, Ok};
 ghost use Rattle.std.specs.List.{filter_map, flat_map};
 ghost use Rattle.std.specs.Option.{option_map};
+ghost use Rattle.timing_base.specs.Targets.{HaveOwnTargets};
 ghost use Rattle.sdp_reader.specs.Fault.{least};
 ghost use Rattle.sdp_reader.specs.Parts.{parts, part_faults, raw_of};
 ghost use Rattle.sdp_reader.specs.Plain.{plain};
@@ -124,7 +125,9 @@ fn answer(alloc: Global, lines: &[Line]) -> Result<Session, SdpError>
 /// More than 1,048,576 bytes are `TooLarge` whatever they hold.
 pub fn read_sdp(alloc: Global, bytes: &[u8]) -> Result<Session, SdpError>
     // The session of the text or its first fault; nothing is said where memory ran out.
-    ensures { Tells (session bytes.now) result }
+    ensures tells { Tells (session bytes.now) result }
+    // No two media have one target.
+    ensures targets { IfOk result (λ session. HaveOwnTargets session) }
 {
     if bytes.len() > 1_048_576 {
         return Err(SdpError::Refused(SdpFault {

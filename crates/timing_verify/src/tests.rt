@@ -1,29 +1,57 @@
 //! The rows of the two commands, over captures in memory.
 
 use super::*;
-use capture_gen::{capture_len, sdp_bytes, write_capture};
 use std::alloc::{AllocError, Global};
 use std::process::Abort;
 use std::test::Fail;
 use timing_base::{Broken, FailProof, FileName, Items, Kind, ReportJob, VerifyJob};
+use timing_examples::{NARROW, Spread, described};
 use timing_outside::{MemoryShelf, MemorySink, ReadPlan};
 use timing_report::{Input, Status};
+
+mod rows;
+
+const CONFIRMED: (Status, &str) = (Status::Pass, "confirmed\n");
+
+const DENIED: (Status, &str) = (Status::Fail, "not confirmed\n");
 
 // A report of the fail of `linear_sender`.
 const LINEAR: &str =
     "{\"flows\":[{\"file\":1,\"media\":1,\"types\":[{\"type\":\"N\",\"proof\":{\"count\":1,\"from\":1,\"limit\":2,\"model\":\"Empty\",\"to\":1}},{\"type\":\"NL\"}]}]}";
 
-// The stamp of the first packet of the first frame, as the head of its record has it.
-const FIRST_STAMP: &[u8] = b"\x00\x10\x5e\x5f\x60\xa8\x0b\x00";
+// Five packets of the first frame at once.
+const FIVE_AT_ONCE: Spread = Spread {
+    at_once: 5,
+    ..NARROW
+};
 
-// A made capture of two frames. Asserts what the calls require, since a proof does not follow the rows
-// of a table.
-fn made<R: Abort + AllocGlobal>(rt: &R, flaw: u32) -> Result<Vec<u8>, Fail> {
-    assert!(rt; flaw <= 4);
-    let mut sink = MemorySink::new(rt.alloc(), capture_len(2, flaw))?;
-    write_capture(0, 2, flaw, &mut sink)?;
-    Ok(Vec::from_slice(rt.alloc(), sink.bytes())?)
+// The same of the second frame.
+const BURST: Spread = Spread {
+    bunched: 1,
+    at_once: 5,
+    ..NARROW
+};
+
+// Packets that are spread evenly over each frame.
+const EVEN: Spread = Spread {
+    packet_nanos: 1_000_000,
+    ..NARROW
+};
+
+// Of which sender type and media a fail is claimed, and the seconds that are added to the stamps.
+#[derive(Clone, Copy)]
+struct Asked {
+    media: u32,
+    kind: Kind,
+    tai: u64,
 }
+
+// Type N of the first media.
+const FIRST: Asked = Asked {
+    media: 0,
+    kind: Kind::N,
+    tai: 0,
+};
 
 // Some of the bytes.
 fn part<'a>(rt: &impl Abort, bytes: &'a [u8], from: usize, to: usize) -> &'a [u8] {
@@ -32,17 +60,13 @@ fn part<'a>(rt: &impl Abort, bytes: &'a [u8], from: usize, to: usize) -> &'a [u8
     &bytes[from..to]
 }
 
-// The plain capture with five packets of its first frame on the first one's stamp.
-fn five_at_once<R: Abort + AllocGlobal>(rt: &R) -> Result<Vec<u8>, Fail> {
-    let plain = made(rt, 0)?;
-    let mut out = Vec::from_slice(rt.alloc(), part(rt, &plain, 0, 96))?;
-    for packet in 0..5 {
-        let at = 96 + 72 * packet;
-        out.extend_from_slice(FIRST_STAMP)?;
-        out.extend_from_slice(part(rt, &plain, at + 8, at + 72))?;
-    }
-    out.extend_from_slice(part(rt, &plain, 456, plain.len()))?;
-    Ok(out)
+// The front of a capture, which is a capture too, and one of its rest, which begins with a packet of its
+// first frame.
+fn halves(rt: &impl Abort, alloc: Global, capture: &[u8]) -> Result<(Vec<u8>, Vec<u8>), AllocError> {
+    let front = Vec::from_slice(alloc, part(rt, capture, 0, 1464))?;
+    let mut rest = Vec::from_slice(alloc, part(rt, capture, 0, 24))?;
+    rest.extend_from_slice(part(rt, capture, 1464, capture.len()))?;
+    Ok((front, rest))
 }
 
 // Puts a text on a shelf; the reads with these numbers fail, and each gives at most 100 bytes.
@@ -69,7 +93,7 @@ fn put(
 // A shelf with the plain description, and this text under a name.
 fn shelf_with(alloc: Global, name: &str, text: &[u8]) -> Result<MemoryShelf, Fail> {
     let mut shelf = MemoryShelf::new(alloc);
-    put(alloc, &mut shelf, "p.sdp", sdp_bytes(), &[])?;
+    put(alloc, &mut shelf, "p.sdp", &described(alloc, "", "")?, &[])?;
     put(alloc, &mut shelf, name, text, &[])?;
     Ok(shelf)
 }
@@ -102,63 +126,68 @@ fn report(alloc: Global) -> Result<FileName, AllocError> {
     Ok(FileName::from_text(String::from_str(alloc, "r.json")?))
 }
 
-// Whether the first capture confirms a fail of type N of the first media.
-fn alone(alloc: Global, proof: FailProof) -> Result<VerifyJob, AllocError> {
-    let mut captures = Vec::new(alloc);
-    captures.push(first(alloc)?)?;
+// Whether the first capture confirms a fail. Asserts what jobs have to keep, since a proof does not
+// follow the rows of a table.
+fn alone<R: Abort + AllocGlobal>(
+    rt: &R,
+    asked: Asked,
+    proof: FailProof,
+) -> Result<VerifyJob, AllocError> {
+    let Asked { media, kind, tai } = asked;
+    assert!(rt; media < 64);
+    assert!(rt; tai <= 1000);
+    let mut captures = Vec::new(rt.alloc());
+    captures.push(first(rt.alloc())?)?;
     Ok(VerifyJob {
-        sdp: description(alloc)?,
-        media: 0,
-        kind: Kind::N,
+        sdp: description(rt.alloc())?,
+        media,
+        kind,
         proof,
-        tai: 0,
+        tai,
         captures: Items::from_vec(captures),
         joined: false,
     })
 }
 
-// The same of the second media.
-fn beyond(alloc: Global, proof: FailProof) -> Result<VerifyJob, AllocError> {
-    let mut captures = Vec::new(alloc);
-    captures.push(first(alloc)?)?;
+// The same of both captures, as one.
+fn together<R: Abort + AllocGlobal>(
+    rt: &R,
+    asked: Asked,
+    proof: FailProof,
+) -> Result<VerifyJob, AllocError> {
+    let Asked { media, kind, tai } = asked;
+    assert!(rt; media < 64);
+    assert!(rt; tai <= 1000);
+    let mut captures = Vec::new(rt.alloc());
+    captures.push(first(rt.alloc())?)?;
+    captures.push(second(rt.alloc())?)?;
     Ok(VerifyJob {
-        sdp: description(alloc)?,
-        media: 1,
-        kind: Kind::N,
+        sdp: description(rt.alloc())?,
+        media,
+        kind,
         proof,
-        tai: 0,
-        captures: Items::from_vec(captures),
-        joined: false,
-    })
-}
-
-// Whether both captures, as one, confirm it.
-fn together(alloc: Global, proof: FailProof) -> Result<VerifyJob, AllocError> {
-    let mut captures = Vec::new(alloc);
-    captures.push(first(alloc)?)?;
-    captures.push(second(alloc)?)?;
-    Ok(VerifyJob {
-        sdp: description(alloc)?,
-        media: 0,
-        kind: Kind::N,
-        proof,
-        tai: 0,
+        tai,
         captures: Items::from_vec(captures),
         joined: true,
     })
 }
 
-// Whether two captures confirm the fails of the report.
-fn reported(alloc: Global) -> Result<ReportJob, AllocError> {
-    let mut captures = Vec::new(alloc);
-    captures.push(first(alloc)?)?;
-    captures.push(second(alloc)?)?;
+// Whether two captures, maybe as one, confirm the fails of the report.
+fn reported<R: Abort + AllocGlobal>(
+    rt: &R,
+    tai: u64,
+    joined: bool,
+) -> Result<ReportJob, AllocError> {
+    assert!(rt; tai <= 1000);
+    let mut captures = Vec::new(rt.alloc());
+    captures.push(first(rt.alloc())?)?;
+    captures.push(second(rt.alloc())?)?;
     Ok(ReportJob {
-        sdp: description(alloc)?,
-        report: report(alloc)?,
-        tai: 0,
+        sdp: description(rt.alloc())?,
+        report: report(rt.alloc())?,
+        tai,
         captures: Items::from_vec(captures),
-        joined: false,
+        joined,
     })
 }
 
@@ -183,6 +212,7 @@ fn verifies<R: Abort + AllocGlobal>(
 // The same of `verify-report`, with this report.
 fn verifies_report<R: Abort + AllocGlobal>(
     rt: &R,
+    job: &ReportJob,
     report: &str,
     shelf: &mut MemoryShelf,
     wanted: (Status, &str),
@@ -191,7 +221,7 @@ fn verifies_report<R: Abort + AllocGlobal>(
     put(alloc, shelf, "r.json", report.as_bytes(), &[])?;
     let mut out = MemorySink::new(alloc, 4096)?;
     let mut err = MemorySink::new(alloc, 4096)?;
-    let status = verify_all(alloc, &reported(alloc)?, shelf, &mut out, &mut err);
+    let status = verify_all(alloc, job, shelf, &mut out, &mut err);
     assert_eq!(rt; status, wanted.0);
     assert_eq!(rt; out.bytes(), wanted.1.as_bytes());
     let line = status.error_line();
@@ -202,13 +232,13 @@ fn verifies_report<R: Abort + AllocGlobal>(
 #[test]
 fn verify_burst(rt: HostRuntime) -> Result<(), Fail> {
     let alloc = rt.alloc();
-    let capture = five_at_once(&rt)?;
+    let capture = FIVE_AT_ONCE.capture(alloc)?;
     let mut shelf = shelf_with(alloc, "a.pcap", &capture)?;
-    let job = alone(alloc, burst(0, 4, 4))?;
-    verifies(&rt, &job, &mut shelf, (Status::Pass, "confirmed\n"))?;
-    let denied = (Status::Fail, "not confirmed\n");
-    verifies(&rt, &alone(alloc, burst(0, 3, 4))?, &mut shelf, denied)?;
-    verifies(&rt, &alone(alloc, burst(0, 4, 3))?, &mut shelf, denied)?;
+    let job = alone(&rt, FIRST, burst(0, 4, 4))?;
+    verifies(&rt, &job, &mut shelf, CONFIRMED)?;
+    for proof in [burst(0, 3, 4), burst(0, 4, 3)] {
+        verifies(&rt, &alone(&rt, FIRST, proof)?, &mut shelf, DENIED)?;
+    }
     let mut shelf = shelf_with(alloc, "a.pcap", part(&rt, &capture, 0, 24))?;
     let absent = (Status::NotAllJudged, "not judged: absent\n");
     verifies(&rt, &job, &mut shelf, absent)
@@ -216,11 +246,8 @@ fn verify_burst(rt: HostRuntime) -> Result<(), Fail> {
 
 #[test]
 fn verify_empty(rt: HostRuntime) -> Result<(), Fail> {
-    let mut shelf = shelf_with(rt.alloc(), "a.pcap", &made(&rt, 2)?)?;
-    for (count, wanted) in [
-        (1, (Status::Pass, "confirmed\n")),
-        (2, (Status::Fail, "not confirmed\n")),
-    ] {
+    let mut shelf = shelf_with(rt.alloc(), "a.pcap", &EVEN.capture(rt.alloc())?)?;
+    for (count, wanted) in [(1, CONFIRMED), (2, DENIED)] {
         let proof = FailProof {
             model: Broken::Empty,
             from: 1,
@@ -228,7 +255,7 @@ fn verify_empty(rt: HostRuntime) -> Result<(), Fail> {
             count,
             limit: 2,
         };
-        verifies(&rt, &alone(rt.alloc(), proof)?, &mut shelf, wanted)?;
+        verifies(&rt, &alone(&rt, FIRST, proof)?, &mut shelf, wanted)?;
     }
     Ok(())
 }
@@ -237,43 +264,35 @@ fn verify_empty(rt: HostRuntime) -> Result<(), Fail> {
 #[test]
 fn verify_no_media(rt: HostRuntime) -> Result<(), Fail> {
     let mut shelf = shelf_with(rt.alloc(), "other", &[])?;
-    let job = beyond(rt.alloc(), burst(0, 4, 4))?;
-    verifies(&rt, &job, &mut shelf, (Status::Fail, "not confirmed\n"))?;
-    let job = alone(rt.alloc(), burst(0, 4, 4))?;
-    verifies(
-        &rt,
-        &job,
-        &mut shelf,
-        (Status::ReadFault(Input::Capture(0)), ""),
-    )
+    let beyond = Asked { media: 1, ..FIRST };
+    let job = alone(&rt, beyond, burst(0, 4, 4))?;
+    verifies(&rt, &job, &mut shelf, DENIED)?;
+    let job = alone(&rt, FIRST, burst(0, 4, 4))?;
+    let missing = (Status::ReadFault(Input::Capture(0)), "");
+    verifies(&rt, &job, &mut shelf, missing)
 }
 
 #[test]
 fn verify_joined(rt: HostRuntime) -> Result<(), Fail> {
     let alloc = rt.alloc();
-    let capture = made(&rt, 1)?;
-    let mut shelf = shelf_with(alloc, "a.pcap", part(&rt, &capture, 0, 1464))?;
-    let mut later = Vec::from_slice(alloc, part(&rt, &capture, 0, 24))?;
-    later.extend_from_slice(part(&rt, &capture, 1464, capture.len()))?;
-    put(alloc, &mut shelf, "b.pcap", &later, &[])?;
-    let job = together(alloc, burst(20, 24, 4))?;
-    verifies(&rt, &job, &mut shelf, (Status::Pass, "confirmed\n"))?;
+    let (front, rest) = halves(&rt, alloc, &BURST.capture(alloc)?)?;
+    let mut shelf = shelf_with(alloc, "a.pcap", &front)?;
+    put(alloc, &mut shelf, "b.pcap", &rest, &[])?;
+    let job = together(&rt, FIRST, burst(20, 24, 4))?;
+    verifies(&rt, &job, &mut shelf, CONFIRMED)?;
     // failing_reads
-    put(alloc, &mut shelf, "b.pcap", &later, &[3])?;
-    verifies(
-        &rt,
-        &job,
-        &mut shelf,
-        (Status::ReadFault(Input::Capture(1)), ""),
-    )
+    put(alloc, &mut shelf, "b.pcap", &rest, &[3])?;
+    let failed = (Status::ReadFault(Input::Capture(1)), "");
+    verifies(&rt, &job, &mut shelf, failed)
 }
 
 #[test]
 fn verify_report(rt: HostRuntime) -> Result<(), Fail> {
-    let mut shelf = shelf_with(rt.alloc(), "a.pcap", &made(&rt, 2)?)?;
+    let mut shelf = shelf_with(rt.alloc(), "a.pcap", &EVEN.capture(rt.alloc())?)?;
+    let job = reported(&rt, 0, false)?;
     let lines = (Status::Pass, "1.1 N confirmed\nstatus 0\n");
-    verifies_report(&rt, LINEAR, &mut shelf, lines)?;
-    verifies_report(&rt, "[]", &mut shelf, (Status::ReportRefused, ""))
+    verifies_report(&rt, &job, LINEAR, &mut shelf, lines)?;
+    verifies_report(&rt, &job, "[]", &mut shelf, (Status::ReportRefused, ""))
 }
 
 // A read of the report fails.
@@ -284,7 +303,7 @@ fn failing_report(rt: HostRuntime) -> Result<(), Fail> {
     put(alloc, &mut shelf, "r.json", LINEAR.as_bytes(), &[2])?;
     let mut out = MemorySink::new(alloc, 4096)?;
     let mut err = MemorySink::new(alloc, 4096)?;
-    let status = verify_all(alloc, &reported(alloc)?, &mut shelf, &mut out, &mut err);
+    let status = verify_all(alloc, &reported(&rt, 0, false)?, &mut shelf, &mut out, &mut err);
     assert_eq!(rt; status, Status::ReadFault(Input::Report));
     assert_eq!(rt; out.bytes().len(), 0);
     Ok(())
@@ -294,9 +313,11 @@ fn failing_report(rt: HostRuntime) -> Result<(), Fail> {
 #[test]
 fn reports_of_several_flows(rt: HostRuntime) -> Result<(), Fail> {
     let alloc = rt.alloc();
-    let mut shelf = shelf_with(alloc, "a.pcap", &made(&rt, 2)?)?;
+    let mut shelf = shelf_with(alloc, "a.pcap", &EVEN.capture(alloc)?)?;
+    let job = reported(&rt, 0, false)?;
     verifies_report(
         &rt,
+        &job,
         "{\"flows\":[{\"file\":3,\"media\":1,\"types\":[{\"type\":\"N\",\"proof\":{\"count\":1,\"from\":1,\"limit\":2,\"model\":\"Empty\",\"to\":1}}]},{\"file\":1,\"media\":1,\"runs\":[{\"types\":[{\"type\":\"N\",\"proof\":{\"count\":1,\"from\":1,\"limit\":2,\"model\":\"Empty\",\"to\":1}}]},{\"types\":[{\"type\":\"W\",\"proof\":{\"count\":1,\"from\":1,\"limit\":2,\"model\":\"Empty\",\"to\":1}}]}]}]}",
         &mut shelf,
         (
@@ -307,9 +328,9 @@ fn reports_of_several_flows(rt: HostRuntime) -> Result<(), Fail> {
     let other =
         "{\"flows\":[{\"file\":2,\"media\":1,\"types\":[{\"type\":\"N\",\"proof\":{\"count\":1,\"from\":1,\"limit\":2,\"model\":\"Empty\",\"to\":1}}]}]}";
     let missing = (Status::ReadFault(Input::Capture(1)), "");
-    verifies_report(&rt, other, &mut shelf, missing)?;
-    let empty = made(&rt, 0)?;
+    verifies_report(&rt, &job, other, &mut shelf, missing)?;
+    let empty = NARROW.capture(alloc)?;
     put(alloc, &mut shelf, "b.pcap", part(&rt, &empty, 0, 24), &[])?;
     let absent = (Status::NotAllJudged, "2.1 N not judged\nstatus 4\n");
-    verifies_report(&rt, other, &mut shelf, absent)
+    verifies_report(&rt, &job, other, &mut shelf, absent)
 }
