@@ -1,5 +1,5 @@
 -- The flows of a job are of its captures and of its media.
-use Rattle.std.proofs.Common.{◌<◌, ◌≤◌, ◌+◌, ℕ, zero, suc, List, [], ◌∷◌, ◌++◌, length, Bool, true, false, subst, sym, arith}
+use Rattle.std.proofs.Common.{◌≡◌, ◌<◌, ◌≤◌, ◌+◌, ℕ, zero, suc, List, [], ◌∷◌, ◌++◌, length, Bool, true, false, subst, sym, arith}
 use Rattle.std.specs.Prelude.{All, map, if◌then◌else◌}
 use Rattle.std.specs.List.{AllByRecursion}
 use Rattle.std.proofs.lemmas.List.Elements.{All-cons}
@@ -8,7 +8,7 @@ use Rattle.timing_base.specs.Media.{Media}
 use Rattle.timing_base.specs.declared.key.FlowKey.{FlowKey}
 use Rattle.timing_base.specs.declared.row.Row.{Row}
 use Rattle.timing_report.specs.Outcomes.{AreRowsOf, flows_of}
-use Rattle.timing_base.specs.Keys.{keys_of_file, keys_of_files}
+use Rattle.timing_base.specs.Keys.{keys_of, keys_of_file, keys_of_files}
 
 -- a flow of so many captures and media
 abbrev pub IsKeyOf : (files count : ℕ) → FlowKey → Type 0
@@ -36,10 +36,14 @@ each-map : (P : FlowKey → Type 0) (rows : List Row) → AllByRecursion P (map 
 each-map P [] h = λ k d lt. absurd (omega arith)
 each-map P (row ∷ rows) h = All-cons (λ r. P r.key) row rows h.0 (each-map P rows h.1)
 
+-- rows of the flows of a run
+pub keys_within : (joined : Bool) (files count : ℕ) (rows : List Row) → files ≤ 16 → map (λ row. row.key) rows ≡ keys_of joined files count → All (λ row. IsKeyOf 16 count row.key) rows
+keys_within joined files count rows few are =
+    let P = IsKeyOf 16 count in
+    let n = if joined then 1 else files in
+    let keys : AllByRecursion P (keys_of joined files count) = files_keys 16 0 n count (omega (arith, few_files joined files few)) in
+    each-map P rows (subst (AllByRecursion P) (sym are) keys)
+
 -- the rows of a job
 pub keys_of_rows : (job : CheckJob) (session : List Media) (rows : List Row) → IsCheckJob job → AreRowsOf job session rows → All (λ row. IsKeyOf 16 (length session) row.key) rows
-keys_of_rows job session rows is are =
-    let P = IsKeyOf 16 (length session) in
-    let files = if job.joined then 1 else length job.captures in
-    let keys : AllByRecursion P (flows_of job session) = files_keys 16 0 files (length session) (omega (arith, few_files job.joined (length job.captures) is.captures_are.few)) in
-    each-map P rows (subst (AllByRecursion P) (sym are) keys)
+keys_of_rows job session rows is are = keys_within job.joined (length job.captures) (length session) rows is.captures_are.few are

@@ -1,6 +1,7 @@
 //! The texts of a request's names: the session of a description, and the sources of captures.
 
 ghost use Rattle.std.specs.Prelude.{◌≡◌, ◌≤◌, ◌<◌, ℕ, List, All, Some, IfOk, IfErr, length};
+ghost use Rattle.timing_base.specs.Targets.{HaveOwnTargets};
 ghost use Rattle.sdp_reader.specs.Session.{session};
 ghost use Rattle.timing_outside.specs.Causes.{Rose};
 ghost use Rattle.timing_steps.specs.Answers.{AreThere, CaptureRose, OnReadFault};
@@ -25,6 +26,7 @@ pub fn fetch_session<H: Shelf>(
 ) -> Result<Result<Session, SdpFault>, Failure>
     ensures told { IfOk result (λ read. (text : List ℕ) → H.text shelf.old name.now ≡ Some text
         → session text ≡ read) }
+    ensures targets { IfOk result (λ read. IfOk read (λ session. HaveOwnTargets session)) }
     ensures cause { IfErr result (λ e. OnReadFault e (λ i. (i ≡ Input.Sdp)
         × Rose (H.faults shelf.old name.now) (H.faults shelf.new name.now))) }
     ensures there { IfOk result (λ _. ¬ H.lacks shelf.old name.now) }

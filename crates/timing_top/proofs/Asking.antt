@@ -12,7 +12,7 @@ use Rattle.timing_report.specs.declared.status.Status.TheVariants as status
 use Rattle.timing_steps.specs.Answers.{Answer, AreThere, AreTold, Gives, Inputs, ReadsCaptures, ReadsSession, silent}
 use Rattle.timing_steps.specs.declared.failure.Failure.{Failure}
 use Rattle.timing_steps.specs.declared.failure.Failure.TheVariants as failure
-use Rattle.timing_top.specs.Asked.{CheckInputRose, Follows, FollowsAtOnce, FollowsCheck, FollowsIf, FollowsSelfTest, InputRose, names_of, reads_report}
+use Rattle.timing_top.specs.Asked.{CheckInputRose, Follows, FollowsAtOnce, FollowsCheck, FollowsSelfTest, InputRose, names_of, reads_report}
 use Rattle.timing_top.specs.Report.{HasReport}
 use Rattle.timing_top.specs.SelfTest.{HasSelfTest}
 use Rattle.timing_top.proofs.Answering.{Caused, captured-failed, described-failed, not-given, only-captured, only-described, only-given, only-silent, only-yielded, some-captured, some-described, some-given, some-yielded, yielded-failed}
@@ -65,19 +65,6 @@ only-at_once ends a b h k =
 at_once-failed : (ends : Status) (e : Failure) (Rises : Input → Type 0) → FollowsAtOnce ends (Err e) → Caused e Rises
 at_once-failed ends e Rises h = yielded-failed (Gives (Err e) (λ x. x ≡ silent ends)) e Rises (λ p. absurd (not-given (λ x. x ≡ silent ends) e p)) h
 
--- where a request is built, and where it isn't
-some-if : (built : Bool) (Built : Answer → Type 0) → (answer : Answer) × Built answer → (answer : Answer) × FollowsIf built (Built answer) (Ok answer)
-some-if true Built h = h
-some-if false Built h = some-at_once status.NotBuilt
-
-only-if : (built : Bool) (Built : Answer → Type 0) (a b : Answer) → (Built a → Built b → a ≡ b) → FollowsIf built (Built a) (Ok a) → FollowsIf built (Built b) (Ok b) → a ≡ b
-only-if true Built a b once h k = once h k
-only-if false Built a b once h k = only-at_once status.NotBuilt a b h k
-
-if-failed : (built : Bool) (Built : Type 0) (e : Failure) (Rises : Input → Type 0) → (Built → Caused e Rises) → FollowsIf built Built (Err e) → Caused e Rises
-if-failed true Built e Rises caused h = caused h
-if-failed false Built e Rises caused h = at_once-failed status.NotBuilt e Rises h
-
 -- of a test that holds
 abbrev Holds : Bool → Type 0
 Holds true = ⊤
@@ -86,10 +73,10 @@ Holds false = ⊥
 -- there is one answer
 pub some-answer : (asked : Option Request) (i : Inputs) (texts : List (List ℕ)) → reads_report asked ≡ false → AreThere i.lacks (names_of asked) → AreTold i.texts (names_of asked) texts → (answer : Answer) × Follows asked i (Ok answer)
 some-answer None i texts alone there told = some-at_once status.Usage
-some-answer (Some (request.Check job)) i texts alone there told = some-if _ (λ answer. FollowsCheck job i (Ok answer)) (some-check job i texts there told)
+some-answer (Some (request.Check job)) i texts alone there told = some-check job i texts there told
 some-answer (Some (request.Verify job)) i texts alone there told = some-verify job i texts there told
 some-answer (Some (request.VerifyReport job)) i texts alone there told = absurd (subst Holds alone tt)
-some-answer (Some (request.SelfTest job)) i texts alone there told = some-if _ (λ answer. FollowsSelfTest job.frames (Ok answer)) (some-self job.frames)
+some-answer (Some (request.SelfTest job)) i texts alone there told = some-self job.frames
 some-answer (Some (request.Window job)) i texts alone there told = some-at_once status.NotBuilt
 some-answer (Some (request.Shape job)) i texts alone there told = some-at_once status.NotBuilt
 some-answer (Some (request.Skew job)) i texts alone there told = some-at_once status.NotBuilt
@@ -97,10 +84,10 @@ some-answer (Some (request.Skew job)) i texts alone there told = some-at_once st
 -- there are not two
 pub only-answer : (asked : Option Request) (i : Inputs) (texts : List (List ℕ)) (a b : Answer) → reads_report asked ≡ false → AreTold i.texts (names_of asked) texts → Follows asked i (Ok a) → Follows asked i (Ok b) → a ≡ b
 only-answer None i texts a b alone told h k = only-at_once status.Usage a b h k
-only-answer (Some (request.Check job)) i texts a b alone told h k = only-if _ (λ answer. FollowsCheck job i (Ok answer)) a b (only-check job i texts a b told) h k
+only-answer (Some (request.Check job)) i texts a b alone told h k = only-check job i texts a b told h k
 only-answer (Some (request.Verify job)) i texts a b alone told h k = only-verify job i texts a b told h k
 only-answer (Some (request.VerifyReport job)) i texts a b alone told h k = absurd (subst Holds alone tt)
-only-answer (Some (request.SelfTest job)) i texts a b alone told h k = only-if _ (λ answer. FollowsSelfTest job.frames (Ok answer)) a b (only-self job.frames a b) h k
+only-answer (Some (request.SelfTest job)) i texts a b alone told h k = only-self job.frames a b h k
 only-answer (Some (request.Window job)) i texts a b alone told h k = only-at_once status.NotBuilt a b h k
 only-answer (Some (request.Shape job)) i texts a b alone told h k = only-at_once status.NotBuilt a b h k
 only-answer (Some (request.Skew job)) i texts a b alone told h k = only-at_once status.NotBuilt a b h k
@@ -109,11 +96,11 @@ only-answer (Some (request.Skew job)) i texts a b alone told h k = only-at_once 
 pub answer-failed : (asked : Option Request) (i : Inputs) (texts : List (List ℕ)) (e : Failure) → reads_report asked ≡ false → AreTold i.texts (names_of asked) texts → Follows asked i (Err e)
     → (e ≡ failure.OutOfMemory) ⊎ ((input : Input) × (e ≡ failure.ReadFault input) × InputRose asked i input)
 answer-failed None i texts e alone told h = at_once-failed status.Usage e (InputRose None i) h
-answer-failed (Some (request.Check job)) i texts e alone told h = if-failed _ (FollowsCheck job i (Err e)) e (CheckInputRose job i) (check-failed job i texts e told) h
+answer-failed (Some (request.Check job)) i texts e alone told h = check-failed job i texts e told h
 answer-failed (Some (request.Verify job)) i texts e alone told h = verify-failed job i texts e told h
 answer-failed (Some (request.VerifyReport job)) i texts e alone told h = absurd (subst Holds alone tt)
 answer-failed (Some (request.SelfTest job)) i texts e alone told h =
-    if-failed _ (FollowsSelfTest job.frames (Err e)) e (InputRose (Some (request.SelfTest job)) i) (self-failed job.frames e (InputRose (Some (request.SelfTest job)) i)) h
+    self-failed job.frames e (InputRose (Some (request.SelfTest job)) i) h
 answer-failed (Some (request.Window job)) i texts e alone told h = at_once-failed status.NotBuilt e (InputRose (Some (request.Window job)) i) h
 answer-failed (Some (request.Shape job)) i texts e alone told h = at_once-failed status.NotBuilt e (InputRose (Some (request.Shape job)) i) h
 answer-failed (Some (request.Skew job)) i texts e alone told h = at_once-failed status.NotBuilt e (InputRose (Some (request.Skew job)) i) h

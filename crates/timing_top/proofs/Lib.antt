@@ -1,5 +1,6 @@
 mod Answering
 mod Asking
+mod Crewing
 mod Verifying
 mod Following
 mod Judgings

@@ -1,5 +1,5 @@
 -- What each request and its texts define, in the order in which its inputs are read.
-use Rattle.std.specs.Prelude.{◌≡◌, ◌==◌, Bool, true, false, IsTrue, ℕ, List, [], ◌∷◌, Option, Some, None, Result}
+use Rattle.std.specs.Prelude.{◌≡◌, Bool, true, false, IsTrue, ℕ, List, [], ◌∷◌, Option, Some, None, Result}
 use Rattle.timing_base.specs.Jobs.{CheckJob}
 use Rattle.timing_base.specs.declared.job.Request.{Request}
 use Rattle.timing_base.specs.declared.job.Request.TheVariants as request
@@ -26,19 +26,14 @@ FollowsSelfTest frames outcome = Yields outcome (Gives outcome (HasSelfTest fram
 abbrev pub FollowsAtOnce : Status → Result Answer Failure → Type 0
 FollowsAtOnce ends outcome = Yields outcome (Gives outcome (λ answer. answer ≡ silent ends))
 
--- what follows where a request is built, and where it isn't
-abbrev pub FollowsIf : Bool → Type 0 → Result Answer Failure → Type 0
-FollowsIf true Built outcome = Built
-FollowsIf false Built outcome = FollowsAtOnce status.NotBuilt outcome
-
--- words that are no request, and a request; `check` and `selftest` are built on one thread, and nothing that looks deeper
--- into one flow is
+-- words that are no request, and a request; nothing that looks deeper into one flow is built. The number of workers is in
+-- none of it
 abbrev pub Follows : Option Request → Inputs → Result Answer Failure → Type 0
 Follows None i outcome = FollowsAtOnce status.Usage outcome
-Follows (Some (request.Check job)) i outcome = FollowsIf (job.workers == 0) (FollowsCheck job i outcome) outcome
+Follows (Some (request.Check job)) i outcome = FollowsCheck job i outcome
 Follows (Some (request.Verify job)) i outcome = FollowsVerify job i outcome
 Follows (Some (request.VerifyReport job)) i outcome = FollowsReport job i outcome
-Follows (Some (request.SelfTest job)) i outcome = FollowsIf (job.workers == 0) (FollowsSelfTest job.frames outcome) outcome
+Follows (Some (request.SelfTest job)) i outcome = FollowsSelfTest job.frames outcome
 Follows (Some (request.Window job)) i outcome = FollowsAtOnce status.NotBuilt outcome
 Follows (Some (request.Shape job)) i outcome = FollowsAtOnce status.NotBuilt outcome
 Follows (Some (request.Skew job)) i outcome = FollowsAtOnce status.NotBuilt outcome

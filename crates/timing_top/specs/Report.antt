@@ -1,12 +1,12 @@
 -- The report of `check`, as the texts of the session description and of the captures define it.
 use Rattle.std.specs.Prelude.{◌≡◌, ℕ, if◌then◌else◌, List}
-use Rattle.timing_base.specs.Captures.{Record, joined}
+use Rattle.timing_base.specs.Captures.{Record}
 use Rattle.timing_base.specs.Jobs.{CheckJob}
 use Rattle.timing_base.specs.Media.{Media}
 use Rattle.timing_base.specs.declared.capture.FileNote.{FileNote}
 use Rattle.timing_base.specs.declared.row.Row.{Row}
 use Rattle.pcap_reader.specs.Records.{AreRecords}
-use Rattle.flow_bank.specs.Rows.{rows_of, rows_of_files}
+use Rattle.flow_bank.specs.Rows.{rows_over}
 use Rattle.timing_json.specs.Json.{json_text}
 use Rattle.timing_report.specs.Outcomes.{status_of}
 use Rattle.timing_report.specs.Text.{report_text}
@@ -14,7 +14,7 @@ use Rattle.timing_steps.specs.Answers.{Answer}
 
 -- the rows of a job: one for each file and media, or where the captures are one, for each media as of the first file
 abbrev pub rows : CheckJob → List Media → List (List Record) → List Row
-rows job media files = if job.joined then rows_of job.tai 0 media (joined files) else rows_of_files job.tai 0 media files
+rows job media files = rows_over job.joined job.tai media files
 
 -- the text of a report, or its JSON
 abbrev pub printed : CheckJob → List Media → List FileNote → List Row → List ℕ

@@ -1,53 +1,21 @@
-//! `check` on one thread.
+//! `check`: the report of a job, on one thread or with workers.
 
-ghost use Rattle.std.specs.Prelude.{◌≡◌, ◌≤◌, ℕ, List, All, IfErr, IfOk, length, string_bytes};
+ghost use Rattle.std.specs.Prelude.{◌≡◌, ◌≤◌, ℕ, List, IfErr, IfOk, string_bytes};
 ghost use Rattle.timing_report.specs.Outcomes.{AreOfSession, status_of};
-ghost use Rattle.timing_steps.specs.Answers.{AreTold, CaptureRose, OnReadFault};
-ghost use Rattle.timing_steps.specs.Fetched.{AreFetched};
 ghost use Rattle.timing_steps.specs.Ran.{HasCause, IsAnswered, Ran};
 ghost use Rattle.timing_top.specs.Asked.{CheckInputRose, FollowsCheck};
-ghost use Rattle.flow_bank.specs.Found.{AreFound};
-ghost use Rattle.timing_top.specs.Report.{printed, rows};
+ghost use Rattle.timing_top.specs.Report.{printed};
 
-use crate::captures::{Found, judge_each};
-use crate::joined::judge_joined;
+use crate::captures::Found;
+use crate::judging::{judge_alone, judge_any};
 use std::alloc::{AllocError as OutOfMemory, Global};
-use timing_base::{CheckJob, Media, Session};
+use std::sync::Wait;
+use std::thread::Threads;
+use timing_base::{CheckJob, Session};
 use timing_json::json_of;
-use timing_outside::{Shelf, Sink, Source};
-use timing_report::{Input, Status, status_of, text_of};
+use timing_outside::{Gate, Shelf, Sink};
+use timing_report::{Status, status_of, text_of};
 use timing_steps::{Answer, Failure, conclude, fetch_captures, fetch_session};
-
-/// Judges the media in the captures of a job: in each by itself, or in all of them as in one.
-fn judge<H: Shelf>(
-    alloc: Global,
-    shelf: &mut H,
-    sources: Vec<H::Source>,
-    media: &[Media],
-    job: &CheckJob,
-) -> Result<Found, Failure>
-    requires few { length sources.items ≤ 16 }
-    requires fresh { All (λ source. H.Source.faults source ≡ 0) sources.items }
-    requires few_media { length media.now ≤ 64 }
-    ensures told { IfOk result (λ found. (names texts : List (List ℕ))
-        → AreFetched H.Source.name H.Source.left H.Source.faults (H.text shelf.old) names sources.items
-        → AreTold (H.text shelf.old) names texts
-        → AreFound texts (rows job.now media.now) found.notes.items found.rows.items) }
-    ensures of_session { IfOk result (λ found. AreOfSession media.now found.rows.items) }
-    ensures cause { (names : List (List ℕ))
-        → AreFetched H.Source.name H.Source.left H.Source.faults (H.text shelf.old) names sources.items
-        → IfErr result (λ e. OnReadFault e (λ i. (number : ℕ) × (i ≡ Input.Capture number)
-        × CaptureRose (H.faults shelf.old) (H.faults shelf.new) names number)) }
-    ensures lacks { (n : List ℕ) → H.lacks shelf.old n → H.lacks shelf.new n }
-    ensures texts { (n : List ℕ) → H.text shelf.new n ≡ H.text shelf.old n }
-    ensures later { (n : List ℕ) → H.faults shelf.old n ≤ H.faults shelf.new n }
-{
-    if job.joined {
-        judge_joined(alloc, shelf, sources, media, job.tai)
-    } else {
-        judge_each(alloc, shelf, sources, media, job.tai)
-    }
-}
 
 /// The text of what was found, or its JSON.
 fn text_on(
@@ -88,7 +56,7 @@ fn report_on(
     })
 }
 
-/// The answer of a job, or why there is none.
+/// The answer of a job on one thread, or why there is none.
 pub fn answer_check<H: Shelf>(
     alloc: Global,
     job: &CheckJob,
@@ -116,7 +84,54 @@ pub fn answer_check<H: Shelf>(
     };
     let sources = fetch_captures(alloc, shelf, job.captures.as_slice())?;
     let media = session.media.as_slice();
-    let found = match judge(alloc, shelf, sources, media, job) {
+    let found = match judge_alone(alloc, shelf, sources, media, job.joined, job.tai) {
+        Ok(found) => found,
+        Err(failure) => return Err(failure),
+    };
+    report_on(alloc, job, &session, &found)
+}
+
+/// The answer of a job with its workers, or on this thread where it has none, or why there is none.
+pub fn answer_many<R: Threads + Wait + Sync, H: Shelf, G: Gate>(
+    rt: &R,
+    alloc: Global,
+    job: &CheckJob,
+    shelf: &mut H,
+    gate: &G,
+) -> Result<Answer, Failure>
+    ensures follows { FollowsCheck job.now (record {
+      texts = H.text shelf.old;
+      lacks = H.lacks shelf.old;
+      before = H.faults shelf.old;
+      now = H.faults shelf.new;
+    }) result }
+    ensures cause { HasCause result (CheckInputRose job.now (record {
+      texts = H.text shelf.old;
+      lacks = H.lacks shelf.old;
+      before = H.faults shelf.old;
+      now = H.faults shelf.new;
+    })) }
+    ensures lacks { (n : List ℕ) → H.lacks shelf.old n → H.lacks shelf.new n }
+    ensures texts { (n : List ℕ) → H.text shelf.new n ≡ H.text shelf.old n }
+    ensures later { (n : List ℕ) → H.faults shelf.old n ≤ H.faults shelf.new n }
+{
+    let session = match fetch_session(alloc, shelf, job.sdp.as_str())? {
+        Ok(session) => session,
+        Err(fault) => return Ok(Answer::silent(alloc, Status::SdpRefused(fault))),
+    };
+    let sources = fetch_captures(alloc, shelf, job.captures.as_slice())?;
+    let media = session.media.as_slice();
+    let found = match judge_any(
+        rt,
+        alloc,
+        shelf,
+        sources,
+        media,
+        job.joined,
+        job.tai,
+        job.workers,
+        gate,
+    ) {
         Ok(found) => found,
         Err(failure) => return Err(failure),
     };
@@ -153,5 +168,41 @@ pub fn check_one<H: Shelf, K: Sink>(
     ensures later { (n : List ℕ) → H.faults shelf.old n ≤ H.faults shelf.new n }
 {
     let outcome = answer_check(alloc, job, shelf);
+    conclude(out, err, outcome)
+}
+
+/// Judges the captures of a job by an intake for each and as many workers as it says, and prints what
+/// `check_one` prints. The call may wait for its threads, and promises if it returns.
+pub fn check_many<R: Threads + Wait + Sync, H: Shelf, K: Sink, G: Gate>(
+    rt: &R,
+    alloc: Global,
+    job: &CheckJob,
+    shelf: &mut H,
+    out: &mut K,
+    err: &mut K,
+    gate: &G,
+) -> Status
+    requires some { 1 ≤ job.now.workers }
+    ensures ran { Ran
+        (FollowsCheck job.now (record {
+          texts = H.text shelf.old;
+          lacks = H.lacks shelf.old;
+          before = H.faults shelf.old;
+          now = H.faults shelf.new;
+        }))
+        (CheckInputRose job.now (record {
+          texts = H.text shelf.old;
+          lacks = H.lacks shelf.old;
+          before = H.faults shelf.old;
+          now = H.faults shelf.new;
+        }))
+        (record { old = K.written out.old; new = K.written out.new; before = K.faults out.old; now = K.faults out.new })
+        (record { old = K.written err.old; new = K.written err.new; before = K.faults err.old; now = K.faults err.new })
+        result }
+    ensures lacks { (n : List ℕ) → H.lacks shelf.old n → H.lacks shelf.new n }
+    ensures texts { (n : List ℕ) → H.text shelf.new n ≡ H.text shelf.old n }
+    ensures later { (n : List ℕ) → H.faults shelf.old n ≤ H.faults shelf.new n }
+{
+    let outcome = answer_many(rt, alloc, job, shelf, gate);
     conclude(out, err, outcome)
 }

@@ -3,9 +3,9 @@
 ghost use Rattle.std.specs.Prelude.{◌≡◌, ◌≤◌, ◌==◌, ℕ, List, Some, map, string_bytes};
 ghost use Rattle.timing_steps.specs.Ran.{HasCause, Ran};
 ghost use Rattle.timing_words.specs.Request.{request};
-ghost use Rattle.timing_top.specs.Asked.{Follows, FollowsIf, FollowsSelfTest, InputRose};
+ghost use Rattle.timing_top.specs.Asked.{Follows, FollowsSelfTest, InputRose};
 
-use crate::check::answer_check;
+use crate::check::answer_many;
 use crate::self_test::answer_self_test;
 use std::alloc::Global;
 use std::sync::Wait;
@@ -17,24 +17,27 @@ use timing_steps::{Answer, Failure, conclude};
 use timing_verify::{answer_report, answer_verify};
 use timing_words::{WordFault, read_words};
 
-/// The answer of `selftest`, which is built on one thread.
-fn answer_frames(alloc: Global, job: &SelfTestJob) -> Result<Answer, Failure>
-    ensures follows { FollowsIf (job.now.workers == 0) (FollowsSelfTest job.now.frames result) result }
+/// The answer of `selftest`, with as many workers as it says.
+fn answer_frames<R: Threads + Wait + Sync, G: Gate>(
+    rt: &R,
+    alloc: Global,
+    job: &SelfTestJob,
+    gate: &G,
+) -> Result<Answer, Failure>
+    ensures follows { FollowsSelfTest job.now.frames result }
     ensures cause { HasCause result (λ i. ⊥) }
 {
-    if job.workers == 0 {
-        answer_self_test(alloc, job.frames)
-    } else {
-        Ok(Answer::silent(alloc, Status::NotBuilt))
-    }
+    answer_self_test(rt, alloc, job.frames, job.workers, gate)
 }
 
-/// The answer of a request, or why there is none. Built are `check` and `selftest` on one
-/// thread, `verify` and `verify-report`.
-fn answer_request<H: Shelf>(
+/// The answer of a request, or why there is none. Built are `check`, `verify`, `verify-report` and
+/// `selftest`.
+fn answer_request<R: Threads + Wait + Sync, H: Shelf, G: Gate>(
+    rt: &R,
     alloc: Global,
     request: Request,
     shelf: &mut H,
+    gate: &G,
 ) -> Result<Answer, Failure>
     ensures follows { Follows (Some request) (record {
       texts = H.text shelf.old;
@@ -53,21 +56,22 @@ fn answer_request<H: Shelf>(
     ensures later { (n : List ℕ) → H.faults shelf.old n ≤ H.faults shelf.new n }
 {
     match request {
-        Request::Check(job) => {
-            if job.workers == 0 {
-                return answer_check(alloc, &job, shelf);
-            }
-            Ok(Answer::silent(alloc, Status::NotBuilt))
-        }
+        Request::Check(job) => answer_many(rt, alloc, &job, shelf, gate),
         Request::Verify(job) => answer_verify(alloc, &job, shelf),
         Request::VerifyReport(job) => answer_report(alloc, &job, shelf),
-        Request::SelfTest(job) => answer_frames(alloc, &job),
+        Request::SelfTest(job) => answer_frames(rt, alloc, &job, gate),
         _ => Ok(Answer::silent(alloc, Status::NotBuilt)),
     }
 }
 
 /// The answer of a line of words, or why there is none.
-fn answer<H: Shelf>(alloc: Global, words: &[String], shelf: &mut H) -> Result<Answer, Failure>
+fn answer<R: Threads + Wait + Sync, H: Shelf, G: Gate>(
+    rt: &R,
+    alloc: Global,
+    words: &[String],
+    shelf: &mut H,
+    gate: &G,
+) -> Result<Answer, Failure>
     ensures follows { Follows (request (map string_bytes words.now)) (record {
       texts = H.text shelf.old;
       lacks = H.lacks shelf.old;
@@ -85,7 +89,7 @@ fn answer<H: Shelf>(alloc: Global, words: &[String], shelf: &mut H) -> Result<An
     ensures later { (n : List ℕ) → H.faults shelf.old n ≤ H.faults shelf.new n }
 {
     match read_words(alloc, words) {
-        Ok(request) => answer_request(alloc, request, shelf),
+        Ok(request) => answer_request(rt, alloc, request, shelf, gate),
         Err(WordFault::Usage) => Ok(Answer::silent(alloc, Status::Usage)),
         Err(WordFault::OutOfMemory) => Err(Failure::OutOfMemory),
     }
@@ -94,18 +98,18 @@ fn answer<H: Shelf>(alloc: Global, words: &[String], shelf: &mut H) -> Result<An
 /// Does what the words ask for, the program's name not among them, and answers how that ended.
 ///
 /// A report goes to `out`, whole or not at all, but where a write fails; `err` gets one line where there
-/// is none. Built are `check` with `--serial`, `verify`, `verify-report`, and `selftest` without workers.
+/// is none. Built are `check`, `verify`, `verify-report` and `selftest`.
 ///
-/// The call may wait for other threads in the forms that use them; it promises what it says if it
-/// returns. None is built yet.
+/// What is printed doesn't depend on the number of workers, nor on how their threads take turns. With
+/// workers the call waits for its threads; it promises what it says if it returns.
 pub fn run<R: Wait + Threads + Sync, H: Shelf, K: Sink, G: Gate>(
-    _rt: &R,
+    rt: &R,
     alloc: Global,
     words: &[String],
     shelf: &mut H,
     out: &mut K,
     err: &mut K,
-    _gate: &G,
+    gate: &G,
 ) -> Status
     // What the texts of the request define was printed with its status, or nothing was and the status
     // says why: an input couldn't be read whose count rose, a write failed, or memory ran out.
@@ -129,6 +133,6 @@ pub fn run<R: Wait + Threads + Sync, H: Shelf, K: Sink, G: Gate>(
     ensures texts { (n : List ℕ) → H.text shelf.new n ≡ H.text shelf.old n }
     ensures later { (n : List ℕ) → H.faults shelf.old n ≤ H.faults shelf.new n }
 {
-    let outcome = answer(alloc, words, shelf);
+    let outcome = answer(rt, alloc, words, shelf, gate);
     conclude(out, err, outcome)
 }

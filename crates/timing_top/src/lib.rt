@@ -8,10 +8,12 @@ mod captures;
 mod check;
 mod commands;
 mod joined;
+mod judging;
+mod many;
 pub mod laws;
 mod self_test;
 
-pub use check::check_one;
+pub use check::{check_many, check_one};
 pub use commands::run;
 
 #[cfg(test)]

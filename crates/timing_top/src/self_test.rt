@@ -11,11 +11,14 @@ ghost use Rattle.timing_report.specs.Outcomes.{AreOfSession};
 ghost use Rattle.timing_top.specs.Asked.{FollowsSelfTest};
 ghost use Rattle.timing_top.specs.SelfTest.{HasLine, flaw_line};
 
-use crate::captures::{Found, judge_each};
+use crate::captures::Found;
+use crate::judging::judge_any;
 use capture_gen::{capture_len, sdp_bytes, write_capture};
 use std::alloc::{AllocError as OutOfMemory, Global};
+use std::sync::Wait;
+use std::thread::Threads;
 use timing_base::{FileName, Session};
-use timing_outside::{MemorySink, SteadyShelf};
+use timing_outside::{Gate, MemorySink, SteadyShelf};
 use timing_report::{Status, status_of, verdict_of};
 use timing_steps::{Answer, Failure, fetch_captures, fetch_session};
 
@@ -76,10 +79,18 @@ fn text_on(
 }
 
 /// The line of the capture with this flaw. `Err` is want of memory.
-fn line_of(alloc: Global, frames: u32, flaw: u32) -> Result<String, Failure>
+fn line_of<R: Threads + Wait + Sync, G: Gate>(
+    rt: &R,
+    alloc: Global,
+    frames: u32,
+    flaw: u32,
+    workers: u32,
+    gate: &G,
+) -> Result<String, Failure>
     requires some { 1 ≤ frames }
     requires few { frames ≤ 20000 }
     requires known { flaw ≤ 4 }
+    requires few_workers { workers ≤ 16 }
     ensures line { IfOk result (λ s. HasLine frames flaw (string_bytes s)) }
     ensures memory { IfErr result (λ e. e ≡ Failure.OutOfMemory) }
 {
@@ -90,22 +101,32 @@ fn line_of(alloc: Global, frames: u32, flaw: u32) -> Result<String, Failure>
     let captures = [FileName::from_text(String::from_str(alloc, "made.pcap")?)];
     let sources = fetch_captures(alloc, &mut shelf, &captures)?;
     let media = session.media.as_slice();
-    let found = match judge_each(alloc, &mut shelf, sources, media, 0) {
+    let found = match judge_any(
+        rt, alloc, &mut shelf, sources, media, false, 0, workers, gate,
+    ) {
         Ok(found) => found,
         Err(failure) => return Err(failure),
     };
     Ok(text_on(alloc, flaw, &session, &found)?)
 }
 
-/// The answer of `selftest` with so many frames: a line for each flaw. One capture is held at a time.
-pub fn answer_self_test(alloc: Global, frames: u32) -> Result<Answer, Failure>
+/// The answer of `selftest` with so many frames and workers: a line for each flaw. One capture is held
+/// at a time.
+pub fn answer_self_test<R: Threads + Wait + Sync, G: Gate>(
+    rt: &R,
+    alloc: Global,
+    frames: u32,
+    workers: u32,
+    gate: &G,
+) -> Result<Answer, Failure>
     requires some { 1 ≤ frames }
     requires few { frames ≤ 20000 }
+    requires few_workers { workers ≤ 16 }
     ensures { FollowsSelfTest frames result }
 {
     let mut text = String::new(alloc);
     for flaw in 0..FLAWS {
-        text.push_str(line_of(alloc, frames, flaw)?.as_str())?;
+        text.push_str(line_of(rt, alloc, frames, flaw, workers, gate)?.as_str())?;
     }
     Ok(Answer {
         text,

@@ -1,4 +1,5 @@
 use Rattle.std.proofs.Common.{rules, ◌≡◌, ◌∙◌, ap, arith, subst, List, ℕ, length}
+use Rattle.timing_base.specs.Jobs.{CheckJob}
 use Rattle.timing_base.specs.Media.{Media}
 use Rattle.timing_steps.specs.Answers.{AreThere}
 use Rattle.timing_steps.specs.Fetched.{AreFetched}
@@ -8,36 +9,36 @@ use Rattle.timing_top.proofs.Following.{capture-earlier, fetched-same, follows-f
 use Rattle.timing_top.proofs.Judgings.{fetched-fresh, fetched-length}
 use Rattle.timing_top.proofs.check.answer_check.Goals as goal
 
-pub judge-requires-clause-few : goal.judge-requires-clause-few
-judge-requires-clause-few g c =
+pub judge_alone-requires-clause-few : goal.judge_alone-requires-clause-few
+judge_alone-requires-clause-few g c =
     let long = fetched-length g.H.Source.Source.name g.H.Source.Source.left g.H.Source.Source.faults (g.H.Shelf.text c.fetch_session.new.shelf) c.as_slice.result.now c.in_ok-sources.sources.items c.in_ok-sources.ensures.fetched in
     omega (arith, long, c.job.invariant.captures_are.few, ap length c.as_slice.ensures)
 
-pub judge-requires-clause-fresh : goal.judge-requires-clause-fresh
-judge-requires-clause-fresh g c = λ _ _.
+pub judge_alone-requires-clause-fresh : goal.judge_alone-requires-clause-fresh
+judge_alone-requires-clause-fresh g c = λ _ _.
     fetched-fresh g.H.Source.Source.name g.H.Source.Source.left g.H.Source.Source.faults (g.H.Shelf.text c.fetch_session.new.shelf) c.as_slice.result.now c.in_ok-sources.sources.items c.in_ok-sources.ensures.fetched
 
-pub returns-in-Err-judge-clause-follows : goal.returns-in-Err-judge-clause-follows
-returns-in-Err-judge-clause-follows g c =
+pub returns-in-Err-judge_alone-clause-follows : goal.returns-in-Err-judge_alone-clause-follows
+returns-in-Err-judge_alone-clause-follows g c =
     let named : c.as_str.result.now ≡ c.args.job.now.sdp = search rules in
     let captures : c.as_slice.result.now ≡ c.args.job.now.captures = search rules in
-    follows-failed c.args.job.now (record { texts = g.H.Shelf.text c.args.shelf.now; lacks = g.H.Shelf.lacks c.args.shelf.now; before = g.H.Shelf.faults c.args.shelf.now; now = g.H.Shelf.faults c.judge.new.shelf }) c.in-Ok.session c.in-Err-judge.failure
+    follows-failed c.args.job.now (record { texts = g.H.Shelf.text c.args.shelf.now; lacks = g.H.Shelf.lacks c.args.shelf.now; before = g.H.Shelf.faults c.args.shelf.now; now = g.H.Shelf.faults c.judge_alone.new.shelf }) c.in-Ok.session c.in-Err-judge_alone.failure
     (subst (λ (n : List ℕ). ¬ g.H.Shelf.lacks c.args.shelf.now n) named c.in_ok-session.ensures.there)
     (λ text t. c.in_ok-session.ensures.told text (ap (g.H.Shelf.text c.args.shelf.now) named ∙ t) ∙ c.in-Ok.is)
-    (capture-earlier (g.H.Shelf.faults c.args.shelf.now) (g.H.Shelf.faults c.fetch_captures.new.shelf) (g.H.Shelf.faults c.judge.new.shelf) c.args.job.now.captures c.in-Err-judge.failure
+    (capture-earlier (g.H.Shelf.faults c.args.shelf.now) (g.H.Shelf.faults c.fetch_captures.new.shelf) (g.H.Shelf.faults c.judge_alone.new.shelf) c.args.job.now.captures c.in-Err-judge_alone.failure
     (λ n. omega (arith, c.fetch_session.ensures.later n, c.fetch_captures.ensures.later n))
-    (c.in-Err-judge.ensures.cause c.args.job.now.captures
+    (c.in-Err-judge_alone.ensures.cause c.args.job.now.captures
     (fetched-same g.H.Source.Source.name g.H.Source.Source.left g.H.Source.Source.faults (g.H.Shelf.text c.fetch_session.new.shelf) (g.H.Shelf.text c.fetch_captures.new.shelf) c.args.job.now.captures c.in_ok-sources.sources.items
     c.fetch_captures.ensures.texts
     (subst (λ (names : List (List ℕ)). AreFetched g.H.Source.Source.name g.H.Source.Source.left g.H.Source.Source.faults (g.H.Shelf.text c.fetch_session.new.shelf) names c.in_ok-sources.sources.items) captures c.in_ok-sources.ensures.fetched))))
 
-pub returns-in-Err-judge-clause-cause : goal.returns-in-Err-judge-clause-cause
-returns-in-Err-judge-clause-cause g c =
+pub returns-in-Err-judge_alone-clause-cause : goal.returns-in-Err-judge_alone-clause-cause
+returns-in-Err-judge_alone-clause-cause g c =
     let captures : c.as_slice.result.now ≡ c.args.job.now.captures = search rules in
-    input-rose c.args.job.now (record { texts = g.H.Shelf.text c.args.shelf.now; lacks = g.H.Shelf.lacks c.args.shelf.now; before = g.H.Shelf.faults c.args.shelf.now; now = g.H.Shelf.faults c.judge.new.shelf }) c.in-Err-judge.failure
-    (capture-earlier (g.H.Shelf.faults c.args.shelf.now) (g.H.Shelf.faults c.fetch_captures.new.shelf) (g.H.Shelf.faults c.judge.new.shelf) c.args.job.now.captures c.in-Err-judge.failure
+    input-rose c.args.job.now (record { texts = g.H.Shelf.text c.args.shelf.now; lacks = g.H.Shelf.lacks c.args.shelf.now; before = g.H.Shelf.faults c.args.shelf.now; now = g.H.Shelf.faults c.judge_alone.new.shelf }) c.in-Err-judge_alone.failure
+    (capture-earlier (g.H.Shelf.faults c.args.shelf.now) (g.H.Shelf.faults c.fetch_captures.new.shelf) (g.H.Shelf.faults c.judge_alone.new.shelf) c.args.job.now.captures c.in-Err-judge_alone.failure
     (λ n. omega (arith, c.fetch_session.ensures.later n, c.fetch_captures.ensures.later n))
-    (c.in-Err-judge.ensures.cause c.args.job.now.captures
+    (c.in-Err-judge_alone.ensures.cause c.args.job.now.captures
     (fetched-same g.H.Source.Source.name g.H.Source.Source.left g.H.Source.Source.faults (g.H.Shelf.text c.fetch_session.new.shelf) (g.H.Shelf.text c.fetch_captures.new.shelf) c.args.job.now.captures c.in_ok-sources.sources.items
     c.fetch_captures.ensures.texts
     (subst (λ (names : List (List ℕ)). AreFetched g.H.Source.Source.name g.H.Source.Source.left g.H.Source.Source.faults (g.H.Shelf.text c.fetch_session.new.shelf) names c.in_ok-sources.sources.items) captures c.in_ok-sources.ensures.fetched))))
@@ -47,17 +48,18 @@ returns-clause-follows g c =
     let named : c.as_str.result.now ≡ c.args.job.now.sdp = search rules in
     let captures : c.as_slice.result.now ≡ c.args.job.now.captures = search rules in
     let media : c.as_slice-media.result.now ≡ c.in-Ok.session = search rules in
-    follows-report c.args.job.now (record { texts = g.H.Shelf.text c.args.shelf.now; lacks = g.H.Shelf.lacks c.args.shelf.now; before = g.H.Shelf.faults c.args.shelf.now; now = g.H.Shelf.faults c.judge.new.shelf }) c.in-Ok.session c.report_on.result
-    c.in-Ok-judge.found.notes.items c.in-Ok-judge.found.rows.items
+    follows-report c.args.job.now (record { texts = g.H.Shelf.text c.args.shelf.now; lacks = g.H.Shelf.lacks c.args.shelf.now; before = g.H.Shelf.faults c.args.shelf.now; now = g.H.Shelf.faults c.judge_alone.new.shelf }) c.in-Ok.session c.report_on.result
+    c.in-Ok-judge_alone.found.notes.items c.in-Ok-judge_alone.found.rows.items
     (subst (λ (n : List ℕ). ¬ g.H.Shelf.lacks c.args.shelf.now n) named c.in_ok-session.ensures.there)
     (λ text t. c.in_ok-session.ensures.told text (ap (g.H.Shelf.text c.args.shelf.now) named ∙ t) ∙ c.in-Ok.is)
     (there-before (g.H.Shelf.lacks c.args.shelf.now) (g.H.Shelf.lacks c.fetch_session.new.shelf) c.args.job.now.captures c.fetch_session.ensures.lacks
     (subst (λ (names : List (List ℕ)). AreThere (g.H.Shelf.lacks c.fetch_session.new.shelf) names) captures c.in_ok-sources.ensures.there))
     (λ texts told.
-    subst (λ (m : List Media). AreFound texts (rows c.args.job.now m) c.in-Ok-judge.found.notes.items c.in-Ok-judge.found.rows.items) media
-    (c.in-Ok-judge.ensures.told c.args.job.now.captures texts
+    subst (λ (m : List Media). AreFound texts (rows c.args.job.now m) c.in-Ok-judge_alone.found.notes.items c.in-Ok-judge_alone.found.rows.items) media
+    (subst (λ (j : CheckJob). AreFound texts (rows j c.as_slice-media.result.now) c.in-Ok-judge_alone.found.notes.items c.in-Ok-judge_alone.found.rows.items) c.job.view_is
+    (c.in-Ok-judge_alone.ensures.told c.args.job.now.captures texts
     (fetched-same g.H.Source.Source.name g.H.Source.Source.left g.H.Source.Source.faults (g.H.Shelf.text c.fetch_session.new.shelf) (g.H.Shelf.text c.fetch_captures.new.shelf) c.args.job.now.captures c.in_ok-sources.sources.items
     c.fetch_captures.ensures.texts
     (subst (λ (names : List (List ℕ)). AreFetched g.H.Source.Source.name g.H.Source.Source.left g.H.Source.Source.faults (g.H.Shelf.text c.fetch_session.new.shelf) names c.in_ok-sources.sources.items) captures c.in_ok-sources.ensures.fetched))
-    (told-same (g.H.Shelf.text c.args.shelf.now) (g.H.Shelf.text c.fetch_captures.new.shelf) c.args.job.now.captures texts (λ n. c.fetch_captures.ensures.texts n ∙ c.fetch_session.ensures.texts n) told)))
+    (told-same (g.H.Shelf.text c.args.shelf.now) (g.H.Shelf.text c.fetch_captures.new.shelf) c.args.job.now.captures texts (λ n. c.fetch_captures.ensures.texts n ∙ c.fetch_session.ensures.texts n) told))))
     c.report_on.ensures.text c.report_on.ensures.status c.report_on.ensures.memory

@@ -3,4 +3,4 @@ use Rattle.timing_top.specs.SelfTest.{HasLines}
 use Rattle.timing_top.proofs.self_test.answer_self_test.Given as goal
 
 abbrev pub invariant-loop-flaw : goal.invariant-loop-flaw
-invariant-loop-flaw l = HasLines l.frames l.flaw (string_bytes l.text)
+invariant-loop-flaw g l = HasLines l.frames l.flaw (string_bytes l.text)

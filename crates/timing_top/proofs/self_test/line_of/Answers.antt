@@ -1,8 +1,8 @@
-use Rattle.std.proofs.Common.{rules, ◌≡◌, ◌∙◌, ap, subst, ℕ, List, [], ◌∷◌, Some, Ok, codes, length}
+use Rattle.std.proofs.Common.{rules, false, ◌≡◌, ◌∙◌, ap, subst, ℕ, List, [], ◌∷◌, Some, Ok, codes, length}
 use Rattle.timing_base.specs.Media.{Media}
 use Rattle.timing_outside.specs.SteadyShelves.{bytes_of, left_of, name_of}
 use Rattle.sdp_reader.specs.Session.{session}
-use Rattle.flow_bank.specs.Rows.{rows_of_files}
+use Rattle.flow_bank.specs.Rows.{rows_over}
 use Rattle.capture_gen.specs.Capture.{capture}
 use Rattle.capture_gen.specs.Sdp.{sdp_text}
 use Rattle.timing_report.specs.declared.status.Input.{Input}
@@ -14,14 +14,14 @@ use Rattle.timing_top.proofs.SelfTests.{has-line, never-rose, no-cause, one-foun
 use Rattle.timing_top.proofs.self_test.line_of.Goals as goal
 
 pub returns-in-Err-clause-memory : goal.returns-in-Err-clause-memory
-returns-in-Err-clause-memory c =
+returns-in-Err-clause-memory g c =
     let fetched = fetched-same name_of (λ s. Some (left_of s)) (λ s. 0) (λ n. Some (bytes_of c.fetch_session.new.shelf n)) (λ n. Some (bytes_of c.fetch_captures.new.shelf n)) (c.from_text.result ∷ []) c.in_ok-sources.sources.items
     c.fetch_captures.ensures.texts c.in_ok-sources.ensures.fetched in
     no-cause c.in-Err.failure (λ (i : Input). (number : ℕ) × (i ≡ Capture number) × CaptureRose (λ (n : List ℕ). 0) (λ (n : List ℕ). 0) (c.from_text.result ∷ []) number)
     (λ i h. never-rose h.2.rose) (c.in-Err.ensures.cause (c.from_text.result ∷ []) fetched)
 
 pub text_on-requires-clause-one_row : goal.text_on-requires-clause-one_row
-text_on-requires-clause-one_row c =
+text_on-requires-clause-one_row g c =
     let fetched = fetched-same name_of (λ s. Some (left_of s)) (λ s. 0) (λ n. Some (bytes_of c.fetch_session.new.shelf n)) (λ n. Some (bytes_of c.fetch_captures.new.shelf n)) (c.from_text.result ∷ []) c.in_ok-sources.sources.items
     c.fetch_captures.ensures.texts c.in_ok-sources.ensures.fetched in
     let plain : session sdp_text ≡ Ok c.in-Ok.session = c.in_ok-session.ensures.told sdp_text (ap Some c.in_ok-shelf.ensures.sdp) ∙ c.in-Ok.is in
@@ -30,14 +30,14 @@ text_on-requires-clause-one_row c =
     let name : c.from_text.result ≡ codes "made.pcap" = search rules in
     let text : Some (bytes_of c.fetch_captures.new.shelf c.from_text.result) ≡ Some (capture c.args.frames c.args.frames c.args.flaw) =
     c.fetch_captures.ensures.texts c.from_text.result ∙ c.fetch_session.ensures.texts c.from_text.result ∙ ap (λ n. Some (bytes_of c.in_ok-shelf.shelf n)) name ∙ ap Some c.in_ok-shelf.ensures.capture in
-    let found : AreFound (capture c.args.frames c.args.frames c.args.flaw ∷ []) (rows_of_files 0 0 (plain_media ∷ [])) c.in-Ok-judge_each.found.notes.items c.in-Ok-judge_each.found.rows.items =
-    subst (λ (m : List Media). AreFound (capture c.args.frames c.args.frames c.args.flaw ∷ []) (rows_of_files 0 0 m) c.in-Ok-judge_each.found.notes.items c.in-Ok-judge_each.found.rows.items) media
-    (c.in-Ok-judge_each.ensures.told (c.from_text.result ∷ []) (capture c.args.frames c.args.frames c.args.flaw ∷ []) fetched (text, tt)) in
-    let one = one-found (capture c.args.frames c.args.frames c.args.flaw) plain_media c.in-Ok-judge_each.found.notes.items c.in-Ok-judge_each.found.rows.items found in
+    let found : AreFound (capture c.args.frames c.args.frames c.args.flaw ∷ []) (rows_over false 0 (plain_media ∷ [])) c.in-Ok-judge_any.found.notes.items c.in-Ok-judge_any.found.rows.items =
+    subst (λ (m : List Media). AreFound (capture c.args.frames c.args.frames c.args.flaw ∷ []) (rows_over false 0 m) c.in-Ok-judge_any.found.notes.items c.in-Ok-judge_any.found.rows.items) media
+    (c.in-Ok-judge_any.ensures.told (c.from_text.result ∷ []) (capture c.args.frames c.args.frames c.args.flaw ∷ []) fetched (text, tt)) in
+    let one = one-found (capture c.args.frames c.args.frames c.args.flaw) plain_media c.in-Ok-judge_any.found.notes.items c.in-Ok-judge_any.found.rows.items found in
     ap length one.found_is
 
 pub returns-clause-line : goal.returns-clause-line
-returns-clause-line c =
+returns-clause-line g c =
     let fetched = fetched-same name_of (λ s. Some (left_of s)) (λ s. 0) (λ n. Some (bytes_of c.fetch_session.new.shelf n)) (λ n. Some (bytes_of c.fetch_captures.new.shelf n)) (c.from_text.result ∷ []) c.in_ok-sources.sources.items
     c.fetch_captures.ensures.texts c.in_ok-sources.ensures.fetched in
     let plain : session sdp_text ≡ Ok c.in-Ok.session = c.in_ok-session.ensures.told sdp_text (ap Some c.in_ok-shelf.ensures.sdp) ∙ c.in-Ok.is in
@@ -46,8 +46,8 @@ returns-clause-line c =
     let name : c.from_text.result ≡ codes "made.pcap" = search rules in
     let text : Some (bytes_of c.fetch_captures.new.shelf c.from_text.result) ≡ Some (capture c.args.frames c.args.frames c.args.flaw) =
     c.fetch_captures.ensures.texts c.from_text.result ∙ c.fetch_session.ensures.texts c.from_text.result ∙ ap (λ n. Some (bytes_of c.in_ok-shelf.shelf n)) name ∙ ap Some c.in_ok-shelf.ensures.capture in
-    let found : AreFound (capture c.args.frames c.args.frames c.args.flaw ∷ []) (rows_of_files 0 0 (plain_media ∷ [])) c.in-Ok-judge_each.found.notes.items c.in-Ok-judge_each.found.rows.items =
-    subst (λ (m : List Media). AreFound (capture c.args.frames c.args.frames c.args.flaw ∷ []) (rows_of_files 0 0 m) c.in-Ok-judge_each.found.notes.items c.in-Ok-judge_each.found.rows.items) media
-    (c.in-Ok-judge_each.ensures.told (c.from_text.result ∷ []) (capture c.args.frames c.args.frames c.args.flaw ∷ []) fetched (text, tt)) in
-    has-line c.args.frames c.args.flaw _ c.in-Ok-judge_each.found.notes.items c.in-Ok-judge_each.found.rows.items found
+    let found : AreFound (capture c.args.frames c.args.frames c.args.flaw ∷ []) (rows_over false 0 (plain_media ∷ [])) c.in-Ok-judge_any.found.notes.items c.in-Ok-judge_any.found.rows.items =
+    subst (λ (m : List Media). AreFound (capture c.args.frames c.args.frames c.args.flaw ∷ []) (rows_over false 0 m) c.in-Ok-judge_any.found.notes.items c.in-Ok-judge_any.found.rows.items) media
+    (c.in-Ok-judge_any.ensures.told (c.from_text.result ∷ []) (capture c.args.frames c.args.frames c.args.flaw ∷ []) fetched (text, tt)) in
+    has-line c.args.frames c.args.flaw _ c.in-Ok-judge_any.found.notes.items c.in-Ok-judge_any.found.rows.items found
     (λ note row n r. c.in_ok-text_on.ensures plain_media note row (session-is c.in-Ok.session plain) n r)

@@ -1,0 +1,96 @@
+//! The captures of a job, judged by intakes and workers beside each other.
+
+ghost use Rattle.std.specs.Prelude.{◌≡◌, ◌≤◌, ◌<◌, ℕ, List, IfErr, IfOk, IfSome, All, length, slice_index_or};
+ghost use Rattle.timing_base.specs.Targets.{HaveOwnTargets};
+ghost use Rattle.timing_base.specs.declared.capture.FileNote.TheVariants as file_note;
+ghost use Rattle.timing_base.specs.declared.capture.PcapFault.TheVariants as fault;
+ghost use Rattle.flow_bank.specs.Found.{AreFound};
+ghost use Rattle.flow_bank.specs.Rows.{rows_over};
+ghost use Rattle.timing_report.specs.Outcomes.{AreOfSession};
+ghost use Rattle.timing_steps.specs.Answers.{AreTold, CaptureRose, OnReadFault};
+ghost use Rattle.timing_steps.specs.Fetched.{AreFetched};
+
+use crate::captures::Found;
+use flow_crew::{Judged, judge_files};
+use std::alloc::Global;
+use std::sync::Wait;
+use std::thread::Threads;
+use timing_base::{FileNote, Media, PcapFault};
+use timing_outside::{Gate, Shelf};
+use timing_report::Input;
+use timing_steps::{Failure, give_back_all};
+
+/// The first capture that couldn't be read, counted from 0.
+fn first_unread(notes: &[FileNote]) -> Option<u32>
+    requires few { length notes.now ≤ 16 }
+    ensures { IfSome result (λ number. (number < length notes.now) × ((d : _)
+        → slice_index_or notes.now number d ≡ file_note.Refused fault.ReadFault)) }
+{
+    for number in 0..notes.len() {
+        if let FileNote::Refused(PcapFault::ReadFault) = notes[number] {
+            return Some(number as u32);
+        }
+    }
+    None
+}
+
+/// Judges the media in the captures, in each by itself or in all of them as in one, with so many
+/// workers. Where captures couldn't be read, the first of them is named; all sources go back to the
+/// shelf before.
+pub fn judge_many<R: Threads + Wait + Sync, H: Shelf, G: Gate>(
+    rt: &R,
+    alloc: Global,
+    shelf: &mut H,
+    sources: Vec<H::Source>,
+    media: &[Media],
+    joined: bool,
+    tai: u64,
+    workers: u32,
+    gate: &G,
+) -> Result<Found, Failure>
+    requires some { 1 ≤ length sources.items }
+    requires few { length sources.items ≤ 16 }
+    requires fresh { All (λ source. H.Source.faults source ≡ 0) sources.items }
+    requires some_media { 1 ≤ length media.now }
+    requires few_media { length media.now ≤ 64 }
+    requires targets { HaveOwnTargets media.now }
+    requires tai { tai ≤ 1000 }
+    requires some_workers { 1 ≤ workers }
+    requires few_workers { workers ≤ 16 }
+    ensures told { IfOk result (λ found. (names texts : List (List ℕ))
+        → AreFetched H.Source.name H.Source.left H.Source.faults (H.text shelf.old) names sources.items
+        → AreTold (H.text shelf.old) names texts
+        → AreFound texts (rows_over joined tai media.now) found.notes.items found.rows.items) }
+    ensures count { IfOk result (λ found. length found.notes.items ≡ length sources.items) }
+    ensures of_session { IfOk result (λ found. AreOfSession media.now found.rows.items) }
+    ensures cause { (names : List (List ℕ))
+        → AreFetched H.Source.name H.Source.left H.Source.faults (H.text shelf.old) names sources.items
+        → IfErr result (λ e. OnReadFault e (λ i. (number : ℕ) × (i ≡ Input.Capture number)
+        × CaptureRose (H.faults shelf.old) (H.faults shelf.new) names number)) }
+    ensures lacks { (n : List ℕ) → H.lacks shelf.old n → H.lacks shelf.new n }
+    ensures texts { (n : List ℕ) → H.text shelf.new n ≡ H.text shelf.old n }
+    ensures later { (n : List ℕ) → H.faults shelf.old n ≤ H.faults shelf.new n }
+{
+    let Judged {
+        sources,
+        notes,
+        rows,
+    } = judge_files(
+        rt,
+        alloc,
+        sources,
+        media,
+        joined,
+        tai,
+        workers,
+        gate,
+    )?;
+    give_back_all(shelf, sources);
+    if let Some(number) = first_unread(&notes) {
+        return Err(Failure::ReadFault(Input::Capture(number)));
+    }
+    match rows {
+        Some(rows) => Ok(Found { notes, rows }),
+        None => Err(Failure::OutOfMemory),
+    }
+}
