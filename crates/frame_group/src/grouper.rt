@@ -210,7 +210,15 @@ impl Grouper {
                 });
             }
         }
-        self.feed_other(at, rtp)
+        // A copy of its own, so that a usual packet is never laid out in memory.
+        let other = Rtp {
+            number: rtp.number,
+            timestamp: rtp.timestamp,
+            marker: rtp.marker,
+            pt: rtp.pt,
+            ssrc: rtp.ssrc,
+        };
+        self.feed_other(at, other)
     }
 
     // The same, for a packet that may begin or end a group, or have a fault.
