@@ -208,13 +208,17 @@ quiet-verdict params bucket due kind stamps at limit Pass next e within none =
     unbroken-verdict params bucket due kind stamps at limit None Pass refl next (sym (none refl)) e within refl
 quiet-verdict params bucket due kind stamps at limit (Fail proof) next e within none = refl
 
--- what the bucket decides, where the packet has no fault in the buffer
+-- what the bucket decides of packet `seen`, where it has no fault in the buffer
+abbrev pub Fills : Params → Bucket → Kind → ℕ → (before here : KindVerdict) → Type 0
+Fills params bucket kind seen before here =
+    (all : List ℕ) → IsAfter params bucket all seen → (before ≡ Pass → None ≡ fault_at params.media params.n all kind seen)
+    → here ≡ verdict_next before (early_at params.media params.n all kind seen)
+
 pub filled-verdict : (params : Params) (bucket : Bucket) (due : Due) (kind : Kind) (stamps : List ℕ) (at seen : ℕ) (before here : KindVerdict)
     → seen ≡ length stamps
     → ComesNext params bucket due kind stamps at
     → (before ≡ Pass → fault_at params.media params.n (stamps ++ at ∷ []) kind (length stamps) ≡ None)
-    → ((all : List ℕ) → IsAfter params bucket all seen → (before ≡ Pass → None ≡ fault_at params.media params.n all kind seen)
-    → here ≡ verdict_next before (early_at params.media params.n all kind seen))
+    → Fills params bucket kind seen before here
     → here ≡ verdict_next before (early_at params.media params.n (stamps ++ at ∷ []) kind (length stamps))
 filled-verdict params bucket due kind stamps at seen before here e next none says =
     let all = stamps ++ at ∷ [] in

@@ -1,6 +1,6 @@
 //! The judge of one flow.
 
-ghost use Rattle.std.specs.Prelude.{◌≡◌, ◌≤◌, ◌<◌, ◌+◌, ◌^◌, ◌++◌, ◌∷◌, [], ℕ, List, IsErr, OnErr, OnOk};
+ghost use Rattle.std.specs.Prelude.{◌≡◌, ◌≤◌, ◌<◌, ◌+◌, ◌^◌, ◌++◌, ◌∷◌, [], ℕ, List, Err, IsErr, OnErr, OnOk};
 ghost use Rattle.timing_base.specs.Captures.{IsStamp};
 ghost use Rattle.timing_base.specs.declared.packet.FlowPacket.{FlowPacket};
 ghost use Rattle.timing_base.specs.declared.key.FlowKey.{FlowKey as KeyValue};
@@ -76,6 +76,63 @@ impl FlowJudge {
     ///
     /// `Err` is want of memory. The judge is then spent: it answers so from then on, and its row is not the flow's.
     pub fn feed(
+        &mut self,
+        rec: u64,
+        at: u64,
+        rtp: Result<Rtp, PacketFault>,
+    ) -> Result<(), OutOfMemory>
+        requires stamp { IsStamp at }
+        requires reading { IsReading rtp }
+        requires few { count_fed self.old < 2 ^ 41 }
+
+        ensures fed { count_fed self.new ≡ count_fed self.old + 1 }
+
+        // Whatever packets the judge stood for, it now stands for those and this one.
+        ensures stands { (media : MediaValue) (key : KeyValue) (tai : ℕ) (packets : List FlowPacket)
+            → StandsFor media key tai self.old packets
+            → OnOk result (StandsFor media key tai self.new
+            (packets ++ record { rec = rec; at = at; rtp = rtp } ∷ [])) }
+
+        ensures spends { OnErr result (IsSpent self.new) }
+        ensures stays { IsSpent self.old → IsErr result }
+    {
+        // Told apart here, so that the usual case goes on with the packet itself.
+        match rtp {
+            Ok(read) => self.feed_either(rec, at, Ok(read)),
+            Err(fault) => self.feed_unread(rec, at, fault),
+        }
+    }
+
+    /// The same for a packet that couldn't be read.
+    #[cold]
+    #[inline(never)]
+    fn feed_unread(
+        &mut self,
+        rec: u64,
+        at: u64,
+        fault: PacketFault,
+    ) -> Result<(), OutOfMemory>
+        requires stamp { IsStamp at }
+        requires reading { IsReading (Err fault) }
+        requires few { count_fed self.old < 2 ^ 41 }
+
+        ensures fed { count_fed self.new ≡ count_fed self.old + 1 }
+
+        // Whatever packets the judge stood for, it now stands for those and this one.
+        ensures stands { (media : MediaValue) (key : KeyValue) (tai : ℕ) (packets : List FlowPacket)
+            → StandsFor media key tai self.old packets
+            → OnOk result (StandsFor media key tai self.new
+            (packets ++ record { rec = rec; at = at; rtp = Err fault } ∷ [])) }
+
+        ensures spends { OnErr result (IsSpent self.new) }
+        ensures stays { IsSpent self.old → IsErr result }
+    {
+        self.feed_either(rec, at, Err(fault))
+    }
+
+    /// The same for either.
+    #[inline(always)]
+    fn feed_either(
         &mut self,
         rec: u64,
         at: u64,

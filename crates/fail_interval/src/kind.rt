@@ -42,11 +42,10 @@ impl KindMeter {
             → ComesNext params.now bucket.now due self.old.vrx.kind stamps at
             → StandsFor params.now self.new (stamps ++ at ∷ []) }
     {
-        let kind = self.vrx.kind;
         let packet = self.vrx.seen;
         if self.vrx.feed_quiet(due) {
             if bucket.count > self.c_max {
-                self.overfill(params, kind, bucket, packet);
+                self.overfill(params, bucket, packet);
             }
             return;
         }
@@ -58,18 +57,18 @@ impl KindMeter {
 
     /// The bucket may hold too much at this packet, which the buffer took.
     #[inline(always)]
-    fn overfill(&mut self, params: &Params, kind: Kind, bucket: &Bucket, packet: u64)
+    fn overfill(&mut self, params: &Params, bucket: &Bucket, packet: u64)
         requires { packet < 2 ^ 41 }
         ensures vrx { self.new.vrx ≡ self.old.vrx }
         ensures c_max { self.new.c_max ≡ self.old.c_max }
         ensures verdict { (stamps : List ℕ) → IsAfter params.now bucket.now stamps packet
             → (self.old.verdict ≡ Pass
-            → None ≡ fault_at params.now.media params.now.n stamps kind packet)
+            → None ≡ fault_at params.now.media params.now.n stamps self.old.vrx.kind packet)
             → self.new.verdict ≡ verdict_next self.old.verdict
-            (early_at params.now.media params.now.n stamps kind packet) }
+            (early_at params.now.media params.now.n stamps self.old.vrx.kind packet) }
     {
         if let KindVerdict::Pass = self.verdict {
-            self.verdict = verdict_at(params, kind, bucket, None, packet);
+            self.verdict = verdict_at(params, self.vrx.kind, bucket, None, packet);
         }
     }
 

@@ -4,7 +4,7 @@ use Rattle.sender_params.specs.Limits.{gapped_of}
 use Rattle.sender_params.specs.Reads.{anchor_of}
 use Rattle.vrx_buffer.specs.Stands.{StandsFor as VrxStandsFor}
 use Rattle.vrx_buffer.specs.declared.vrx.Vrx.{Vrx}
-use Rattle.fail_interval.proofs.SenderTypes.{filled-more, filled-verdict, kind-more, next-kept, pass-nowhere, quiet-verdict}
+use Rattle.fail_interval.proofs.SenderTypes.{Fills, filled-more, filled-verdict, kind-more, next-kept, pass-nowhere, quiet-verdict}
 use Rattle.fail_interval.proofs.kind.KindMeter.feed.Goals as goal
 
 pub returns-then-bucket-self-clause-stands : goal.returns-then-bucket-self-clause-stands
@@ -15,7 +15,8 @@ returns-then-bucket-self-clause-stands c = λ stamps at s next.
     filled-more p c.args.self.now c.overfill.new.self _ _ _ stamps at s next e.kind (e.stands p stamps at s.vrx next.due_is quiet)
     c.overfill.ensures.vrx c.overfill.ensures.c_max
     (filled-verdict _ _ _ _ stamps at _ _ _ s.vrx.seen next
-    (λ pass. e.fault p stamps at s.vrx next.due_is (pass-nowhere p c.args.self.now stamps s pass) quiet) c.overfill.ensures.verdict)
+    (λ pass. e.fault p stamps at s.vrx next.due_is (pass-nowhere p c.args.self.now stamps s pass) quiet)
+    (subst (λ k. Fills p c.args.bucket.now k c.args.self.now.vrx.seen c.args.self.now.verdict c.overfill.new.self.verdict) e.kind c.overfill.ensures.verdict))
 
 pub returns-else-bucket-self-clause-stands : goal.returns-else-bucket-self-clause-stands
 returns-else-bucket-self-clause-stands c = λ stamps at s next.

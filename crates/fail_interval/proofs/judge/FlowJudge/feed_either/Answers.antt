@@ -1,6 +1,6 @@
 use Rattle.std.proofs.Common.{Ok, ap, ◌∙◌}
 use Rattle.fail_interval.proofs.Judging.{flow-known, going-more, known-more, refused-before, refused-now}
-use Rattle.fail_interval.proofs.judge.FlowJudge.feed.Goals as goal
+use Rattle.fail_interval.proofs.judge.FlowJudge.feed_either.Goals as goal
 
 pub feed-step-requires : goal.feed-step-requires
 feed-step-requires c = flow-known _ _ _ _ c.in-Going.is c.args.self.now.known c.requires.few c.requires.stamp
