@@ -56,6 +56,7 @@ impl Bucket {
     ///
     /// Feed one bucket stamps that never fall, the first of them its origin, with one `Params`
     /// alone: `stands` says nothing of other stamps.
+    #[inline(always)]
     pub fn feed(&mut self, params: &Params, at: u64) -> u64
         requires begun { self.old.origin ≤ at }
         requires in_time { at < 2 ^ 62 }

@@ -1,5 +1,5 @@
 -- A sender type is fed one packet.
-use Rattle.std.proofs.Common.{◌≡◌, ◌≤◌, ◌<◌, ◌+◌, ℕ, Bool, true, false, nat_lt, List, [], ◌∷◌, ◌++◌, length, length-append, Option, Some, None, refl, arith, ap, ◌∙◌, sym}
+use Rattle.std.proofs.Common.{◌≡◌, ◌≤◌, ◌<◌, ◌+◌, ℕ, Bool, true, false, nat_lt, List, [], ◌∷◌, ◌++◌, length, length-append, Option, Some, None, refl, arith, ap, ◌∙◌, subst, sym}
 use Rattle.std.specs.Prelude.{if◌then◌else◌, is_some}
 use Rattle.std.proofs.lemmas.Bool.Decides.{nat_tests}
 use Rattle.timing_base.specs.declared.fail.FailProof.{FailProof}
@@ -15,7 +15,7 @@ use Rattle.drain_bucket.specs.Stands.{IsAfter}
 use Rattle.drain_bucket.specs.Word.{bucket_of}
 use Rattle.drain_bucket.specs.declared.bucket.Bucket.{Bucket}
 use Rattle.read_schedule.specs.declared.schedule.Due.{Due}
-use Rattle.vrx_buffer.specs.Faults.{fault_at}
+use Rattle.vrx_buffer.specs.Faults.{BreaksNowhere, fault_at}
 use Rattle.vrx_buffer.specs.Stands.{StandsFor as VrxStandsFor}
 use Rattle.vrx_buffer.specs.declared.vrx.Vrx.{Vrx}
 use Rattle.vrx_buffer.specs.declared.vrx.VrxFault.{VrxFault}
@@ -25,7 +25,7 @@ use Rattle.fail_interval.specs.Fails.{is_overfull, kind_verdict, latest_start, v
 use Rattle.fail_interval.specs.Kinds.{ComesNext, StandsFor}
 use Rattle.fail_interval.specs.declared.kind.KindMeter.{KindMeter}
 use Rattle.fail_interval.proofs.Prefixes.{latest-is, verdict-more}
-use Rattle.fail_interval.proofs.Verdicts.{broken_by}
+use Rattle.fail_interval.proofs.Verdicts.{broken_by, none-broken, pass-before}
 
 -- an interval by its parts
 abbrev proof_by : Broken → ℕ → ℕ → ℕ → ℕ → FailProof
@@ -187,3 +187,61 @@ kind-more params meter vrx verdict bucket due stamps at s next kind stands is = 
       ∙ ap (kind_verdict params.media params.n (stamps ++ at ∷ [])) (sym kind)));
   c_max = s.c_max ∙ ap (c_max_of params.media params.n) (sym kind);
 }
+
+-- as long as the verdict is Pass, no packet breaks the buffer's model
+pub pass-nowhere : (params : Params) (meter : KindMeter) (stamps : List ℕ) → StandsFor params meter stamps → meter.verdict ≡ Pass → BreaksNowhere params.media params.n stamps meter.vrx.kind
+pass-nowhere params meter stamps s pass i few =
+    let m = params.media in
+    let n = params.n in
+    let kind = meter.vrx.kind in
+    let none = none-broken m n stamps kind i (pass-before m n stamps kind (length stamps) i (sym s.verdict ∙ pass) few) in
+    (none.1, none.2)
+
+-- a packet with no fault leaves the verdict, where the bucket is within its limit
+pub quiet-verdict : (params : Params) (bucket : Bucket) (due : Due) (kind : Kind) (stamps : List ℕ) (at limit : ℕ) (before : KindVerdict)
+    → ComesNext params bucket due kind stamps at
+    → limit ≡ c_max_of params.media params.n kind
+    → bucket.count ≤ limit
+    → (before ≡ Pass → fault_at params.media params.n (stamps ++ at ∷ []) kind (length stamps) ≡ None)
+    → before ≡ verdict_next before (early_at params.media params.n (stamps ++ at ∷ []) kind (length stamps))
+quiet-verdict params bucket due kind stamps at limit Pass next e within none =
+    unbroken-verdict params bucket due kind stamps at limit None Pass refl next (sym (none refl)) e within refl
+quiet-verdict params bucket due kind stamps at limit (Fail proof) next e within none = refl
+
+-- what the bucket decides of packet `seen`, where it has no fault in the buffer
+abbrev pub Fills : Params → Bucket → Kind → ℕ → (before here : KindVerdict) → Type 0
+Fills params bucket kind seen before here =
+    (all : List ℕ) → IsAfter params bucket all seen → (before ≡ Pass → None ≡ fault_at params.media params.n all kind seen)
+    → here ≡ verdict_next before (early_at params.media params.n all kind seen)
+
+pub filled-verdict : (params : Params) (bucket : Bucket) (due : Due) (kind : Kind) (stamps : List ℕ) (at seen : ℕ) (before here : KindVerdict)
+    → seen ≡ length stamps
+    → ComesNext params bucket due kind stamps at
+    → (before ≡ Pass → fault_at params.media params.n (stamps ++ at ∷ []) kind (length stamps) ≡ None)
+    → Fills params bucket kind seen before here
+    → here ≡ verdict_next before (early_at params.media params.n (stamps ++ at ∷ []) kind (length stamps))
+filled-verdict params bucket due kind stamps at seen before here e next none says =
+    let all = stamps ++ at ∷ [] in
+    let long : length all ≡ seen + 1 = omega (arith, length-append stamps (at ∷ []), e) in
+    says all (next.bucket_is.fed seen long) (λ pass. sym (none pass) ∙ ap (fault_at params.media params.n all kind) (sym e))
+    ∙ ap (λ i. verdict_next before (early_at params.media params.n all kind i)) e
+
+-- after a verdict of Pass
+pub next-pass : (before found_here : KindVerdict) (here : Option FailProof) → before ≡ Pass → found_here ≡ verdict_next Pass here → found_here ≡ verdict_next before here
+next-pass before found_here here e is = is ∙ ap (λ v. verdict_next v here) (sym e)
+
+-- the meter stands for one packet more, where its parts are known by equations
+pub filled-more : (params : Params) (meter new : KindMeter) (vrx : Vrx) (bucket : Bucket) (due : Due) (stamps : List ℕ) (at : ℕ)
+    → StandsFor params meter stamps
+    → ComesNext params bucket due meter.vrx.kind stamps at
+    → vrx.kind ≡ meter.vrx.kind
+    → VrxStandsFor params vrx (stamps ++ at ∷ [])
+    → new.vrx ≡ vrx
+    → new.c_max ≡ meter.c_max
+    → new.verdict ≡ verdict_next meter.verdict (early_at params.media params.n (stamps ++ at ∷ []) meter.vrx.kind (length stamps))
+    → StandsFor params new (stamps ++ at ∷ [])
+filled-more params meter new vrx bucket due stamps at s next kind stands same_vrx same_max is =
+    let all = stamps ++ at ∷ [] in
+    let stood = kind-more params meter vrx new.verdict bucket due stamps at s next kind stands is in
+    subst (λ c. StandsFor params (meter_by new.vrx new.verdict c) all) (sym same_max)
+    (subst (λ v. StandsFor params (meter_by v new.verdict meter.c_max) all) (sym same_vrx) stood)

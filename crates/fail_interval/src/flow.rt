@@ -4,6 +4,7 @@ ghost use Rattle.std.specs.Prelude.{◌≡◌, ◌≤◌, ◌<◌, ◌+◌, ◌+
 ghost use Rattle.timing_base.specs.Captures.{IsStamp};
 ghost use Rattle.timing_base.specs.Flows.{first_fault_below};
 ghost use Rattle.timing_base.specs.declared.packet.FlowPacket.{FlowPacket};
+ghost use Rattle.timing_base.specs.declared.packet.Rtp.{Rtp as RtpValue};
 ghost use Rattle.timing_base.specs.Judged.{judged};
 ghost use Rattle.frame_group.specs.Placing.{cut_at};
 ghost use Rattle.timing_base.specs.Media.{Media as MediaValue};
@@ -30,26 +31,27 @@ pub struct OpenRun {
 impl OpenRun {
     ghost use Rattle.fail_interval.specs.Runs.{StandsFor as RunStandsFor};
 
-    /// A run of one packet, which has this number and came at this instant.
+    /// A run of one packet, which has this number and came at this instant, with the marker or not.
     fn start(
         alloc: Global,
         media: &Media,
         expected: Option<u32>,
         rec: u64,
         at: u64,
-        rtp: Rtp,
+        number: u32,
+        marker: bool,
     ) -> Result<OpenRun, OutOfMemory>
         ensures rec { IfOk result (λ run. run.rec ≡ rec) }
-        ensures number { IfOk result (λ run. run.number ≡ rtp.number) }
+        ensures number { IfOk result (λ run. run.number ≡ number) }
         ensures expected { IfOk result (λ run. run.expected ≡ expected) }
         ensures judge { IfOk result (λ run. RunStandsFor media.now run.judge
-            (so_far_next (in_head 0) at rtp.marker)) }
+            (so_far_next (in_head 0) at marker)) }
     {
         let mut judge = RunJudge::new();
-        judge.feed(alloc, media, at, rtp.marker)?;
+        judge.feed(alloc, media, at, marker)?;
         Ok(OpenRun {
             rec,
-            number: rtp.number,
+            number,
             expected,
             judge,
         })
@@ -121,14 +123,16 @@ impl Flow {
         expected: Option<u32>,
         rec: u64,
         at: u64,
-        rtp: Rtp,
+        number: u32,
+        marker: bool,
     ) -> Result<(), OutOfMemory>
         ensures media { self.new.media ≡ self.old.media }
         ensures tai { self.new.tai ≡ self.old.tai }
         ensures grouper { self.new.grouper ≡ self.old.grouper }
         ensures room { OnOk result (HasRoom self.old → HasRoom self.new) }
-        ensures begins { (packets : List FlowPacket) (i : ℕ) (so_far : SoFar)
+        ensures begins { (packets : List FlowPacket) (i : ℕ) (so_far : SoFar) (rtp : RtpValue)
             → ComesNext packets self.old.tai i rec at rtp
+            → number ≡ rtp.number → marker ≡ rtp.marker
             → expected ≡ cut_at packets i
             → StartsAt packets i self.old.open
             → OpensAt self.old.media self.old.tai packets i so_far self.old.done.items self.old.open
@@ -136,7 +140,7 @@ impl Flow {
             (so_far_next (in_head 0) at rtp.marker) self.new.done.items self.new.open) }
     {
         self.close()?;
-        let run = OpenRun::start(self.alloc, &self.media, expected, rec, at, rtp)?;
+        let run = OpenRun::start(self.alloc, &self.media, expected, rec, at, number, marker)?;
         self.open = Some(run);
         Ok(())
     }
@@ -166,7 +170,8 @@ impl Flow {
     }
 
     /// Takes the next packet, which was read, or answers its fault. `Err` is want of memory.
-    fn feed_read(&mut self, rec: u64, at: u64, rtp: Rtp) -> Result<Option<PacketFault>, OutOfMemory>
+    #[inline(always)]
+    pub fn feed_read(&mut self, rec: u64, at: u64, rtp: Rtp) -> Result<Option<PacketFault>, OutOfMemory>
         requires { ∥ ((packets : List FlowPacket) × CanGoOn self.old packets at) ∥₁ }
         ensures media { self.new.media ≡ self.old.media }
         ensures tai { self.new.tai ≡ self.old.tai }
@@ -189,7 +194,7 @@ impl Flow {
                 return Ok(None);
             }
         }
-        self.begin(placed.cut, rec, stamp, rtp)?;
+        self.begin(placed.cut, rec, stamp, rtp.number, rtp.marker)?;
         Ok(None)
     }
 

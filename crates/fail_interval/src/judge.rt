@@ -1,6 +1,6 @@
 //! The judge of one flow.
 
-ghost use Rattle.std.specs.Prelude.{◌≡◌, ◌≤◌, ◌<◌, ◌+◌, ◌^◌, ◌++◌, ◌∷◌, [], ℕ, List, IsErr, OnErr, OnOk};
+ghost use Rattle.std.specs.Prelude.{◌≡◌, ◌≤◌, ◌<◌, ◌+◌, ◌^◌, ◌++◌, ◌∷◌, [], ℕ, List, Ok, Err, IsErr, OnErr, OnOk};
 ghost use Rattle.timing_base.specs.Captures.{IsStamp};
 ghost use Rattle.timing_base.specs.declared.packet.FlowPacket.{FlowPacket};
 ghost use Rattle.timing_base.specs.declared.key.FlowKey.{FlowKey as KeyValue};
@@ -75,6 +75,7 @@ impl FlowJudge {
     /// read of it.
     ///
     /// `Err` is want of memory. The judge is then spent: it answers so from then on, and its row is not the flow's.
+    #[inline(always)]
     pub fn feed(
         &mut self,
         rec: u64,
@@ -96,9 +97,38 @@ impl FlowJudge {
         ensures spends { OnErr result (IsSpent self.new) }
         ensures stays { IsSpent self.old → IsErr result }
     {
+        // Told apart here, so that the usual case goes on with the packet itself.
+        match rtp {
+            Ok(read) => self.feed_read(rec, at, read),
+            Err(fault) => self.feed_unread(rec, at, fault),
+        }
+    }
+
+    /// The same for a packet that was read.
+    #[inline(always)]
+    fn feed_read(
+        &mut self,
+        rec: u64,
+        at: u64,
+        rtp: Rtp,
+    ) -> Result<(), OutOfMemory>
+        requires stamp { IsStamp at }
+        requires few { count_fed self.old < 2 ^ 41 }
+
+        ensures fed { count_fed self.new ≡ count_fed self.old + 1 }
+
+        // Whatever packets the judge stood for, it now stands for those and this one.
+        ensures stands { (media : MediaValue) (key : KeyValue) (tai : ℕ) (packets : List FlowPacket)
+            → StandsFor media key tai self.old packets
+            → OnOk result (StandsFor media key tai self.new
+            (packets ++ record { rec = rec; at = at; rtp = Ok rtp } ∷ [])) }
+
+        ensures spends { OnErr result (IsSpent self.new) }
+        ensures stays { IsSpent self.old → IsErr result }
+    {
         self.fed += 1;
         let step = match &mut self.state {
-            State::Going(flow) => flow.feed(rec, at, rtp),
+            State::Going(flow) => flow.feed_read(rec, at, rtp),
             State::Refused { .. } => return Ok(()),
             State::Spent => return Err(OutOfMemory),
         };
@@ -107,6 +137,51 @@ impl FlowJudge {
                 None => Ok(()),
                 Some(fault) => {
                     self.state.refuse(rec, fault);
+                    Ok(())
+                }
+            },
+            Err(refused) => {
+                self.state.spend();
+                Err(refused)
+            }
+        }
+    }
+
+    /// The same for a packet that couldn't be read.
+    #[cold]
+    #[inline(never)]
+    fn feed_unread(
+        &mut self,
+        rec: u64,
+        at: u64,
+        fault: PacketFault,
+    ) -> Result<(), OutOfMemory>
+        requires stamp { IsStamp at }
+        requires reading { IsReading (Err fault) }
+        requires few { count_fed self.old < 2 ^ 41 }
+
+        ensures fed { count_fed self.new ≡ count_fed self.old + 1 }
+
+        // Whatever packets the judge stood for, it now stands for those and this one.
+        ensures stands { (media : MediaValue) (key : KeyValue) (tai : ℕ) (packets : List FlowPacket)
+            → StandsFor media key tai self.old packets
+            → OnOk result (StandsFor media key tai self.new
+            (packets ++ record { rec = rec; at = at; rtp = Err fault } ∷ [])) }
+
+        ensures spends { OnErr result (IsSpent self.new) }
+        ensures stays { IsSpent self.old → IsErr result }
+    {
+        self.fed += 1;
+        let step = match &mut self.state {
+            State::Going(flow) => flow.feed(rec, at, Err(fault)),
+            State::Refused { .. } => return Ok(()),
+            State::Spent => return Err(OutOfMemory),
+        };
+        match step {
+            Ok(fault) => match fault {
+                None => Ok(()),
+                Some(found) => {
+                    self.state.refuse(rec, found);
                     Ok(())
                 }
             },

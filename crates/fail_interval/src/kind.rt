@@ -1,6 +1,6 @@
 //! The meter of one sender type.
 
-ghost use Rattle.std.specs.Prelude.{◌≡◌, ◌<◌, ◌^◌, ◌++◌, ◌∷◌, [], ℕ, List};
+ghost use Rattle.std.specs.Prelude.{◌≡◌, ◌<◌, ◌^◌, ◌++◌, ◌∷◌, [], ℕ, List, None};
 
 use drain_bucket::Bucket;
 use read_schedule::Due;
@@ -42,16 +42,52 @@ impl KindMeter {
             → ComesNext params.now bucket.now due self.old.vrx.kind stamps at
             → StandsFor params.now self.new (stamps ++ at ∷ []) }
     {
-        if let KindVerdict::Pass = self.verdict {
-            let kind = self.vrx.kind;
-            let packet = self.vrx.seen;
-            let fault = self.vrx.feed_due(params, due);
-            if bucket.count > self.c_max || fault.is_some() {
-                self.verdict = verdict_at(params, kind, bucket, fault, packet);
+        let packet = self.vrx.seen;
+        if self.vrx.feed_quiet(due) {
+            if bucket.count > self.c_max {
+                self.overfill(params, bucket, packet);
             }
             return;
         }
+        if let KindVerdict::Pass = self.verdict {
+            return self.feed_passing(params, bucket, due);
+        }
         self.vrx.pass_due(params, due);
+    }
+
+    /// The bucket may hold too much at this packet, which the buffer took.
+    #[inline(always)]
+    fn overfill(&mut self, params: &Params, bucket: &Bucket, packet: u64)
+        requires { packet < 2 ^ 41 }
+        ensures vrx { self.new.vrx ≡ self.old.vrx }
+        ensures c_max { self.new.c_max ≡ self.old.c_max }
+        ensures verdict { (stamps : List ℕ) → IsAfter params.now bucket.now stamps packet
+            → (self.old.verdict ≡ Pass
+            → None ≡ fault_at params.now.media params.now.n stamps self.old.vrx.kind packet)
+            → self.new.verdict ≡ verdict_next self.old.verdict
+            (early_at params.now.media params.now.n stamps self.old.vrx.kind packet) }
+    {
+        if let KindVerdict::Pass = self.verdict {
+            self.verdict = verdict_at(params, self.vrx.kind, bucket, None, packet);
+        }
+    }
+
+    /// The same as long as the verdict is Pass.
+    #[inline(never)]
+    fn feed_passing(&mut self, params: &Params, bucket: &Bucket, due: Due)
+        requires few { self.old.vrx.seen < 2 ^ 41 }
+        requires passes { self.old.verdict ≡ Pass }
+        ensures kind { self.new.vrx.kind ≡ self.old.vrx.kind }
+        ensures stands { (stamps : List ℕ) (at : ℕ) → StandsFor params.now self.old stamps
+            → ComesNext params.now bucket.now due self.old.vrx.kind stamps at
+            → StandsFor params.now self.new (stamps ++ at ∷ []) }
+    {
+        let kind = self.vrx.kind;
+        let packet = self.vrx.seen;
+        let fault = self.vrx.feed_due(params, due);
+        if bucket.count > self.c_max || fault.is_some() {
+            self.verdict = verdict_at(params, kind, bucket, fault, packet);
+        }
     }
 }
 

@@ -55,6 +55,7 @@ impl Meters {
     }
 
     /// Takes the next judged packet.
+    #[inline(always)]
     pub fn feed(&mut self, params: &Params, at: u64)
         requires { ∥ ((stamps : List ℕ) × CanFollow params.now self.old stamps at) ∥₁ }
         ensures origin { self.new.bucket.origin ≡ self.old.bucket.origin }

@@ -1,5 +1,6 @@
 -- What is kept of a flow, one packet on.
 use Rattle.std.proofs.Common.{◌≡◌, ◌+◌, ℕ, suc, Bool, true, false, List, [], ◌∷◌, ◌++◌, length, Option, Some, None, Ok, Err, Result, refl, ap, subst, ◌∙◌, sym, arith, length-append, append_assoc}
+use Rattle.std.specs.Prelude.{is_some}
 use Rattle.std.proofs.Math.Seq.{get_or-append_seam}
 use Rattle.timing_base.specs.Flows.{FirstFault, cuts, earlier_or, fault, first_fault_below, first_of, has_marker, last_place, markers, markers_before, no_packet, packet, run_start}
 use Rattle.timing_base.specs.declared.packet.FlowPacket.{FlowPacket}
@@ -145,3 +146,28 @@ told pt packets rest rec at r g here cut group s none faults cuts_here groups =
     let read : IsRead all i at r = read-seam packets rest rec at r in
     let is : cut ≡ cut_at all i = cuts_here all i at kept read in
     before-none all pt i g here before none (faults all i kept read is (groups all i kept is) ∙ ap (λ p. fault all p i) s.pt)
+
+-- tests for none
+pub no-cut : (o : Option ℕ) → is_some o ≡ false → o ≡ None
+no-cut None e = refl
+no-cut (Some n) e = cc
+
+pub no-fault : (o : Option PacketFault) → is_some o ≡ false → o ≡ None
+no-fault None e = refl
+no-fault (Some f) e = cc
+
+-- the next packet goes on in the group of the packet before, and has no fault
+pub record GoesOn (g : Grouper) (at : ℕ) (r : Rtp) : Type 0 where
+  pub cut : (packets : List FlowPacket) (i stamp : ℕ) → Keeps packets i g → IsRead packets i stamp r → None ≡ cut_at packets i
+  pub sound : (packets : List FlowPacket) (i : ℕ) → Keeps packets i g → IsRead packets i at r → fault packets g.pt i ≡ None
+
+-- so no packet up to it has one
+pub passes : (pt : ℕ) (packets rest : List FlowPacket) (rec at : ℕ) (r : Rtp) (g : Grouper)
+    → StandsFor pt g packets
+    → g.fault ≡ None
+    → GoesOn g at r
+    → what (first_fault_below (packets ++ record { rec = rec; at = at; rtp = Ok r } ∷ rest) pt (length packets + 1)) ≡ None
+passes pt packets rest rec at r g s none on =
+    told pt packets rest rec at r g None None g.group s none
+    (λ all i kept read _ _. sym (on.sound all i kept read)) on.cut
+    (λ all i kept is. enters-run all i g.group (sym is) kept.group)

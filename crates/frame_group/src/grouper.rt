@@ -1,6 +1,6 @@
 //! The grouper.
 
-ghost use Rattle.std.specs.Prelude.{◌≡◌, ◌≤◌, ◌<◌, ◌+◌, ◌^◌, ◌++◌, ◌∷◌, [], ℕ, List, Ok, None, length, IfOk};
+ghost use Rattle.std.specs.Prelude.{◌≡◌, ◌≤◌, ◌<◌, ◌+◌, ◌^◌, ◌++◌, ◌∷◌, [], ℕ, List, Ok, None, true, length, IfOk};
 ghost use Rattle.std.specs.Option.{ForSome};
 ghost use Rattle.timing_base.specs.declared.packet.FlowPacket.{FlowPacket};
 ghost use Rattle.timing_base.specs.Flows.{cuts, fault, fault_if, first_of, is_second_source, markers_before, order_fault};
@@ -156,12 +156,74 @@ impl Grouper {
         self.group = Group::after_in(group, rtp.marker);
     }
 
+    // Whether the next packet goes on in the group of the packet before and has no fault, as most do. One
+    // that ends a group doesn't count.
+    #[inline(always)]
+    fn goes_on(&self, at: u64, rtp: Rtp) -> bool
+        ensures cut { result ≡ true → (packets : List FlowPacket) (i stamp : ℕ)
+            → Keeps packets i self.now → IsRead packets i stamp rtp → None ≡ cut_at packets i }
+        ensures sound { result ≡ true → (packets : List FlowPacket) (i : ℕ)
+            → Keeps packets i self.now → IsRead packets i at rtp
+            → fault packets self.now.pt i ≡ None }
+        ensures fits { result ≡ true → ForSome self.now.group (λ g. g.place < g.most) }
+    {
+        if self.before.is_none() || self.group.is_none() || rtp.marker {
+            return false;
+        }
+        if self.cut(rtp).is_some() {
+            return false;
+        }
+        self.fault_at(at, rtp, None, self.group).is_none()
+    }
+
     /// Takes the next packet of the flow, captured at `at` in nanoseconds, and answers where it stands,
     /// or its fault: the first that holds, in the order of [`PacketFault`]. After a fault each later
     /// packet is answered with that same fault.
     ///
     /// A packet that could not be read (`Short` or `Version`) is not fed, nor is any after it.
     pub fn feed(&mut self, at: u64, rtp: Rtp) -> Result<Placed, PacketFault>
+        requires few { count_fed self.old < 2 ^ 41 }
+
+        ensures fed { count_fed self.new ≡ count_fed self.old + 1 }
+
+        // The packet's place in every flow that begins with the packets before it and goes on so.
+        ensures answer { (pt : ℕ) (packets rest : List FlowPacket) (rec : ℕ)
+            → StandsFor pt self.old packets
+            → result ≡ answer_at
+            (packets ++ record { rec = rec; at = at; rtp = Ok rtp } ∷ rest) pt (length packets) }
+
+        // What a caller may count on without knowing the packets before.
+        ensures in_range { IfOk result (λ placed. IsInRange (count_fed self.old) placed.place) }
+
+        // Whatever packets the grouper stood for, it now stands for those and this one.
+        ensures stands { (pt : ℕ) (packets : List FlowPacket) (rec : ℕ)
+            → StandsFor pt self.old packets
+            → StandsFor pt self.new (packets ++ record { rec = rec; at = at; rtp = Ok rtp } ∷ []) }
+    {
+        if self.fault.is_none() {
+            if self.goes_on(at, rtp) {
+                let group = self.group;
+                self.pass(at, rtp, None, group);
+                return Ok(Placed {
+                    cut: None,
+                    place: Group::place_in(group, rtp.marker),
+                });
+            }
+        }
+        // A copy of its own, so that a usual packet is never laid out in memory.
+        let other = Rtp {
+            number: rtp.number,
+            timestamp: rtp.timestamp,
+            marker: rtp.marker,
+            pt: rtp.pt,
+            ssrc: rtp.ssrc,
+        };
+        self.feed_other(at, other)
+    }
+
+    // The same, for a packet that may begin or end a group, or have a fault.
+    #[inline(never)]
+    fn feed_other(&mut self, at: u64, rtp: Rtp) -> Result<Placed, PacketFault>
         requires few { count_fed self.old < 2 ^ 41 }
 
         ensures fed { count_fed self.new ≡ count_fed self.old + 1 }

@@ -131,7 +131,10 @@ impl<S: Source> PcapReader<S> {
         if self.window.len() >= need {
             return Ok(true);
         }
-        self.fill(need)
+        match self.fill(need) {
+            Ok(held) => Ok(held),
+            Err(note) => Err(note),
+        }
     }
 
     /// Moves what is held to the front of the buffer, and reads until so many bytes are held.

@@ -132,24 +132,36 @@ impl Schedule {
         }
     }
 
-    /// From the next read to the one after it, and the place of that one.
-    fn ahead(&self) -> (Span, u64)
+    /// From the next read to the one after it, in its group.
+    #[inline(always)]
+    fn step_ahead(&self) -> Span
         requires few { self.now.passed < 2 ^ 63 }
+        requires within { self.now.place + 1 < self.now.grid.n }
         ensures reach { parts_at self.now.grid (self.now.passed + 1)
             ≡ parts_at self.now.grid self.now.passed
-            + (result.0.whole * self.now.grid.den + result.0.part) }
-        ensures left { result.0.part < self.now.grid.den }
-        ensures some { 1 ≤ result.0.whole }
-        ensures small { result.0.whole < 2 ^ 52 }
-        ensures place { (self.now.passed + 1) % self.now.grid.n ≡ result.1 }
-        ensures within { result.1 < self.now.grid.n }
+            + (result.whole * self.now.grid.den + result.part) }
+        ensures left { result.part < self.now.grid.den }
+        ensures some { 1 ≤ result.whole }
+        ensures small { result.whole < 2 ^ 52 }
+        ensures place { (self.now.passed + 1) % self.now.grid.n ≡ self.now.place + 1 }
     {
-        let place = self.place + 1;
-        if place == self.grid.n {
-            (self.turn, 0)
-        } else {
-            (self.step, place)
-        }
+        self.step
+    }
+
+    /// From the next read, which is the last of its group, to the one after it.
+    #[inline(always)]
+    fn turn_ahead(&self) -> Span
+        requires few { self.now.passed < 2 ^ 63 }
+        requires last { self.now.place + 1 ≡ self.now.grid.n }
+        ensures reach { parts_at self.now.grid (self.now.passed + 1)
+            ≡ parts_at self.now.grid self.now.passed
+            + (result.whole * self.now.grid.den + result.part) }
+        ensures left { result.part < self.now.grid.den }
+        ensures some { 1 ≤ result.whole }
+        ensures small { result.whole < 2 ^ 52 }
+        ensures place { (self.now.passed + 1) % self.now.grid.n ≡ 0 }
+    {
+        self.turn
     }
 
     /// The next read passes; `t` is at it or after.
@@ -161,10 +173,31 @@ impl Schedule {
         ensures passed { self.new.passed ≡ self.old.passed + 1 }
         ensures later { self.old.next.at < self.new.next.at }
     {
-        let (span, place) = self.ahead();
+        if self.place + 1 == self.grid.n {
+            return self.pass_last(t);
+        }
+        let span = self.step_ahead();
         self.last = self.next;
         self.next = later(self.next, span, self.grid.den);
-        self.place = place;
+        self.place += 1;
+        self.passed += 1;
+    }
+
+    /// The next read passes, the last one of its group.
+    #[cold]
+    #[inline(never)]
+    fn pass_last(&mut self, t: u64)
+        requires due { self.old.next.at ≤ t }
+        requires in_time { t < 2 ^ 63 }
+        requires last { self.old.place + 1 ≡ self.old.grid.n }
+        ensures grid { self.new.grid ≡ self.old.grid }
+        ensures passed { self.new.passed ≡ self.old.passed + 1 }
+        ensures later { self.old.next.at < self.new.next.at }
+    {
+        let span = self.turn_ahead();
+        self.last = self.next;
+        self.next = later(self.next, span, self.grid.den);
+        self.place = 0;
         self.passed += 1;
     }
 

@@ -1,7 +1,7 @@
 //! Ethernet, IPv4 and UDP headers.
 
-ghost use Rattle.std.specs.Prelude.{◌≡◌, ◌+◌, ◌≤◌, IfSome, length};
-ghost use Rattle.udp_rtp.specs.Frames.{datagram_of, ip_place, is_udp_at, payload_at, udp_place};
+ghost use Rattle.std.specs.Prelude.{◌≡◌, ◌+◌, ◌≤◌, Some, IfSome, length};
+ghost use Rattle.udp_rtp.specs.Frames.{datagram_from, datagram_of, ip_place, is_udp_at, payload_at, udp_place};
 
 use crate::udp::Datagram;
 use byteorder::{BigEndian, ByteOrder};
@@ -12,6 +12,9 @@ const IPV4: u16 = 0x0800;
 
 const TAG: u16 = 0x8100;
 
+// The first byte of an IPv4 header without options: version 4, and 5 words.
+const PLAIN: u8 = 0x45;
+
 // The least length of a frame with a datagram: Ethernet 14, IPv4 20, and the ports 4.
 const LEAST: usize = 38;
 
@@ -19,7 +22,8 @@ const LEAST: usize = 38;
 fn ip_header(frame: &[u8]) -> Option<usize>
     requires { 18 ≤ length frame.now }
     ensures place { result ≡ ip_place frame.now }
-    ensures few { IfSome result (λ ip. ip ≤ 18) }
+    ensures low { IfSome result (λ ip. 14 ≤ ip) }
+    ensures high { IfSome result (λ ip. ip ≤ 18) }
 {
     let kind = BigEndian::read_u16(&frame[12..]);
     if kind == IPV4 {
@@ -42,6 +46,42 @@ fn payload(frame: &[u8], udp: usize) -> &[u8]
     let stated = usize::from(BigEndian::read_u16(&frame[udp + 4..]));
     let data = &frame[udp + 8..];
     &data[..stated.saturating_sub(8).min(data.len())]
+}
+
+/// Whether an IPv4 header with a UDP datagram stands at `ip`, and the frame has its ports.
+#[inline(always)]
+fn is_udp(frame: &[u8], ip: usize) -> bool
+    requires least { 38 ≤ length frame.now }
+    requires high { ip ≤ 18 }
+    ensures { result ≡ is_udp_at frame.now ip }
+{
+    let first = frame[ip];
+    first / 16 == 4
+        && first % 16 >= 5
+        && frame[ip + 9] == 17
+        && BigEndian::read_u16(&frame[ip + 6..]) % 0x4000 == 0
+        && frame.len() >= ip + 4 * usize::from(first % 16) + 4
+}
+
+/// The datagram of a frame whose IPv4 header stands at `ip`, if one does.
+#[inline(always)]
+fn datagram_behind(frame: &[u8], ip: usize) -> Option<Datagram<'_>>
+    requires least { 38 ≤ length frame.now }
+    requires low { 14 ≤ ip }
+    requires high { ip ≤ 18 }
+    ensures { result ≡ datagram_from frame.now (Some ip) }
+{
+    if !is_udp(frame, ip) {
+        return None;
+    }
+    let udp = ip + 4 * usize::from(frame[ip] % 16);
+    Some(Datagram {
+        target: Target {
+            address: BigEndian::read_u32(&frame[ip + 16..]),
+            port: BigEndian::read_u16(&frame[udp + 2..]),
+        },
+        payload: payload(frame, udp),
+    })
 }
 
 /// The datagram of an Ethernet frame: what it carries to a UDP port over IPv4. `None` for any other
@@ -70,22 +110,9 @@ pub fn datagram(frame: &[u8]) -> Option<Datagram<'_>>
     if frame.len() < LEAST {
         return None;
     }
-    let ip = ip_header(frame)?;
-    let first = frame[ip];
-    let udp = ip + 4 * usize::from(first % 16);
-    if first / 16 != 4
-        || first % 16 < 5
-        || frame[ip + 9] != 17
-        || BigEndian::read_u16(&frame[ip + 6..]) % 0x4000 != 0
-        || frame.len() < udp + 4
-    {
-        return None;
+    // Most frames have no tag and no IPv4 options: here all places are known beforehand.
+    if frame[14] == PLAIN && BigEndian::read_u16(&frame[12..]) == IPV4 {
+        return datagram_behind(frame, 14);
     }
-    Some(Datagram {
-        target: Target {
-            address: BigEndian::read_u32(&frame[ip + 16..]),
-            port: BigEndian::read_u16(&frame[udp + 2..]),
-        },
-        payload: payload(frame, udp),
-    })
+    datagram_behind(frame, ip_header(frame)?)
 }

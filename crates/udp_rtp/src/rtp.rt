@@ -13,6 +13,10 @@ fn extended_place(bytes: &[u8]) -> Option<usize>
     ensures { SomeIff result (payload_place bytes.now + 2 ≤ length bytes.now)
         (payload_place bytes.now) }
 {
+    // Most packets have neither contributing sources nor an extension.
+    if bytes[0] % 32 == 0 {
+        return if bytes.len() < 14 { None } else { Some(12) };
+    }
     let sources_end = 12 + 4 * usize::from(bytes[0] % 16);
     let place = if bytes[0] / 16 % 2 == 1 {
         if bytes.len() < sources_end + 4 {

@@ -10,11 +10,14 @@ use Rattle.sender_params.specs.Keeps.{due_among, held_at, is_empty}
 use Rattle.sender_params.specs.Limits.{gapped_of, vrx_full_of}
 use Rattle.sender_params.specs.Reads.{AreDue, anchor_of, read_of}
 use Rattle.sender_params.specs.declared.params.Params.{Params}
+use Rattle.read_schedule.specs.Stands.{IsDueAt}
+use Rattle.read_schedule.specs.declared.schedule.Due.{Due}
 use Rattle.read_schedule.proofs.Held.{held_at-is}
-use Rattle.vrx_buffer.specs.Faults.{IsFirstFault, fault_at}
+use Rattle.vrx_buffer.specs.Faults.{BreaksNowhere, IsFirstFault, fault_at}
 use Rattle.vrx_buffer.specs.Stands.{StandsFor}
 use Rattle.vrx_buffer.specs.Taking.{IsWithin, Took, earlier, fault_by}
 use Rattle.vrx_buffer.proofs.Instants.{first-none}
+use Rattle.vrx_buffer.proofs.Lateness.{late-fewer}
 use Rattle.vrx_buffer.specs.declared.vrx.Vrx.{Vrx}
 use Rattle.vrx_buffer.specs.declared.vrx.VrxFault.{VrxFault}
 use Rattle.vrx_buffer.specs.declared.vrx.VrxFault.TheVariants.{Over, Empty}
@@ -165,22 +168,29 @@ pub late-same : (m : Media) (n at i : ℕ) (anchor there : ℤ) (gapped same lat
 late-same m n at i anchor there gapped same late ea eg is =
     sym (is ∙ ap (λ a. below (read_of m n a gapped i) (whole at)) ea ∙ ap (λ g. below (read_of m n there g i) (whole at)) eg)
 
--- as long as there is no fault, no more was held than may be
-pub stands-within : (params : Params) (v : Vrx) (stamps : List ℕ) → StandsFor params v stamps → IsWithin params v
-stands-within params v stamps s =
+-- where no packet breaks the model, no more was held than may be
+pub nowhere-within : (params : Params) (v : Vrx) (stamps : List ℕ)
+    → StandsFor params v stamps
+    → BreaksNowhere params.media params.n stamps v.kind
+    → v.peak ≤ vrx_full_of params.media params.n v.kind
+nowhere-within params v stamps s breaks =
     let m = params.media in
     let n = params.n in
-    record {
-      within = λ none. elim (cases_lt 0 v.peak) as (λ _. v.peak ≤ vrx_full_of m n v.kind) [
-        | inr empty ↦ omega (arith, empty)
-        | inl some ↦
-            let top = s.peak_reached some in
-            let breaks = first-none m n stamps v.kind (subst (IsFirstFault m n stamps v.kind) none s.fault) in
-            let fits : held_at m n stamps (gapped_of v.kind) top.0 ≤ vrx_full_of m n v.kind =
-            ltb-false (vrx_full_of m n v.kind) (held_at m n stamps (gapped_of v.kind) top.0) (breaks top.0 top.1).0 in
-            omega (arith, fits, top.2)
-      ];
-    }
+    elim (cases_lt 0 v.peak) as (λ _. v.peak ≤ vrx_full_of m n v.kind) [
+      | inr empty ↦ omega (arith, empty)
+      | inl some ↦
+          let top = s.peak_reached some in
+          let fits : held_at m n stamps (gapped_of v.kind) top.0 ≤ vrx_full_of m n v.kind =
+          ltb-false (vrx_full_of m n v.kind) (held_at m n stamps (gapped_of v.kind) top.0) (breaks top.0 top.1).0 in
+          omega (arith, fits, top.2)
+    ]
+
+-- as long as there is no fault, no more was held than may be
+pub stands-within : (params : Params) (v : Vrx) (stamps : List ℕ) → StandsFor params v stamps → IsWithin params v
+stands-within params v stamps s = record {
+  within = λ none. nowhere-within params v stamps s
+      (first-none params.media params.n stamps v.kind (subst (IsFirstFault params.media params.n stamps v.kind) none s.fault));
+}
 
 -- a packet that raises nothing and comes in time has no fault
 quiet-fault : (params : Params) (kind : Kind) (packet held : ℕ) (late : Bool)
@@ -226,3 +236,47 @@ after-stands params v w stamps at count first s are some kind seen peak fault =
     let answer = fault_by params v.kind v.seen ((v.seen + 1) - count) late in
     took-stands params v w stamps at count late answer s are refl
     record { kind = kind; seen = seen; peak = peak; fault = fault ∙ some ∙ sym (ap (λ o. earlier o answer) some); answer_is = refl }
+
+-- a packet that raises nothing and comes in time has no fault, where none before it breaks the model
+pub quiet-at : (params : Params) (v : Vrx) (stamps : List ℕ) (at : ℕ) (due : Due)
+    → StandsFor params v stamps
+    → IsDueAt params.media params.n (anchor_of params.media (slice_index (stamps ++ at ∷ []) 0)) (gapped_of v.kind) at due
+    → BreaksNowhere params.media params.n stamps v.kind
+    → due.count ≤ v.seen
+    → v.seen - due.count < v.peak
+    → fault_at params.media params.n (stamps ++ at ∷ []) v.kind (length stamps) ≡ None
+quiet-at params v stamps at due s are nowhere few low =
+    let held = (v.seen + 1) - due.count in
+    let answer = fault_by params v.kind v.seen held false in
+    let w : Vrx = record { kind = v.kind; seen = v.seen + 1; peak = max v.peak held; fault = earlier v.fault answer } in
+    let late = late-fewer params.media params.n _ (gapped_of v.kind) at v.seen due.count are.count few in
+    let fits = nowhere-within params v stamps s nowhere in
+    sym (quiet-fault params v.kind v.seen held false (omega (arith, few, low, fits)) refl
+    ∙ took-fault params v w stamps at due.count false answer s are.count late record { kind = refl; seen = refl; peak = refl; fault = refl; answer_is = refl })
+
+-- the buffer with one packet more
+abbrev one_more : Vrx → Vrx
+one_more v = record { kind = v.kind; seen = v.seen + 1; peak = v.peak; fault = v.fault }
+
+-- it stands for that packet too, whether one before had a fault or not
+quiet-more : (params : Params) (v : Vrx) (stamps : List ℕ) (at : ℕ) (due : Due) (fault : Option VrxFault)
+    → v.fault ≡ fault
+    → StandsFor params v stamps
+    → IsDueAt params.media params.n (anchor_of params.media (slice_index (stamps ++ at ∷ []) 0)) (gapped_of v.kind) at due
+    → due.count ≤ v.seen
+    → v.seen - due.count < v.peak
+    → StandsFor params (one_more v) (stamps ++ at ∷ [])
+quiet-more params v stamps at due None e s are few low =
+    let late = late-fewer params.media params.n _ (gapped_of v.kind) at v.seen due.count are.count few in
+    took-stands params v (one_more v) stamps at due.count false None s are.count late
+    (quiet-took params v (one_more v) due.count ((v.seen + 1) - due.count) false (stands-within params v stamps s) refl (omega (arith, few, low)) refl e refl refl refl refl)
+quiet-more params v stamps at due (Some first) e s are few low =
+    after-stands params v (one_more v) stamps at due.count first s are.count e refl refl (omega (arith, few, low)) refl
+
+pub quiet-stands : (params : Params) (v : Vrx) (stamps : List ℕ) (at : ℕ) (due : Due)
+    → StandsFor params v stamps
+    → IsDueAt params.media params.n (anchor_of params.media (slice_index (stamps ++ at ∷ []) 0)) (gapped_of v.kind) at due
+    → due.count ≤ v.seen
+    → v.seen - due.count < v.peak
+    → StandsFor params (one_more v) (stamps ++ at ∷ [])
+quiet-stands params v stamps at due s are few low = quiet-more params v stamps at due v.fault refl s are few low

@@ -41,7 +41,8 @@ pub struct Vrx {
 
 impl Vrx {
     ghost use Rattle.read_schedule.specs.Stands.{IsDueAt};
-    ghost use Rattle.vrx_buffer.specs.Faults.{fault_at};
+    ghost use Rattle.sender_params.specs.declared.params.Params.{Params};
+    ghost use Rattle.vrx_buffer.specs.Faults.{BreaksNowhere, fault_at};
     ghost use Rattle.vrx_buffer.specs.Stands.{StandsFor};
     ghost use Rattle.vrx_buffer.specs.Taking.{IsWithin, Took, earlier, fault_by};
 
@@ -130,6 +131,40 @@ impl Vrx {
             }
             Some(_) => self.go_on(due.count),
         }
+    }
+
+    /// Puts in a packet at whose instant so much is due, of the schedule of this sender type, where it
+    /// comes before its own read and raises no peak, and answers whether it does. Else nothing changes:
+    /// for callers that then go on with another of these calls.
+    #[inline(always)]
+    pub fn feed_quiet(&mut self, due: Due) -> bool
+        requires { self.old.seen < 2 ^ 41 }
+
+        ensures kind { self.new.kind ≡ self.old.kind }
+        ensures other { result ≡ false → self.new ≡ self.old }
+
+        // Whatever packets the buffer stood for, and whenever this one came: it has no fault where none
+        // before it breaks the model.
+        ensures fault { (params : Params) (stamps : List ℕ) (at : ℕ)
+            → StandsFor params self.old stamps
+            → IsDueAt params.media params.n
+            (anchor_of params.media (slice_index (stamps ++ at ∷ []) 0))
+            (gapped_of self.old.kind) at due
+            → BreaksNowhere params.media params.n stamps self.old.kind
+            → result ≡ true
+            → fault_at params.media params.n (stamps ++ at ∷ []) self.old.kind (length stamps) ≡ None }
+        ensures stands { (params : Params) (stamps : List ℕ) (at : ℕ)
+            → StandsFor params self.old stamps
+            → IsDueAt params.media params.n
+            (anchor_of params.media (slice_index (stamps ++ at ∷ []) 0))
+            (gapped_of self.old.kind) at due
+            → result ≡ true → StandsFor params self.new (stamps ++ at ∷ []) }
+    {
+        if due.count > self.seen || self.seen - due.count >= self.peak {
+            return false;
+        }
+        self.seen += 1;
+        true
     }
 
     /// After the first fault: a packet came when so many reads were due.

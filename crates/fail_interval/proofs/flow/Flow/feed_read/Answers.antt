@@ -1,4 +1,4 @@
-use Rattle.std.proofs.Common.{◌≡◌, arith, ap, Err, Some, ◌∙◌, ℕ}
+use Rattle.std.proofs.Common.{◌≡◌, arith, ap, Err, Some, ◌∙◌, refl, ℕ}
 use Rattle.fail_interval.proofs.Feeding.{begins, ends, few-known, goes_on, none-of, seconds-known, some-of, stamp-known, take-known, with_parts}
 use Rattle.fail_interval.proofs.flow.Flow.feed_read.Goals as goal
 use Rattle.fail_interval.proofs.flow.Flow.feed_read.Goals.{then-is_none+in_default, else-is_none}
@@ -40,4 +40,4 @@ returns-clause-goes_on c = λ packets h _.
       | else-is_none w ↦ some-of _ w.if-is_none.ensures
     ])
     (λ rest. c.in-Ok.ensures.answer _ packets rest _ h.stands.grouper) (c.in-Ok.ensures.stands _ packets _ h.stands.grouper)
-    c.in_ok-begin.ensures.begins h
+    (λ all i so_far next. c.in_ok-begin.ensures.begins all i so_far c.args.rtp next refl refl) h

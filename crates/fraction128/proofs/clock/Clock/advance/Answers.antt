@@ -27,4 +27,4 @@ returns-clause-passed c = λ origin before order stands.
     let line = c.args.line.now in
     let count = passed_by line origin before in
     let two = c.pass-2.ensures origin (count + 1) (c.pass.ensures origin count stands) in
-    has_passed line c.leap.new.self origin before c.args.t (2 + c.leap.result) (count + 1 + 1 + c.leap.result) (omega arith) (c.leap.ensures.next origin (count + 1 + 1) two) (c.leap.ensures.passed origin (count + 1 + 1) two) c.leap.ensures.ahead
+    has_passed line c.leap-more.new.self origin before c.args.t (2 + c.leap-more.result) (count + 1 + 1 + c.leap-more.result) (omega arith) (c.leap-more.ensures.next origin (count + 1 + 1) two) (c.leap-more.ensures.passed origin (count + 1 + 1) two) c.leap-more.ensures.ahead
