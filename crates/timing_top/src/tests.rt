@@ -1,5 +1,5 @@
-//! The rows that one thread can run, each through [`run`] over files in memory, with the bytes that it
-//! prints.
+//! The worked rows, each through [`run`] over files in memory, with the bytes that it prints: on one
+//! thread, and with several numbers of workers.
 
 use super::*;
 use capture_gen::{capture_len, sdp_bytes, write_capture};
@@ -19,9 +19,20 @@ mod refused;
 mod self_tests;
 mod senders;
 mod several;
+mod threads;
 mod variants;
 mod verify;
 mod words;
+
+// How a check is run: on one thread, and with so many workers.
+const WAYS: [&str; 6] = [
+    "--serial",
+    "--workers 1",
+    "--workers 2",
+    "--workers 3",
+    "--workers 7",
+    "--workers 16",
+];
 
 const CHECK: &str = "check --serial --sdp p.sdp a.pcap";
 
@@ -188,15 +199,20 @@ fn runs<R: Abort + AllocGlobal + Wait + Threads + Sync>(
     Ok(())
 }
 
-// The same over a shelf with the setting's texts.
+// The same over a shelf with the setting's texts. A check is run in each way, and ends the same in all.
 fn ends<R: Abort + AllocGlobal + Wait + Threads + Sync>(
     rt: &R,
     line: &str,
     setting: &Setting,
     wanted: (Status, &str, &str),
 ) -> Result<(), Fail> {
-    let mut shelf = shelf_of(rt, rt.alloc(), setting, "a.pcap")?;
-    runs(rt, line, setting, &mut shelf, wanted)
+    let alloc = rt.alloc();
+    for way in WAYS.iter() {
+        let line = line.replace(alloc, "--serial", way)?;
+        let mut shelf = shelf_of(rt, alloc, setting, "a.pcap")?;
+        runs(rt, line.as_str(), setting, &mut shelf, wanted)?;
+    }
+    Ok(())
 }
 
 // The capture is judged, with these lines of its flows and this status.

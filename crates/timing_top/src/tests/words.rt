@@ -11,10 +11,6 @@ fn words_that_are_not_built(rt: HostRuntime) -> Result<(), Fail> {
     let wanted = (Status::NotBuilt, "", "not built\n");
     let setting = over(rt.alloc(), made(&rt, 0, 0)?)?;
     for line in [
-        "check --sdp p.sdp a.pcap",
-        "check --workers 1 --sdp p.sdp a.pcap",
-        "check --joined --workers 16 --sdp p.sdp a.pcap",
-        "selftest 2 --workers 3",
         "window --sdp p.sdp --media 1 a.pcap",
         "shape --sdp p.sdp --media 1 --type N a.pcap",
         "skew --sdp p.sdp --media 1 --pair 1 a.pcap",
