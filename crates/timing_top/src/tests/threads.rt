@@ -3,12 +3,15 @@
 use super::self_tests::SELFTEST_2;
 use super::{HEADER, NARROW, made, over, shelf_of, words_of};
 use crate::run;
+use capture_gen::{capture_len, write_capture};
 use std::process::Abort;
 use std::sync::Wait;
 use std::sync::atomic::{AtomicBool, Ordering};
 use std::test::Fail;
 use std::thread::Threads;
-use timing_outside::{Gate, MemoryShelf, MemorySink};
+use timing_outside::{
+    Failed, Gate, MemoryShelf, MemorySink, MemorySource, NoGate, OpenFault, Shelf, Source,
+};
 use timing_report::Status;
 
 // How often a flag is looked at.
@@ -88,4 +91,205 @@ fn two_threads_at_once(rt: HostRuntime) -> Result<(), Fail> {
     meets(&rt, line, &mut shelf, text.as_str())?;
     let mut shelf = MemoryShelf::new(alloc);
     meets(&rt, "selftest 2 --workers 1", &mut shelf, SELFTEST_2)
+}
+
+// What holds two intakes and a worker for each other: each raises a flag, and looks for another's.
+struct Hall {
+    a_began: AtomicBool,
+    b_began: AtomicBool,
+    a_goes_on: AtomicBool,
+    worker_took: AtomicBool,
+    a_saw_b: AtomicBool,
+    b_saw_a: AtomicBool,
+    a_saw_worker: AtomicBool,
+    worker_saw_a: AtomicBool,
+}
+
+fn empty_hall() -> Hall {
+    Hall {
+        a_began: AtomicBool::new(false),
+        b_began: AtomicBool::new(false),
+        a_goes_on: AtomicBool::new(false),
+        worker_took: AtomicBool::new(false),
+        a_saw_b: AtomicBool::new(false),
+        b_saw_a: AtomicBool::new(false),
+        a_saw_worker: AtomicBool::new(false),
+        worker_saw_a: AtomicBool::new(false),
+    }
+}
+
+// Raises a flag, looks for another, and notes whether that was seen.
+fn holds(raised: &AtomicBool, other: &AtomicBool, saw: &AtomicBool) {
+    raised.store(true, Ordering::SeqCst);
+    saw.store(sees(other), Ordering::SeqCst);
+}
+
+impl Gate for Hall {
+    fn meet<R: Wait>(&self, _rt: &R, who: u64) {
+        if who == 32 {
+            holds(&self.worker_took, &self.a_goes_on, &self.worker_saw_a);
+        }
+    }
+}
+
+// The byte past which no read goes, unless it begins there or later: 256 records end before it.
+const STOP: usize = 20_000;
+
+// Which text a source gives.
+#[derive(Clone, Copy, PartialEq, Eq)]
+enum Name {
+    A,
+    B,
+    Other,
+}
+
+// A source that is held at its first byte, and the first capture's at the stop too.
+#[derive(Drop)]
+struct HeldSource<'a> {
+    inner: MemorySource,
+    name: Name,
+    taken: usize,
+    hall: &'a Hall,
+}
+
+impl<'a> HeldSource<'a> {
+    // Holds where this read begins at a byte at which it has to.
+    fn hold(&self) {
+        let hall = self.hall;
+        match self.name {
+            Name::A if self.taken == 0 => holds(&hall.a_began, &hall.b_began, &hall.a_saw_b),
+            Name::B if self.taken == 0 => holds(&hall.b_began, &hall.a_began, &hall.b_saw_a),
+            Name::A if self.taken == STOP => {
+                holds(&hall.a_goes_on, &hall.worker_took, &hall.a_saw_worker);
+            }
+            _ => {}
+        }
+    }
+}
+
+impl<'a> Source for HeldSource<'a> {
+    ghost use Rattle.std.specs.Prelude.{None};
+    ghost use Rattle.timing_outside.specs.MemorySources.{faults_of, name_of};
+
+    ghost name = { λ s. name_of s.inner };
+
+    ghost left = { λ s. None };
+
+    ghost faults = { λ s. faults_of s.inner };
+
+    fn read(&mut self, buf: &mut [u8]) -> Result<usize, Failed> {
+        self.hold();
+        let most = if self.taken < STOP {
+            buf.len().min(STOP - self.taken)
+        } else {
+            buf.len()
+        };
+        let read = self.inner.read(&mut buf[..most])?;
+        self.taken = self.taken.saturating_add(read);
+        Ok(read)
+    }
+}
+
+// A shelf of such sources, which counts how often each capture is fetched.
+struct HeldShelf<'a> {
+    inner: MemoryShelf,
+    hall: &'a Hall,
+    a_fetched: u32,
+    b_fetched: u32,
+}
+
+impl<'a> Shelf for HeldShelf<'a> {
+    ghost use Rattle.std.specs.Prelude.{None};
+    ghost use Rattle.timing_outside.specs.MemoryShelves.{count_of};
+
+    type Source = HeldSource<'a>;
+
+    ghost text = { λ s n. None };
+
+    ghost lacks = { λ s n. ⊥ };
+
+    ghost faults = { λ s n. count_of s.inner n };
+
+    fn fetch(&mut self, name: &str) -> Result<HeldSource<'a>, OpenFault> {
+        let inner = self.inner.fetch(name)?;
+        let which = match name {
+            "a.pcap" => Name::A,
+            "b.pcap" => Name::B,
+            _ => Name::Other,
+        };
+        match which {
+            Name::A => self.a_fetched = self.a_fetched.saturating_add(1),
+            Name::B => self.b_fetched = self.b_fetched.saturating_add(1),
+            Name::Other => {}
+        }
+        Ok(HeldSource {
+            inner,
+            name: which,
+            taken: 0,
+            hall: self.hall,
+        })
+    }
+
+    fn give_back(&mut self, source: HeldSource<'a>) {
+        let HeldSource {
+            inner,
+            name: _,
+            taken: _,
+            hall: _,
+        } = source;
+        self.inner.give_back(inner);
+    }
+}
+
+// Both captures are read at once, and the worker takes before the first is read whole: a run that reads
+// one capture after the other, or judges only after all were read, would not see the flags.
+#[test]
+fn captures_are_read_and_judged_at_once(rt: HostRuntime) -> Result<(), Fail> {
+    let alloc = rt.alloc();
+    let mut sink = MemorySink::new(alloc, capture_len(20, 0))?;
+    write_capture(0, 20, 0, &mut sink)?;
+    let mut setting = over(alloc, Vec::from_slice(alloc, sink.bytes())?)?;
+    setting.second = Vec::from_slice(alloc, sink.bytes())?;
+    let line = "check --workers 1 --sdp p.sdp a.pcap b.pcap";
+    let words = words_of(alloc, line)?;
+
+    let mut plain = shelf_of(&rt, alloc, &setting, "a.pcap")?;
+    let mut wanted = MemorySink::new(alloc, 8192)?;
+    let mut err = MemorySink::new(alloc, 4096)?;
+    let serial = words_of(alloc, "check --serial --sdp p.sdp a.pcap b.pcap")?;
+    let one = run(
+        &rt,
+        alloc,
+        &serial,
+        &mut plain,
+        &mut wanted,
+        &mut err,
+        &NoGate,
+    );
+    assert_eq!(rt; one, Status::Pass);
+
+    let hall = empty_hall();
+    let mut shelf = HeldShelf {
+        inner: shelf_of(&rt, alloc, &setting, "a.pcap")?,
+        hall: &hall,
+        a_fetched: 0,
+        b_fetched: 0,
+    };
+    let mut out = MemorySink::new(alloc, 8192)?;
+    let status = run(&rt, alloc, &words, &mut shelf, &mut out, &mut err, &hall);
+    let HeldShelf {
+        inner: _,
+        hall: _,
+        a_fetched,
+        b_fetched,
+    } = shelf;
+    assert_eq!(rt; status, Status::Pass);
+    assert_eq!(rt; out.bytes(), wanted.bytes());
+    assert_eq!(rt; a_fetched, 1);
+    assert_eq!(rt; b_fetched, 1);
+    assert!(rt; hall.a_saw_b.load(Ordering::SeqCst));
+    assert!(rt; hall.b_saw_a.load(Ordering::SeqCst));
+    assert!(rt; hall.a_saw_worker.load(Ordering::SeqCst));
+    assert!(rt; hall.worker_saw_a.load(Ordering::SeqCst));
+    Ok(())
 }

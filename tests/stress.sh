@@ -1,0 +1,64 @@
+#!/usr/bin/env bash
+# Runs the program on 16 captures with 64 media each, with 1 to 16 workers, and compares each report with that of one
+# thread. Captures and description are made from those under examples/: each media has the plain sender's packets at a
+# port of its own, and each capture lacks one packet of some media.
+#
+#   tests/stress.sh [TIMES [PROGRAM]]      100 times, the program that ./run builds
+#
+# It is no part of the gate. It needs perl, and ends with 1 at the first report that differs.
+set -u
+top=$(cd "$(dirname "$0")/.." && pwd) || exit 2
+times=${1:-100}
+program=${2:-$top/crates/st2110_timing/out/st2110_timing}
+[ -x "$program" ] || { echo "no program at $program: call ./run once, or name one" >&2; exit 2; }
+folder=$(mktemp -d) || exit 2
+trap 'rm -rf "$folder"' EXIT
+cd "$folder" || exit 2
+
+perl -e '
+    my ($sdp, $pcap) = @ARGV;
+    local $/;
+    open my $in, "<", $sdp or die $!;
+    my ($head, $part) = split /(?=^m=)/m, <$in>;
+    open my $out, ">", "s.sdp" or die $!;
+    print $out $head;
+    for my $media (0 .. 63) {
+        my $port = 50000 + 2 * $media;
+        (my $copy = $part) =~ s/^m=video \d+/m=video $port/;
+        print $out $copy;
+    }
+    close $out;
+    open $in, "<:raw", $pcap or die $!;
+    my $bytes = <$in>;
+    my @records = unpack "(a72)*", substr $bytes, 24;
+    for my $file (0 .. 15) {
+        open my $out, ">:raw", "$file.pcap" or die $!;
+        print $out substr $bytes, 0, 24;
+        for my $media (0 .. 63) {
+            for my $number (0 .. $#records) {
+                next if $media == 4 * $file && $number == 25;
+                my $record = $records[$number];
+                substr $record, 16 + 36, 2, pack "n", 50000 + 2 * $media;
+                print $out $record;
+            }
+        }
+        close $out;
+    }
+' "$top/examples/plain.sdp" "$top/examples/plain.pcap" || exit 2
+
+captures=$(seq -f '%g.pcap' 0 15)
+for way in "" --joined --json; do
+    # shellcheck disable=SC2086
+    "$program" check --serial $way --sdp s.sdp $captures > serial; serial=$?
+    [ -s serial ] || { echo "no report on one thread, status $serial" >&2; exit 1; }
+    for ((time = 1; time <= times; time++)); do
+        workers=$(((time - 1) % 16 + 1))
+        # shellcheck disable=SC2086
+        "$program" check --workers $workers $way --sdp s.sdp $captures > many; many=$?
+        if [ $many -ne $serial ] || ! cmp -s serial many; then
+            echo "differs: $way, $workers workers, time $time, status $many and not $serial" >&2
+            exit 1
+        fi
+    done
+    echo "check $way: $times runs with 1 to 16 workers print the one-thread report, status $serial"
+done
