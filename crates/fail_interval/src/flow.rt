@@ -171,7 +171,12 @@ impl Flow {
 
     /// Takes the next packet, which was read, or answers its fault. `Err` is want of memory.
     #[inline(always)]
-    pub fn feed_read(&mut self, rec: u64, at: u64, rtp: Rtp) -> Result<Option<PacketFault>, OutOfMemory>
+    pub fn feed_read(
+        &mut self,
+        rec: u64,
+        at: u64,
+        rtp: Rtp,
+    ) -> Result<Option<PacketFault>, OutOfMemory>
         requires { ∥ ((packets : List FlowPacket) × CanGoOn self.old packets at) ∥₁ }
         ensures media { self.new.media ≡ self.old.media }
         ensures tai { self.new.tai ≡ self.old.tai }

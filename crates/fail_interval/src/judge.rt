@@ -106,12 +106,7 @@ impl FlowJudge {
 
     /// The same for a packet that was read.
     #[inline(always)]
-    fn feed_read(
-        &mut self,
-        rec: u64,
-        at: u64,
-        rtp: Rtp,
-    ) -> Result<(), OutOfMemory>
+    fn feed_read(&mut self, rec: u64, at: u64, rtp: Rtp) -> Result<(), OutOfMemory>
         requires stamp { IsStamp at }
         requires few { count_fed self.old < 2 ^ 41 }
 
@@ -150,12 +145,7 @@ impl FlowJudge {
     /// The same for a packet that couldn't be read.
     #[cold]
     #[inline(never)]
-    fn feed_unread(
-        &mut self,
-        rec: u64,
-        at: u64,
-        fault: PacketFault,
-    ) -> Result<(), OutOfMemory>
+    fn feed_unread(&mut self, rec: u64, at: u64, fault: PacketFault) -> Result<(), OutOfMemory>
         requires stamp { IsStamp at }
         requires reading { IsReading (Err fault) }
         requires few { count_fed self.old < 2 ^ 41 }

@@ -77,6 +77,7 @@ impl<S: Source> PcapReader<S> {
     /// (also where it is not whole), `BadVersion` and `BadLink`. `ReadFault` is the answer,
     /// whatever stands there, of a call in which a read of the source failed. After an end or a
     /// fault the reader reads nothing more and answers the same again.
+    #[inline(always)]
     pub fn next(&mut self) -> Result<Step<'_>, PcapFault>
         // All that holds of the answer and of the reader behind it is a field of `Steps`.
         ensures* after { sem 𝓛 (Rests (the_row S.row) self.entry
@@ -211,6 +212,7 @@ impl<S: Source> PcapReader<S> {
     }
 
     /// Reads on to the end of the next record, or to how the capture ends.
+    #[inline(always)]
     fn advance(&mut self) -> Result<Head, FileNote>
         ensures finds { Finds S.left S.name S.faults self.old self.new result }
         ensures goes_on { IfOk result (λ _. end_note self.new ≡ None) }
@@ -230,6 +232,7 @@ impl<S: Source> PcapReader<S> {
     }
 
     /// Finds the next record, or says how all ended, and keeps that.
+    #[inline(always)]
     fn find(&mut self) -> Result<Head, FileNote>
         ensures finds { Finds S.left S.name S.faults self.old self.new result }
         ensures tells { MatchResult result (λ _. end_note self.new ≡ None)

@@ -104,6 +104,7 @@ fn datagram_behind(frame: &[u8], ip: usize) -> Option<Datagram<'_>>
 /// frame that was captured up to its ports has a datagram; the payload ends where the UDP length (RFC
 /// 768) or the frame ends, and is empty where that is before it begins. Checksums, the IPv4 length,
 /// padding after the datagram, and the tag's control are passed over.
+#[inline(always)]
 pub fn datagram(frame: &[u8]) -> Option<Datagram<'_>>
     ensures { result ≡ datagram_of frame.now }
 {

@@ -33,7 +33,7 @@ returns-clause-stands c = λ stamps at s next.
     let same = c.feed_quiet.ensures.other c.if-feed_quiet.false in
     let stands = subst
     (λ (v : Vrx). VrxStandsFor p v stamps → IsDueAt p.media p.n (anchor_of p.media (slice_index (stamps ++ at ∷ []) 0)) (gapped_of v.kind) at c.args.due
-        → VrxStandsFor p c.pass_due.new.self (stamps ++ at ∷ []))
+    → VrxStandsFor p c.pass_due.new.self (stamps ++ at ∷ []))
     same (c.pass_due.ensures.stands stamps at) in
     kind-more _ _ _ _ _ _ stamps at s next (c.pass_due.ensures.kind ∙ c.feed_quiet.ensures.kind) (stands s.vrx next.due_is)
     (next-kept _ _ c.in_default.not-Pass)
