@@ -20,7 +20,7 @@ captures="plain.pcap plain.pcap plain.pcap plain.pcap"
 # shellcheck disable=SC2086
 ./program check --serial --sdp plain.sdp $captures > serial; serial=$?
 for limit in 0 1 2 3 4 6 8 12 20 40; do
-    su "$as" -s /bin/bash -c "ulimit -u $limit; exec timeout 60 ./program check --workers 4 --sdp plain.sdp $captures" > many
+    timeout 60 su "$as" -s /bin/bash -c "ulimit -u $limit; exec ./program check --workers 4 --sdp plain.sdp $captures" > many
     many=$?
     if [ $many -eq 124 ]; then
         echo "hangs where $limit threads may be made" >&2

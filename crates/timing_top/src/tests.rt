@@ -34,6 +34,9 @@ const WAYS: [&str; 6] = [
     "--workers 16",
 ];
 
+// Fewer of them, for what takes long.
+const FEW_WAYS: [&str; 3] = ["--serial", "--workers 1", "--workers 3"];
+
 const CHECK: &str = "check --serial --sdp p.sdp a.pcap";
 
 const CHECK_TWO: &str = "check --serial --sdp p.sdp a.pcap b.pcap";
@@ -199,20 +202,32 @@ fn runs<R: Abort + AllocGlobal + Wait + Threads + Sync>(
     Ok(())
 }
 
-// The same over a shelf with the setting's texts. A check is run in each way, and ends the same in all.
+// The same over a shelf with the setting's texts. A check is run in each of these ways, and ends the
+// same in all.
+fn ends_in<R: Abort + AllocGlobal + Wait + Threads + Sync>(
+    rt: &R,
+    ways: &[&str],
+    line: &str,
+    setting: &Setting,
+    wanted: (Status, &str, &str),
+) -> Result<(), Fail> {
+    let alloc = rt.alloc();
+    for way in ways.iter() {
+        let line = line.replace(alloc, "--serial", way)?;
+        let mut shelf = shelf_of(rt, alloc, setting, "a.pcap")?;
+        runs(rt, line.as_str(), setting, &mut shelf, wanted)?;
+    }
+    Ok(())
+}
+
+// The same in all ways.
 fn ends<R: Abort + AllocGlobal + Wait + Threads + Sync>(
     rt: &R,
     line: &str,
     setting: &Setting,
     wanted: (Status, &str, &str),
 ) -> Result<(), Fail> {
-    let alloc = rt.alloc();
-    for way in WAYS.iter() {
-        let line = line.replace(alloc, "--serial", way)?;
-        let mut shelf = shelf_of(rt, alloc, setting, "a.pcap")?;
-        runs(rt, line.as_str(), setting, &mut shelf, wanted)?;
-    }
-    Ok(())
+    ends_in(rt, &WAYS, line, setting, wanted)
 }
 
 // The capture is judged, with these lines of its flows and this status.

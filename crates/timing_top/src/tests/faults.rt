@@ -2,7 +2,8 @@
 
 use super::joined::JOINED;
 use super::{
-    CHECK, CHECK_TWO, HEADER, NARROW, Setting, ends, made, over, part, passes, runs, shelf_of,
+    CHECK, CHECK_TWO, FEW_WAYS, HEADER, NARROW, Setting, ends, ends_in, made, over, part, passes,
+    runs, shelf_of,
 };
 use sdp_reader::{SdpCause, SdpFault};
 use std::process::Abort;
@@ -115,8 +116,9 @@ fn each_room(rt: HostRuntime) -> Result<(), Fail> {
     for room in 0..text.len() {
         setting.room = room as u64;
         let front = str::from_utf8(part(&rt, text.as_bytes(), 0, room))?;
-        ends(
+        ends_in(
             &rt,
+            &FEW_WAYS,
             CHECK,
             &setting,
             (Status::WriteFault, front, "write fault\n"),

@@ -1,7 +1,7 @@
 //! Flows that aren't judged, and those that are cut.
 
 use super::variants::{captured_at_40, gaps, large_frame, low_halves, patch};
-use super::{ABSENT, CHECK, judges, made, over, part};
+use super::{ABSENT, CHECK, FEW_WAYS, HEADER, ends_in, judges, made, over, part};
 use std::test::Fail;
 use timing_report::Status;
 
@@ -88,7 +88,9 @@ fn too_many_gaps(rt: HostRuntime) -> Result<(), Fail> {
 #[test]
 fn frame_too_large(rt: HostRuntime) -> Result<(), Fail> {
     let alloc = rt.alloc();
-    let flows = "flow 1.1 239.0.0.1:50000 refused at record 262146: FrameTooLarge\n";
+    let flow = "flow 1.1 239.0.0.1:50000 refused at record 262146: FrameTooLarge\n";
+    let text = format!(in alloc; "{HEADER}{flow}status 4\n")?;
     let setting = over(alloc, large_frame(alloc)?)?;
-    judges(&rt, CHECK, &setting, flows, Status::NotAllJudged)
+    let wanted = (Status::NotAllJudged, text.as_str(), "");
+    ends_in(&rt, &FEW_WAYS, CHECK, &setting, wanted)
 }

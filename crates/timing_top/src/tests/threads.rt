@@ -19,6 +19,7 @@ const LOOKS: u32 = 200_000_000;
 
 // A gate at which the first intake and the first worker meet: each raises a flag, and looks for the
 // other's.
+#[derive(Drop)]
 struct Meeting {
     intake_came: AtomicBool,
     worker_came: AtomicBool,
@@ -94,6 +95,7 @@ fn two_threads_at_once(rt: HostRuntime) -> Result<(), Fail> {
 }
 
 // What holds two intakes and a worker for each other: each raises a flag, and looks for another's.
+#[derive(Drop)]
 struct Hall {
     a_began: AtomicBool,
     b_began: AtomicBool,
@@ -191,6 +193,7 @@ impl<'a> Source for HeldSource<'a> {
 }
 
 // A shelf of such sources, which counts how often each capture is fetched.
+#[derive(Drop)]
 struct HeldShelf<'a> {
     inner: MemoryShelf,
     hall: &'a Hall,
