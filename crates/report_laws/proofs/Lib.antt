@@ -1,0 +1,3 @@
+mod Confirming
+mod Small
+mod Finding
