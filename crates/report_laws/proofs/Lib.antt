@@ -1,3 +1,6 @@
 mod Confirming
-mod Small
 mod Finding
+mod ReadBack
+mod Rows
+mod Small
+mod Words

@@ -134,7 +134,7 @@ joined-small before [] (f ∷ fs) notes bytes h = absurd h
 joined-small before (t ∷ ts) [] notes bytes h = absurd h
 joined-small before (t ∷ ts) (f ∷ fs) [] bytes h = absurd h
 
-cons-all : (P : FlowPacket → Type 0) (o : Option FlowPacket) (ps : List FlowPacket) → ((p : FlowPacket) → o ≡ Some p → P p) → All P ps → All P (cons_option o ps)
+pub cons-all : (P : FlowPacket → Type 0) (o : Option FlowPacket) (ps : List FlowPacket) → ((p : FlowPacket) → o ≡ Some p → P p) → All P ps → All P (cons_option o ps)
 cons-all P None ps here h = h
 cons-all P (Some p) ps here h = All-cons P p ps (here p refl) h
 
@@ -142,7 +142,7 @@ cons-few : (o : Option FlowPacket) (ps : List FlowPacket) → length (cons_optio
 cons-few None ps = omega arith
 cons-few (Some p) ps = omega arith
 
-if-some : (b : Bool) (p q : FlowPacket) → (if b then Some p else None) ≡ Some q → p ≡ q
+pub if-some : (b : Bool) (p q : FlowPacket) → (if b then Some p else None) ≡ Some q → p ≡ q
 if-some true p q e = cc
 if-some false p q e = cc
 
