@@ -1,0 +1,6 @@
+mod Confirming
+mod Finding
+mod ReadBack
+mod Rows
+mod Small
+mod Words

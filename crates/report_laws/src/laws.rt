@@ -1,0 +1,54 @@
+//! What holds of the definitions themselves. Each function is a theorem: it does nothing, and its
+//! clauses are proved.
+
+ghost use Rattle.std.specs.Prelude.{◌≡◌, ◌≤◌, List, ℕ, All, Ok, length, true, map};
+ghost use Rattle.timing_base.specs.Captures.{Record};
+ghost use Rattle.timing_base.specs.Jobs.{CheckJob};
+ghost use Rattle.timing_base.specs.Media.{Media};
+ghost use Rattle.timing_base.specs.declared.capture.FileNote.{FileNote};
+ghost use Rattle.pcap_reader.specs.Records.{AreRecords};
+ghost use Rattle.flow_bank.specs.Rows.{rows_over};
+ghost use Rattle.timing_json.specs.Fails.{FitsVerdict, fails_of};
+ghost use Rattle.timing_json.specs.Json.{json_text};
+ghost use Rattle.timing_json.specs.Reading.{IsReport};
+ghost use Rattle.timing_json.specs.declared.reading.ReportProof.{ReportProof};
+ghost use Rattle.timing_report.specs.declared.status.Status.TheVariants as status;
+ghost use Rattle.timing_steps.specs.Answers.{Answer};
+ghost use Rattle.timing_verify.specs.Asked.{FindsOf, HasReported, media_for};
+ghost use Rattle.report_laws.specs.ReadBack.{IsReadable, reading_back};
+
+/// The numbers of the rows that are made of captures have 64 bits, whatever the captures are.
+pub fn rows_have_words()
+    ensures { (job : CheckJob) (media : List Media) (text : List ℕ → List ℕ)
+        (files : List (List Record)) (notes : List FileNote) → IsReadable job media text
+        → AreRecords (map text job.captures) files notes
+        → All (λ row. FitsVerdict row.verdict) (rows_over job.joined job.tai media files) }
+{}
+
+/// Captures confirm each fail of the rows that are made of them.
+pub fn rows_are_confirmed()
+    ensures { (job : CheckJob) (media : List Media) (text : List ℕ → List ℕ) (name : List ℕ)
+        (files : List (List Record)) (notes : List FileNote) → IsReadable job media text
+        → AreRecords (map text job.captures) files notes
+        → All (λ claim. FindsOf (media_for (reading_back job name) media claim.key)
+        (reading_back job name) claim text (Ok true)) (fails_of (rows_over job.joined job.tai media files)) }
+{}
+
+/// The JSON that is made of captures, where it isn't longer than a report may be, is read back as the
+/// fails of its rows, in order; and `verify-report` over the same texts ends with the status 0,
+/// whatever the report is named.
+pub fn json_verifies()
+    ensures told { (job : CheckJob) (media : List Media) (text : List ℕ → List ℕ)
+        (files : List (List Record)) (notes : List FileNote) → IsReadable job media text
+        → AreRecords (map text job.captures) files notes
+        → length (json_text job media notes (rows_over job.joined job.tai media files)) ≤ 16777216
+        → IsReport (json_text job media notes (rows_over job.joined job.tai media files))
+        (fails_of (rows_over job.joined job.tai media files)) }
+    ensures status { (job : CheckJob) (media : List Media) (text : List ℕ → List ℕ) (name : List ℕ)
+        (files : List (List Record)) (notes : List FileNote) (claims : List ReportProof)
+        (verified : Answer) → IsReadable job media text
+        → AreRecords (map text job.captures) files notes
+        → IsReport (json_text job media notes (rows_over job.joined job.tai media files)) claims
+        → HasReported (reading_back job name) media claims text verified
+        → verified.status ≡ status.Pass }
+{}
