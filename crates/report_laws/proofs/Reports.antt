@@ -1,5 +1,5 @@
 -- The report of a job, as `check` defines it, verifies.
-use Rattle.std.proofs.Common.{◌≡◌, ◌≤◌, ℕ, Bool, true, List, length, ap, ◌∙◌, sym, subst}
+use Rattle.std.proofs.Common.{◌≡◌, ◌≤◌, ℕ, true, List, length, ap, ◌∙◌, sym, subst}
 use Rattle.std.specs.Prelude.{All, map, if◌then◌else◌}
 use Rattle.timing_base.specs.Jobs.{CheckJob}
 use Rattle.timing_base.specs.Media.{Media}
