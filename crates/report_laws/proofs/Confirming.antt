@@ -1,5 +1,5 @@
 -- The fails of a flow's row are confirmed by what its packets are judged to be.
-use Rattle.std.proofs.Common.{◌≡◌, ◌≤◌, ◌+◌, ℕ, zero, suc, true, List, [], ◌∷◌, ◌++◌, refl, arith, sym, subst}
+use Rattle.std.proofs.Common.{◌≡◌, ◌≤◌, ◌+◌, ℕ, zero, suc, true, List, [], ◌∷◌, refl, arith, sym, subst}
 use Rattle.std.proofs.lemmas.List.Elements.{All-append, All-cons, All-head, All-nil, All-tail, All-weaker}
 use Rattle.std.specs.Prelude.{All, Ok, map}
 use Rattle.timing_base.specs.Grouped.{IsGrouped, IsGroupedOutcome, IsGroupedVerdict}

@@ -1,13 +1,13 @@
 -- The captures of a job confirm each fail of its rows.
-use Rattle.std.proofs.Common.{◌≡◌, ◌≤◌, ◌<◌, ◌+◌, ◌*◌, ◌^◌, ℕ, zero, suc, Bool, true, false, List, [], ◌∷◌, ◌++◌, length, Option, Some, None, refl, arith, ap, ◌∙◌, sym, subst, append-nil}
+use Rattle.std.proofs.Common.{◌≡◌, ◌≤◌, ◌<◌, ◌+◌, ◌*◌, ◌^◌, ℕ, zero, suc, Bool, true, false, List, [], ◌∷◌, length, Some, None, refl, arith, ap, ◌∙◌, sym, subst, append-nil}
 use Rattle.std.proofs.lemmas.Bool.{lt-ltb}
 use Rattle.std.proofs.lemmas.Grind.{flat_map-append}
 use Rattle.std.proofs.lemmas.List.{length-map}
 use Rattle.std.proofs.lemmas.List.Elements.{All-append, All-head, All-nil, All-tail, All-weaker}
 use Rattle.std.specs.Prelude.{All, Ok, if◌then◌else◌, map, nat_lt, slice_get, slice_index_or}
-use Rattle.timing_base.specs.Captures.{Record, joined, joined_after, raised}
+use Rattle.timing_base.specs.Captures.{Record, joined, raised}
 use Rattle.timing_base.specs.Grouped.{IsGroupedVerdict}
-use Rattle.timing_base.specs.Jobs.{CheckJob, ReportJob}
+use Rattle.timing_base.specs.Jobs.{ReportJob}
 use Rattle.timing_base.specs.Judged.{judged}
 use Rattle.timing_base.specs.Keys.{key_of}
 use Rattle.timing_base.specs.Media.{IsMedia, Media}
@@ -15,16 +15,16 @@ use Rattle.timing_base.specs.declared.capture.FileNote.{FileNote}
 use Rattle.timing_base.specs.declared.row.Row.{Row}
 use Rattle.pcap_reader.specs.Records.{AreRecords, Records}
 use Rattle.udp_rtp.specs.Flow.{flow}
-use Rattle.fail_interval.specs.Row.{row, verdict_of}
+use Rattle.fail_interval.specs.Row.{verdict_of}
 use Rattle.flow_bank.specs.Rows.{rows_from, rows_of, rows_of_files, rows_over}
 use Rattle.interval_checker.specs.Checked.{Says}
 use Rattle.timing_json.specs.Fails.{fails_of, verdict_fails}
 use Rattle.timing_json.specs.declared.reading.ReportProof.{ReportProof}
 use Rattle.timing_verify.specs.Asked.{FindsOf, media_for}
 use Rattle.timing_verify.specs.Findings.{Finds}
-use Rattle.report_laws.specs.ReadBack.{AreBytes, IsReadable, reading_back}
+use Rattle.report_laws.specs.ReadBack.{AreBytes}
 use Rattle.report_laws.proofs.Confirming.{IsOfFlow, flow-of}
-use Rattle.report_laws.proofs.Small.{AreSmall, flow-grouped, joined-small, one-small}
+use Rattle.report_laws.proofs.Small.{flow-grouped, joined-small, one-small}
 
 -- a fail of one of these media in this file, which its records confirm
 record IsInFile (media : List Media) (tai file : ℕ) (items : List Record) (c : ReportProof) : Type 0 where

@@ -1,6 +1,7 @@
 mod Confirming
 mod Finding
 mod ReadBack
+mod Reports
 mod Rows
 mod Small
 mod Words

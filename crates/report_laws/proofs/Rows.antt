@@ -1,10 +1,9 @@
 -- The rows of a job are of its flows, and their numbers have 64 bits.
-use Rattle.std.proofs.Common.{◌≡◌, ◌≤◌, ◌<◌, ◌+◌, ◌*◌, ◌^◌, ℕ, zero, suc, Bool, true, false, List, [], ◌∷◌, ◌++◌, length, refl, arith, ap, ap₂, ◌∙◌, sym, append-nil}
-use Rattle.std.proofs.lemmas.List.{length-map, map-append}
+use Rattle.std.proofs.Common.{◌≡◌, ◌≤◌, ◌+◌, ◌*◌, ◌^◌, ℕ, Bool, true, false, List, [], ◌∷◌, ◌++◌, length, refl, arith, ap, ap₂, ◌∙◌, sym, append-nil}
+use Rattle.std.proofs.lemmas.List.{map-append}
 use Rattle.std.proofs.lemmas.List.Elements.{All-append, All-cons, All-head, All-nil, All-tail}
 use Rattle.std.specs.Prelude.{All, map}
 use Rattle.timing_base.specs.Captures.{Record, joined}
-use Rattle.timing_base.specs.Judged.{judged}
 use Rattle.timing_base.specs.Keys.{key_of, keys_of, keys_of_file, keys_of_files}
 use Rattle.timing_base.specs.Media.{IsMedia, Media}
 use Rattle.timing_base.specs.declared.capture.FileNote.{FileNote}
@@ -12,7 +11,7 @@ use Rattle.timing_base.specs.declared.key.FlowKey.{FlowKey}
 use Rattle.timing_base.specs.declared.row.Row.{Row}
 use Rattle.pcap_reader.specs.Records.{AreRecords}
 use Rattle.udp_rtp.specs.Flow.{flow}
-use Rattle.fail_interval.specs.Row.{row, verdict_of}
+use Rattle.fail_interval.specs.Row.{row}
 use Rattle.flow_bank.specs.Rows.{rows_from, rows_of, rows_of_files, rows_over}
 use Rattle.timing_json.specs.Fails.{FitsVerdict}
 use Rattle.report_laws.specs.ReadBack.{AreBytes}

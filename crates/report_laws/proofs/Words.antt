@@ -1,17 +1,16 @@
 -- The numbers of the rows that are made of captures of bytes have 64 bits.
-use Rattle.std.proofs.Common.{◌≡◌, ◌≤◌, ◌<◌, ◌+◌, ◌-◌, ◌*◌, ◌^◌, ◌/◌, ℕ, zero, suc, Bool, true, false, List, [], ◌∷◌, length, drop, Option, Some, None, refl, arith, ap, ◌∙◌, sym, subst}
+use Rattle.std.proofs.Common.{◌≡◌, ◌≤◌, ◌<◌, ◌+◌, ◌-◌, ◌^◌, ◌/◌, ℕ, zero, suc, Bool, true, false, List, [], ◌∷◌, length, drop, Option, Some, None, refl, arith, subst}
 use Rattle.std.proofs.Math.Nat.{max-le, mul-le-mul_right}
 use Rattle.std.proofs.lemmas.List.{length-map}
 use Rattle.std.proofs.lemmas.List.Elements.{All-append, All-cons, All-drop, All-head, All-map, All-nil, All-tail, All-take, All-weaker}
-use Rattle.std.specs.List.{cons_option}
 use Rattle.std.specs.Option.{ForSome}
 use Rattle.std.specs.Prelude.{All, IsSome, Result, Ok, Err, if◌then◌else◌, map, nat_le, nat_lt, slice_index, ◌&&◌, ◌==◌, ⊤}
 use Rattle.timing_base.specs.Captures.{Record}
-use Rattle.timing_base.specs.Flows.{AreStamped, FirstFault, cuts, expected_number, fault, fault_if, first_fault, first_of, group_len, is_cut, is_cut_too_many, is_other_payload, is_other_size, is_second_source, is_stamp_back, is_too_large, lacks_marker, last_place, markers, markers_before, next_number, no_packet, order_fault, packet, place_in_group, places, read_or_zeros, reading_fault, repeats_timestamp, rtp, sender_fault, size_fault}
+use Rattle.timing_base.specs.Flows.{AreStamped, FirstFault, cuts, expected_number, fault, fault_if, first_fault, first_of, group_len, is_cut, is_cut_too_many, is_other_payload, is_other_size, is_second_source, is_stamp_back, is_too_large, lacks_marker, markers, markers_before, next_number, order_fault, packet, place_in_group, places, read_or_zeros, reading_fault, repeats_timestamp, rtp, sender_fault, size_fault}
 use Rattle.timing_base.specs.Grouped.{AreGrouped, ExpectsAfterFirst, IsGrouped, IsGroupedOutcome, IsGroupedVerdict}
-use Rattle.timing_base.specs.Judged.{FlowRun, FlowVerdict, JudgedRun, RunOutcome, absent, expected_at, gap, head_len, in_one_run, in_runs, judged, judged_run, judged_runs, no_whole_frame, refusal, refused, refused_or, run_at, run_outcome, runs, runs_between, whole_frames}
+use Rattle.timing_base.specs.Judged.{FlowRun, FlowVerdict, JudgedRun, RunOutcome, absent, head_len, in_one_run, in_runs, judged, judged_run, judged_runs, no_whole_frame, refusal, refused_or, run_at, run_outcome, runs, runs_between, whole_frames}
 use Rattle.timing_base.specs.Media.{IsMedia, Media}
-use Rattle.timing_base.specs.Rows.{AreRuns, ExpectAfterFirst}
+use Rattle.timing_base.specs.Rows.{ExpectAfterFirst}
 use Rattle.timing_base.specs.declared.fail.Broken.{Broken}
 use Rattle.timing_base.specs.declared.fail.Broken.TheVariants.{Bucket, Over, Empty}
 use Rattle.timing_base.specs.declared.fail.FailProof.{FailProof}
@@ -35,7 +34,7 @@ use Rattle.udp_rtp.specs.Frames.{datagram_at, datagram_from, ip_place, is_udp_at
 use Rattle.udp_rtp.specs.Numbers.{number16}
 use Rattle.udp_rtp.specs.Reading.{payload_place, reading, rtp_at}
 use Rattle.fail_interval.specs.Fails.{greatest, kind_verdict}
-use Rattle.fail_interval.specs.Row.{judged_values, one_run_verdict, run_of, run_verdict_of, verdict_of}
+use Rattle.fail_interval.specs.Row.{judged_values, run_of, run_verdict_of, verdict_of}
 use Rattle.fail_interval.proofs.Confirmed.{fail-confirms}
 use Rattle.timing_json.specs.Fails.{AreWords, FitsJudged, FitsKind, FitsRun, FitsRunVerdict, FitsVerdict, IsWord}
 use Rattle.timing_json.proofs.Limits.{c_max_small, vrx_full_small}

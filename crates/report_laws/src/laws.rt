@@ -15,6 +15,7 @@ ghost use Rattle.timing_json.specs.declared.reading.ReportProof.{ReportProof};
 ghost use Rattle.timing_report.specs.declared.status.Status.TheVariants as status;
 ghost use Rattle.timing_steps.specs.Answers.{Answer};
 ghost use Rattle.timing_verify.specs.Asked.{FindsOf, HasReported, media_for};
+ghost use Rattle.timing_top.specs.Report.{HasReport, rows};
 ghost use Rattle.report_laws.specs.ReadBack.{IsReadable, reading_back};
 
 /// The numbers of the rows that are made of captures have 64 bits, whatever the captures are.
@@ -49,6 +50,27 @@ pub fn json_verifies()
         (verified : Answer) → IsReadable job media text
         → AreRecords (map text job.captures) files notes
         → IsReport (json_text job media notes (rows_over job.joined job.tai media files)) claims
+        → HasReported (reading_back job name) media claims text verified
+        → verified.status ≡ status.Pass }
+{}
+
+/// A JSON report verifies: what is read back of it is the fails of its rows, in order; the captures
+/// that it was made of confirm each; so `verify-report` over the same texts ends with the status 0,
+/// whatever the report is named.
+pub fn report_verifies()
+    ensures told { (job : CheckJob) (media : List Media) (text : List ℕ → List ℕ) (answer : Answer)
+        → IsReadable job media text → job.json ≡ true → length answer.text ≤ 16777216
+        → (h : HasReport job media (map text job.captures) answer)
+        → IsReport answer.text (fails_of (rows job media h.files)) }
+    ensures confirmed { (job : CheckJob) (media : List Media) (text : List ℕ → List ℕ)
+        (name : List ℕ) (answer : Answer) → IsReadable job media text
+        → (h : HasReport job media (map text job.captures) answer)
+        → All (λ claim. FindsOf (media_for (reading_back job name) media claim.key)
+        (reading_back job name) claim text (Ok true)) (fails_of (rows job media h.files)) }
+    ensures status { (job : CheckJob) (media : List Media) (text : List ℕ → List ℕ)
+        (name : List ℕ) (answer : Answer) (claims : List ReportProof) (verified : Answer)
+        → IsReadable job media text → job.json ≡ true
+        → HasReport job media (map text job.captures) answer → IsReport answer.text claims
         → HasReported (reading_back job name) media claims text verified
         → verified.status ≡ status.Pass }
 {}
