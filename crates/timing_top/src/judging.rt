@@ -91,8 +91,6 @@ pub fn judge_any<R: Threads + Wait + Sync, H: Shelf, G: Gate>(
     if workers == 0 {
         judge_alone(alloc, shelf, sources, media, joined, tai)
     } else {
-        judge_many(
-            rt, alloc, shelf, sources, media, joined, tai, workers, gate,
-        )
+        judge_many(rt, alloc, shelf, sources, media, joined, tai, workers, gate)
     }
 }

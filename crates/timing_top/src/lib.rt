@@ -9,8 +9,8 @@ mod check;
 mod commands;
 mod joined;
 mod judging;
-mod many;
 pub mod laws;
+mod many;
 mod self_test;
 
 pub use check::{check_many, check_one};

@@ -75,16 +75,7 @@ pub fn judge_many<R: Threads + Wait + Sync, H: Shelf, G: Gate>(
         sources,
         notes,
         rows,
-    } = judge_files(
-        rt,
-        alloc,
-        sources,
-        media,
-        joined,
-        tai,
-        workers,
-        gate,
-    )?;
+    } = judge_files(rt, alloc, sources, media, joined, tai, workers, gate)?;
     give_back_all(shelf, sources);
     if let Some(number) = first_unread(&notes) {
         return Err(Failure::ReadFault(Input::Capture(number)));

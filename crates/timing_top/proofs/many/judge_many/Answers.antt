@@ -22,12 +22,11 @@ pub returns-in-Some-clause-cause : goal.returns-in-Some-clause-cause
 returns-in-Some-clause-cause g c = λ names fetched.
     let notes = c.in_ok-sources.field-0.notes.items in
     let unread : (c.in-Some.number < length notes) × ((d : FileNote) → slice_index_or notes c.in-Some.number d ≡ Refused ReadFault) =
-    subst (λ (l : List FileNote). (c.in-Some.number < length l) × ((d : FileNote) → slice_index_or l c.in-Some.number d ≡ Refused ReadFault)) c.deref.ensures.value c.in-Some.ensures in
-    (
+    subst (λ (l : List FileNote). (c.in-Some.number < length l) × ((d : FileNote) → slice_index_or l c.in-Some.number d ≡ Refused ReadFault)) c.deref.ensures.value c.in-Some.ensures in (
       c.in-Some.number,
       refl,
       unread-rose g.H.Source.Source.name g.H.Source.Source.left g.H.Source.Source.faults (g.H.Shelf.text c.args.shelf.now) (g.H.Shelf.faults c.args.shelf.now) (g.H.Shelf.faults c.give_back_all.new.shelf)
-      names c.args.sources.items notes c.in_ok-sources.field-0.sources.items c.in-Some.number fetched c.in_ok-sources.ensures.back c.give_back_all.ensures.raised unread.0 unread.1,
+          names c.args.sources.items notes c.in_ok-sources.field-0.sources.items c.in-Some.number fetched c.in_ok-sources.ensures.back c.give_back_all.ensures.raised unread.0 unread.1,
     )
 
 pub returns-in-Some-rows-clause-told : goal.returns-in-Some-rows-clause-told
