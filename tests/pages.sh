@@ -3,6 +3,8 @@
 # with the lines below it. Ends with 1 where one differs. It needs the program that ./run builds, and jq.
 set -u
 cd "$(dirname "$0")/.." || exit 2
+# what ./run says while it builds is no output of a command
+./run selftest 2 > /dev/null 2>&1 || { echo "the program doesn't run" >&2; exit 2; }
 fails=0 commands=0
 compare() {
     [ -n "$command" ] || return 0
