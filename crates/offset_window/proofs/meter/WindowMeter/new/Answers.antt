@@ -1,0 +1,19 @@
+use Rattle.std.proofs.Common.{refl, arith}
+use Rattle.std.proofs.lemmas.Int.{to_z-of_z}
+use Rattle.offset_window.proofs.Ends.{lower-none, upper-none}
+use Rattle.offset_window.proofs.Fed.{grid-same}
+use Rattle.offset_window.proofs.meter.WindowMeter.new.Goals as goal
+
+pub returns-clause-stands : goal.returns-clause-stands
+returns-clause-stands c =
+    let fits = c.ranges.n0 in
+    let grid = grid-same _ _ _ _ _ c.of.result c.first-read.result.grid c.is_gapped.ensures c.first-read.ensures.grid (simp to_z-of_z at c.of.ensures) in
+    record {
+      kind_is = refl;
+      seen = refl;
+      own = grid;
+      freeing = grid;
+      freeing_number = omega (arith, c.first-read.ensures.number);
+      lower = lower-none _;
+      upper = upper-none _;
+    }

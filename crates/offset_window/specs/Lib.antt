@@ -1,0 +1,7 @@
+pub mod Window
+pub mod Stands
+-- stamps that are worked by hand
+pub mod Worked
+-- these only serve proofs
+pub mod Parts
+pub mod Moves

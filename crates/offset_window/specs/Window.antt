@@ -1,0 +1,93 @@
+-- The offsets with which the packets of a flow would keep the virtual receiver buffer of SMPTE ST 2110-21. m is the video,
+-- n the packets of one group, `anchor` the number of the group to which the first packet belongs, and the stamps are those
+-- of the judged packets, in nanoseconds of TAI, counted from 0. An offset is a whole number of microseconds from 0 to
+-- 1,000,000, as TROFF gives it. The buffer and its reads are the standard's. The window is this project's own: only the
+-- offset varies, while the group of the first packet, the schedule and the limits stay those of the video as described.
+use Rattle.std.specs.Prelude.{◌≡◌, ◌+◌, ◌-◌, ◌≤◌, ◌<◌, ℕ, ℤ, Bool, true, false, nat_lt, List, length, slice_index, Option, Some, None}
+use Rattle.fraction128.specs.Fractions.{Fraction, below, whole}
+use Rattle.timing_base.specs.Media.{Media}
+use Rattle.timing_base.specs.declared.media.Kind.{Kind}
+use Rattle.sender_params.specs.Keeps.{due_among}
+use Rattle.sender_params.specs.Limits.{gapped_of, vrx_full_of}
+use Rattle.sender_params.specs.Reads.{anchor_of, read_of}
+use Rattle.offset_window.specs.declared.window.Window.{Window}
+use Rattle.offset_window.specs.declared.window.WindowEnd.{WindowEnd}
+use Rattle.offset_window.specs.declared.window.WindowEnd.TheVariants.{Absent, At}
+
+-- the video with this offset in the place of its own
+abbrev pub with_offset : Media → (micros : ℕ) → Media
+with_offset m micros = record m { troff = Some micros }
+
+-- read i with this offset: (anchor + k) * T_GROUP + 1000 * micros + j * T_RS
+abbrev pub read_with : Media → ℕ → ℤ → Bool → (micros i : ℕ) → Fraction
+read_with m n anchor gapped micros i = read_of (with_offset m micros) n anchor gapped i
+
+-- with this offset packet i comes after its own read, which finds nothing
+abbrev pub is_empty_with : Media → ℕ → ℤ → List ℕ → Kind → (micros i : ℕ) → Bool
+is_empty_with m n anchor stamps kind micros i =
+    below (read_with m n anchor (gapped_of kind) micros i) (whole (slice_index stamps i))
+
+-- with this offset the buffer holds so many packets just after packet i came: those up to i, less the reads that are due
+-- by then, and 0 where the reads are more. Of the reads the first i + 1 decide: where they are due, nothing is held.
+abbrev pub held_with : Media → ℕ → ℤ → List ℕ → Bool → (micros i : ℕ) → ℕ
+held_with m n anchor stamps gapped micros i =
+    (i + 1) - due_among (with_offset m micros) n anchor gapped (i + 1) (whole (slice_index stamps i))
+
+-- with this offset the buffer holds more than VRX_FULL packets when packet i comes
+abbrev pub is_over_with : Media → ℕ → ℤ → List ℕ → Kind → (micros i : ℕ) → Bool
+is_over_with m n anchor stamps kind micros i =
+    nat_lt (vrx_full_of m n kind) (held_with m n anchor stamps (gapped_of kind) micros i)
+
+-- with this offset none of the first `count` packets is broken; `broken` says of an offset and a packet whether it is
+abbrev pub Serves : (broken : ℕ → ℕ → Bool) → (count micros : ℕ) → Type 0
+Serves broken count micros = (i : ℕ) → i < count → broken micros i ≡ false
+
+-- with this offset packet i is broken, and none before it is
+pub record IsFirstBroken (broken : ℕ → ℕ → Bool) (count micros i : ℕ) : Type 0 where
+  pub within : i < count
+  pub here : broken micros i ≡ true
+  pub first : (j : ℕ) → j < i → broken micros j ≡ false
+
+-- what keeps a lower end from being less: nothing where it is 0, else the first packet that is broken a microsecond below it
+abbrev pub BindsLower : (broken : ℕ → ℕ → Bool) → (count micros : ℕ) → Option ℕ → Type 0
+BindsLower broken count micros None = micros ≡ 0
+BindsLower broken count micros (Some i) = (0 < micros) × IsFirstBroken broken count (micros - 1) i
+
+-- what keeps an upper end from being greater: nothing where it is 1,000,000, else the first packet that is broken a
+-- microsecond above it
+abbrev pub BindsUpper : (broken : ℕ → ℕ → Bool) → (count micros : ℕ) → Option ℕ → Type 0
+BindsUpper broken count micros None = micros ≡ 1000000
+BindsUpper broken count micros (Some i) = (micros < 1000000) × IsFirstBroken broken count (micros + 1) i
+
+-- the least offset that serves, and what binds it
+pub record IsLeast (broken : ℕ → ℕ → Bool) (count micros : ℕ) (binding : Option ℕ) : Type 0 where
+  pub most : micros ≤ 1000000
+  pub serves : Serves broken count micros
+  pub least : (other : ℕ) → other < micros → Serves broken count other → ⊥
+  pub binds : BindsLower broken count micros binding
+
+-- the greatest offset that serves, and what binds it
+pub record IsGreatest (broken : ℕ → ℕ → Bool) (count micros : ℕ) (binding : Option ℕ) : Type 0 where
+  pub most : micros ≤ 1000000
+  pub serves : Serves broken count micros
+  pub greatest : (other : ℕ) → micros < other → other ≤ 1000000 → Serves broken count other → ⊥
+  pub binds : BindsUpper broken count micros binding
+
+-- no offset serves
+abbrev pub NoneServes : (broken : ℕ → ℕ → Bool) → (count : ℕ) → Type 0
+NoneServes broken count = (micros : ℕ) → micros ≤ 1000000 → Serves broken count micros → ⊥
+
+-- the lower end of a window, where `broken` is of what happens with an offset that is too small
+abbrev pub IsLowerEnd : (broken : ℕ → ℕ → Bool) → (count : ℕ) → WindowEnd → Type 0
+IsLowerEnd broken count Absent = NoneServes broken count
+IsLowerEnd broken count (At micros binding) = IsLeast broken count micros binding
+
+-- the upper end of a window, where `broken` is of what happens with an offset that is too great
+abbrev pub IsUpperEnd : (broken : ℕ → ℕ → Bool) → (count : ℕ) → WindowEnd → Type 0
+IsUpperEnd broken count Absent = NoneServes broken count
+IsUpperEnd broken count (At micros binding) = IsGreatest broken count micros binding
+
+-- the window of the packets for this sender type
+pub record IsWindow (m : Media) (n : ℕ) (stamps : List ℕ) (kind : Kind) (w : Window) : Type 0 where
+  pub lower : IsLowerEnd (is_empty_with m n (anchor_of m (slice_index stamps 0)) stamps kind) (length stamps) w.lower
+  pub upper : IsUpperEnd (is_over_with m n (anchor_of m (slice_index stamps 0)) stamps kind) (length stamps) w.upper

@@ -1,0 +1,75 @@
+//! The reads of one schedule with the offset 0, in whole numbers.
+
+ghost use Rattle.std.specs.Prelude.{◌≡◌, ◌≤◌, ◌<◌, ◌+◌, ◌-◌, ◌*◌, ◌^◌};
+ghost use Rattle.std.specs.Prelude.{pos, negsuc, ◌≤ℤ◌, ◌+ℤ◌};
+
+use crate::sizes::sizes_of;
+use sender_params::Params;
+
+/// Instants are counted from so many nanoseconds before 0 of TAI, and no read is before that.
+pub const BEFORE: u64 = 1 << 49;
+
+/// The groups that a first read may be before 0 of TAI.
+const GROUPS_BEFORE: u32 = 480;
+
+/// The reads with the offset 0, in parts of 1 / `den` nanoseconds: read k * `n` + j is at
+/// `start + k * group + j * step`.
+#[derive(Clone, Copy, Debug, PartialEq, Eq)]
+pub struct Grid {
+    /// The parts of a nanosecond.
+    pub den: u64,
+    /// The reads of one group.
+    pub n: u64,
+    /// From one read of a group to the next.
+    pub step: u64,
+    /// From one group to the next.
+    pub group: u128,
+    /// The first read.
+    pub start: u128,
+    ghost den_some: { 1 ≤ den },
+    ghost den_small: { den < 2 ^ 48 },
+    ghost n_some: { 1 ≤ n },
+    ghost n_most: { n ≤ 262144 },
+    ghost step_small: { step < 2 ^ 51 },
+    ghost group_fits: { n * step ≤ group },
+    ghost group_small: { group ≤ n * 2 ^ 51 },
+    ghost start_small: { start < 2 ^ 113 },
+}
+
+impl Grid {
+    ghost use Rattle.offset_window.specs.Parts.{IsGridOf};
+
+    /// The reads of one schedule, where read 0 is of group `n0`.
+    pub fn of(params: &Params, gapped: bool, n0: i128) -> Grid
+        requires low { negsuc 479 ≤ℤ n0 }
+        requires high { n0 ≤ℤ pos (2 ^ 42) }
+        ensures { IsGridOf params.now.media params.now.n n0 gapped result }
+    {
+        let sizes = sizes_of(params, gapped);
+        let early = u128::from(BEFORE) * sizes.den - u128::from(GROUPS_BEFORE) * sizes.group;
+        Grid {
+            den: sizes.den as u64,
+            n: u64::from(params.n()),
+            step: sizes.step as u64,
+            group: sizes.group,
+            start: lifted(n0) * sizes.group + early,
+        }
+    }
+
+    /// From the last read of a group to the first of the next.
+    pub fn turn(&self) -> u128
+        ensures { result + (self.now.n - 1) * self.now.step ≡ self.now.group }
+    {
+        self.group - u128::from(self.n - 1) * u128::from(self.step)
+    }
+}
+
+/// The number of a group, counted from the earliest one that there may be.
+fn lifted(n0: i128) -> u128
+    requires low { negsuc 479 ≤ℤ n0 }
+    requires high { n0 ≤ℤ pos (2 ^ 42) }
+    ensures value { pos result ≡ n0 +ℤ pos 480 }
+    ensures small { result ≤ 2 ^ 42 + 480 }
+{
+    (n0 + i128::from(GROUPS_BEFORE)) as u128
+}

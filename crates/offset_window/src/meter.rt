@@ -1,0 +1,192 @@
+//! The window of a flow, packet by packet.
+
+ghost use Rattle.std.specs.Prelude.{◌≡◌, ◌≤◌, ◌<◌, ◌+◌, ◌-◌, ◌^◌, ◌++◌, ◌∷◌, [], ℕ, ℤ, List, slice_index};
+ghost use Rattle.std.specs.Prelude.{pos, negsuc, ◌≤ℤ◌, true};
+ghost use Rattle.sender_params.specs.Limits.{gapped_of};
+ghost use Rattle.sender_params.specs.Reads.{anchor_of};
+ghost use Rattle.timing_base.specs.declared.media.Kind.{Kind};
+ghost use Rattle.offset_window.specs.Moves.{IsLowerBy, IsUpperBy, MovesBy};
+ghost use Rattle.offset_window.specs.Parts.{comes_after, comes_before};
+
+use crate::grid::Grid;
+use crate::read::{MOST, Read};
+use crate::window::{Window, WindowEnd};
+use sender_params::Params;
+use timing_base::Kind;
+
+/// The window of the packets so far of one flow, for one sender type.
+#[derive(Clone, Copy, Debug, PartialEq, Eq)]
+pub struct WindowMeter {
+    /// The sender type.
+    pub kind: Kind,
+    /// The packets fed.
+    pub seen: u64,
+    /// The next packet's own read: it may not be before the packet.
+    own: Read,
+    /// The read VRX_FULL packets before it: it may not be after the packet.
+    freeing: Read,
+    lower: WindowEnd,
+    upper: WindowEnd,
+    ghost few: { seen ≤ 2 ^ 40 },
+    ghost own_is: { own.number ≡ seen },
+    ghost freeing_most: { freeing.number ≤ seen },
+}
+
+impl WindowMeter {
+    ghost use Rattle.sender_params.specs.declared.params.Params.{Params};
+    ghost use Rattle.offset_window.specs.Stands.{StandsFor};
+    ghost use Rattle.offset_window.specs.Window.{IsWindow};
+
+    /// The meter of a flow whose first packet is of group `n0`, judged as one of this sender type,
+    /// before that packet.
+    pub fn new(params: &Params, kind: Kind, n0: i128) -> WindowMeter
+        requires low { negsuc 479 ≤ℤ n0 }
+        requires high { n0 ≤ℤ pos (2 ^ 42) }
+        ensures seen { result.seen ≡ 0 }
+        ensures stands { StandsFor params.now kind n0 result [] }
+    {
+        let read = Read::first(Grid::of(params, is_gapped(kind), n0));
+        WindowMeter {
+            kind,
+            seen: 0,
+            own: read,
+            freeing: read,
+            lower: WindowEnd::At {
+                micros: 0,
+                binding: None,
+            },
+            upper: WindowEnd::At {
+                micros: MOST,
+                binding: None,
+            },
+        }
+    }
+
+    /// Puts in the packet that came at `at`, in nanoseconds of TAI. At equal instants the packet has
+    /// come and the read is done (SMPTE ST 2110-21, virtual receiver buffer; this project's profile).
+    ///
+    /// Feed one meter with one `Params` alone, that of `new`: `stands` says nothing of others.
+    pub fn feed(&mut self, params: &Params, at: u64)
+        requires in_time { at < 2 ^ 62 }
+        requires few { self.old.seen < 2 ^ 40 }
+
+        ensures seen { self.new.seen ≡ self.old.seen + 1 }
+
+        // Whatever packets the meter stood for, it now stands for those and this one.
+        ensures stands { (kind : Kind) (anchor : ℤ) (stamps : List ℕ)
+            → StandsFor params.now kind anchor self.old stamps
+            → StandsFor params.now kind anchor self.new (stamps ++ at ∷ []) }
+    {
+        self.lower = raised(self.lower, &self.own, self.seen, at);
+        self.own.advance();
+        self.seen += 1;
+        self.fill(params.vrx_full(self.kind), at);
+    }
+
+    /// The window of the packets that were fed, where the first of them is of the group that `new` was
+    /// given. For no packets it is all offsets.
+    pub fn finish(&self) -> Window
+        ensures { (params : Params) (kind : Kind) (stamps : List ℕ)
+            → StandsFor params kind (anchor_of params.media (slice_index stamps 0)) self.now stamps
+            → IsWindow params.media params.n stamps kind result }
+    {
+        Window {
+            lower: self.lower,
+            upper: self.upper,
+        }
+    }
+
+    /// The last packet came at `at` to a buffer that may hold so many: the upper end goes down where it
+    /// held more.
+    #[inline(always)]
+    fn fill(&mut self, full: u64, at: u64)
+        requires in_time { at < 2 ^ 62 }
+        requires behind { self.old.freeing.number < self.old.seen }
+        ensures kind { self.new.kind ≡ self.old.kind }
+        ensures seen { self.new.seen ≡ self.old.seen }
+        ensures own { self.new.own ≡ self.old.own }
+        ensures lower { self.new.lower ≡ self.old.lower }
+        ensures grid { self.new.freeing.grid ≡ self.old.freeing.grid }
+        ensures room { self.old.seen ≤ full → (self.new.freeing ≡ self.old.freeing)
+            × (self.new.upper ≡ self.old.upper) }
+        ensures number { full < self.old.seen → self.new.freeing.number ≡ self.old.freeing.number + 1 }
+        ensures moves { full < self.old.seen
+            → let broken = comes_before self.old.freeing.grid self.old.freeing.number at in
+            MovesBy (IsUpperBy broken (self.old.seen - 1)) broken self.old.upper self.new.upper }
+    {
+        if self.seen <= full {
+            return;
+        }
+        self.upper = lowered(self.upper, &self.freeing, self.seen - 1, at);
+        self.freeing.advance();
+    }
+}
+
+/// The lower end with this packet too, which came at `at` and has this read of its own.
+#[inline(always)]
+fn raised(end: WindowEnd, own: &Read, packet: u64, at: u64) -> WindowEnd
+    requires { at < 2 ^ 62 }
+    ensures { let broken = comes_after own.now.grid own.now.number at in
+        MovesBy (IsLowerBy broken packet) broken end result }
+{
+    match end {
+        WindowEnd::At { micros, .. } if own.is_before(micros, at) => lower_end(own, packet, at),
+        _ => end,
+    }
+}
+
+/// The upper end with this packet too, which came at `at` and finds too much before this read is due.
+#[inline(always)]
+fn lowered(end: WindowEnd, freeing: &Read, packet: u64, at: u64) -> WindowEnd
+    requires { at < 2 ^ 62 }
+    ensures { let broken = comes_before freeing.now.grid freeing.now.number at in
+        MovesBy (IsUpperBy broken packet) broken end result }
+{
+    match end {
+        WindowEnd::At { micros, .. } if freeing.is_after(micros, at) => upper_end(
+            freeing, micros, packet, at,
+        ),
+        _ => end,
+    }
+}
+
+/// The lower end of one packet, which comes after its own read with the offset 0.
+#[cold]
+#[inline(never)]
+fn lower_end(own: &Read, packet: u64, at: u64) -> WindowEnd
+    requires in_time { at < 2 ^ 62 }
+    requires late { comes_after own.now.grid own.now.number at 0 ≡ true }
+    ensures { IsLowerBy (comes_after own.now.grid own.now.number at) packet result }
+{
+    match own.least_offset(at) {
+        None => WindowEnd::Absent,
+        Some(micros) => WindowEnd::At {
+            micros,
+            binding: Some(packet),
+        },
+    }
+}
+
+/// The upper end of one packet, which comes with this offset before the read that makes room for it.
+#[cold]
+#[inline(never)]
+fn upper_end(freeing: &Read, micros: u32, packet: u64, at: u64) -> WindowEnd
+    requires in_time { at < 2 ^ 62 }
+    requires early { comes_before freeing.now.grid freeing.now.number at micros ≡ true }
+    ensures { IsUpperBy (comes_before freeing.now.grid freeing.now.number at) packet result }
+{
+    match freeing.greatest_offset(micros, at) {
+        None => WindowEnd::Absent,
+        Some(micros) => WindowEnd::At {
+            micros,
+            binding: Some(packet),
+        },
+    }
+}
+
+/// Whether the reads of this sender type are gapped.
+fn is_gapped(kind: Kind) -> bool
+    ensures { result ≡ gapped_of kind }
+{
+    kind == Kind::N
+}
