@@ -1,7 +1,7 @@
 //! What holds of the window itself. Each function is a theorem: it does nothing, and its clauses are
 //! proved.
 
-ghost use Rattle.std.specs.Prelude.{◌≡◌, ◌≤◌, ◌+◌, ◌-◌, ◌∷◌, [], ℕ, ℤ, Bool, List, length, slice_index, replicate, Option, Some, None};
+ghost use Rattle.std.specs.Prelude.{◌≡◌, ◌≤◌, ◌+◌, ◌-◌, ◌∷◌, ◌++◌, [], ℕ, ℤ, Bool, List, length, slice_index, replicate, Option, Some, None};
 ghost use Rattle.fraction128.specs.Fractions.{whole};
 ghost use Rattle.timing_base.specs.Media.{IsMedia, Media};
 ghost use Rattle.timing_base.specs.declared.media.Kind.{Kind};
@@ -97,6 +97,10 @@ pub fn upper_ends_by_hand()
     ensures least { IsFromTo hd_50 20 (replicate 9 (so_late 0)) N (At 0 None) (At 0 (Some 8)) }
     ensures under { IsFromTo hd_50 20 (replicate 9 (so_late 999)) N (At 1 (Some 0)) (At 0 (Some 8)) }
     ensures whole { IsFromTo hd_50 20 (replicate 9 (so_late 1000)) N (At 1 (Some 0)) (At 1 (Some 8)) }
+    ensures last { IsFromTo hd_50 20 (replicate 8 (so_late 0) ++ so_late 999999999 ∷ []) N
+        (At 992320 (Some 8)) (At 999999 (Some 8)) }
+    ensures every { IsFromTo hd_50 20 (replicate 8 (so_late 0) ++ so_late 1000000000 ∷ []) N
+        (At 992320 (Some 8)) (At 1000000 None) }
     ensures wide { IsFromTo hd_50 20 (replicate 9 (so_late 0)) W (At 0 None) (At 1000000 None) }
 {}
 

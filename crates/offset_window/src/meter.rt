@@ -77,7 +77,7 @@ impl WindowMeter {
             → StandsFor params.now kind anchor self.old stamps
             → StandsFor params.now kind anchor self.new (stamps ++ at ∷ []) }
     {
-        self.lower = raised(self.lower, &self.own, self.seen, at);
+        raise(&mut self.lower, &self.own, self.seen, at);
         self.own.advance();
         self.seen += 1;
         self.fill(params.vrx_full(self.kind), at);
@@ -117,36 +117,36 @@ impl WindowMeter {
         if self.seen <= full {
             return;
         }
-        self.upper = lowered(self.upper, &self.freeing, self.seen - 1, at);
+        sink(&mut self.upper, &self.freeing, self.seen - 1, at);
         self.freeing.advance();
     }
 }
 
-/// The lower end with this packet too, which came at `at` and has this read of its own.
+/// Moves the lower end for this packet, which came at `at` and has this read of its own.
 #[inline(always)]
-fn raised(end: WindowEnd, own: &Read, packet: u64, at: u64) -> WindowEnd
+fn raise(end: &mut WindowEnd, own: &Read, packet: u64, at: u64)
     requires { at < 2 ^ 62 }
     ensures { let broken = comes_after own.now.grid own.now.number at in
-        MovesBy (IsLowerBy broken packet) broken end result }
+        MovesBy (IsLowerBy broken packet) broken end.old end.new }
 {
-    match end {
-        WindowEnd::At { micros, .. } if own.is_before(micros, at) => lower_end(own, packet, at),
-        _ => end,
+    if let WindowEnd::At { micros, .. } = *end
+        && own.is_before(micros, at)
+    {
+        *end = lower_end(own, packet, at);
     }
 }
 
-/// The upper end with this packet too, which came at `at` and finds too much before this read is due.
+/// Moves the upper end for this packet, which came at `at` and finds too much before this read is due.
 #[inline(always)]
-fn lowered(end: WindowEnd, freeing: &Read, packet: u64, at: u64) -> WindowEnd
+fn sink(end: &mut WindowEnd, freeing: &Read, packet: u64, at: u64)
     requires { at < 2 ^ 62 }
     ensures { let broken = comes_before freeing.now.grid freeing.now.number at in
-        MovesBy (IsUpperBy broken packet) broken end result }
+        MovesBy (IsUpperBy broken packet) broken end.old end.new }
 {
-    match end {
-        WindowEnd::At { micros, .. } if freeing.is_after(micros, at) => upper_end(
-            freeing, micros, packet, at,
-        ),
-        _ => end,
+    if let WindowEnd::At { micros, .. } = *end
+        && freeing.is_after(micros, at)
+    {
+        *end = upper_end(freeing, micros, packet, at);
     }
 }
 

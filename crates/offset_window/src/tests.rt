@@ -1,7 +1,5 @@
 //! The window's part of worked rows, and windows against offsets that are tried one by one.
 
-ghost use Rattle.std.specs.Prelude.{◌≤◌, ◌<◌};
-
 use super::*;
 use read_schedule::{is_late, reads};
 use sender_params::Params;

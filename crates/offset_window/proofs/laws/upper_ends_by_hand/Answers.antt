@@ -1,4 +1,4 @@
-use Rattle.std.proofs.Common.{replicate, refl}
+use Rattle.std.proofs.Common.{◌∷◌, ◌++◌, [], replicate, refl}
 use Rattle.timing_base.specs.declared.media.Kind.TheVariants.{N, W}
 use Rattle.sender_params.specs.Worked.{hd_50}
 use Rattle.offset_window.specs.Worked.{so_late}
@@ -33,4 +33,16 @@ pub returns-clause-wide : goal.returns-clause-wide
 returns-clause-wide c = record {
   lower = lower-first hd_50 20 (replicate 9 (so_late 0)) W refl;
   upper = upper-last hd_50 20 (replicate 9 (so_late 0)) W refl;
+}
+
+pub returns-clause-last : goal.returns-clause-last
+returns-clause-last c = record {
+  lower = lower-at hd_50 20 (replicate 8 (so_late 0) ++ so_late 999999999 ∷ []) N 992320 8 refl refl refl refl refl refl;
+  upper = upper-at 20 (replicate 8 (so_late 0) ++ so_late 999999999 ∷ []) N 999999 8 refl refl refl refl refl refl;
+}
+
+pub returns-clause-every : goal.returns-clause-every
+returns-clause-every c = record {
+  lower = lower-at hd_50 20 (replicate 8 (so_late 0) ++ so_late 1000000000 ∷ []) N 992320 8 refl refl refl refl refl refl;
+  upper = upper-last hd_50 20 (replicate 8 (so_late 0) ++ so_late 1000000000 ∷ []) N refl;
 }
