@@ -81,7 +81,7 @@ fn read_one<R: Wait, S: Source, G: Gate>(
         source,
         passes,
     } = job;
-    intake(
+    let (done, _raised) = intake(
         rt,
         alloc,
         file,
@@ -92,7 +92,8 @@ fn read_one<R: Wait, S: Source, G: Gate>(
         passes,
         halt,
         gate,
-    )
+    );
+    done
 }
 
 /// Runs the workers, each on a thread of its own where one can be made. `Err` is want of memory.
@@ -145,7 +146,7 @@ pub fn run_intakes<R: Threads + Wait + Sync, S: Source, G: Gate>(
     match thread::map_vec(rt, jobs, &one) {
         Ok(dones) => Ok(dones),
         Err(refused) => {
-            halt.raise();
+            halt.raise(rt);
             Err(refused)
         }
     }

@@ -16,7 +16,7 @@ ghost use Rattle.flow_worker.specs.Sending.{AreCut, AreOutboxes, AreSame, Cuts, 
 use crate::outboxes::Outboxes;
 use crate::routing::{Routing, dealt_file};
 use pcap_reader::{PcapReader, Step};
-use ruled_intake::{Halt, Lane, SendPass};
+use ruled_intake::{Halt, Lane, Raised, SendPass};
 use std::alloc::{AllocError as OutOfMemory, Global};
 use std::sync::Wait;
 use timing_base::{FileNote, Media};
@@ -192,28 +192,35 @@ fn send_file<R: Wait, S: Source>(
 }
 
 /// Raises the halt for want of memory, and leaves what there is.
-fn stop<S: Source>(source: S, passes: Vec<SendPass>, halt: &Halt) -> IntakeDone<S>
-    ensures source { result.source ≡ source }
-    ensures passes { result.passes ≡ passes }
-    ensures note { result.note ≡ file_note.Stopped }
+fn stop<'h, R: Wait, S: Source>(
+    rt: &R,
+    source: S,
+    passes: Vec<SendPass>,
+    halt: &'h Halt,
+) -> (IntakeDone<S>, Option<Raised<'h>>)
+    ensures source { result.0.source ≡ source }
+    ensures passes { result.0.passes ≡ passes }
+    ensures note { result.0.note ≡ file_note.Stopped }
+    ensures raised { result.1 ≡ Some halt.now }
 {
-    halt.raise();
-    IntakeDone {
+    let raised = halt.raise(rt);
+    let done = IntakeDone {
         source,
         passes,
         note: FileNote::Stopped,
-    }
+    };
+    (done, Some(raised))
 }
 
 /// Sends all of a reader that has answered no record, and leaves what an intake leaves.
-fn take_file<R: Wait, S: Source>(
+fn take_file<'h, R: Wait, S: Source>(
     rt: &R,
     alloc: Global,
     reader: PcapReader<S>,
     routing: &Routing<'_>,
     outboxes: Outboxes<'_>,
-    halt: &Halt,
-) -> IntakeDone<S>
+    halt: &'h Halt,
+) -> (IntakeDone<S>, Option<Raised<'h>>)
     requires routing { IsRouting routing.now }
     requires lanes { routing.now.lanes ≡ length outboxes.lanes.now }
     requires are { AreOutboxes outboxes }
@@ -222,17 +229,18 @@ fn take_file<R: Wait, S: Source>(
     requires most { most_of reader ≤ 2 ^ 40 }
     requires few { HaveAllFew 0 outboxes }
     requires none { AreCut (route_of routing.now) [] outboxes }
-    ensures passes { AreOfFile outboxes.entry.file outboxes.entry.lanes.now result.passes.items }
+    ensures passes { AreOfFile outboxes.entry.file outboxes.entry.lanes.now result.0.passes.items }
     ensures told { (joined : Bool) (items : List Record) (end : _)
         → routing.now.file ≡ (if joined then 0 else outboxes.entry.file)
         → WillGive S.left reader items end
         → HasTold (intake_setting routing.now.media.now routing.now.lanes joined)
         outboxes.entry.file outboxes.entry.lanes.now
-        (record { records = items; note = end }) result.note result.passes.items }
-    ensures name { S.name result.source ≡ S.name (under reader) }
-    ensures later { S.faults (under reader) ≤ S.faults result.source }
-    ensures failed { result.note ≡ file_note.Refused fault.ReadFault
-        → Rose (S.faults (under reader)) (S.faults result.source) }
+        (record { records = items; note = end }) result.0.note result.0.passes.items }
+    ensures name { S.name result.0.source ≡ S.name (under reader) }
+    ensures later { S.faults (under reader) ≤ S.faults result.0.source }
+    ensures failed { result.0.note ≡ file_note.Refused fault.ReadFault
+        → Rose (S.faults (under reader)) (S.faults result.0.source) }
+    ensures halt { result.0.note ≡ file_note.Stopped → result.1 ≡ Some halt.now }
 {
     let mut reader = reader;
     let mut outboxes = outboxes;
@@ -240,12 +248,15 @@ fn take_file<R: Wait, S: Source>(
     let source = reader.into_source();
     let passes = outboxes.into_passes();
     match sent {
-        Ok(note) => IntakeDone {
-            source,
-            passes,
-            note,
-        },
-        Err(_) => stop(source, passes, halt),
+        Ok(note) => {
+            let done = IntakeDone {
+                source,
+                passes,
+                note,
+            };
+            (done, None)
+        }
+        Err(_) => stop(rt, source, passes, halt),
     }
 }
 
@@ -256,10 +267,11 @@ fn take_file<R: Wait, S: Source>(
 /// A batch goes out when it has 256 packets. At the end of the file what is left goes out, by rising
 /// lane, and then an end for each lane, by rising lane. Where a read failed, the note is
 /// `Refused(ReadFault)`, and what was sent is all of the records before. Where memory ran out, the
-/// halt is raised and the note is `Stopped`; what was sent then begins what was to be sent.
+/// halt is raised, of which the second value is the witness, and the note is `Stopped`; what was sent then begins what
+/// was to be sent.
 ///
 /// The passes are those of the lanes, in order. The call may wait, and promises if it returns.
-pub fn intake<R: Wait, S: Source, G: Gate>(
+pub fn intake<'h, R: Wait, S: Source, G: Gate>(
     rt: &R,
     alloc: Global,
     file: u32,
@@ -268,29 +280,30 @@ pub fn intake<R: Wait, S: Source, G: Gate>(
     source: S,
     lanes: &[Lane],
     passes: Vec<SendPass>,
-    halt: &Halt,
+    halt: &'h Halt,
     gate: &G,
-) -> IntakeDone<S>
+) -> (IntakeDone<S>, Option<Raised<'h>>)
     requires file { file < 16 }
     requires some_media { 1 ≤ length media.now }
     requires few_media { length media.now ≤ 64 }
     requires some_lanes { 1 ≤ length lanes.now }
     requires few_lanes { length lanes.now ≤ 16 }
     requires passes { HaveSentNothing file lanes.now passes.items }
-    ensures passes { AreOfFile file lanes.now result.passes.items }
+    ensures passes { AreOfFile file lanes.now result.0.passes.items }
     ensures told { (text : List ℕ) (items : List Record) (end : NoteValue)
         → S.left source ≡ Some text → Records text (2 ^ 40) items end
         → HasTold (intake_setting media.now (length lanes.now) joined) file lanes.now
-        (record { records = items; note = end }) result.note result.passes.items }
-    ensures name { S.name result.source ≡ S.name source }
-    ensures later { S.faults source ≤ S.faults result.source }
-    ensures failed { result.note ≡ file_note.Refused fault.ReadFault
-        → Rose (S.faults source) (S.faults result.source) }
+        (record { records = items; note = end }) result.0.note result.0.passes.items }
+    ensures name { S.name result.0.source ≡ S.name source }
+    ensures later { S.faults source ≤ S.faults result.0.source }
+    ensures failed { result.0.note ≡ file_note.Refused fault.ReadFault
+        → Rose (S.faults source) (S.faults result.0.source) }
+    ensures halt { result.0.note ≡ file_note.Stopped → result.1 ≡ Some halt.now }
 {
     gate.meet(rt, u64::from(file));
     let outboxes = match Outboxes::new(alloc, file, lanes, passes) {
         Ok(outboxes) => outboxes,
-        Err(passes) => return stop(source, passes, halt),
+        Err(passes) => return stop(rt, source, passes, halt),
     };
     let routing = Routing {
         media,
@@ -299,6 +312,6 @@ pub fn intake<R: Wait, S: Source, G: Gate>(
     };
     match PcapReader::start(alloc, source, MOST) {
         Ok(reader) => take_file(rt, alloc, reader, &routing, outboxes, halt),
-        Err(source) => stop(source, outboxes.into_passes(), halt),
+        Err(source) => stop(rt, source, outboxes.into_passes(), halt),
     }
 }

@@ -122,11 +122,12 @@ fn batches(rt: HostRuntime) -> Result<(), Fail> {
     let (lane, passes, mut taker) = one_lane(alloc)?;
     let lanes = slice::from_ref(&lane);
     let halt = Halt::new();
-    let done = intake(
+    let (done, raised) = intake(
         &rt, alloc, 0, false, media, source, lanes, passes, &halt, &NoGate,
     );
     assert_eq!(rt; done.note, FileNote::End);
-    assert!(rt; !halt.raised());
+    assert!(rt; raised.is_none());
+    assert!(rt; halt.raised().is_none());
     let first: Vec<u64> = (1..257).collect(alloc)?;
     is_batch(&rt, take(&rt, &lane, &mut taker), 0, &first);
     is_batch(
@@ -153,12 +154,13 @@ fn failed_read(rt: HostRuntime) -> Result<(), Fail> {
     let (lane, passes, mut taker) = one_lane(alloc)?;
     let lanes = slice::from_ref(&lane);
     let halt = Halt::new();
-    let done = intake(
+    let (done, raised) = intake(
         &rt, alloc, 0, false, media, source, lanes, passes, &halt, &NoGate,
     );
     let note = FileNote::Refused(PcapFault::ReadFault);
     assert_eq!(rt; done.note, note);
-    assert!(rt; !halt.raised());
+    assert!(rt; raised.is_none());
+    assert!(rt; halt.raised().is_none());
     let before: Vec<u64> = (1..100).collect(alloc)?;
     is_batch(&rt, take(&rt, &lane, &mut taker), 0, &before);
     is_end(&rt, take(&rt, &lane, &mut taker), note, 99);
@@ -209,10 +211,11 @@ fn two_lanes(rt: HostRuntime) -> Result<(), Fail> {
     passes.append(&mut more)?;
     let lanes = [first, second];
     let halt = Halt::new();
-    let done = intake(
+    let (done, raised) = intake(
         &rt, alloc, 0, false, &media, source, &lanes, passes, &halt, &NoGate,
     );
     assert_eq!(rt; done.note, FileNote::End);
+    assert!(rt; raised.is_none());
     is_batch(&rt, take(&rt, &lanes[0], &mut first_taker), 0, &[1, 5]);
     is_end(
         &rt,

@@ -272,7 +272,7 @@ fn halt_stops_without_receipts(rt: HostRuntime) -> Result<(), Fail> {
     let mut messages = Vec::new(alloc);
     messages.push(end(1, 2))?;
     let halt = Halt::new();
-    halt.raise();
+    halt.raise(&rt);
     let asked = Asked {
         worker: 0,
         workers: 1,

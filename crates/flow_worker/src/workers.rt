@@ -158,7 +158,7 @@ fn next_message<R: Wait>(
         if let Some(message) = lane.take(rt, pass) {
             return Ok(message);
         }
-        if halt.raised() {
+        if halt.raised().is_some() {
             break;
         }
         backoff.snooze();

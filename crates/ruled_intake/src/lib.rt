@@ -17,7 +17,7 @@ mod packet;
 mod passes;
 mod rule;
 
-pub use halt::Halt;
+pub use halt::{Halt, Raised};
 pub use lane::{Closed, Lane};
 pub use message::{Batch, FileEnd, Message};
 pub use packet::Packet;

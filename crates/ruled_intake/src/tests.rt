@@ -292,7 +292,7 @@ fn packet_has_40_bytes(rt: HostRuntime) {
 #[test]
 fn halt_is_seen_once_raised(rt: HostRuntime) {
     let halt = Halt::new();
-    assert!(rt; !halt.raised());
-    halt.raise();
-    assert!(rt; halt.raised());
+    assert!(rt; halt.raised().is_none());
+    halt.raise(&rt);
+    assert!(rt; halt.raised().is_some());
 }

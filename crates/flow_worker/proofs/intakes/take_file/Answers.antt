@@ -12,7 +12,7 @@ returns-in-Ok-clause-told g c = λ joined items end e given.
 
 pub returns-in-Err-clause-told : goal.returns-in-Err-clause-told
 returns-in-Err-clause-told g c = λ joined items end e given.
-    let same : c.stop.result.passes.items ≡ c.send_file-sent.new.outboxes.passes.items = search rules in
+    let same : c.stop.result.0.passes.items ≡ c.send_file-sent.new.outboxes.passes.items = search rules in
     told-stop (intake_setting c.args.routing.now.media.now c.args.routing.now.lanes joined) c.args.outboxes.file c.args.outboxes.lanes.now record { records = items; note = end }
-    c.send_file-sent.new.outboxes.passes.items c.stop.result.passes.items c.stop.result.note c.stop.ensures.note same
+    c.send_file-sent.new.outboxes.passes.items c.stop.result.0.passes.items c.stop.result.0.note c.stop.ensures.note same
     (told-stopped c.args.routing.now c.args.outboxes c.send_file-sent.new.outboxes joined end items e c.in-Err.ensures.same (c.in-Err.ensures.told items end given))
