@@ -29,6 +29,10 @@ pub record Inputs : Type 1 where
   pub before : List ℕ → ℕ
   pub now : List ℕ → ℕ
 
+-- of a shelf before and after a run, by what it tells of its names
+abbrev pub seen_of : {H : Type 0} → (text : H → List ℕ → Option (List ℕ)) → (lacks : H → List ℕ → Type 0) → (faults : H → List ℕ → ℕ) → (old new : H) → Inputs
+seen_of text lacks faults old new = record { texts = text old; lacks = lacks old; before = faults old; now = faults new }
+
 -- the count of a name rose
 abbrev pub HasRisen : Inputs → List ℕ → Type 0
 HasRisen i name = Rose (i.before name) (i.now name)

@@ -18,6 +18,10 @@ pub record Output : Type 0 where
   pub before : ℕ
   pub now : ℕ
 
+-- of a sink before and after a run, by what it tells of its bytes and its faults
+abbrev pub output_of : {K : Type 0} → (written : K → Option (List ℕ)) → (faults : K → ℕ) → (old new : K) → Output
+output_of written faults old new = record { old = written old; new = written new; before = faults old; now = faults new }
+
 -- the status of a run that has no answer
 abbrev pub status_of : Failure → Status
 status_of (failure.ReadFault input) = status.ReadFault input

@@ -2,7 +2,8 @@
 
 ghost use Rattle.std.specs.Prelude.{◌≡◌, ◌≤◌, ℕ, List, IfErr, IfOk, string_bytes};
 ghost use Rattle.timing_report.specs.Outcomes.{AreOfSession, status_of};
-ghost use Rattle.timing_steps.specs.Ran.{HasCause, IsAnswered, Ran};
+ghost use Rattle.timing_steps.specs.Answers.{seen_of};
+ghost use Rattle.timing_steps.specs.Ran.{HasCause, IsAnswered, Ran, output_of};
 ghost use Rattle.timing_top.specs.Asked.{CheckInputRose, FollowsCheck};
 ghost use Rattle.timing_top.specs.Report.{printed};
 
@@ -62,18 +63,8 @@ pub fn answer_check<H: Shelf>(
     job: &CheckJob,
     shelf: &mut H,
 ) -> Result<Answer, Failure>
-    ensures follows { FollowsCheck job.now (record {
-      texts = H.text shelf.old;
-      lacks = H.lacks shelf.old;
-      before = H.faults shelf.old;
-      now = H.faults shelf.new;
-    }) result }
-    ensures cause { HasCause result (CheckInputRose job.now (record {
-      texts = H.text shelf.old;
-      lacks = H.lacks shelf.old;
-      before = H.faults shelf.old;
-      now = H.faults shelf.new;
-    })) }
+    ensures follows { FollowsCheck job.now (seen_of H.text H.lacks H.faults shelf.old shelf.new) result }
+    ensures cause { HasCause result (CheckInputRose job.now (seen_of H.text H.lacks H.faults shelf.old shelf.new)) }
     ensures lacks { (n : List ℕ) → H.lacks shelf.old n → H.lacks shelf.new n }
     ensures texts { (n : List ℕ) → H.text shelf.new n ≡ H.text shelf.old n }
     ensures later { (n : List ℕ) → H.faults shelf.old n ≤ H.faults shelf.new n }
@@ -99,18 +90,8 @@ pub fn answer_many<R: Threads + Wait + Sync, H: Shelf, G: Gate>(
     shelf: &mut H,
     gate: &G,
 ) -> Result<Answer, Failure>
-    ensures follows { FollowsCheck job.now (record {
-      texts = H.text shelf.old;
-      lacks = H.lacks shelf.old;
-      before = H.faults shelf.old;
-      now = H.faults shelf.new;
-    }) result }
-    ensures cause { HasCause result (CheckInputRose job.now (record {
-      texts = H.text shelf.old;
-      lacks = H.lacks shelf.old;
-      before = H.faults shelf.old;
-      now = H.faults shelf.new;
-    })) }
+    ensures follows { FollowsCheck job.now (seen_of H.text H.lacks H.faults shelf.old shelf.new) result }
+    ensures cause { HasCause result (CheckInputRose job.now (seen_of H.text H.lacks H.faults shelf.old shelf.new)) }
     ensures lacks { (n : List ℕ) → H.lacks shelf.old n → H.lacks shelf.new n }
     ensures texts { (n : List ℕ) → H.text shelf.new n ≡ H.text shelf.old n }
     ensures later { (n : List ℕ) → H.faults shelf.old n ≤ H.faults shelf.new n }
@@ -148,20 +129,10 @@ pub fn check_one<H: Shelf, K: Sink>(
     err: &mut K,
 ) -> Status
     ensures ran { Ran
-        (FollowsCheck job.now (record {
-          texts = H.text shelf.old;
-          lacks = H.lacks shelf.old;
-          before = H.faults shelf.old;
-          now = H.faults shelf.new;
-        }))
-        (CheckInputRose job.now (record {
-          texts = H.text shelf.old;
-          lacks = H.lacks shelf.old;
-          before = H.faults shelf.old;
-          now = H.faults shelf.new;
-        }))
-        (record { old = K.written out.old; new = K.written out.new; before = K.faults out.old; now = K.faults out.new })
-        (record { old = K.written err.old; new = K.written err.new; before = K.faults err.old; now = K.faults err.new })
+        (FollowsCheck job.now (seen_of H.text H.lacks H.faults shelf.old shelf.new))
+        (CheckInputRose job.now (seen_of H.text H.lacks H.faults shelf.old shelf.new))
+        (output_of K.written K.faults out.old out.new)
+        (output_of K.written K.faults err.old err.new)
         result }
     ensures lacks { (n : List ℕ) → H.lacks shelf.old n → H.lacks shelf.new n }
     ensures texts { (n : List ℕ) → H.text shelf.new n ≡ H.text shelf.old n }
@@ -184,20 +155,10 @@ pub fn check_many<R: Threads + Wait + Sync, H: Shelf, K: Sink, G: Gate>(
 ) -> Status
     requires some { 1 ≤ job.now.workers }
     ensures ran { Ran
-        (FollowsCheck job.now (record {
-          texts = H.text shelf.old;
-          lacks = H.lacks shelf.old;
-          before = H.faults shelf.old;
-          now = H.faults shelf.new;
-        }))
-        (CheckInputRose job.now (record {
-          texts = H.text shelf.old;
-          lacks = H.lacks shelf.old;
-          before = H.faults shelf.old;
-          now = H.faults shelf.new;
-        }))
-        (record { old = K.written out.old; new = K.written out.new; before = K.faults out.old; now = K.faults out.new })
-        (record { old = K.written err.old; new = K.written err.new; before = K.faults err.old; now = K.faults err.new })
+        (FollowsCheck job.now (seen_of H.text H.lacks H.faults shelf.old shelf.new))
+        (CheckInputRose job.now (seen_of H.text H.lacks H.faults shelf.old shelf.new))
+        (output_of K.written K.faults out.old out.new)
+        (output_of K.written K.faults err.old err.new)
         result }
     ensures lacks { (n : List ℕ) → H.lacks shelf.old n → H.lacks shelf.new n }
     ensures texts { (n : List ℕ) → H.text shelf.new n ≡ H.text shelf.old n }

@@ -1,7 +1,8 @@
 //! From the words of a command line to what is printed and the status.
 
 ghost use Rattle.std.specs.Prelude.{◌≡◌, ◌≤◌, ◌==◌, ℕ, List, Some, map, string_bytes};
-ghost use Rattle.timing_steps.specs.Ran.{HasCause, Ran};
+ghost use Rattle.timing_steps.specs.Answers.{seen_of};
+ghost use Rattle.timing_steps.specs.Ran.{HasCause, Ran, output_of};
 ghost use Rattle.timing_words.specs.Request.{request};
 ghost use Rattle.timing_top.specs.Asked.{Follows, FollowsSelfTest, InputRose};
 
@@ -30,6 +31,25 @@ fn answer_frames<R: Threads + Wait + Sync, G: Gate>(
     answer_self_test(rt, alloc, job.frames, job.workers, gate)
 }
 
+/// Judges captures that are made here, one for each flaw that they can have, with as many workers as the
+/// job says, and prints a line for each on `out`. On `err` it tells why there is none. Nothing is read.
+/// The call may wait for its threads, and promises if it returns.
+pub fn self_test<R: Threads + Wait + Sync, K: Sink, G: Gate>(
+    rt: &R,
+    alloc: Global,
+    job: &SelfTestJob,
+    out: &mut K,
+    err: &mut K,
+    gate: &G,
+) -> Status
+    ensures ran { Ran (FollowsSelfTest job.now.frames) (λ i. ⊥)
+        (output_of K.written K.faults out.old out.new)
+        (output_of K.written K.faults err.old err.new) result }
+{
+    let outcome = answer_frames(rt, alloc, job, gate);
+    conclude(out, err, outcome)
+}
+
 /// The answer of a request, or why there is none. Built are `check`, `verify`, `verify-report` and
 /// `selftest`.
 fn answer_request<R: Threads + Wait + Sync, H: Shelf, G: Gate>(
@@ -39,18 +59,8 @@ fn answer_request<R: Threads + Wait + Sync, H: Shelf, G: Gate>(
     shelf: &mut H,
     gate: &G,
 ) -> Result<Answer, Failure>
-    ensures follows { Follows (Some request) (record {
-      texts = H.text shelf.old;
-      lacks = H.lacks shelf.old;
-      before = H.faults shelf.old;
-      now = H.faults shelf.new;
-    }) result }
-    ensures cause { HasCause result (InputRose (Some request) (record {
-      texts = H.text shelf.old;
-      lacks = H.lacks shelf.old;
-      before = H.faults shelf.old;
-      now = H.faults shelf.new;
-    })) }
+    ensures follows { Follows (Some request) (seen_of H.text H.lacks H.faults shelf.old shelf.new) result }
+    ensures cause { HasCause result (InputRose (Some request) (seen_of H.text H.lacks H.faults shelf.old shelf.new)) }
     ensures lacks { (n : List ℕ) → H.lacks shelf.old n → H.lacks shelf.new n }
     ensures texts { (n : List ℕ) → H.text shelf.new n ≡ H.text shelf.old n }
     ensures later { (n : List ℕ) → H.faults shelf.old n ≤ H.faults shelf.new n }
@@ -72,18 +82,8 @@ fn answer<R: Threads + Wait + Sync, H: Shelf, G: Gate>(
     shelf: &mut H,
     gate: &G,
 ) -> Result<Answer, Failure>
-    ensures follows { Follows (request (map string_bytes words.now)) (record {
-      texts = H.text shelf.old;
-      lacks = H.lacks shelf.old;
-      before = H.faults shelf.old;
-      now = H.faults shelf.new;
-    }) result }
-    ensures cause { HasCause result (InputRose (request (map string_bytes words.now)) (record {
-      texts = H.text shelf.old;
-      lacks = H.lacks shelf.old;
-      before = H.faults shelf.old;
-      now = H.faults shelf.new;
-    })) }
+    ensures follows { Follows (request (map string_bytes words.now)) (seen_of H.text H.lacks H.faults shelf.old shelf.new) result }
+    ensures cause { HasCause result (InputRose (request (map string_bytes words.now)) (seen_of H.text H.lacks H.faults shelf.old shelf.new)) }
     ensures lacks { (n : List ℕ) → H.lacks shelf.old n → H.lacks shelf.new n }
     ensures texts { (n : List ℕ) → H.text shelf.new n ≡ H.text shelf.old n }
     ensures later { (n : List ℕ) → H.faults shelf.old n ≤ H.faults shelf.new n }
@@ -114,20 +114,10 @@ pub fn run<R: Wait + Threads + Sync, H: Shelf, K: Sink, G: Gate>(
     // What the texts of the request define was printed with its status, or nothing was and the status
     // says why: an input couldn't be read whose count rose, a write failed, or memory ran out.
     ensures ran { Ran
-        (Follows (request (map string_bytes words.now)) (record {
-          texts = H.text shelf.old;
-          lacks = H.lacks shelf.old;
-          before = H.faults shelf.old;
-          now = H.faults shelf.new;
-        }))
-        (InputRose (request (map string_bytes words.now)) (record {
-          texts = H.text shelf.old;
-          lacks = H.lacks shelf.old;
-          before = H.faults shelf.old;
-          now = H.faults shelf.new;
-        }))
-        (record { old = K.written out.old; new = K.written out.new; before = K.faults out.old; now = K.faults out.new })
-        (record { old = K.written err.old; new = K.written err.new; before = K.faults err.old; now = K.faults err.new })
+        (Follows (request (map string_bytes words.now)) (seen_of H.text H.lacks H.faults shelf.old shelf.new))
+        (InputRose (request (map string_bytes words.now)) (seen_of H.text H.lacks H.faults shelf.old shelf.new))
+        (output_of K.written K.faults out.old out.new)
+        (output_of K.written K.faults err.old err.new)
         result }
     ensures lacks { (n : List ℕ) → H.lacks shelf.old n → H.lacks shelf.new n }
     ensures texts { (n : List ℕ) → H.text shelf.new n ≡ H.text shelf.old n }

@@ -14,7 +14,7 @@ mod many;
 mod self_test;
 
 pub use check::{check_many, check_one};
-pub use commands::run;
+pub use commands::{run, self_test};
 
 #[cfg(test)]
 mod tests;

@@ -1,7 +1,7 @@
 //! The captures that the fails of a report need.
 
 ghost use Rattle.std.specs.Prelude.{◌≡◌, ◌≤◌, ◌<◌, ℕ, List, All, IfOk, IfErr, false, map, length, option_map};
-ghost use Rattle.timing_steps.specs.Answers.{AreThere, OnReadFault};
+ghost use Rattle.timing_steps.specs.Answers.{AreThere, OnReadFault, seen_of};
 ghost use Rattle.timing_verify.specs.Asked.{AreTexts, FindsOf, NeededRose, captures_of, file_count, media_for, needed};
 ghost use Rattle.timing_verify.specs.Findings.{Finds};
 ghost use Rattle.timing_verify.specs.Found.{FailedNeeded, IsChecked, numbered};
@@ -161,12 +161,7 @@ pub fn check_each<H: Shelf>(
         job.now media.now) checked.items) }
     ensures claims { IfOk result (λ checked. map (λ c. c.claim) checked.items ≡ claims.now) }
     ensures cause { IfErr result (λ e. OnReadFault e (λ i. (number : ℕ) × (i ≡ Input.Capture number)
-        × NeededRose (record {
-          texts = H.text shelf.old;
-          lacks = H.lacks shelf.old;
-          before = H.faults shelf.old;
-          now = H.faults shelf.new;
-        }) job.now media.now claims.now number)) }
+        × NeededRose (seen_of H.text H.lacks H.faults shelf.old shelf.new) job.now media.now claims.now number)) }
     ensures lacks { (n : List ℕ) → H.lacks shelf.old n → H.lacks shelf.new n }
     ensures texts { (n : List ℕ) → H.text shelf.new n ≡ H.text shelf.old n }
     ensures later { (n : List ℕ) → H.faults shelf.old n ≤ H.faults shelf.new n }

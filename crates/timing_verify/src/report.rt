@@ -4,8 +4,8 @@ ghost use Rattle.std.specs.Prelude.{◌≡◌, ◌≤◌, ℕ, List, Some, IfOk,
 ghost use Rattle.timing_json.specs.Reading.{IsReport};
 ghost use Rattle.timing_json.specs.declared.reading.ReportProof.{ReportProof as Claim};
 ghost use Rattle.timing_outside.specs.Causes.{Rose};
-ghost use Rattle.timing_steps.specs.Answers.{Gives, OnReadFault, Yields};
-ghost use Rattle.timing_steps.specs.Ran.{HasCause, Ran};
+ghost use Rattle.timing_steps.specs.Answers.{Gives, OnReadFault, Yields, seen_of};
+ghost use Rattle.timing_steps.specs.Ran.{HasCause, Ran, output_of};
 ghost use Rattle.timing_verify.specs.Asked.{FollowsReport, HasReported, ReadsNeeded, ReadsReport, ReportInputRose};
 
 use crate::needs::check_each;
@@ -55,19 +55,9 @@ fn answer_on<H: Shelf>(
     media: &[Media],
     claims: &[ReportProof],
 ) -> Result<Answer, Failure>
-    ensures follows { Yields result (ReadsNeeded (record {
-      texts = H.text shelf.old;
-      lacks = H.lacks shelf.old;
-      before = H.faults shelf.old;
-      now = H.faults shelf.new;
-    }) result job.now media.now claims.now
+    ensures follows { Yields result (ReadsNeeded (seen_of H.text H.lacks H.faults shelf.old shelf.new) result job.now media.now claims.now
         (λ text. Gives result (HasReported job.now media.now claims.now text))) }
-    ensures cause { HasCause result (ReportInputRose job.now (record {
-      texts = H.text shelf.old;
-      lacks = H.lacks shelf.old;
-      before = H.faults shelf.old;
-      now = H.faults shelf.new;
-    })) }
+    ensures cause { HasCause result (ReportInputRose job.now (seen_of H.text H.lacks H.faults shelf.old shelf.new)) }
     ensures lacks { (n : List ℕ) → H.lacks shelf.old n → H.lacks shelf.new n }
     ensures texts { (n : List ℕ) → H.text shelf.new n ≡ H.text shelf.old n }
     ensures later { (n : List ℕ) → H.faults shelf.old n ≤ H.faults shelf.new n }
@@ -83,24 +73,9 @@ fn answer_over<H: Shelf>(
     shelf: &mut H,
     media: &[Media],
 ) -> Result<Answer, Failure>
-    ensures follows { Yields result (ReadsReport (record {
-      texts = H.text shelf.old;
-      lacks = H.lacks shelf.old;
-      before = H.faults shelf.old;
-      now = H.faults shelf.new;
-    }) result job.now.report (λ claims. ReadsNeeded (record {
-      texts = H.text shelf.old;
-      lacks = H.lacks shelf.old;
-      before = H.faults shelf.old;
-      now = H.faults shelf.new;
-    }) result job.now media.now claims
+    ensures follows { Yields result (ReadsReport (seen_of H.text H.lacks H.faults shelf.old shelf.new) result job.now.report (λ claims. ReadsNeeded (seen_of H.text H.lacks H.faults shelf.old shelf.new) result job.now media.now claims
         (λ text. Gives result (HasReported job.now media.now claims text)))) }
-    ensures cause { HasCause result (ReportInputRose job.now (record {
-      texts = H.text shelf.old;
-      lacks = H.lacks shelf.old;
-      before = H.faults shelf.old;
-      now = H.faults shelf.new;
-    })) }
+    ensures cause { HasCause result (ReportInputRose job.now (seen_of H.text H.lacks H.faults shelf.old shelf.new)) }
     ensures lacks { (n : List ℕ) → H.lacks shelf.old n → H.lacks shelf.new n }
     ensures texts { (n : List ℕ) → H.text shelf.new n ≡ H.text shelf.old n }
     ensures later { (n : List ℕ) → H.faults shelf.old n ≤ H.faults shelf.new n }
@@ -118,18 +93,8 @@ pub fn answer_report<H: Shelf>(
     job: &ReportJob,
     shelf: &mut H,
 ) -> Result<Answer, Failure>
-    ensures follows { FollowsReport job.now (record {
-      texts = H.text shelf.old;
-      lacks = H.lacks shelf.old;
-      before = H.faults shelf.old;
-      now = H.faults shelf.new;
-    }) result }
-    ensures cause { HasCause result (ReportInputRose job.now (record {
-      texts = H.text shelf.old;
-      lacks = H.lacks shelf.old;
-      before = H.faults shelf.old;
-      now = H.faults shelf.new;
-    })) }
+    ensures follows { FollowsReport job.now (seen_of H.text H.lacks H.faults shelf.old shelf.new) result }
+    ensures cause { HasCause result (ReportInputRose job.now (seen_of H.text H.lacks H.faults shelf.old shelf.new)) }
     ensures lacks { (n : List ℕ) → H.lacks shelf.old n → H.lacks shelf.new n }
     ensures texts { (n : List ℕ) → H.text shelf.new n ≡ H.text shelf.old n }
     ensures later { (n : List ℕ) → H.faults shelf.old n ≤ H.faults shelf.new n }
@@ -149,20 +114,10 @@ pub fn verify_all<H: Shelf, K: Sink>(
     out: &mut K,
     err: &mut K,
 ) -> Status
-    ensures ran { Ran (FollowsReport job.now (record {
-      texts = H.text shelf.old;
-      lacks = H.lacks shelf.old;
-      before = H.faults shelf.old;
-      now = H.faults shelf.new;
-    }))
-        (ReportInputRose job.now (record {
-          texts = H.text shelf.old;
-          lacks = H.lacks shelf.old;
-          before = H.faults shelf.old;
-          now = H.faults shelf.new;
-        }))
-        (record { old = K.written out.old; new = K.written out.new; before = K.faults out.old; now = K.faults out.new })
-        (record { old = K.written err.old; new = K.written err.new; before = K.faults err.old; now = K.faults err.new })
+    ensures ran { Ran (FollowsReport job.now (seen_of H.text H.lacks H.faults shelf.old shelf.new))
+        (ReportInputRose job.now (seen_of H.text H.lacks H.faults shelf.old shelf.new))
+        (output_of K.written K.faults out.old out.new)
+        (output_of K.written K.faults err.old err.new)
         result }
     ensures lacks { (n : List ℕ) → H.lacks shelf.old n → H.lacks shelf.new n }
     ensures texts { (n : List ℕ) → H.text shelf.new n ≡ H.text shelf.old n }

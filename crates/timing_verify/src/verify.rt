@@ -1,8 +1,8 @@
 //! `verify`: one fail, checked from the captures alone.
 
 ghost use Rattle.std.specs.Prelude.{◌≡◌, ◌≤◌, ℕ, List, slice_get};
-ghost use Rattle.timing_steps.specs.Answers.{Gives, ReadsCaptures, Yields};
-ghost use Rattle.timing_steps.specs.Ran.{HasCause, Ran};
+ghost use Rattle.timing_steps.specs.Answers.{Gives, ReadsCaptures, Yields, seen_of};
+ghost use Rattle.timing_steps.specs.Ran.{HasCause, Ran, output_of};
 ghost use Rattle.timing_verify.specs.Asked.{FollowsVerify, HasVerified, ReadsMedia, VerifyInputRose, claim_of};
 
 use crate::find::find;
@@ -36,18 +36,8 @@ fn answer_on<H: Shelf>(
     shelf: &mut H,
     media: &Media,
 ) -> Result<Answer, Failure>
-    ensures follows { Yields result (ReadsCaptures (record {
-      texts = H.text shelf.old;
-      lacks = H.lacks shelf.old;
-      before = H.faults shelf.old;
-      now = H.faults shelf.new;
-    }) result job.now.captures (λ texts. Gives result (HasVerified job.now media.now texts))) }
-    ensures cause { HasCause result (VerifyInputRose job.now (record {
-      texts = H.text shelf.old;
-      lacks = H.lacks shelf.old;
-      before = H.faults shelf.old;
-      now = H.faults shelf.new;
-    })) }
+    ensures follows { Yields result (ReadsCaptures (seen_of H.text H.lacks H.faults shelf.old shelf.new) result job.now.captures (λ texts. Gives result (HasVerified job.now media.now texts))) }
+    ensures cause { HasCause result (VerifyInputRose job.now (seen_of H.text H.lacks H.faults shelf.old shelf.new)) }
     ensures lacks { (n : List ℕ) → H.lacks shelf.old n → H.lacks shelf.new n }
     ensures texts { (n : List ℕ) → H.text shelf.new n ≡ H.text shelf.old n }
     ensures later { (n : List ℕ) → H.faults shelf.old n ≤ H.faults shelf.new n }
@@ -65,18 +55,8 @@ fn answer_over<H: Shelf>(
     shelf: &mut H,
     media: &[Media],
 ) -> Result<Answer, Failure>
-    ensures follows { Yields result (ReadsMedia (record {
-      texts = H.text shelf.old;
-      lacks = H.lacks shelf.old;
-      before = H.faults shelf.old;
-      now = H.faults shelf.new;
-    }) result job.now (slice_get media.now job.now.media)) }
-    ensures cause { HasCause result (VerifyInputRose job.now (record {
-      texts = H.text shelf.old;
-      lacks = H.lacks shelf.old;
-      before = H.faults shelf.old;
-      now = H.faults shelf.new;
-    })) }
+    ensures follows { Yields result (ReadsMedia (seen_of H.text H.lacks H.faults shelf.old shelf.new) result job.now (slice_get media.now job.now.media)) }
+    ensures cause { HasCause result (VerifyInputRose job.now (seen_of H.text H.lacks H.faults shelf.old shelf.new)) }
     ensures lacks { (n : List ℕ) → H.lacks shelf.old n → H.lacks shelf.new n }
     ensures texts { (n : List ℕ) → H.text shelf.new n ≡ H.text shelf.old n }
     ensures later { (n : List ℕ) → H.faults shelf.old n ≤ H.faults shelf.new n }
@@ -94,18 +74,8 @@ pub fn answer_verify<H: Shelf>(
     job: &VerifyJob,
     shelf: &mut H,
 ) -> Result<Answer, Failure>
-    ensures follows { FollowsVerify job.now (record {
-      texts = H.text shelf.old;
-      lacks = H.lacks shelf.old;
-      before = H.faults shelf.old;
-      now = H.faults shelf.new;
-    }) result }
-    ensures cause { HasCause result (VerifyInputRose job.now (record {
-      texts = H.text shelf.old;
-      lacks = H.lacks shelf.old;
-      before = H.faults shelf.old;
-      now = H.faults shelf.new;
-    })) }
+    ensures follows { FollowsVerify job.now (seen_of H.text H.lacks H.faults shelf.old shelf.new) result }
+    ensures cause { HasCause result (VerifyInputRose job.now (seen_of H.text H.lacks H.faults shelf.old shelf.new)) }
     ensures lacks { (n : List ℕ) → H.lacks shelf.old n → H.lacks shelf.new n }
     ensures texts { (n : List ℕ) → H.text shelf.new n ≡ H.text shelf.old n }
     ensures later { (n : List ℕ) → H.faults shelf.old n ≤ H.faults shelf.new n }
@@ -125,20 +95,10 @@ pub fn verify_one<H: Shelf, K: Sink>(
     out: &mut K,
     err: &mut K,
 ) -> Status
-    ensures ran { Ran (FollowsVerify job.now (record {
-      texts = H.text shelf.old;
-      lacks = H.lacks shelf.old;
-      before = H.faults shelf.old;
-      now = H.faults shelf.new;
-    }))
-        (VerifyInputRose job.now (record {
-          texts = H.text shelf.old;
-          lacks = H.lacks shelf.old;
-          before = H.faults shelf.old;
-          now = H.faults shelf.new;
-        }))
-        (record { old = K.written out.old; new = K.written out.new; before = K.faults out.old; now = K.faults out.new })
-        (record { old = K.written err.old; new = K.written err.new; before = K.faults err.old; now = K.faults err.new })
+    ensures ran { Ran (FollowsVerify job.now (seen_of H.text H.lacks H.faults shelf.old shelf.new))
+        (VerifyInputRose job.now (seen_of H.text H.lacks H.faults shelf.old shelf.new))
+        (output_of K.written K.faults out.old out.new)
+        (output_of K.written K.faults err.old err.new)
         result }
     ensures lacks { (n : List ℕ) → H.lacks shelf.old n → H.lacks shelf.new n }
     ensures texts { (n : List ℕ) → H.text shelf.new n ≡ H.text shelf.old n }
