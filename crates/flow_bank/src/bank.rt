@@ -41,6 +41,7 @@ impl Bank {
     /// Takes a record: its number from 1, its stamp in nanoseconds, and its frame. The packet of the
     /// frame goes to the judge of each media whose target is the frame's. `Err` is want of memory;
     /// what the bank was fed isn't known from then on.
+    #[inline(always)]
     pub fn take(&mut self, number: u64, at: u64, frame: &[u8]) -> Result<(), OutOfMemory>
         requires stamp { IsStamp at }
         requires few { records self.old < 2 ^ 41 }

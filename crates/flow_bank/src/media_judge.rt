@@ -42,6 +42,7 @@ impl MediaJudge {
     }
 
     /// Takes the datagram of a record, where it goes to this media.
+    #[inline(always)]
     pub fn take(&mut self, rec: u64, at: u64, datagram: &Datagram<'_>) -> Result<(), OutOfMemory>
         requires stamp { IsStamp at }
         requires few { count_fed self.old.judge < 2 ^ 41 }

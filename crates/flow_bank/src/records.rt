@@ -26,6 +26,7 @@ pub struct Taken {
 
 /// Takes the next record, the number raised by `before`. Answers how the records ended, where there
 /// is no record more.
+#[inline(always)]
 fn take_next<S: Source>(
     reader: &mut PcapReader<S>,
     before: u64,

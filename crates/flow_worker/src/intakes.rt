@@ -45,6 +45,7 @@ pub struct Taken {
 }
 
 /// Puts the packet of a record, if it has one for a media of the session, into its batch.
+#[inline(always)]
 fn take_record<R: Wait>(
     rt: &R,
     alloc: Global,
@@ -76,6 +77,7 @@ fn take_record<R: Wait>(
 }
 
 /// Takes the next record. Answers how the records ended, where there is no record more.
+#[inline(always)]
 fn take_next<R: Wait, S: Source>(
     rt: &R,
     alloc: Global,

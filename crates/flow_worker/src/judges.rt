@@ -87,6 +87,7 @@ impl Judges {
     }
 
     // Feeds one packet to the judge of its media, if there is one.
+    #[inline(always)]
     fn feed(&mut self, packet: &Packet, before: u64) -> Result<(), OutOfMemory>
         requires before { before ≤ 2 ^ 41 }
         requires room { HaveRoom 1 self.old }

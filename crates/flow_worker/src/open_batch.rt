@@ -40,6 +40,7 @@ impl OpenBatch {
 
     /// Puts a packet at the end. Where that fills the batch, its packets are the answer, and the next
     /// batch begins. `Err` is want of memory, and changes nothing.
+    #[inline(always)]
     pub fn put(
         &mut self,
         alloc: Global,

@@ -116,6 +116,7 @@ impl<'a> Outboxes<'a> {
 
     /// Puts a packet into the batch for a lane, and sends the batch where that fills it. `Err` is want
     /// of memory; then nothing was sent.
+    #[inline(always)]
     pub fn put<R: Wait>(
         &mut self,
         rt: &R,

@@ -27,6 +27,7 @@ pub fn dealt_file(file: u32, joined: bool) -> u32
 }
 
 /// The number of the first of these media that has the target.
+#[inline(always)]
 fn find_media(media: &[Media], target: Target) -> Option<u32>
     requires { length media.now ≤ 64 }
     ensures { result ≡ media_to target 0 media.now }
@@ -44,6 +45,7 @@ impl Routing<'_> {
 
     /// The packet that a record is of the first media that it goes to, if there is one: the record's
     /// number from 1, its stamp in nanoseconds, and its frame.
+    #[inline(always)]
     pub fn packet(&self, number: u64, at: u64, frame: &[u8]) -> Option<Packet>
         requires media { length self.now.media.now ≤ 64 }
         requires number { number < 2 ^ 37 }
@@ -63,6 +65,7 @@ impl Routing<'_> {
     }
 
     /// The lane of a packet, counted from 0.
+    #[inline(always)]
     pub fn lane(&self, packet: &Packet) -> usize
         requires routing { IsRouting self.now }
         requires media { packet.now.media < length self.now.media.now }
