@@ -7,7 +7,7 @@ ghost use Rattle.timing_words.specs.Request.{request};
 ghost use Rattle.timing_top.specs.Asked.{Follows, FollowsSelfTest, InputRose};
 
 use crate::check::answer_many;
-use crate::self_test::answer_self_test;
+use crate::self_tests::answer_self_test;
 use std::alloc::Global;
 use std::sync::Wait;
 use std::thread::Threads;

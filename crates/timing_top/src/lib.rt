@@ -11,7 +11,7 @@ mod joined;
 mod judging;
 pub mod laws;
 mod many;
-mod self_test;
+mod self_tests;
 
 pub use check::{check_many, check_one};
 pub use commands::{run, self_test};

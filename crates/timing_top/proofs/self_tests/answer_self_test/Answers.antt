@@ -1,6 +1,6 @@
 use Rattle.std.proofs.Common.{◌≡◌, refl, inr, subst, string_bytes, arith}
 use Rattle.timing_top.specs.SelfTest.{HasLines}
-use Rattle.timing_top.proofs.self_test.answer_self_test.Goals as goal
+use Rattle.timing_top.proofs.self_tests.answer_self_test.Goals as goal
 
 pub returns : goal.returns
 returns g c =

@@ -11,7 +11,7 @@ use Rattle.timing_steps.specs.Answers.{CaptureRose}
 use Rattle.flow_bank.specs.Found.{AreFound}
 use Rattle.timing_top.proofs.Following.{fetched-same}
 use Rattle.timing_top.proofs.SelfTests.{has-line, never-rose, no-cause, one-found, plain_media, session-is}
-use Rattle.timing_top.proofs.self_test.line_of.Goals as goal
+use Rattle.timing_top.proofs.self_tests.line_of.Goals as goal
 
 pub returns-in-Err-clause-memory : goal.returns-in-Err-clause-memory
 returns-in-Err-clause-memory g c =
