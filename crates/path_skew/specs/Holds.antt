@@ -1,0 +1,11 @@
+-- What a `Matches` says of the skews that it was given.
+use Rattle.std.specs.Prelude.{◌≡◌, List, length}
+use Rattle.path_skew.specs.Pair.{earliest, rising, falling}
+use Rattle.path_skew.specs.declared.row.Extreme.{Extreme}
+use Rattle.path_skew.specs.declared.matches.Matches.{Matches}
+
+-- these skews were seen
+pub record HoldsSkews (m : Matches) (es : List Extreme) : Type 0 where
+  pub matched : m.matched ≡ length es
+  pub least : m.least ≡ earliest rising es
+  pub greatest : m.greatest ≡ earliest falling es

@@ -1,0 +1,12 @@
+-- what is promised
+pub mod Pair
+pub mod Stands
+-- what is kept of one flow, of which `Stands` is made
+pub mod Holds
+pub mod Kept
+pub mod Rising
+-- the extremes by what holds of them, and flows that are worked by hand
+pub mod Examples
+pub mod Extremes
+-- what one packet changes
+pub mod Step

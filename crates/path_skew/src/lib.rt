@@ -1,0 +1,16 @@
+//! The skew of two flows that carry the same packets by two paths: how far the stamps of equal packet
+//! numbers lie apart.
+#![tactic(auto)]
+
+mod arrival;
+mod arrivals;
+pub mod laws;
+mod matches;
+mod row;
+mod skew;
+
+pub use row::{Extreme, SkewRow};
+pub use skew::Skew;
+
+#[cfg(test)]
+mod tests;

@@ -1,0 +1,269 @@
+//! The worked rows of two flows, from their packets to their row.
+
+ghost use Rattle.std.specs.Prelude.{◌≡◌, ◌<◌, ◌^◌};
+ghost use Rattle.path_skew.specs.Stands.{count_first, count_second};
+
+use super::*;
+use std::alloc::Global;
+use std::process::Abort;
+use std::test::Fail;
+use timing_base::{PacketFault, Rtp};
+
+// Two flows, and how many packets of each were taken.
+#[derive(Drop)]
+struct Pair {
+    skew: Skew,
+    firsts: u64,
+    seconds: u64,
+    ghost counted_first: { count_first skew ≡ firsts },
+    ghost counted_second: { count_second skew ≡ seconds },
+}
+
+fn read(number: u32) -> Result<Rtp, PacketFault> {
+    Ok(Rtp {
+        number,
+        timestamp: 0,
+        marker: false,
+        pt: 96,
+        ssrc: 1,
+    })
+}
+
+impl Pair {
+    fn new(alloc: Global) -> Pair {
+        Pair {
+            skew: Skew::new(alloc),
+            firsts: 0,
+            seconds: 0,
+        }
+    }
+
+    // Asserts what `first` requires, since a proof does not follow the packets of a loop.
+    fn first(
+        &mut self,
+        rt: &impl Abort,
+        rec: u64,
+        at: u64,
+        rtp: Result<Rtp, PacketFault>,
+    ) -> Result<(), Fail> {
+        assert!(rt; at < 1 << 62);
+        assert!(rt; self.firsts < 1 << 41);
+        self.skew.first(rec, at, rtp)?;
+        self.firsts += 1;
+        Ok(())
+    }
+
+    fn second(
+        &mut self,
+        rt: &impl Abort,
+        rec: u64,
+        at: u64,
+        rtp: Result<Rtp, PacketFault>,
+    ) -> Result<(), Fail> {
+        assert!(rt; at < 1 << 62);
+        assert!(rt; self.seconds < 1 << 41);
+        self.skew.second(rec, at, rtp)?;
+        self.seconds += 1;
+        Ok(())
+    }
+
+    fn finish(self) -> SkewRow {
+        let Pair { skew, .. } = self;
+        skew.finish()
+    }
+}
+
+// The stamp of record `rec` of a made capture: a head 1 ms before the first frame, and two frames of 20
+// packets each.
+fn stamp(rec: u64) -> u64
+    ensures { result < 2 ^ 62 }
+{
+    let second = 1_600_000_000_000_000_000;
+    if rec < 2 {
+        return second - 1_000_000;
+    }
+    let place = (rec - 2) % 64;
+    second + 20_000_000 * (place / 20) + 764_000 + 960_000 * (place % 20)
+}
+
+// The same by a path that is 150 ns longer, and 900 ns for record 5.
+fn later(rec: u64) -> u64 {
+    stamp(rec) + if rec == 5 { 900 } else { 150 }
+}
+
+#[test]
+fn skew_pair(rt: HostRuntime) -> Result<(), Fail> {
+    let mut pair = Pair::new(rt.alloc());
+    for rec in 1..42u32 {
+        pair.first(&rt, u64::from(rec), stamp(u64::from(rec)), read(rec - 1))?;
+    }
+    for rec in 1..41u32 {
+        pair.second(&rt, u64::from(rec), later(u64::from(rec)), read(rec - 1))?;
+    }
+    let row = SkewRow {
+        matched: 40,
+        first_only: 1,
+        second_only: 0,
+        repeated: 0,
+        unread: 0,
+        least: Some(Extreme {
+            skew: 150,
+            first_rec: 1,
+            second_rec: 1,
+        }),
+        greatest: Some(Extreme {
+            skew: 900,
+            first_rec: 5,
+            second_rec: 5,
+        }),
+    };
+    assert_eq!(rt; pair.finish(), row);
+    Ok(())
+}
+
+// The packets of the two flows come in turn.
+#[test]
+fn skew_swapped(rt: HostRuntime) -> Result<(), Fail> {
+    let mut pair = Pair::new(rt.alloc());
+    for rec in 1..41u32 {
+        pair.second(&rt, u64::from(rec), stamp(u64::from(rec)), read(rec - 1))?;
+        pair.first(&rt, u64::from(rec), later(u64::from(rec)), read(rec - 1))?;
+    }
+    pair.second(&rt, 41, stamp(41), read(40))?;
+    let row = SkewRow {
+        matched: 40,
+        first_only: 0,
+        second_only: 1,
+        repeated: 0,
+        unread: 0,
+        least: Some(Extreme {
+            skew: -900,
+            first_rec: 5,
+            second_rec: 5,
+        }),
+        greatest: Some(Extreme {
+            skew: -150,
+            first_rec: 1,
+            second_rec: 1,
+        }),
+    };
+    assert_eq!(rt; pair.finish(), row);
+    Ok(())
+}
+
+#[test]
+fn unread_and_repeated(rt: HostRuntime) -> Result<(), Fail> {
+    let mut pair = Pair::new(rt.alloc());
+    pair.first(&rt, 1, 10, Err(PacketFault::Short))?;
+    pair.first(&rt, 2, 20, read(7))?;
+    pair.second(&rt, 4, 40, read(6))?;
+    pair.second(&rt, 5, 50, Err(PacketFault::Version))?;
+    pair.second(&rt, 9, 60, read(7))?;
+    pair.second(&rt, 11, 61, read(7))?;
+    pair.first(&rt, 12, 70, read(6))?;
+    pair.first(&rt, 13, 75, read(6))?;
+    pair.first(&rt, 14, 80, Err(PacketFault::Short))?;
+    let row = SkewRow {
+        matched: 2,
+        first_only: 0,
+        second_only: 0,
+        repeated: 2,
+        unread: 3,
+        least: Some(Extreme {
+            skew: -30,
+            first_rec: 12,
+            second_rec: 4,
+        }),
+        greatest: Some(Extreme {
+            skew: 40,
+            first_rec: 2,
+            second_rec: 9,
+        }),
+    };
+    assert_eq!(rt; pair.finish(), row);
+    Ok(())
+}
+
+const MANY: u32 = 100_000;
+
+// The number of packet i of a flow.
+#[derive(Clone, Copy)]
+enum Numbers {
+    Rising,
+    Falling,
+    // Rising ones above and falling ones below, in turn.
+    Alternating,
+    // The high half stays 0.
+    Low,
+}
+
+fn number(numbers: Numbers, i: u32) -> u32 {
+    match numbers {
+        Numbers::Rising => i,
+        Numbers::Falling => u32::MAX - i,
+        Numbers::Alternating => {
+            if i % 2 == 0 {
+                (1 << 31) ^ i
+            } else {
+                (1u32 << 30).saturating_sub(i)
+            }
+        }
+        Numbers::Low => i % 65_536,
+    }
+}
+
+// The row of two flows with these numbers, the second 3 ns later, and 5 ns from packet 50,000 on.
+fn many(rt: &impl Abort, alloc: Global, numbers: Numbers) -> Result<SkewRow, Fail> {
+    let mut pair = Pair::new(alloc);
+    for i in 0..MANY {
+        pair.first(
+            rt,
+            u64::from(i) + 1,
+            4_444 * u64::from(i),
+            read(number(numbers, i)),
+        )?;
+    }
+    for i in 0..MANY {
+        let at = 4_444 * u64::from(i) + if i < 50_000 { 3 } else { 5 };
+        pair.second(rt, u64::from(i) + 1, at, read(number(numbers, i)))?;
+    }
+    Ok(pair.finish())
+}
+
+// What is told where each number is matched or repeated.
+fn matched(matched: u64) -> SkewRow {
+    SkewRow {
+        matched,
+        first_only: 0,
+        second_only: 0,
+        repeated: 200_000 - 2 * matched.min(100_000),
+        unread: 0,
+        least: Some(Extreme {
+            skew: 3,
+            first_rec: 1,
+            second_rec: 1,
+        }),
+        greatest: Some(Extreme {
+            skew: 5,
+            first_rec: 50_001,
+            second_rec: 50_001,
+        }),
+    }
+}
+
+#[test]
+fn many_in_order(rt: HostRuntime) -> Result<(), Fail> {
+    assert_eq!(rt; many(&rt, rt.alloc(), Numbers::Rising)?, matched(100_000));
+    assert_eq!(rt; many(&rt, rt.alloc(), Numbers::Low)?, matched(65_536));
+    Ok(())
+}
+
+#[test]
+fn many_out_of_order(rt: HostRuntime) -> Result<(), Fail> {
+    assert_eq!(rt; many(&rt, rt.alloc(), Numbers::Falling)?, matched(100_000));
+    assert_eq!(rt;
+        many(&rt, rt.alloc(), Numbers::Alternating)?,
+        matched(100_000)
+    );
+    Ok(())
+}
