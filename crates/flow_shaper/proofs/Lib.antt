@@ -1,0 +1,7 @@
+pub mod Buffers
+pub mod Counts
+pub mod Fed
+pub mod Greedy
+pub mod Limits
+pub mod Next
+pub mod Seams
