@@ -42,7 +42,7 @@ due-below m n anchor gapped t count x are due = elim (cases_lt x count) as (λ _
 ]
 
 -- later instants have no fewer reads
-due-rises : (m : Media) (n : ℕ) (anchor : ℤ) (gapped : Bool) (a b few many : ℕ)
+pub due-rises : (m : Media) (n : ℕ) (anchor : ℤ) (gapped : Bool) (a b few many : ℕ)
     → a ≤ b
     → AreDue m n anchor gapped (whole a) few
     → AreDue m n anchor gapped (whole b) many

@@ -15,7 +15,7 @@ use Rattle.flow_shaper.specs.Choice.{Chooses, HaveStarted, HavePassed}
 use Rattle.flow_shaper.specs.Plan.{IsLeast, IsPlan, Models, Shaped, models_of}
 use Rattle.flow_shaper.specs.Stands.{CanFollow, IsAfter, IsCount, NoneInTime, StandsFor}
 use Rattle.flow_shaper.specs.declared.departure.Bound.{Bound}
-use Rattle.flow_shaper.specs.declared.departure.Bound.TheVariants.{Arrival}
+use Rattle.flow_shaper.specs.declared.departure.Bound.TheVariants.{Arrival, Order}
 use Rattle.flow_shaper.specs.declared.departure.Departure.{Departure}
 use Rattle.flow_shaper.specs.declared.meters.Meters.{Meters}
 use Rattle.flow_shaper.specs.declared.shaper.Shaper.{Shaper}
@@ -23,7 +23,7 @@ use Rattle.flow_shaper.proofs.Buffers.{due-below, held-is, held-room, number-mos
 use Rattle.flow_shaper.proofs.Counts.{count-append, count-first, count-most}
 use Rattle.flow_shaper.proofs.Greedy.{Rises, Serves, least-append, least-none, plan-serves}
 use Rattle.flow_shaper.proofs.Limits.{c_max-some, tick-due, tick-one, ticks-are, vrx_full-some}
-use Rattle.flow_shaper.proofs.Next.{AreReady, bound-is, serves-least, serves-when, waits-next}
+use Rattle.flow_shaper.proofs.Next.{AreReady, bound-is, order-never, serves-least, serves-when, waits-next}
 use Rattle.flow_shaper.proofs.Seams.{before, falls-append, last, seam}
 
 -- what `next` says
@@ -315,6 +315,22 @@ bound-next params s (x ∷ xs) departures a d st can answers in_time =
     let placed = subst (λ k. IsBound (models params s) news outs k d.bound) (sym size) bound in
     let first : slice_index news 0 ≡ s.origin = before arrivals a 0 (omega arith) ∙ was.2.first in
     subst (λ o. IsBound (models_of params.media params.n s.kind o) news outs (length arrivals) d.bound) (sym first) placed
+
+-- order alone never does
+pub never-order : (params : Params) (s : Shaper) (arrivals departures : List ℕ) (a : ℕ) (d : Departure)
+    → StandsFor params s arrivals departures
+    → CanFollow s arrivals a
+    → Answers params s a d
+    → d.bound ≢ Order
+never-order params s [] departures a d st can answers = λ is. let e = (answers.first (st.fresh refl)).1 in absurd (cc)
+never-order params s (x ∷ xs) departures a d st can answers =
+    let arrivals = x ∷ xs in
+    let i = length xs in
+    let size : length arrivals ≡ i + 1 = omega arith in
+    let was = st.fed i size in
+    let h = chooses params s was.0 arrivals departures i a d st size was.1 answers in
+    let r = ready params s was.0 arrivals departures i st was.2 size in
+    order-never (models params s) was.0 arrivals departures i a d.at d.bound r (can.later i size) h.arrival h.bucket h.buffer h.chosen
 
 -- where it would leave at the end or later it does so in each plan
 pub none_in_time : (params : Params) (s : Shaper) (arrivals departures : List ℕ) (a : ℕ) (d : Departure)

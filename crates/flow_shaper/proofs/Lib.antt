@@ -1,5 +1,6 @@
 pub mod Buffers
 pub mod Counts
+pub mod Exists
 pub mod Fed
 pub mod Greedy
 pub mod Limits

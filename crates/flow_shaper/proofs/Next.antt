@@ -1,5 +1,5 @@
 -- The next departure, from both models after the last one.
-use Rattle.std.proofs.Common.{◌≡◌, ◌≢◌, ◌≤◌, ◌<◌, ◌+◌, ◌-◌, ◌^◌, ◌⊎◌, ◌↔◌, ℕ, List, [], ◌∷◌, ◌++◌, length, slice_index, ap, ◌∙◌, sym, inl, inr, arith, length-append}
+use Rattle.std.proofs.Common.{◌≡◌, ◌≢◌, ◌≤◌, ◌<◌, ◌+◌, ◌-◌, ◌^◌, ◌⊎◌, ◌↔◌, ℕ, List, [], ◌∷◌, ◌++◌, length, slice_index, ap, subst, ◌∙◌, sym, inl, inr, arith, length-append}
 use Rattle.std.proofs.lemmas.Bool.{cases_lt}
 use Rattle.flow_shaper.specs.Bounds.{IsBound, IsLatestFull, Overfills, Overloads}
 use Rattle.flow_shaper.specs.Choice.{Chooses, IsChosen}
@@ -85,9 +85,9 @@ pub serves-least : (w : Models) (m : Meters) (arrivals departures : List ℕ) (i
 serves-least w m arrivals departures i a e d r h s low =
     let here : slice_index departures i ≤ e = s.order i (omega (arith, r.left)) in
     let tick : w.c_max ≤ m.count → m.tick.due ≤ e = λ full. (r.tick e).1 (
-      let load_is = s.bucket m.begin (omega (arith, r.left, r.count.begins)) in
-      let up = r.rises (slice_index departures m.begin) (slice_index departures i) (r.falls m.begin r.count.begins) in
-      omega (arith, load_is, r.count.begin_load, r.count.begins, r.left, r.some, full, up)) in
+    let load_is = s.bucket m.begin (omega (arith, r.left, r.count.begins)) in
+    let up = r.rises (slice_index departures m.begin) (slice_index departures i) (r.falls m.begin r.count.begins) in
+    omega (arith, load_is, r.count.begin_load, r.count.begins, r.left, r.some, full, up)) in
     let read : m.read.number + w.vrx_full ≤ i + 1 → m.read.at ≤ e =
     (r.room e here low).0 (omega (arith, s.buffer, ap (λ k. w.held k e) r.left)) in
     chosen-least m w.c_max w.vrx_full (i + 1) a d.at e d.bound h.chosen s.after (omega (arith, here, r.last)) tick read
@@ -191,3 +191,17 @@ waits-next w m arrivals departures i a d drained count number (Buffer x) r came 
     inr (omega (arith, few h.3, h.2))
 waits-next w m arrivals departures i a d drained count number Order r came tick read h ticks is few delayed =
     absurd (never_with w m arrivals departures i a d r came tick read delayed h.3)
+
+-- order alone holds none back
+pub order-never : (w : Models) (m : Meters) (arrivals departures : List ℕ) (i a d : ℕ) (bound : Bound)
+    → AreReady w m arrivals departures i
+    → slice_index arrivals i ≤ a
+    → a ≤ d
+    → (w.c_max ≤ m.count → m.tick.due ≤ d)
+    → (m.read.number + w.vrx_full ≤ i + 1 → m.read.at ≤ d)
+    → IsChosen m w.c_max w.vrx_full (i + 1) a d bound
+    → bound ≢ Order
+order-never w m arrivals departures i a d bound r came arrival tick read h is =
+    let order = subst (λ (b : Bound). IsChosen m w.c_max w.vrx_full (i + 1) a d b) is h in
+    let ne = order.0 in
+    never_with w m arrivals departures i a d r came tick read (omega (arith, ne, arrival)) order.3

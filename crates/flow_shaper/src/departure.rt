@@ -16,7 +16,8 @@ pub enum Bound {
         /// The read for which the packet waits.
         read: u64,
     },
-    /// The packet before it, with which it leaves. Within the limits of `Params` this never comes.
+    /// The packet before it, with which it leaves. A [`Shaper`](crate::Shaper) never answers it: where a
+    /// packet is delayed the next one waits for a later tick or read.
     Order,
 }
 

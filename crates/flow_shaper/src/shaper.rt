@@ -1,11 +1,11 @@
 //! The shaper.
 
-ghost use Rattle.std.specs.Prelude.{◌≡◌, ◌≤◌, ◌<◌, ◌+◌, ◌^◌, ◌++◌, ◌∷◌, [], ℕ, List, length};
+ghost use Rattle.std.specs.Prelude.{◌≡◌, ◌≢◌, ◌≤◌, ◌<◌, ◌+◌, ◌^◌, ◌++◌, ◌∷◌, [], ℕ, List, length};
 ghost use Rattle.std.specs.Prelude.{pos, negsuc, ◌≤ℤ◌, Some, None, Err, IfOk};
 ghost use Rattle.std.specs.Option.{ForSome};
 ghost use Rattle.sender_params.specs.Limits.{c_max_of, vrx_full_of};
 ghost use Rattle.sender_params.specs.Reads.{anchor_of};
-ghost use Rattle.flow_shaper.specs.declared.departure.Bound.TheVariants.{Arrival};
+ghost use Rattle.flow_shaper.specs.declared.departure.Bound.TheVariants.{Arrival, Order};
 
 use crate::departure::{Bound, Departure, Late};
 use crate::meters::Meters;
@@ -95,6 +95,9 @@ impl Shaper {
             → StandsFor params.now self.old arrivals departures → CanFollow self.old arrivals at
             → IfOk result (λ d. BoundAt params.now.media params.now.n self.old.kind
             (arrivals ++ at ∷ []) (departures ++ d.at ∷ []) (length arrivals) d.bound) }
+        ensures order { (arrivals departures : List ℕ)
+            → StandsFor params.now self.old arrivals departures → CanFollow self.old arrivals at
+            → IfOk result (λ d. d.bound ≢ Order) }
         ensures late { (arrivals departures : List ℕ)
             → StandsFor params.now self.old arrivals departures → CanFollow self.old arrivals at
             → (late : Late) → result ≡ Err late

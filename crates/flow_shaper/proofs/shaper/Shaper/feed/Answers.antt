@@ -1,5 +1,5 @@
 use Rattle.std.proofs.Common.{◌≡◌, ap, sym, ◌∙◌}
-use Rattle.flow_shaper.proofs.Fed.{bound-next, none_in_time, stands-next}
+use Rattle.flow_shaper.proofs.Fed.{bound-next, never-order, none_in_time, stands-next}
 use Rattle.flow_shaper.specs.declared.departure.Late.{Late}
 use Rattle.flow_shaper.proofs.shaper.Shaper.feed.Goals as goal
 
@@ -9,7 +9,7 @@ returns-then-departure-self-clause-late c = λ arrivals departures st can late i
     let named : c.args.self.now.seen ≡ late.packet = cc in (
       sym named ∙ st.seen,
       none_in_time c.args.params.now c.args.self.now arrivals departures c.args.at c.next-departure.result st can c.requires.in_time
-      (record { first = e.first; later = e.later }) c.if-departure-self.true,
+          (record { first = e.first; later = e.later }) c.if-departure-self.true,
     )
 
 pub returns-clause-bound : goal.returns-clause-bound
@@ -17,6 +17,12 @@ returns-clause-bound c = λ arrivals departures st can.
     let e = c.next-departure.ensures in
     bound-next c.args.params.now c.args.self.now arrivals departures c.args.at c.next-departure.result st can
     (record { first = e.first; later = e.later }) c.if-departure-self.false
+
+pub returns-clause-order : goal.returns-clause-order
+returns-clause-order c = λ arrivals departures st can.
+    let e = c.next-departure.ensures in
+    never-order c.args.params.now c.args.self.now arrivals departures c.args.at c.next-departure.result st can
+    (record { first = e.first; later = e.later })
 
 pub returns-clause-stands : goal.returns-clause-stands
 returns-clause-stands c = λ arrivals departures st can.
