@@ -1,10 +1,10 @@
 -- The bucket over departures, by its count.
-use Rattle.std.proofs.Common.{◌≡◌, ◌≤◌, ◌<◌, ◌+◌, ◌-◌, ◌↔◌, ℕ, List, [], ◌∷◌, ◌++◌, length, slice_index, ap, ◌∙◌, sym, inl, inr, arith, length-append}
+use Rattle.std.proofs.Common.{◌≡◌, ◌≤◌, ◌<◌, ◌+◌, ◌-◌, ℕ, List, [], ◌∷◌, ◌++◌, length, slice_index, ap, sym, inl, inr, arith}
 use Rattle.std.proofs.lemmas.Bool.{cases_lt}
 use Rattle.flow_shaper.specs.Plan.{IsPlan, Models, load}
 use Rattle.flow_shaper.specs.Stands.{IsCount}
 use Rattle.flow_shaper.proofs.Greedy.{Rises}
-use Rattle.flow_shaper.proofs.Seams.{before, last, seam}
+use Rattle.flow_shaper.proofs.Seams.{before, last}
 
 -- a plan's count is within C_MAX
 pub count-most : (w : Models) (arrivals departures : List ℕ) (i count begin : ℕ)

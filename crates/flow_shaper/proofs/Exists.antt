@@ -1,5 +1,5 @@
 -- Every list of arrivals has a plan that is least at each packet.
-use Rattle.std.proofs.Common.{◌≡◌, ◌≤◌, ◌<◌, ◌+◌, ◌-◌, ◌*◌, ◌/◌, ◌⊎◌, ℕ, ℤ, zero, suc, pos, ◌-ℤ◌, Bool, true, false, nat_le, max, List, [], ◌∷◌, ◌++◌, length, slice_index, take, refl, ap, subst, sym, ◌∙◌, inl, inr, arith}
+use Rattle.std.proofs.Common.{◌≡◌, ◌≤◌, ◌<◌, ◌+◌, ◌-◌, ◌*◌, ◌⊎◌, ℕ, ℤ, zero, suc, pos, ◌-ℤ◌, Bool, true, false, nat_le, max, List, [], ◌∷◌, ◌++◌, length, slice_index, take, refl, ap, subst, sym, ◌∙◌, inl, inr, arith}
 use Rattle.std.proofs.Math.Nat.{mul-le-mul, mul-le-mul_left}
 use Rattle.std.proofs.Math.Seq.{take-length, take-suc}
 use Rattle.std.proofs.lemmas.Bool.{cases_lt}
@@ -17,7 +17,7 @@ use Rattle.sender_params.specs.Times.{drain_time, group_time, groups_of, offset_
 use Rattle.sender_params.proofs.Ticks.{ticks_of-rises}
 use Rattle.read_schedule.proofs.Rising.{at_most-parts, difference, due-some, have_per}
 use Rattle.read_schedule.proofs.Times.{groups-some}
-use Rattle.flow_shaper.specs.Plan.{IsLeast, IsPlan, Models, Shaped, load, models_of}
+use Rattle.flow_shaper.specs.Plan.{IsLeast, Models, Shaped, models_of}
 use Rattle.flow_shaper.proofs.Buffers.{due-below, due-rises, held-is}
 use Rattle.flow_shaper.proofs.Greedy.{Rises, Serves, least-append, least-none}
 use Rattle.flow_shaper.proofs.Limits.{c_max-some, vrx_full-some}

@@ -1,12 +1,11 @@
 -- A shaper stands for one packet more after it is fed.
-use Rattle.std.proofs.Common.{◌≡◌, ◌≢◌, ◌≤◌, ◌<◌, ◌+◌, ◌-◌, ◌^◌, ◌⊎◌, ◌↔◌, ℕ, ℤ, List, [], ◌∷◌, ◌++◌, length, slice_index, Some, None, refl, ap, subst, ◌∙◌, sym, inl, inr, arith, length-append}
+use Rattle.std.proofs.Common.{◌≡◌, ◌≢◌, ◌≤◌, ◌<◌, ◌+◌, ◌-◌, ◌^◌, ℕ, ℤ, List, [], ◌∷◌, ◌++◌, length, slice_index, Some, None, refl, ap, subst, ◌∙◌, sym, inl, inr, arith, length-append}
 use Rattle.std.proofs.lemmas.Bool.{cases_lt}
 use Rattle.fraction128.specs.Clocks.{StandsAt}
-use Rattle.fraction128.specs.Fractions.{AtMost, whole}
 use Rattle.timing_base.specs.declared.media.Kind.{Kind}
 use Rattle.sender_params.specs.Limits.{c_max_of, gapped_of, vrx_full_of}
-use Rattle.sender_params.specs.Reads.{anchor_of, read_of}
-use Rattle.sender_params.specs.Ticks.{NeverFall, ticks_of}
+use Rattle.sender_params.specs.Reads.{anchor_of}
+use Rattle.sender_params.specs.Ticks.{NeverFall}
 use Rattle.sender_params.specs.declared.params.Params.{Params}
 use Rattle.sender_params.proofs.Ticks.{ticks_of-rises}
 use Rattle.read_schedule.specs.Stands.{IsNextAfter, StandsBy}
@@ -19,7 +18,7 @@ use Rattle.flow_shaper.specs.declared.departure.Bound.TheVariants.{Arrival, Orde
 use Rattle.flow_shaper.specs.declared.departure.Departure.{Departure}
 use Rattle.flow_shaper.specs.declared.meters.Meters.{Meters}
 use Rattle.flow_shaper.specs.declared.shaper.Shaper.{Shaper}
-use Rattle.flow_shaper.proofs.Buffers.{due-below, held-is, held-room, number-most}
+use Rattle.flow_shaper.proofs.Buffers.{due-below, held-room, number-most}
 use Rattle.flow_shaper.proofs.Counts.{count-append, count-first, count-most}
 use Rattle.flow_shaper.proofs.Greedy.{Rises, Serves, least-append, least-none, plan-serves}
 use Rattle.flow_shaper.proofs.Limits.{c_max-some, tick-due, tick-one, ticks-are, vrx_full-some}

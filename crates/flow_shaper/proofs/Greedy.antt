@@ -1,8 +1,6 @@
 -- The plan that is least at each packet is made packet by packet: each leaves as early as it can after those before it.
-use Rattle.std.proofs.Common.{◌≡◌, ◌≤◌, ◌<◌, ◌+◌, ◌-◌, ℕ, List, [], ◌∷◌, ◌++◌, length, slice_index, take, ap, ◌∙◌, sym, inl, inr, arith, length-append}
-use Rattle.std.proofs.lemmas.Bool.{cases_lt}
+use Rattle.std.proofs.Common.{◌≡◌, ◌≤◌, ◌<◌, ◌+◌, ℕ, List, [], ◌∷◌, ◌++◌, length, slice_index, take, ap, inl, inr, arith, length-append}
 use Rattle.std.proofs.lemmas.List.{get_or-take, length-take-le}
-use Rattle.sender_params.specs.Ticks.{NeverFall}
 use Rattle.flow_shaper.specs.Plan.{IsLeast, IsPlan, Models, load}
 use Rattle.flow_shaper.proofs.Seams.{before, falls-append, last, seam}
 

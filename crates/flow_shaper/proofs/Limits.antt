@@ -1,14 +1,14 @@
 -- The limits are never 0, and the ticks of the drain rise slowly.
-use Rattle.std.proofs.Common.{◌≡◌, ◌≤◌, ◌<◌, ◌+◌, ◌-◌, ◌*◌, ◌/◌, ◌↔◌, ℕ, Bool, true, false, cond, Option, Some, None, max, ap, sym, inl, inr, arith, refl}
+use Rattle.std.proofs.Common.{◌≡◌, ◌≤◌, ◌<◌, ◌+◌, ◌-◌, ◌*◌, ◌↔◌, ℕ, Bool, true, false, cond, Option, Some, None, arith, refl}
 use Rattle.std.specs.Option.{ForSome, unwrap_or}
 use Rattle.fraction128.specs.Clocks.{StandsAt, passed_by}
 use Rattle.fraction128.specs.declared.clock.Clock.{Clock}
-use Rattle.fraction128.proofs.Due.{after_origin, next_is_due}
+use Rattle.fraction128.proofs.Due.{next_is_due}
 use Rattle.std.proofs.lemmas.Nat.{div_below}
 use Rattle.timing_base.specs.Media.{IsMedia, Media}
 use Rattle.timing_base.specs.declared.media.Kind.{Kind}
 use Rattle.timing_base.specs.declared.media.Kind.TheVariants.{N, NL, W}
-use Rattle.sender_params.specs.Limits.{c_max_by_rate, c_max_of, is_declared, or_declared, vrx_full_of}
+use Rattle.sender_params.specs.Limits.{c_max_by_rate, c_max_of, is_declared, vrx_full_of}
 use Rattle.sender_params.specs.Ticks.{ticks_of}
 use Rattle.sender_params.specs.declared.params.Params.{Params}
 

@@ -1,7 +1,7 @@
 -- The next departure, from both models after the last one.
-use Rattle.std.proofs.Common.{◌≡◌, ◌≢◌, ◌≤◌, ◌<◌, ◌+◌, ◌-◌, ◌^◌, ◌⊎◌, ◌↔◌, ℕ, List, [], ◌∷◌, ◌++◌, length, slice_index, ap, subst, ◌∙◌, sym, inl, inr, arith, length-append}
+use Rattle.std.proofs.Common.{◌≡◌, ◌≢◌, ◌≤◌, ◌<◌, ◌+◌, ◌-◌, ◌^◌, ◌⊎◌, ◌↔◌, ℕ, List, [], ◌∷◌, ◌++◌, length, slice_index, ap, subst, ◌∙◌, sym, inl, inr, arith}
 use Rattle.std.proofs.lemmas.Bool.{cases_lt}
-use Rattle.flow_shaper.specs.Bounds.{IsBound, IsLatestFull, Overfills, Overloads}
+use Rattle.flow_shaper.specs.Bounds.{IsBound, Overfills}
 use Rattle.flow_shaper.specs.Choice.{Chooses, IsChosen}
 use Rattle.flow_shaper.specs.Plan.{IsLeast, Models, load}
 use Rattle.flow_shaper.specs.Stands.{IsCount}

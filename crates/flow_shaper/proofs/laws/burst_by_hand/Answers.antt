@@ -1,4 +1,4 @@
-use Rattle.std.proofs.Common.{◌≤◌, ◌<◌, ◌+◌, ◌-◌, ℕ, zero, suc, List, length, slice_index, arith}
+use Rattle.std.proofs.Common.{◌≤◌, ◌<◌, ◌+◌, ℕ, zero, suc, List, slice_index, arith}
 use Rattle.sender_params.specs.Ticks.{NeverFall}
 use Rattle.sender_params.specs.Worked.{at_once}
 use Rattle.flow_shaper.specs.Plan.{IsPlan, load}

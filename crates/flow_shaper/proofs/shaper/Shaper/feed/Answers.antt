@@ -1,6 +1,5 @@
-use Rattle.std.proofs.Common.{◌≡◌, ap, sym, ◌∙◌}
+use Rattle.std.proofs.Common.{◌≡◌, sym, ◌∙◌}
 use Rattle.flow_shaper.proofs.Fed.{bound-next, never-order, none_in_time, stands-next}
-use Rattle.flow_shaper.specs.declared.departure.Late.{Late}
 use Rattle.flow_shaper.proofs.shaper.Shaper.feed.Goals as goal
 
 pub returns-then-departure-self-clause-late : goal.returns-then-departure-self-clause-late
