@@ -1,11 +1,12 @@
 -- What a `Schedule` says of the stamps that it was asked for. m is the video, n the packets of one group, `anchor` the
 -- number of the group of read 0, and the schedule is gapped or linear (SMPTE ST 2110-21, read schedules).
-use Rattle.std.specs.Prelude.{◌≡◌, ◌<◌, ◌-◌, ℕ, ℤ, Bool, false, cond, nat_lt}
+use Rattle.std.specs.Prelude.{◌≡◌, ◌≤◌, ◌<◌, ◌+◌, ◌-◌, ◌^◌, ◌↔◌, ℕ, ℤ, Bool, false, cond, nat_lt}
 use Rattle.fraction128.specs.Fractions.{AtMost, at_most, whole}
 use Rattle.timing_base.specs.Media.{Media}
 use Rattle.sender_params.specs.Reads.{AreDue, read_of}
 use Rattle.read_schedule.specs.Parts.{IsGridOf}
 use Rattle.read_schedule.specs.declared.schedule.Due.{Due}
+use Rattle.read_schedule.specs.declared.schedule.NextRead.{NextRead}
 use Rattle.read_schedule.specs.declared.schedule.Schedule.{Schedule}
 
 -- where `count` reads are due at the whole nanosecond `at`, whether the last of them is at that very instant
@@ -17,6 +18,14 @@ is_on_time m n anchor gapped at count =
 pub record IsDueAt (m : Media) (n : ℕ) (anchor : ℤ) (gapped : Bool) (at : ℕ) (due : Due) : Type 0 where
   pub count : AreDue m n anchor gapped (whole at) due.count
   pub on_time : due.on_time ≡ is_on_time m n anchor gapped at due.count
+
+-- the first read that isn't due at the whole nanosecond `at`, and when it is; the read after it is due no less than a
+-- nanosecond later
+pub record IsNextAfter (m : Media) (n : ℕ) (anchor : ℤ) (gapped : Bool) (at : ℕ) (next : NextRead) : Type 0 where
+  pub count : AreDue m n anchor gapped (whole at) next.number
+  pub due : (t : ℕ) → t < 2 ^ 62 → AtMost (read_of m n anchor gapped next.number) (whole t) ↔ (next.at ≤ t)
+  pub apart : (t : ℕ) → AtMost (read_of m n anchor gapped (next.number + 1)) (whole (t + 1))
+      → AtMost (read_of m n anchor gapped next.number) (whole t)
 
 -- the schedule is of these reads, and those that passed are due at the whole nanosecond `at`
 pub record StandsBy (m : Media) (n : ℕ) (anchor : ℤ) (gapped : Bool) (s : Schedule) (at : ℕ) : Type 0 where

@@ -12,7 +12,7 @@ mod schedule;
 mod sizes;
 
 pub use instant::{is_late, reads};
-pub use schedule::{Due, Schedule};
+pub use schedule::{Due, NextRead, Schedule};
 
 #[cfg(test)]
 mod tests;

@@ -35,6 +35,16 @@ pub struct Due {
     pub on_time: bool,
 }
 
+/// The first read that isn't due yet.
+#[derive(Clone, Copy, Debug, PartialEq, Eq)]
+pub struct NextRead {
+    /// Its number: so many reads are due.
+    pub number: u64,
+    /// The whole nanosecond of TAI from which on it is due. One that is 2^62 or more only says that
+    /// the read is no earlier than 2^62.
+    pub at: u64,
+}
+
 /// The reads of one schedule that are due, for stamps that never fall.
 #[derive(Clone, Copy, Debug, PartialEq, Eq)]
 pub struct Schedule {
@@ -76,7 +86,7 @@ pub struct Schedule {
 impl Schedule {
     ghost use Rattle.std.specs.Prelude.{ℤ, pos, negsuc, ◌≤ℤ◌, Bool};
     ghost use Rattle.timing_base.specs.Media.{Media};
-    ghost use Rattle.read_schedule.specs.Stands.{IsDueAt, StandsBy};
+    ghost use Rattle.read_schedule.specs.Stands.{IsDueAt, IsNextAfter, StandsBy};
 
     /// The reads of a sender, gapped or linear, where read 0 is of group `n0`. None is due yet.
     pub fn new(params: &Params, gapped: bool, n0: i128) -> Schedule
@@ -107,6 +117,29 @@ impl Schedule {
         Due {
             count: self.passed,
             on_time: self.is_at(t),
+        }
+    }
+
+    /// The first read that isn't due at `at`, in nanoseconds of TAI. It divides only where it is many
+    /// reads behind.
+    ///
+    /// Ask for stamps that never fall: the clauses say nothing of others.
+    #[inline(always)]
+    pub fn next_after(&mut self, at: u64) -> NextRead
+        requires { at < 2 ^ 62 }
+
+        // Whatever reads these are, and whatever stamp it was asked for before.
+        ensures next { (m : Media) (n : ℕ) (anchor : ℤ) (gapped : Bool) (before : ℕ)
+            → before ≤ at → StandsBy m n anchor gapped self.old before
+            → IsNextAfter m n anchor gapped at result }
+        ensures stands { (m : Media) (n : ℕ) (anchor : ℤ) (gapped : Bool) (before : ℕ)
+            → before ≤ at → StandsBy m n anchor gapped self.old before
+            → StandsBy m n anchor gapped self.new at }
+    {
+        self.catch_up(at + BEFORE);
+        NextRead {
+            number: self.passed,
+            at: self.next.at.saturating_sub(BEFORE),
         }
     }
 

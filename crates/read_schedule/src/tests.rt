@@ -74,6 +74,27 @@ fn linear_sender(rt: HostRuntime) {
     }
 }
 
+// Gapped read 0 is 444 4/9 ns after the first packet, and read 1 is 960,000 ns after it.
+#[test]
+fn next_reads(rt: HostRuntime) {
+    let params = Params::of(&video(1080, false, 50, 1), 20);
+    let mut schedule = Schedule::new(&params, true, FRAME);
+    let rows = [
+        // nanoseconds after the first packet, the next read's number and nanoseconds
+        (0, 0, 445),
+        (444, 0, 445),
+        (445, 1, 960_445),
+        (18_240_444, 19, 18_240_445),
+        (18_240_445, 20, 20_000_445),
+    ];
+    for (late, number, next) in rows {
+        assert!(rt; late < 1 << 40 && next < 1 << 40);
+        let read = schedule.next_after(FIRST + late);
+        let at = FIRST + next;
+        assert_eq!(rt; read, NextRead { number, at }, "at {late}");
+    }
+}
+
 // TROFF=700: each packet stands on its gapped read, and so does each a nanosecond later no more.
 #[test]
 fn on_its_read(rt: HostRuntime) {

@@ -1,0 +1,84 @@
+//! What holds of plans, for every list of arrivals, and the definitions on numbers worked by hand. Each
+//! function is a theorem: it does nothing, and its clauses are proved.
+
+ghost use Rattle.std.specs.Prelude.{◌≡◌, ◌≤◌, ◌<◌, ◌+◌, ℕ, List, [], ◌∷◌, length, slice_index};
+ghost use Rattle.timing_base.specs.Media.{IsMedia, Media};
+ghost use Rattle.timing_base.specs.declared.media.Kind.{Kind};
+ghost use Rattle.timing_base.specs.declared.media.Kind.TheVariants.{N};
+ghost use Rattle.sender_params.specs.Worked.{at_once, hd_50};
+ghost use Rattle.flow_shaper.specs.Bounds.{BoundAt, IsBound};
+ghost use Rattle.flow_shaper.specs.Plan.{IsLeast, IsPlan, Shaped, load, models_of};
+ghost use Rattle.flow_shaper.specs.Worked.{burst_shaped, even, first, hd_50_wide_bucket, narrow, small};
+ghost use Rattle.flow_shaper.specs.declared.departure.Bound.TheVariants.{Arrival, Bucket, Buffer, Order};
+
+/// Every list of arrivals has a plan that is least at each packet, and only one.
+pub fn least_plan()
+    ensures some { (m : Media) (n : ℕ) (kind : Kind) (arrivals : List ℕ) → IsMedia m → 1 ≤ n
+        → (departures : List ℕ) × Shaped m n kind arrivals departures }
+    ensures once { (m : Media) (n : ℕ) (kind : Kind) (arrivals a b : List ℕ) (i : ℕ)
+        → Shaped m n kind arrivals a → Shaped m n kind arrivals b → i < length arrivals
+        → slice_index a i ≡ slice_index b i }
+{}
+
+/// In it the first packet leaves when it comes.
+pub fn first_leaves_as_it_comes()
+    ensures { (m : Media) (n : ℕ) (kind : Kind) (arrivals departures : List ℕ) → IsMedia m → 1 ≤ n
+        → Shaped m n kind arrivals departures → 0 < length arrivals
+        → slice_index departures 0 ≡ slice_index arrivals 0 }
+{}
+
+/// Each condition of a plan alone, and at its limit: with a tick each 10 ns, a read each 100 ns, and
+/// C_MAX and VRX_FULL as given.
+pub fn plans_by_hand()
+    ensures plan { IsPlan (small 9 9) (5 ∷ 7 ∷ []) (5 ∷ 7 ∷ []) }
+    ensures too_few { IsPlan (small 9 9) (5 ∷ 7 ∷ []) (5 ∷ []) → ⊥ }
+    ensures too_many { IsPlan (small 9 9) (5 ∷ []) (5 ∷ 7 ∷ []) → ⊥ }
+    ensures too_early { IsPlan (small 9 9) (5 ∷ 7 ∷ []) (5 ∷ 6 ∷ []) → ⊥ }
+    ensures falls { IsPlan (small 9 9) (5 ∷ 5 ∷ []) (7 ∷ 6 ∷ []) → ⊥ }
+    ensures bucket { IsPlan (small 1 9) (5 ∷ 5 ∷ []) (5 ∷ 10 ∷ []) }
+    ensures over_bucket { IsPlan (small 1 9) (5 ∷ 5 ∷ []) (5 ∷ 9 ∷ []) → ⊥ }
+    ensures buffer { IsPlan (small 9 1) (5 ∷ 5 ∷ []) (5 ∷ 100 ∷ []) }
+    ensures over_buffer { IsPlan (small 9 1) (5 ∷ 5 ∷ []) (5 ∷ 99 ∷ []) → ⊥ }
+    ensures least { IsLeast (small 1 9) (5 ∷ 5 ∷ []) (5 ∷ 10 ∷ []) }
+    ensures not_least { IsLeast (small 1 9) (5 ∷ 5 ∷ []) (5 ∷ 11 ∷ []) → ⊥ }
+{}
+
+/// What holds a packet back: the first that does, and the latest start of a full interval.
+pub fn bounds_by_hand()
+    ensures arrival { IsBound (small 1 9) (5 ∷ 12 ∷ []) (5 ∷ 12 ∷ []) 1 Arrival }
+    ensures delayed { IsBound (small 1 9) (5 ∷ 5 ∷ []) (5 ∷ 10 ∷ []) 1 Arrival → ⊥ }
+    ensures bucket { IsBound (small 1 9) (5 ∷ 5 ∷ []) (5 ∷ 10 ∷ []) 1 (Bucket 0) }
+    ensures too_late { IsBound (small 1 9) (5 ∷ 5 ∷ []) (5 ∷ 11 ∷ []) 1 (Bucket 0) → ⊥ }
+    ensures latest { IsBound (small 2 9) (0 ∷ 10 ∷ 10 ∷ 10 ∷ []) (0 ∷ 10 ∷ 10 ∷ 20 ∷ []) 3 (Bucket 1) }
+    ensures not_latest { IsBound (small 2 9) (0 ∷ 10 ∷ 10 ∷ 10 ∷ []) (0 ∷ 10 ∷ 10 ∷ 20 ∷ []) 3
+        (Bucket 0) → ⊥ }
+    ensures buffer { IsBound (small 9 1) (5 ∷ 5 ∷ []) (5 ∷ 100 ∷ []) 1 (Buffer 0) }
+    ensures buffer_too_late { IsBound (small 9 1) (5 ∷ 5 ∷ []) (5 ∷ 101 ∷ []) 1 (Buffer 0) → ⊥ }
+    ensures another_read { IsBound (small 9 1) (5 ∷ 5 ∷ []) (5 ∷ 100 ∷ []) 1 (Buffer 1) → ⊥ }
+    ensures both { IsBound (even 1 1) (5 ∷ 5 ∷ []) (5 ∷ 10 ∷ []) 1 (Bucket 0) }
+    ensures bucket_first { IsBound (even 1 1) (5 ∷ 5 ∷ []) (5 ∷ 10 ∷ []) 1 (Buffer 0) → ⊥ }
+    ensures order { IsBound (small 9 9) (7 ∷ 5 ∷ []) (7 ∷ 7 ∷ []) 1 Order }
+    ensures apart { IsBound (small 9 9) (7 ∷ 5 ∷ []) (7 ∷ 8 ∷ []) 1 Order → ⊥ }
+    ensures not_order { IsBound (small 1 9) (5 ∷ 5 ∷ []) (5 ∷ 10 ∷ []) 1 Order → ⊥ }
+{}
+
+/// 1080p at 50 with 20 packets per frame, as type N, where C_MAX is 4: of five packets at once the last
+/// leaves 909,091 ns later, at the first tick, and the bucket from packet 0 on holds it back.
+pub fn burst_by_hand()
+    ensures c_max { narrow.c_max ≡ 4 }
+    ensures over { load narrow burst_shaped 0 4 (first + 909090) ≡ 5 }
+    ensures full { load narrow burst_shaped 0 4 (first + 909091) ≡ 4 }
+    ensures shaped { Shaped hd_50 20 N (at_once 5) burst_shaped }
+    ensures bound { BoundAt hd_50 20 N (at_once 5) burst_shaped 4 (Bucket 0) }
+{}
+
+/// The same with CMAX=100, where VRX_FULL is 8: of nine packets at once the last waits for read 0, at
+/// 444 4/9 ns, and of ten the last for read 1, 960,000 ns after it.
+pub fn buffer_by_hand()
+    ensures c_max { (models_of hd_50_wide_bucket 20 N first).c_max ≡ 100 }
+    ensures vrx_full { (models_of hd_50_wide_bucket 20 N first).vrx_full ≡ 8 }
+    ensures over { (models_of hd_50_wide_bucket 20 N first).held 8 (first + 444) ≡ 9 }
+    ensures full { (models_of hd_50_wide_bucket 20 N first).held 8 (first + 445) ≡ 8 }
+    ensures next_over { (models_of hd_50_wide_bucket 20 N first).held 9 (first + 960444) ≡ 9 }
+    ensures next_full { (models_of hd_50_wide_bucket 20 N first).held 9 (first + 960445) ≡ 8 }
+{}

@@ -1,0 +1,150 @@
+//! Both models after the last departure.
+
+ghost use Rattle.std.specs.Prelude.{◌≡◌, ◌≤◌, ◌<◌, ◌+◌, ◌-◌, ◌^◌, ℕ, pos, negsuc, ◌≤ℤ◌, Some, None};
+ghost use Rattle.fraction128.specs.Clocks.{StandsAt};
+ghost use Rattle.sender_params.specs.Limits.{c_max_of, gapped_of, vrx_full_of};
+
+use crate::departure::{Bound, Departure};
+use fraction128::Clock;
+use read_schedule::{NextRead, Schedule};
+use sender_params::Params;
+use timing_base::Kind;
+
+/// Both models just after a packet left.
+#[derive(Clone, Copy, Debug, PartialEq, Eq)]
+pub struct Meters {
+    /// When it left, in nanoseconds of TAI.
+    pub last: u64,
+    /// The packets in the bucket.
+    pub count: u64,
+    /// The latest packet from which on the packets up to the last one, less the ticks after it, are
+    /// the count.
+    pub begin: u64,
+    /// The next tick of the drain.
+    tick: Clock,
+    /// The reads.
+    schedule: Schedule,
+    /// The next read.
+    read: NextRead,
+}
+
+impl Meters {
+    ghost use Rattle.flow_shaper.specs.Choice.{Chooses, HasDrained, HavePassed, HaveStarted};
+
+    /// After the first packet, which leaves when it comes, at `at`.
+    pub fn start(params: &Params, kind: Kind, n0: i128, at: u64) -> Meters
+        requires low { negsuc 479 ≤ℤ n0 }
+        requires high { n0 ≤ℤ pos (2 ^ 42) }
+        requires in_time { at < 2 ^ 62 }
+        ensures { HaveStarted params.now kind n0 at result }
+    {
+        let mut schedule = Schedule::new(params, is_gapped(kind), n0);
+        let read = schedule.next_after(at);
+        Meters {
+            last: at,
+            count: 1,
+            begin: 0,
+            tick: Clock::start(&params.drain, at),
+            schedule,
+            read,
+        }
+    }
+
+    /// When the packet of this number leaves, which came at `at` and is the next one, and what holds
+    /// it back.
+    #[inline(always)]
+    pub fn next(&self, params: &Params, kind: Kind, packet: u64, at: u64) -> Departure
+        ensures { Chooses self.now (c_max_of params.now.media params.now.n kind)
+            (vrx_full_of params.now.media params.now.n kind) packet at result }
+    {
+        let vrx_full = params.vrx_full(kind);
+        let tick = self.next_tick(params.c_max(kind));
+        let read = self.next_read(vrx_full, packet);
+        let earliest = at.max(self.last);
+        let departs = earliest.max(tick.unwrap_or(0)).max(read.unwrap_or(0));
+        let bound = if departs == at {
+            Bound::Arrival
+        } else if tick == Some(departs) {
+            Bound::Bucket { from: self.begin }
+        } else if read == Some(departs) {
+            Bound::Buffer {
+                read: packet.saturating_sub(vrx_full),
+            }
+        } else {
+            Bound::Order
+        };
+        Departure { at: departs, bound }
+    }
+
+    /// The tick for which the next packet has to wait, where the bucket is full.
+    fn next_tick(&self, c_max: u64) -> Option<u64>
+        ensures full { c_max ≤ self.now.count → result ≡ Some self.now.tick.due }
+        ensures room { self.now.count < c_max → result ≡ None }
+    {
+        if self.count >= c_max {
+            Some(self.tick.due)
+        } else {
+            None
+        }
+    }
+
+    /// The read for which the packet of this number has to wait, where the buffer is full.
+    fn next_read(&self, vrx_full: u64, packet: u64) -> Option<u64>
+        ensures full { self.now.read.number + vrx_full ≤ packet → result ≡ Some self.now.read.at }
+        ensures room { packet < self.now.read.number + vrx_full → result ≡ None }
+    {
+        if packet >= vrx_full && packet - vrx_full >= self.read.number {
+            Some(self.read.at)
+        } else {
+            None
+        }
+    }
+
+    /// The packet of this number leaves at `at`.
+    #[inline(always)]
+    pub fn pass(&mut self, params: &Params, packet: u64, at: u64)
+        requires in_time { at < 2 ^ 62 }
+        requires few { self.old.count ≤ packet }
+        requires few_packets { packet < 2 ^ 41 }
+        ensures few { self.new.count ≤ packet + 1 }
+        ensures passed { HavePassed params.now self.old self.new packet at }
+    {
+        self.drain(params, packet, at);
+        self.read = self.schedule.next_after(at);
+        self.last = at;
+    }
+
+    /// The bucket loses a packet for each tick up to `at`, and gets the packet of this number.
+    #[inline(always)]
+    fn drain(&mut self, params: &Params, packet: u64, at: u64)
+        requires in_time { at < 2 ^ 62 }
+        requires few { self.old.count ≤ packet }
+        requires few_packets { packet < 2 ^ 41 }
+        ensures few { self.new.count ≤ packet + 1 }
+        ensures schedule { self.new.schedule ≡ self.old.schedule }
+        ensures drained { (origin before : ℕ) → before ≤ at
+            → StandsAt params.now.drain self.old.tick origin before
+            → HasDrained params.now self.old self.new packet origin before at }
+    {
+        let drained = self.tick.advance(&params.drain, at);
+        let left = self.count.saturating_sub(drained);
+        self.begin = begin_of(left, self.begin, packet);
+        self.count = left + 1;
+    }
+}
+
+/// From which packet on the bucket's count is counted after the packet of this number came, where
+/// `left` were in it just before.
+fn begin_of(left: u64, begin: u64, packet: u64) -> u64
+    ensures fresh { left ≡ 0 → result ≡ packet }
+    ensures kept { 0 < left → result ≡ begin }
+{
+    if left == 0 { packet } else { begin }
+}
+
+/// Whether the reads of this sender type are gapped.
+fn is_gapped(kind: Kind) -> bool
+    ensures { result ≡ gapped_of kind }
+{
+    kind == Kind::N
+}
