@@ -113,8 +113,9 @@ impl Lane {
         sent.saturating_sub(self.taken.load(Ordering::SeqCst))
     }
 
-    /// Takes the message at the front. `None` says that at one step of this call the lane held
-    /// nothing; it does not say that no message will come.
+    /// Takes the message at the front. `None` comes where the queue held nothing at one step of this
+    /// call; the clause says so of some lane that fits what was taken. It does not say that no message
+    /// will come.
     ///
     /// The call may wait for another thread's step in flight, and promises if it returns. It takes
     /// no memory.
