@@ -18,7 +18,6 @@ not_run=(
     'editcap -F nsecpcap in.pcapng|a capture of your own'
     'curl -o|a node on the network'
     'gst-launch-1.0|a network to send into'
-    'ffmpeg|a network to send into'
     './run check --sdp gst_1080.sdp|a capture of 1.4 MB that does not ship'
     'sbatch|a cluster'
     'rt ci|an hour, and runs by itself'
@@ -81,7 +80,7 @@ finish() {
         echo "$page: it is neither run nor in the list of this script: $command"
     else
         ran=$((ran + 1))
-        found=$(timeout 60 bash -c "$command" 2>&1 < /dev/null)
+        found=$(HOME=$folder timeout 60 bash -c "$command" 2>&1 < /dev/null)
         if [ "$found" != "${wanted%$'\n'}" ]; then
             wrong=$((wrong + 1))
             echo "$page: it prints something else: $command"
