@@ -29,22 +29,15 @@ top=$(cd "$(dirname "$(readlink -f "$0")")/.." && pwd) || exit 2
 folder=$(mktemp -d) || exit 2
 trap 'rm -rf "$folder"' EXIT
 
-# The program: the one that was named, else the built one, where no source is newer, else a new one.
-built=$top/crates/st2110_timing/out/st2110_timing
-is_old() {
-    [ ! -s "$built" ] || [ -n "$(find "$top/crates.txt" "$top/crates" -name out -prune -o -type f \
-        \( -name '*.rt' -o -name '*.antt' -o -name crates.txt \) -newer "$built" -print -quit)" ]
-}
-if [ $# -eq 0 ] && is_old; then
+# The program: the one that was named, else the one that ./run builds where none stands or a source is newer.
+program=${1:-$top/crates/st2110_timing/out/st2110_timing}
+if [ $# -eq 0 ]; then
     "$top/run" selftest 2 > "$folder/said" 2>&1 || { cat "$folder/said" >&2; echo "pages: no program" >&2; exit 2; }
 fi
-mkdir "$folder/bin" "$folder/here" || exit 2
-cp "${1:-$built}" "$folder/bin/st2110_timing" && chmod 755 "$folder/bin/st2110_timing" || { echo "pages: no program" >&2; exit 2; }
+program=$(readlink -f "$program") && "$program" selftest 2 > "$folder/said" || { echo "pages: no program" >&2; exit 2; }
 
 # The commands run in a folder of their own, in which `./run` is that program.
-cp -r "$top/examples" "$folder/here" && cd "$folder/here" || exit 2
-ln -s "$folder/bin/st2110_timing" run
-./run selftest 2 > /dev/null || { echo "pages: the program doesn't run" >&2; exit 2; }
+mkdir "$folder/here" && cp -r "$top/examples" "$folder/here" && cd "$folder/here" && ln -s "$program" run || exit 2
 
 ran=0 wrong=0
 left_out=() met=()
