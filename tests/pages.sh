@@ -1,32 +1,113 @@
 #!/usr/bin/env bash
-# Runs each command of the pages' console blocks (lines that begin with `$ `), from the top folder, and compares what it prints
-# with the lines below it. Ends with 1 where one differs. It needs the program that ./run builds, and jq.
+# Runs the commands of README.md and docs/GUIDE.md as a reader would, from a folder with the examples, and compares what
+# each prints with what the page shows below it.
+#
+#   tests/pages.sh [PROGRAM]      the program that the gate or ./run has built; where there is none, ./run builds it
+#
+# A page's block that begins with ```console has commands (after `$ `, and `> ` where they go on) and what they print; all are
+# run but those of the list below. The commands of its ```sh blocks aren't run, and have to be in the list, so none is passed
+# over in silence. A command whose tool isn't on this machine is left out, and named. Ends with 1 where a command prints
+# something else, or where list and pages don't fit; with 2 where there is no program. Nothing is written into the repository.
 set -u
-cd "$(dirname "$0")/.." || exit 2
-# what ./run says while it builds is no output of a command
-./run selftest 2 > /dev/null 2>&1 || { echo "the program doesn't run" >&2; exit 2; }
-fails=0 commands=0
-compare() {
+export LC_ALL=C
+
+# What isn't run: how a command begins, and what it needs.
+not_run=(
+    'tcpdump -i|a network card'
+    'dumpcap -i|a network card'
+    'editcap -F nsecpcap in.pcapng|a capture of your own'
+    'curl -o|a node on the network'
+    'gst-launch-1.0|a network to send into'
+    './run check --sdp gst_1080.sdp|a capture of 1.4 MB that does not ship'
+    'sbatch|a cluster'
+    'rt ci|an hour, and runs by itself'
+)
+# Tools that a machine may lack.
+tools='jq xargs parallel tcpdump editcap mergecap'
+
+top=$(cd "$(dirname "$(readlink -f "$0")")/.." && pwd) || exit 2
+folder=$(mktemp -d) || exit 2
+trap 'rm -rf "$folder"' EXIT
+
+# The program: the one that was named, else the one that ./run builds where none stands or a source is newer.
+program=${1:-$top/crates/st2110_timing/out/st2110_timing}
+if [ $# -eq 0 ]; then
+    "$top/run" selftest 2 > "$folder/said" 2>&1 || { cat "$folder/said" >&2; echo "pages: no program" >&2; exit 2; }
+fi
+program=$(readlink -f "$program") && "$program" selftest 2 > "$folder/said" || { echo "pages: no program" >&2; exit 2; }
+
+# The commands run in a folder of their own, in which `./run` is that program.
+mkdir "$folder/here" && cp -r "$top/examples" "$folder/here" && cd "$folder/here" && ln -s "$program" run || exit 2
+
+ran=0 wrong=0
+left_out=() met=()
+
+# Says why a command isn't run, or nothing.
+reason_of() {
+    local entry tool
+    for entry in "${!not_run[@]}"; do
+        if [[ $1 == "${not_run[entry]%%|*}"* ]]; then
+            met[entry]=yes
+            echo "it needs ${not_run[entry]#*|}"
+            return
+        fi
+    done
+    for tool in $tools; do
+        if [[ $1 =~ (^|[^[:alnum:]_./-])$tool([[:space:]]|$) ]] && ! command -v "$tool" > /dev/null; then
+            echo "there is no $tool here"
+            return
+        fi
+    done
+}
+
+# Runs the command that was read, or notes that it is left out, and makes place for the next.
+finish() {
+    local reason found
     [ -n "$command" ] || return 0
-    commands=$((commands + 1))
-    found=$(bash -c "$command" 2>&1)
-    if [ "$found" != "${wanted%$'\n'}" ]; then
-        fails=$((fails + 1))
-        printf '%s: differs: %s\n' "$page" "$command"
-        diff <(printf '%s' "${wanted%$'\n'}") <(printf '%s' "$found")
+    reason_of "$command" > "$folder/reason"
+    reason=$(< "$folder/reason")
+    if [ -n "$reason" ]; then
+        left_out+=("$page: $command   ($reason)")
+    elif [ "$block" = sh ]; then
+        wrong=$((wrong + 1))
+        echo "$page: it is neither run nor in the list of this script: $command"
+    else
+        ran=$((ran + 1))
+        found=$(HOME=$folder timeout 60 bash -c "$command" 2>&1 < /dev/null)
+        if [ "$found" != "${wanted%$'\n'}" ]; then
+            wrong=$((wrong + 1))
+            echo "$page: it prints something else: $command"
+            diff <(printf '%s\n' "${wanted%$'\n'}") <(printf '%s\n' "$found")
+        fi
     fi
     command='' wanted=''
 }
+
 for page in README.md docs/GUIDE.md; do
-    inside=no command='' wanted=''
+    block='' command='' wanted=''
     while IFS= read -r line; do
-        case $inside$line in
-            no'```console') inside=yes ;;
-            yes'```') compare; inside=no ;;
-            yes'$ '*) compare; command=${line#'$ '} ;;
-            yes*) wanted+=$line$'\n' ;;
+        case $block:$line in
+            ':```console') block=console ;;
+            ':```sh') block=sh ;;
+            ':```'*) block=other ;;
+            :*) ;;
+            *':```') finish; block='' ;;
+            'console:$ '*) finish; command=${line#'$ '} ;;
+            'console:> '*) command+=$'\n'${line#'> '} ;;
+            console:*) wanted+=$line$'\n' ;;
+            sh:'#'* | sh:) ;;
+            'sh: '*) command+=$'\n'$line ;;
+            sh:*) finish; command=$line ;;
         esac
-    done < "$page"
+    done < "$top/$page"
 done
-echo "$commands commands of the pages were run, $fails differ"
-[ "$fails" -eq 0 ]
+
+for entry in "${!not_run[@]}"; do
+    if [ -z "${met[entry]-}" ]; then
+        wrong=$((wrong + 1))
+        echo "no page has what the list of this script leaves out: ${not_run[entry]%%|*}"
+    fi
+done
+[ ${#left_out[@]} -eq 0 ] || printf 'left out: %s\n' "${left_out[@]}"
+echo "pages: $ran commands were run, ${#left_out[@]} left out, $wrong wrong"
+[ "$wrong" -eq 0 ]
