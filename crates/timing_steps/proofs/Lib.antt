@@ -1,3 +1,4 @@
 mod Fetches
 mod Sessions
+pub mod Classics
 mod Endings

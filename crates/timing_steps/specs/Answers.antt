@@ -1,8 +1,9 @@
 -- What the texts of a request define, and how a run comes to it. An answer is what stands on standard output, and the
 -- status; where there is none, an input couldn't be read or memory ran out.
-use Rattle.std.specs.Prelude.{◌≡◌, ◌<◌, ◌⊎◌, ℕ, ⊤, List, [], ◌∷◌, length, slice_index_or, All, Option, Some, Result, Ok, Err}
+use Rattle.std.specs.Prelude.{◌≡◌, ◌<◌, ◌⊎◌, ℕ, ⊤, List, [], ◌∷◌, length, map, slice_index_or, All, Option, Some, Result, Ok, Err}
 use Rattle.timing_base.specs.Media.{Media}
 use Rattle.timing_outside.specs.Causes.{Rose}
+use Rattle.pcapng_reader.specs.Classic.{classic}
 use Rattle.sdp_reader.specs.declared.fault.SdpFault.{SdpFault}
 use Rattle.sdp_reader.specs.Session.{session}
 use Rattle.timing_report.specs.declared.status.Input.{Input}
@@ -73,11 +74,12 @@ ReadsSdp i outcome name next =
     ((outcome ≡ Err (failure.ReadFault input.Sdp)) × HasRisen i name)
     ⊎ (¬ i.lacks name × ((text : List ℕ) → i.texts name ≡ Some text → next text))
 
--- the captures are read: that failed for one of them, as it does where the shelf lacks one, or what their texts lead to
+-- the captures are read: that failed for one of them, as it does where the shelf lacks one, or what their texts as classic
+-- captures lead to
 abbrev pub ReadsCaptures : Inputs → Result Answer Failure → List (List ℕ) → (List (List ℕ) → Type 0) → Type 0
 ReadsCaptures i outcome names next =
     ((number : ℕ) × (outcome ≡ Err (failure.ReadFault (input.Capture number))) × CaptureRose i.before i.now names number)
-    ⊎ (AreThere i.lacks names × ((texts : List (List ℕ)) → AreTold i.texts names texts → next texts))
+    ⊎ (AreThere i.lacks names × ((texts : List (List ℕ)) → AreTold i.texts names texts → next (map classic texts)))
 
 -- a description that is refused is the answer; else its media lead on
 abbrev pub OnSession : Result (List Media) SdpFault → Result Answer Failure → (List Media → Type 0) → Type 0

@@ -1,18 +1,21 @@
 //! The texts of a request's names: the session of a description, and the sources of captures.
 
-ghost use Rattle.std.specs.Prelude.{◌≡◌, ◌≤◌, ◌<◌, ℕ, List, All, Some, IfOk, IfErr, length};
+ghost use Rattle.std.specs.Prelude.{◌≡◌, ◌≤◌, ◌<◌, ℕ, List, All, Some, IfOk, IfErr, IsErrOf, length};
 ghost use Rattle.timing_base.specs.Targets.{HaveOwnTargets};
 ghost use Rattle.sdp_reader.specs.Session.{session};
 ghost use Rattle.timing_outside.specs.Causes.{Rose};
+ghost use Rattle.pcapng_reader.specs.Classic.{classic_texts};
+ghost use Rattle.pcapng_reader.specs.Sources.{faults_of, left_of, name_of};
 ghost use Rattle.timing_steps.specs.Answers.{AreThere, CaptureRose, OnReadFault};
 ghost use Rattle.timing_steps.specs.Fetched.{AreFetched};
 
 use crate::failure::Failure;
 use crate::text::fetch_front;
+use pcapng_reader::Classic;
 use sdp_reader::{SdpError, SdpFault, read_sdp};
 use std::alloc::Global;
 use timing_base::{FileName, Session};
-use timing_outside::Shelf;
+use timing_outside::{OpenFault, Shelf};
 use timing_report::Input;
 
 /// The bytes of a session description that are read: one more than it may have.
@@ -45,17 +48,58 @@ pub fn fetch_session<H: Shelf>(
     }
 }
 
+/// Fetches a text, to be read as a classic capture.
+fn fetch_classic<H: Shelf>(
+    alloc: Global,
+    shelf: &mut H,
+    name: &str,
+) -> Result<Classic<H::Source>, OpenFault>
+    ensures named { IfOk result (λ s. name_of H.Source.name s ≡ name.now) }
+    ensures whole { IfOk result (λ s. left_of H.Source.left s
+        ≡ classic_texts (H.text shelf.old) name.now) }
+    ensures fresh { IfOk result (λ s. faults_of H.Source.faults s ≡ 0) }
+    ensures missing { H.lacks shelf.old name.now → IsErrOf result OpenFault.Failed }
+    ensures lacks { (n : List ℕ) → H.lacks shelf.old n → H.lacks shelf.new n }
+    ensures texts { (n : List ℕ) → H.text shelf.new n ≡ H.text shelf.old n }
+    ensures later { (n : List ℕ) → H.faults shelf.old n ≤ H.faults shelf.new n }
+    ensures failed { IsErrOf result OpenFault.Failed
+        → Rose (H.faults shelf.old name.now) (H.faults shelf.new name.now) }
+{
+    let source = shelf.fetch(name)?;
+    match Classic::wrap(alloc, source) {
+        Ok(classic) => Ok(classic),
+        Err(source) => {
+            shelf.give_back(source);
+            Err(OpenFault::OutOfMemory)
+        }
+    }
+}
+
+/// Gives a source back to the shelf that it is of. Where a read of it has failed, the count of its
+/// name rises.
+pub fn give_back<H: Shelf>(shelf: &mut H, source: Classic<H::Source>)
+    ensures raised { 0 < faults_of H.Source.faults source
+        → Rose (H.faults shelf.old (name_of H.Source.name source))
+        (H.faults shelf.new (name_of H.Source.name source)) }
+    ensures lacks { (n : List ℕ) → H.lacks shelf.old n → H.lacks shelf.new n }
+    ensures texts { (n : List ℕ) → H.text shelf.new n ≡ H.text shelf.old n }
+    ensures later { (n : List ℕ) → H.faults shelf.old n ≤ H.faults shelf.new n }
+{
+    shelf.give_back(source.into_inner());
+}
+
 /// Fetches the captures of these names in order, and puts their sources at the end of a list. Where
 /// one can't be fetched, those before it stay there.
 fn fetch_each<H: Shelf>(
+    alloc: Global,
     shelf: &mut H,
     names: &[FileName],
-    sources: &mut Vec<H::Source>,
+    sources: &mut Vec<Classic<H::Source>>,
 ) -> Result<(), Failure>
     requires few { length names.now ≤ 16 }
     requires none { length sources.old.items ≡ 0 }
-    ensures fetched { IfOk result (λ _. AreFetched H.Source.name H.Source.left H.Source.faults
-        (H.text shelf.old) names.now sources.new.items) }
+    ensures fetched { IfOk result (λ _. AreFetched (name_of H.Source.name) (left_of H.Source.left)
+        (faults_of H.Source.faults) (classic_texts (H.text shelf.old)) names.now sources.new.items) }
     ensures cause { IfErr result (λ e. OnReadFault e (λ i. (number : ℕ) × (i ≡ Input.Capture number)
         × CaptureRose (H.faults shelf.old) (H.faults shelf.new) names.now number)) }
     ensures there { IfOk result (λ _. AreThere (H.lacks shelf.old) names.now) }
@@ -64,14 +108,14 @@ fn fetch_each<H: Shelf>(
     ensures later { (n : List ℕ) → H.faults shelf.old n ≤ H.faults shelf.new n }
 {
     for number in 0..names.len() {
-        let source = match shelf.fetch(names[number].as_str()) {
+        let source = match fetch_classic(alloc, shelf, names[number].as_str()) {
             Ok(source) => source,
             Err(fault) => {
                 return Err(Failure::of_input(fault, Input::Capture(number as u32)));
             }
         };
         if let Err(refused) = sources.push(source) {
-            shelf.give_back(refused.value);
+            give_back(shelf, refused.value);
             return Err(Failure::OutOfMemory);
         }
     }
@@ -80,29 +124,29 @@ fn fetch_each<H: Shelf>(
 
 /// Gives these sources back to the shelf that they are of. Where a read of one has failed, the count
 /// of its name rises.
-pub fn give_back_all<H: Shelf>(shelf: &mut H, sources: Vec<H::Source>)
-    ensures raised { All (λ source. 0 < H.Source.faults source
-        → Rose (H.faults shelf.old (H.Source.name source))
-        (H.faults shelf.new (H.Source.name source))) sources.items }
+pub fn give_back_all<H: Shelf>(shelf: &mut H, sources: Vec<Classic<H::Source>>)
+    ensures raised { All (λ source. 0 < faults_of H.Source.faults source
+        → Rose (H.faults shelf.old (name_of H.Source.name source))
+        (H.faults shelf.new (name_of H.Source.name source))) sources.items }
     ensures lacks { (n : List ℕ) → H.lacks shelf.old n → H.lacks shelf.new n }
     ensures texts { (n : List ℕ) → H.text shelf.new n ≡ H.text shelf.old n }
     ensures later { (n : List ℕ) → H.faults shelf.old n ≤ H.faults shelf.new n }
 {
     for source in sources {
-        shelf.give_back(source);
+        give_back(shelf, source);
     }
 }
 
-/// The sources of the captures of these names, in order, each at the start of its text. The first
+/// The sources of the captures of these names, in order, each at the start of its classic text. The first
 /// that can't be fetched is named; then those before it go back to the shelf.
 pub fn fetch_captures<H: Shelf>(
     alloc: Global,
     shelf: &mut H,
     names: &[FileName],
-) -> Result<Vec<H::Source>, Failure>
+) -> Result<Vec<Classic<H::Source>>, Failure>
     requires few { length names.now ≤ 16 }
-    ensures fetched { IfOk result (λ sources. AreFetched H.Source.name H.Source.left
-        H.Source.faults (H.text shelf.old) names.now sources.items) }
+    ensures fetched { IfOk result (λ sources. AreFetched (name_of H.Source.name) (left_of H.Source.left)
+        (faults_of H.Source.faults) (classic_texts (H.text shelf.old)) names.now sources.items) }
     ensures cause { IfErr result (λ e. OnReadFault e (λ i. (number : ℕ) × (i ≡ Input.Capture number)
         × CaptureRose (H.faults shelf.old) (H.faults shelf.new) names.now number)) }
     ensures there { IfOk result (λ _. AreThere (H.lacks shelf.old) names.now) }
@@ -111,7 +155,7 @@ pub fn fetch_captures<H: Shelf>(
     ensures later { (n : List ℕ) → H.faults shelf.old n ≤ H.faults shelf.new n }
 {
     let mut sources = Vec::new(alloc);
-    match fetch_each(shelf, names, &mut sources) {
+    match fetch_each(alloc, shelf, names, &mut sources) {
         Ok(()) => Ok(sources),
         Err(failure) => {
             give_back_all(shelf, sources);

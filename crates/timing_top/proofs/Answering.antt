@@ -1,8 +1,9 @@
 -- The steps by which inputs are read lead to one answer, or to a cause.
 use Rattle.std.proofs.Common.{◌≡◌, ◌⊎◌, ℕ, Bool, true, false, List, [], ◌∷◌, Option, Some, refl, ap, ◌∙◌, sym, subst, inl, inr}
-use Rattle.std.specs.Prelude.{All, IsTrue, Result, Ok, Err}
+use Rattle.std.specs.Prelude.{All, IsTrue, Result, Ok, Err, map}
 use Rattle.std.proofs.lemmas.List.Elements.{All-cons, All-head, All-nil, All-tail}
 use Rattle.timing_base.specs.Media.{Media}
+use Rattle.pcapng_reader.specs.Classic.{classic}
 use Rattle.sdp_reader.specs.Session.{session}
 use Rattle.sdp_reader.specs.declared.fault.SdpFault.{SdpFault}
 use Rattle.timing_report.specs.declared.status.Input.{Input}
@@ -73,21 +74,21 @@ yielded-failed P e Rises caused (inl h) = inl (same-err e _ (Err e) refl h)
 yielded-failed P e Rises caused (inr h) = caused h
 
 -- captures that are read
-pub some-captured : (i : Inputs) (names told : List (List ℕ)) (Defined : List (List ℕ) → Answer → Type 0) → AreThere i.lacks names → AreTold i.texts names told → (answer : Answer) × Defined told answer
+pub some-captured : (i : Inputs) (names told : List (List ℕ)) (Defined : List (List ℕ) → Answer → Type 0) → AreThere i.lacks names → AreTold i.texts names told → (answer : Answer) × Defined (map classic told) answer
     → (answer : Answer) × ReadsCaptures i (Ok answer) names (λ texts. Gives (Ok answer) (Defined texts))
 some-captured i names told Defined there are h =
-    (h.0, inr (there, λ texts t. (h.0, refl, subst (λ l. Defined l h.0) (told-once i.texts names told texts are t) h.1)))
+    (h.0, inr (there, λ texts t. (h.0, refl, subst (λ l. Defined (map classic l) h.0) (told-once i.texts names told texts are t) h.1)))
 
-pub only-captured : (i : Inputs) (names told : List (List ℕ)) (Defined : List (List ℕ) → Answer → Type 0) (a b : Answer) → AreTold i.texts names told → ((x y : Answer) → Defined told x → Defined told y → x ≡ y)
+pub only-captured : (i : Inputs) (names told : List (List ℕ)) (Defined : List (List ℕ) → Answer → Type 0) (a b : Answer) → AreTold i.texts names told → ((x y : Answer) → Defined (map classic told) x → Defined (map classic told) y → x ≡ y)
     → ReadsCaptures i (Ok a) names (λ texts. Gives (Ok a) (Defined texts)) → ReadsCaptures i (Ok b) names (λ texts. Gives (Ok b) (Defined texts)) → a ≡ b
 only-captured i names told Defined a b are once (inl h) k = absurd (ok-not-err a _ (Ok a) refl h.1)
 only-captured i names told Defined a b are once (inr h) (inl k) = absurd (ok-not-err b _ (Ok b) refl k.1)
-only-captured i names told Defined a b are once (inr h) (inr k) = only-given (Defined told) a b once (h.1 told are) (k.1 told are)
+only-captured i names told Defined a b are once (inr h) (inr k) = only-given (Defined (map classic told)) a b once (h.1 told are) (k.1 told are)
 
 pub captured-failed : (i : Inputs) (names told : List (List ℕ)) (Defined : List (List ℕ) → Answer → Type 0) (e : Failure) (Rises : Input → Type 0) → AreTold i.texts names told
     → ((number : ℕ) → CaptureRose i.before i.now names number → Rises (input.Capture number)) → ReadsCaptures i (Err e) names (λ texts. Gives (Err e) (Defined texts)) → Caused e Rises
 captured-failed i names told Defined e Rises are rises (inl h) = inr (input.Capture h.0, same-err e _ (Err e) refl h.1, rises h.0 h.2)
-captured-failed i names told Defined e Rises are rises (inr h) = absurd (not-given (Defined told) e (h.1 told are))
+captured-failed i names told Defined e Rises are rises (inr h) = absurd (not-given (Defined (map classic told)) e (h.1 told are))
 
 -- what a session leads to
 some-session : (s : Result (List Media) SdpFault) (Next : Answer → List Media → Type 0) → ((media : List Media) → (answer : Answer) × Next answer media) → (answer : Answer) × OnSession s (Ok answer) (Next answer)

@@ -1,6 +1,6 @@
 -- The texts of a request define one answer.
 use Rattle.std.proofs.Common.{◌≡◌, ◌⊎◌, ℕ, Bool, true, false, List, [], ◌∷◌, Option, Some, None, refl, subst}
-use Rattle.std.specs.Prelude.{⊤, Result, Ok, Err}
+use Rattle.std.specs.Prelude.{⊤, Result, Ok, Err, map}
 use Rattle.std.proofs.lemmas.List.Elements.{All-head, All-tail}
 use Rattle.timing_base.specs.Jobs.{CheckJob}
 use Rattle.timing_base.specs.Media.{Media}
@@ -9,6 +9,7 @@ use Rattle.timing_base.specs.declared.job.Request.TheVariants as request
 use Rattle.timing_report.specs.declared.status.Input.{Input}
 use Rattle.timing_report.specs.declared.status.Status.{Status}
 use Rattle.timing_report.specs.declared.status.Status.TheVariants as status
+use Rattle.pcapng_reader.specs.Classic.{classic}
 use Rattle.timing_steps.specs.Answers.{Answer, AreThere, AreTold, Gives, Inputs, ReadsCaptures, ReadsSession, silent}
 use Rattle.timing_steps.specs.declared.failure.Failure.{Failure}
 use Rattle.timing_steps.specs.declared.failure.Failure.TheVariants as failure
@@ -29,14 +30,14 @@ some-check job i [] there told = absurd told
 some-check job i (sdp ∷ texts) there told =
     some-yielded (λ answer. ReadsSession i (Ok answer) job.sdp (AfterSession job i (Ok answer)))
     (some-described i job.sdp sdp (λ answer media. AfterSession job i (Ok answer) media) (All-head (λ n. ¬ i.lacks n) job.sdp job.captures there) told.0
-    (λ media. some-captured i job.captures texts (HasReport job media) (All-tail (λ n. ¬ i.lacks n) job.sdp job.captures there) told.1 (some-report job media texts)))
+    (λ media. some-captured i job.captures texts (HasReport job media) (All-tail (λ n. ¬ i.lacks n) job.sdp job.captures there) told.1 (some-report job media (map classic texts))))
 
 only-check : (job : CheckJob) (i : Inputs) (texts : List (List ℕ)) (a b : Answer) → AreTold i.texts (job.sdp ∷ job.captures) texts → FollowsCheck job i (Ok a) → FollowsCheck job i (Ok b) → a ≡ b
 only-check job i [] a b told h k = absurd told
 only-check job i (sdp ∷ texts) a b told h k =
     only-yielded (λ answer. ReadsSession i (Ok answer) job.sdp (AfterSession job i (Ok answer))) a b
     (λ p q. only-described i job.sdp sdp (λ answer media. AfterSession job i (Ok answer) media) a b told.0
-    (λ media x y. only-captured i job.captures texts (HasReport job media) a b told.1 (only-report job media texts) x y) p q) h k
+    (λ media x y. only-captured i job.captures texts (HasReport job media) a b told.1 (only-report job media (map classic texts)) x y) p q) h k
 
 check-failed : (job : CheckJob) (i : Inputs) (texts : List (List ℕ)) (e : Failure) → AreTold i.texts (job.sdp ∷ job.captures) texts → FollowsCheck job i (Err e) → Caused e (CheckInputRose job i)
 check-failed job i [] e told h = absurd told

@@ -1,12 +1,13 @@
 -- What follows for `check` from what its steps found.
 use Rattle.std.proofs.Common.{◌≡◌, ◌≤◌, ℕ, Bool, true, false, List, [], ◌∷◌, Option, Some, refl, arith, ap, ◌∙◌, sym, subst, inl, inr, if◌then◌else◌}
-use Rattle.std.specs.Prelude.{IfOk, IfErr, Result, Ok, Err}
+use Rattle.std.specs.Prelude.{IfOk, IfErr, Result, Ok, Err, map}
 use Rattle.std.proofs.lemmas.List.Elements.{All-cons, All-head, All-nil, All-tail}
 use Rattle.timing_base.specs.Jobs.{CheckJob}
 use Rattle.timing_base.specs.Media.{Media}
 use Rattle.timing_base.specs.declared.capture.FileNote.{FileNote}
 use Rattle.timing_base.specs.declared.row.Row.{Row}
 use Rattle.timing_outside.specs.Causes.{Rose}
+use Rattle.pcapng_reader.specs.Classic.{classic}
 use Rattle.sdp_reader.specs.Session.{session}
 use Rattle.timing_report.specs.Outcomes.{status_of}
 use Rattle.timing_report.specs.declared.status.Input.TheVariants as input
@@ -38,7 +39,7 @@ follows-failed job i media failure.OutOfMemory there told h = inl refl
 
 -- the report of what was found is the answer
 pub follows-report : (job : CheckJob) (i : Inputs) (media : List Media) (outcome : Result Answer Failure) (notes : List FileNote) (found : List Row) → ¬ i.lacks job.sdp → ((text : List ℕ) → i.texts job.sdp ≡ Some text → session text ≡ Ok media)
-    → AreThere i.lacks job.captures → ((texts : List (List ℕ)) → AreTold i.texts job.captures texts → AreFound texts (rows job media) notes found)
+    → AreThere i.lacks job.captures → ((texts : List (List ℕ)) → AreTold i.texts job.captures texts → AreFound (map classic texts) (rows job media) notes found)
     → IfOk outcome (λ answer. answer.text ≡ printed job media notes found) → IfOk outcome (λ answer. answer.status ≡ status_of media notes found) → IfErr outcome (λ e. e ≡ failure.OutOfMemory)
     → FollowsCheck job i outcome
 follows-report job i media (Ok answer) notes found there told are_there judged text_is status_is memory =

@@ -1,6 +1,6 @@
 -- What `selftest` prints: there is one text, and what its steps say of it.
-use Rattle.std.proofs.Common.{◌≡◌, ◌^◌, ℕ, zero, suc, List, [], ◌∷◌, ◌++◌, false, Some, None, refl, arith, ap, ◌∙◌, sym}
-use Rattle.std.specs.Prelude.{Result, Ok, Err}
+use Rattle.std.proofs.Common.{◌≡◌, ◌^◌, ℕ, zero, suc, Bool, true, false, nat_le, if◌then◌else◌, List, [], ◌∷◌, ◌++◌, length, take, Some, None, refl, arith, ap, ◌∙◌, sym}
+use Rattle.std.specs.Prelude.{◌&&◌, ◌==◌, Result, Ok, Err}
 use Rattle.timing_base.specs.Captures.{Record}
 use Rattle.timing_base.specs.Media.{Media}
 use Rattle.timing_base.specs.declared.capture.FileNote.{FileNote}
@@ -9,11 +9,14 @@ use Rattle.timing_base.specs.declared.row.Row.{Row}
 use Rattle.timing_outside.specs.Causes.{Rose}
 use Rattle.sdp_reader.specs.Session.{session}
 use Rattle.sdp_reader.specs.declared.fault.SdpFault.{SdpFault}
+use Rattle.pcapng_reader.specs.Classic.{begins_section, blocks, classic, no_section, number as number_at}
+use Rattle.pcapng_reader.specs.declared.block.Order.TheVariants.{Big}
 use Rattle.pcap_reader.specs.Header.{header}
 use Rattle.pcap_reader.specs.Records.{AreRecords, Records}
 use Rattle.pcap_reader.proofs.Lists.{only_by, some_by}
 use Rattle.flow_bank.specs.Rows.{rows_of, rows_of_files}
 use Rattle.capture_gen.specs.Capture.{capture}
+use Rattle.capture_gen.specs.Heads.{file_head}
 use Rattle.capture_gen.specs.Sdp.{sdp_text}
 use Rattle.timing_report.specs.declared.status.Input.{Input}
 use Rattle.timing_report.specs.declared.status.Status.TheVariants as status
@@ -22,6 +25,20 @@ use Rattle.timing_steps.specs.declared.failure.Failure.{Failure}
 use Rattle.timing_steps.specs.declared.failure.Failure.TheVariants as failure
 use Rattle.flow_bank.specs.Found.{AreFound}
 use Rattle.timing_top.specs.SelfTest.{HasLine, HasLines, HasSelfTest, flaw_line}
+
+-- a made capture is its own classic text
+and-false : (a b : Bool) → b ≡ false → (a && b) ≡ false
+and-false true b e = e
+and-false false b e = refl
+
+not-section : (number frames flaw : ℕ) → begins_section (capture number frames flaw) ≡ false
+unfolding capture
+not-section number frames flaw = and-false (nat_le 4 (length (capture number frames flaw))) (number_at Big 4 0 (capture number frames flaw) == 0x0a0d0d0a) refl
+
+pub classic-capture : (number frames flaw : ℕ) → classic (capture number frames flaw) ≡ capture number frames flaw
+unfolding classic
+classic-capture number frames flaw =
+    ap (λ b. if b then file_head ++ blocks no_section (take (2 ^ 41) (capture number frames flaw)) else capture number frames flaw) (not-section number frames flaw)
 
 -- the media of the plain description
 abbrev pub plain_media : Media

@@ -1,9 +1,10 @@
 -- The texts of `verify` define one answer.
 use Rattle.std.proofs.Common.{◌≡◌, ℕ, false, List, [], ◌∷◌, Option, Some, None, refl}
-use Rattle.std.specs.Prelude.{Ok, Err, slice_get}
+use Rattle.std.specs.Prelude.{Ok, Err, map, slice_get}
 use Rattle.std.proofs.lemmas.List.Elements.{All-head, All-tail}
 use Rattle.timing_base.specs.Jobs.{VerifyJob}
 use Rattle.timing_base.specs.Media.{Media}
+use Rattle.pcapng_reader.specs.Classic.{classic}
 use Rattle.timing_steps.specs.Answers.{Answer, AreThere, AreTold, Inputs, ReadsSession}
 use Rattle.timing_steps.specs.declared.failure.Failure.{Failure}
 use Rattle.timing_verify.specs.Asked.{FollowsVerify, HasVerified, ReadsMedia, VerifyInputRose}
@@ -13,11 +14,11 @@ use Rattle.timing_top.proofs.Answering.{Caused, captured-failed, described-faile
 
 some-media : (job : VerifyJob) (i : Inputs) (texts : List (List ℕ)) (m : Option Media) → AreThere i.lacks job.captures → AreTold i.texts job.captures texts → (answer : Answer) × ReadsMedia i (Ok answer) job m
 some-media job i texts None there told = some-given (λ answer. answer ≡ verified (Ok false)) (verified (Ok false), refl)
-some-media job i texts (Some media) there told = some-captured i job.captures texts (HasVerified job media) there told (some-verified job media texts)
+some-media job i texts (Some media) there told = some-captured i job.captures texts (HasVerified job media) there told (some-verified job media (map classic texts))
 
 only-media : (job : VerifyJob) (i : Inputs) (texts : List (List ℕ)) (m : Option Media) (a b : Answer) → AreTold i.texts job.captures texts → ReadsMedia i (Ok a) job m → ReadsMedia i (Ok b) job m → a ≡ b
 only-media job i texts None a b told h k = only-given (λ answer. answer ≡ verified (Ok false)) a b (λ x y p q. only-silent x y _ p q) h k
-only-media job i texts (Some media) a b told h k = only-captured i job.captures texts (HasVerified job media) a b told (only-verified job media texts) h k
+only-media job i texts (Some media) a b told h k = only-captured i job.captures texts (HasVerified job media) a b told (only-verified job media (map classic texts)) h k
 
 media-failed : (job : VerifyJob) (i : Inputs) (texts : List (List ℕ)) (m : Option Media) (e : Failure) → AreTold i.texts job.captures texts → ReadsMedia i (Err e) job m → Caused e (VerifyInputRose job i)
 media-failed job i texts None e told h = absurd (not-given (λ answer. answer ≡ verified (Ok false)) e h)

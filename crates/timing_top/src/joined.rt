@@ -4,6 +4,8 @@ ghost use Rattle.std.specs.Prelude.{◌≡◌, ◌≤◌, ◌<◌, ◌+◌, ◌*
 ghost use Rattle.timing_base.specs.Captures.{joined};
 ghost use Rattle.timing_outside.specs.Causes.{Rose};
 ghost use Rattle.timing_report.specs.Outcomes.{AreOfSession};
+ghost use Rattle.pcapng_reader.specs.Classic.{classic_texts};
+ghost use Rattle.pcapng_reader.specs.Sources.{faults_of, left_of, name_of};
 ghost use Rattle.timing_steps.specs.Answers.{AreTold, CaptureRose, OnReadFault};
 ghost use Rattle.timing_steps.specs.Fetched.{AreFetched};
 ghost use Rattle.flow_bank.specs.Rows.{rows_of};
@@ -13,11 +15,12 @@ ghost use Rattle.timing_top.specs.Found.{JoinsNext};
 
 use crate::captures::{Found, take_capture};
 use flow_bank::Bank;
+use pcapng_reader::Classic;
 use std::alloc::Global;
 use timing_base::{FileNote, Media};
 use timing_outside::{Shelf, Source};
 use timing_report::Input;
-use timing_steps::{Failure, give_back_all};
+use timing_steps::{Failure, give_back, give_back_all};
 
 /// Captures that are one capture, as far as they were taken.
 #[derive(Drop)]
@@ -33,14 +36,14 @@ struct Joined {
 fn join_next<H: Shelf>(
     alloc: Global,
     shelf: &mut H,
-    source: H::Source,
+    source: Classic<H::Source>,
     joined: &mut Joined,
 ) -> Result<(), Failure>
-    requires fresh { H.Source.faults source ≡ 0 }
+    requires fresh { faults_of H.Source.faults source ≡ 0 }
     requires few { length joined.old.notes.items < 16 }
     requires before { joined.old.records ≤ length joined.old.notes.items * 2 ^ 36 }
     requires fed { records joined.old.bank ≤ length joined.old.notes.items * 2 ^ 36 }
-    ensures told { IfOk result (λ _. (text : List ℕ) → H.Source.left source ≡ Some text
+    ensures told { IfOk result (λ _. (text : List ℕ) → left_of H.Source.left source ≡ Some text
         → JoinsNext text joined.old.records joined.new.records joined.old.bank joined.new.bank
         joined.old.notes.items joined.new.notes.items) }
     ensures count { IfOk result (λ _. length joined.new.notes.items
@@ -51,8 +54,8 @@ fn join_next<H: Shelf>(
     ensures fed { IfOk result (λ _. IsFed joined.old.bank joined.new.bank) }
     ensures cause { IfErr result (λ e. OnReadFault e (λ i.
         (i ≡ Input.Capture (length joined.old.notes.items))
-        × Rose (H.faults shelf.old (H.Source.name source))
-        (H.faults shelf.new (H.Source.name source)))) }
+        × Rose (H.faults shelf.old (name_of H.Source.name source))
+        (H.faults shelf.new (name_of H.Source.name source)))) }
     ensures lacks { (n : List ℕ) → H.lacks shelf.old n → H.lacks shelf.new n }
     ensures texts { (n : List ℕ) → H.text shelf.new n ≡ H.text shelf.old n }
     ensures later { (n : List ℕ) → H.faults shelf.old n ≤ H.faults shelf.new n }
@@ -71,23 +74,25 @@ fn join_next<H: Shelf>(
 pub fn judge_joined<H: Shelf>(
     alloc: Global,
     shelf: &mut H,
-    sources: Vec<H::Source>,
+    sources: Vec<Classic<H::Source>>,
     media: &[Media],
     tai: u64,
 ) -> Result<Found, Failure>
     requires few { length sources.items ≤ 16 }
-    requires fresh { All (λ source. H.Source.faults source ≡ 0) sources.items }
+    requires fresh { All (λ source. faults_of H.Source.faults source ≡ 0) sources.items }
     requires few_media { length media.now ≤ 64 }
     requires tai { tai ≤ 1000 }
     ensures told { IfOk result (λ found. (names texts : List (List ℕ))
-        → AreFetched H.Source.name H.Source.left H.Source.faults (H.text shelf.old) names sources.items
-        → AreTold (H.text shelf.old) names texts
+        → AreFetched (name_of H.Source.name) (left_of H.Source.left) (faults_of H.Source.faults)
+        (classic_texts (H.text shelf.old)) names sources.items
+        → AreTold (classic_texts (H.text shelf.old)) names texts
         → AreFound texts (λ files. rows_of tai 0 media.now (joined files))
         found.notes.items found.rows.items) }
     ensures count { IfOk result (λ found. length found.notes.items ≡ length sources.items) }
     ensures of_session { IfOk result (λ found. AreOfSession media.now found.rows.items) }
     ensures cause { (names : List (List ℕ))
-        → AreFetched H.Source.name H.Source.left H.Source.faults (H.text shelf.old) names sources.items
+        → AreFetched (name_of H.Source.name) (left_of H.Source.left) (faults_of H.Source.faults)
+        (classic_texts (H.text shelf.old)) names sources.items
         → IfErr result (λ e. OnReadFault e (λ i. (number : ℕ) × (i ≡ Input.Capture number)
         × CaptureRose (H.faults shelf.old) (H.faults shelf.new) names number)) }
     ensures lacks { (n : List ℕ) → H.lacks shelf.old n → H.lacks shelf.new n }
@@ -111,7 +116,7 @@ pub fn judge_joined<H: Shelf>(
         outcome = match outcome {
             Ok(()) => join_next(alloc, shelf, source, &mut joined),
             Err(failure) => {
-                shelf.give_back(source);
+                give_back(shelf, source);
                 Err(failure)
             }
         };

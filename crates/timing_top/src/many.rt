@@ -7,11 +7,14 @@ ghost use Rattle.timing_base.specs.declared.capture.PcapFault.TheVariants as fau
 ghost use Rattle.flow_bank.specs.Found.{AreFound};
 ghost use Rattle.flow_bank.specs.Rows.{rows_over};
 ghost use Rattle.timing_report.specs.Outcomes.{AreOfSession};
+ghost use Rattle.pcapng_reader.specs.Classic.{classic_texts};
+ghost use Rattle.pcapng_reader.specs.Sources.{faults_of, left_of, name_of};
 ghost use Rattle.timing_steps.specs.Answers.{AreTold, CaptureRose, OnReadFault};
 ghost use Rattle.timing_steps.specs.Fetched.{AreFetched};
 
 use crate::captures::Found;
 use flow_crew::{Judged, judge_files};
+use pcapng_reader::Classic;
 use std::alloc::Global;
 use std::sync::Wait;
 use std::thread::Threads;
@@ -41,7 +44,7 @@ pub fn judge_many<R: Threads + Wait + Sync, H: Shelf, G: Gate>(
     rt: &R,
     alloc: Global,
     shelf: &mut H,
-    sources: Vec<H::Source>,
+    sources: Vec<Classic<H::Source>>,
     media: &[Media],
     joined: bool,
     tai: u64,
@@ -50,7 +53,7 @@ pub fn judge_many<R: Threads + Wait + Sync, H: Shelf, G: Gate>(
 ) -> Result<Found, Failure>
     requires some { 1 ≤ length sources.items }
     requires few { length sources.items ≤ 16 }
-    requires fresh { All (λ source. H.Source.faults source ≡ 0) sources.items }
+    requires fresh { All (λ source. faults_of H.Source.faults source ≡ 0) sources.items }
     requires some_media { 1 ≤ length media.now }
     requires few_media { length media.now ≤ 64 }
     requires targets { HaveOwnTargets media.now }
@@ -58,13 +61,15 @@ pub fn judge_many<R: Threads + Wait + Sync, H: Shelf, G: Gate>(
     requires some_workers { 1 ≤ workers }
     requires few_workers { workers ≤ 16 }
     ensures told { IfOk result (λ found. (names texts : List (List ℕ))
-        → AreFetched H.Source.name H.Source.left H.Source.faults (H.text shelf.old) names sources.items
-        → AreTold (H.text shelf.old) names texts
+        → AreFetched (name_of H.Source.name) (left_of H.Source.left) (faults_of H.Source.faults)
+        (classic_texts (H.text shelf.old)) names sources.items
+        → AreTold (classic_texts (H.text shelf.old)) names texts
         → AreFound texts (rows_over joined tai media.now) found.notes.items found.rows.items) }
     ensures count { IfOk result (λ found. length found.notes.items ≡ length sources.items) }
     ensures of_session { IfOk result (λ found. AreOfSession media.now found.rows.items) }
     ensures cause { (names : List (List ℕ))
-        → AreFetched H.Source.name H.Source.left H.Source.faults (H.text shelf.old) names sources.items
+        → AreFetched (name_of H.Source.name) (left_of H.Source.left) (faults_of H.Source.faults)
+        (classic_texts (H.text shelf.old)) names sources.items
         → IfErr result (λ e. OnReadFault e (λ i. (number : ℕ) × (i ≡ Input.Capture number)
         × CaptureRose (H.faults shelf.old) (H.faults shelf.new) names number)) }
     ensures lacks { (n : List ℕ) → H.lacks shelf.old n → H.lacks shelf.new n }

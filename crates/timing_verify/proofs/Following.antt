@@ -1,15 +1,20 @@
 -- What follows for the two commands from what their steps found.
 use Rattle.std.proofs.Common.{◌≡◌, ℕ, List, Option, Some, None, refl, ap, ◌∙◌, subst, inl, inr}
-use Rattle.std.specs.Prelude.{MatchOption, Result, Ok, slice_get}
+use Rattle.std.specs.Prelude.{Bool, MatchOption, Result, Ok, map, slice_get}
 use Rattle.timing_base.specs.Jobs.{ReportJob, VerifyJob}
 use Rattle.timing_base.specs.Media.{Media}
+use Rattle.timing_base.specs.declared.row.Unjudged.{Unjudged}
+use Rattle.pcapng_reader.specs.Classic.{classic, classic_texts}
 use Rattle.sdp_reader.specs.Session.{session}
 use Rattle.timing_json.specs.Reading.{IsReport}
 use Rattle.timing_json.specs.declared.reading.ReportProof.{ReportProof}
 use Rattle.timing_report.specs.declared.status.Status.TheVariants as status
-use Rattle.timing_steps.specs.Answers.{Answer, Gives, Inputs, Yields, silent}
+use Rattle.timing_steps.specs.Answers.{Answer, AreThere, AreTold, Gives, Inputs, ReadsCaptures, Yields, silent}
 use Rattle.timing_steps.specs.declared.failure.Failure.{Failure}
-use Rattle.timing_verify.specs.Asked.{FollowsReport, FollowsVerify, HasReported, ReadsMedia, ReadsNeeded, ReadsReport}
+use Rattle.timing_verify.specs.Asked.{FollowsReport, FollowsVerify, HasReported, HasVerified, ReadsMedia, ReadsNeeded, ReadsReport, claim_of}
+use Rattle.timing_verify.specs.Findings.{Finds}
+use Rattle.timing_verify.specs.Verified.{verified}
+use Rattle.timing_steps.proofs.Classics.{told-classic}
 use Rattle.timing_verify.proofs.Seeing.{Sees, follows-session, media-seen, needed-seen, report-seen}
 
 -- a report that was read leads on to what follows for its fails
@@ -68,3 +73,27 @@ report-read i j job media outcome asked all claims s named same there told h =
     (yields-on outcome _ _ (λ n.
     subst (λ (c : List ReportProof). ReadsNeeded i outcome job media c (λ text. Gives outcome (HasReported job media c text))) same
     (needed-seen i j outcome job media all (λ text. Gives outcome (HasReported job media all text)) s n)) h)
+
+-- what was found in the captures, as classic ones, is the answer of `verify`
+pub follows-found : (i : Inputs) (job : VerifyJob) (media : Media) (names : List (List ℕ)) (claim : ReportProof) (tai : ℕ) (finding : Result Bool Unjudged) (answer : Answer)
+    → names ≡ job.captures → claim ≡ claim_of job → tai ≡ job.tai → AreThere i.lacks names → ((texts : List (List ℕ)) → AreTold (classic_texts i.texts) names texts → Finds media claim tai texts finding) → answer ≡ verified finding
+    → Yields (Ok answer) (ReadsCaptures i (Ok answer) job.captures (λ texts. Gives (Ok answer) (HasVerified job media texts)))
+follows-found i job media names claim tai finding answer named asked late there h is =
+    let by_names : (texts : List (List ℕ)) → AreTold (classic_texts i.texts) job.captures texts → Finds media claim tai texts finding =
+    subst (λ (n : List (List ℕ)). (texts : List (List ℕ)) → AreTold (classic_texts i.texts) n texts → Finds media claim tai texts finding) named h in
+    let by_claim : (texts : List (List ℕ)) → AreTold (classic_texts i.texts) job.captures texts → Finds media (claim_of job) tai texts finding =
+    subst (λ (x : ReportProof). (texts : List (List ℕ)) → AreTold (classic_texts i.texts) job.captures texts → Finds media x tai texts finding) asked by_names in
+    let found : (texts : List (List ℕ)) → AreTold (classic_texts i.texts) job.captures texts → Finds media (claim_of job) job.tai texts finding =
+    subst (λ (t : ℕ). (texts : List (List ℕ)) → AreTold (classic_texts i.texts) job.captures texts → Finds media (claim_of job) t texts finding) late by_claim in
+    inr (inr (
+      subst (λ (n : List (List ℕ)). AreThere i.lacks n) named there,
+      λ texts told. (
+        answer,
+        refl,
+        record {
+          finding = finding;
+          finds = found (map classic texts) (told-classic i.texts job.captures texts told);
+          answer_is = is;
+        },
+      ),
+    ))

@@ -1,12 +1,14 @@
 -- The captures that the fails of a report need, and what is found in them.
 use Rattle.std.proofs.Common.{◌≡◌, ◌<◌, ◌+◌, ◌-◌, ℕ, Bool, true, false, List, [], ◌∷◌, length, take, drop, Option, Some, refl, arith, ap, ◌∙◌, sym, subst, inr, if◌then◌else◌}
 use Rattle.std.proofs.lemmas.List.{drop_more}
-use Rattle.std.proofs.lemmas.List.Elements.{All-cons, All-head, All-map, All-nil, All-tail}
+use Rattle.std.proofs.lemmas.List.Elements.{All-cons, All-head, All-map, All-nil, All-tail, All-weaker}
 use Rattle.std.specs.Prelude.{All, IfOk, Result, Ok, Err, map, slice_index_or, slice_range}
+use Rattle.std.specs.Option.{option_map}
 use Rattle.timing_base.specs.Jobs.{ReportJob}
 use Rattle.timing_base.specs.Media.{Media}
 use Rattle.timing_base.specs.declared.key.FlowKey.{FlowKey}
 use Rattle.timing_base.specs.declared.row.Unjudged.{Unjudged}
+use Rattle.pcapng_reader.specs.Classic.{classic, classic_texts}
 use Rattle.timing_json.specs.declared.reading.ReportProof.{ReportProof}
 use Rattle.timing_steps.specs.Answers.{Answer, AreThere, AreTold, Gives, Inputs, Yields}
 use Rattle.timing_steps.specs.declared.failure.Failure.{Failure}
@@ -71,9 +73,13 @@ unmapped : (P : ReportProof → Type 0) (checked : List Checked) → All P (map 
 unmapped P [] h = All-nil (λ (c : Checked). P c.claim)
 unmapped P (c ∷ cs) h = All-cons (λ (x : Checked). P x.claim) c cs (All-head P c.claim (map (λ x. x.claim) cs) h) (unmapped P cs (All-tail P c.claim (map (λ x. x.claim) cs) h))
 
--- the answer on what was checked
+-- texts as classic captures
+texts-classic : (texts : List ℕ → Option (List ℕ)) (text : List ℕ → List ℕ) (names : List (List ℕ)) → AreTexts texts text names → AreTexts (classic_texts texts) (λ name. classic (text name)) names
+texts-classic texts text names h = All-weaker (λ name. texts name ≡ Some (text name)) (λ name. classic_texts texts name ≡ Some (classic (text name))) (λ n e. ap (option_map classic) e) names h
+
+-- the answer on what was checked over a shelf of classic captures
 pub follows-checked : (i : Inputs) (job : ReportJob) (media : List Media) (claims : List ReportProof) (checked : List Checked) (answer : Answer) → map (λ c. c.claim) checked ≡ claims
-    → All (IsChecked i.texts i.lacks job media) checked → answer ≡ reported checked
+    → All (IsChecked (classic_texts i.texts) i.lacks job media) checked → answer ≡ reported checked
     → Yields (Ok answer) (ReadsNeeded i (Ok answer) job media claims (λ text. Gives (Ok answer) (HasReported job media claims text)))
 follows-checked i job media claims checked answer told all is = inr (inr (
   subst (All (λ claim. AreThere i.lacks (needed job media claim))) told
@@ -84,7 +90,7 @@ follows-checked i job media claims checked answer told all is = inr (inr (
         refl,
         record {
           checked = checked;
-          are = record { claims_are = told; each = λ k d within. (all k d within).finds text (each k d within) };
+          are = record { claims_are = told; each = λ k d within. (all k d within).finds (λ name. classic (text name)) (texts-classic i.texts text _ (each k d within)) };
           answer_is = is;
         },
       ),

@@ -7,9 +7,9 @@ use Rattle.timing_base.specs.Media.{Media}
 use Rattle.timing_outside.specs.Causes.{Rose}
 use Rattle.sdp_reader.specs.Session.{session}
 use Rattle.timing_json.specs.declared.reading.ReportProof.{ReportProof}
-use Rattle.timing_steps.specs.Answers.{Answer, AreThere, AreTold, CaptureRose, HasRisen, Inputs, OnSession, ReadsCaptures, ReadsSession, Yields}
+use Rattle.timing_steps.specs.Answers.{Answer, AreThere, AreTold, CaptureRose, Gives, HasRisen, Inputs, OnSession, ReadsCaptures, ReadsSession, Yields}
 use Rattle.timing_steps.specs.declared.failure.Failure.{Failure}
-use Rattle.timing_verify.specs.Asked.{AreTexts, NeededRose, OnReport, ReadsMedia, ReadsNeeded, ReadsReport, needed}
+use Rattle.timing_verify.specs.Asked.{AreTexts, HasVerified, NeededRose, OnReport, ReadsMedia, ReadsNeeded, ReadsReport, needed}
 
 -- the second is of a part of the run of the first
 pub record Sees (i j : Inputs) : Type 0 where
@@ -42,7 +42,7 @@ captures-seen i j outcome names next s (inr h) = inr (there-seen i j names s h.0
 
 pub media-seen : (i j : Inputs) (outcome : Result Answer Failure) (job : VerifyJob) (there : Option Media) → Sees i j → ReadsMedia j outcome job there → ReadsMedia i outcome job there
 media-seen i j outcome job None s h = h
-media-seen i j outcome job (Some media) s h = captures-seen i j outcome job.captures _ s h
+media-seen i j outcome job (Some media) s h = captures-seen i j outcome job.captures (λ texts. Gives outcome (HasVerified job media texts)) s h
 
 needed-rose-seen : (i j : Inputs) (job : ReportJob) (media : List Media) (claims : List ReportProof) (number : ℕ) → Sees i j → NeededRose j job media claims number → NeededRose i job media claims number
 needed-rose-seen i j job media claims number s h = record { claim = h.claim; reported = h.reported; needs = h.needs; rose = capture-seen i j job.captures number s h.rose }

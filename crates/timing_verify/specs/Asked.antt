@@ -4,6 +4,7 @@ use Rattle.timing_base.specs.Jobs.{ReportJob, VerifyJob}
 use Rattle.timing_base.specs.Media.{Media}
 use Rattle.timing_base.specs.declared.key.FlowKey.{FlowKey}
 use Rattle.timing_base.specs.declared.row.Unjudged.{Unjudged}
+use Rattle.pcapng_reader.specs.Classic.{classic}
 use Rattle.timing_json.specs.Reading.{IsReport}
 use Rattle.timing_json.specs.declared.reading.ReportProof.{ReportProof}
 use Rattle.timing_report.specs.declared.status.Input.{Input}
@@ -102,12 +103,12 @@ abbrev pub AreTexts : (List ℕ → Option (List ℕ)) → (List ℕ → List �
 AreTexts texts text names = All (λ name. texts name ≡ Some (text name)) names
 
 -- the captures of the fails are read: that failed for one of them, as it does where the shelf lacks one, or what their
--- texts lead to
+-- texts as classic captures lead to
 abbrev pub ReadsNeeded : Inputs → Result Answer Failure → ReportJob → List Media → List ReportProof → ((List ℕ → List ℕ) → Type 0) → Type 0
 ReadsNeeded i outcome job media claims next =
     ((number : ℕ) × (outcome ≡ Err (failure.ReadFault (input.Capture number))) × NeededRose i job media claims number)
     ⊎ (All (λ claim. AreThere i.lacks (needed job media claim)) claims
-    × ((text : List ℕ → List ℕ) → All (λ claim. AreTexts i.texts text (needed job media claim)) claims → next text))
+    × ((text : List ℕ → List ℕ) → All (λ claim. AreTexts i.texts text (needed job media claim)) claims → next (λ name. classic (text name))))
 
 -- `verify-report`: the description, then the report, then the captures of its fails
 abbrev pub FollowsReport : ReportJob → Inputs → Result Answer Failure → Type 0

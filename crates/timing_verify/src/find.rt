@@ -1,6 +1,7 @@
 //! One claim, checked over captures that are fetched for it.
 
 ghost use Rattle.std.specs.Prelude.{◌≡◌, ◌≤◌, ℕ, List, IfOk, IfErr, length};
+ghost use Rattle.pcapng_reader.specs.Classic.{classic_texts};
 ghost use Rattle.timing_steps.specs.Answers.{AreThere, AreTold};
 ghost use Rattle.timing_verify.specs.Findings.{Finds};
 ghost use Rattle.timing_verify.specs.Found.{FailedAmong, finding_of};
@@ -26,7 +27,7 @@ fn finding_of(said: Result<bool, CheckFault>) -> Result<Finding, Failure>
     }
 }
 
-/// What the captures of these names, as one capture, say of a claim. Each is fetched for it, in
+/// What the captures of these names, as one classic capture, say of a claim. Each is fetched for it, in
 /// order, and goes back to the shelf; one that couldn't be read is named by its number among them,
 /// from 0.
 pub fn find<H: Shelf>(
@@ -41,7 +42,7 @@ pub fn find<H: Shelf>(
     requires few { length names.now ≤ 16 }
     requires tai { tai ≤ 1000 }
     ensures told { IfOk result (λ finding. (texts : List (List ℕ))
-        → AreTold (H.text shelf.old) names.now texts
+        → AreTold (classic_texts (H.text shelf.old)) names.now texts
         → Finds media.now claim.now tai texts finding) }
     ensures cause { IfErr result (FailedAmong (H.faults shelf.old) (H.faults shelf.new) names.now) }
     ensures there { IfOk result (λ _. AreThere (H.lacks shelf.old) names.now) }

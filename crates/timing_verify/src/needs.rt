@@ -1,6 +1,7 @@
 //! The captures that the fails of a report need.
 
 ghost use Rattle.std.specs.Prelude.{◌≡◌, ◌≤◌, ◌<◌, ℕ, List, All, IfOk, IfErr, false, map, length, option_map};
+ghost use Rattle.pcapng_reader.specs.Classic.{classic_texts};
 ghost use Rattle.timing_steps.specs.Answers.{AreThere, OnReadFault, seen_of};
 ghost use Rattle.timing_verify.specs.Asked.{AreTexts, FindsOf, NeededRose, captures_of, file_count, media_for, needed};
 ghost use Rattle.timing_verify.specs.Findings.{Finds};
@@ -54,7 +55,7 @@ fn find_alone<H: Shelf>(
     requires apart { job.now.joined ≡ false }
     requires within { claim.now.key.file < length job.now.captures }
     ensures told { IfOk result (λ finding. (text : List ℕ → List ℕ)
-        → AreTexts (H.text shelf.old) text (captures_of job.now claim.now.key)
+        → AreTexts (classic_texts (H.text shelf.old)) text (captures_of job.now claim.now.key)
         → Finds media.now claim.now job.now.tai (map text (captures_of job.now claim.now.key))
         finding) }
     ensures cause { IfErr result (FailedNeeded (H.faults shelf.old) (H.faults shelf.new) job.now
@@ -83,7 +84,7 @@ fn find_of<H: Shelf>(
 ) -> Result<Finding, Failure>
     requires within { claim.now.key.file < file_count job.now }
     ensures told { IfOk result (λ finding. (text : List ℕ → List ℕ)
-        → AreTexts (H.text shelf.old) text (captures_of job.now claim.now.key)
+        → AreTexts (classic_texts (H.text shelf.old)) text (captures_of job.now claim.now.key)
         → Finds media.now claim.now job.now.tai (map text (captures_of job.now claim.now.key))
         finding) }
     ensures cause { IfErr result (FailedNeeded (H.faults shelf.old) (H.faults shelf.new) job.now
@@ -110,7 +111,7 @@ fn find_needed<H: Shelf>(
     claim: &ReportProof,
 ) -> Result<Finding, Failure>
     ensures told { IfOk result (λ finding. (text : List ℕ → List ℕ)
-        → AreTexts (H.text shelf.old) text (needed job.now media.now claim.now)
+        → AreTexts (classic_texts (H.text shelf.old)) text (needed job.now media.now claim.now)
         → FindsOf (media_for job.now media.now claim.now.key) job.now claim.now text finding) }
     ensures cause { IfErr result (FailedNeeded (H.faults shelf.old) (H.faults shelf.new) job.now
         (needed job.now media.now claim.now)) }
@@ -134,7 +135,7 @@ fn check_claim<H: Shelf>(
     media: &[Media],
     claim: &ReportProof,
 ) -> Result<Checked, Failure>
-    ensures checked { IfOk result (IsChecked (H.text shelf.old) (H.lacks shelf.old) job.now media.now) }
+    ensures checked { IfOk result (IsChecked (classic_texts (H.text shelf.old)) (H.lacks shelf.old) job.now media.now) }
     ensures claim { IfOk result (λ checked. checked.claim ≡ claim.now) }
     ensures cause { IfErr result (FailedNeeded (H.faults shelf.old) (H.faults shelf.new) job.now
         (needed job.now media.now claim.now)) }
@@ -157,7 +158,7 @@ pub fn check_each<H: Shelf>(
     media: &[Media],
     claims: &[ReportProof],
 ) -> Result<Vec<Checked>, Failure>
-    ensures checked { IfOk result (λ checked. All (IsChecked (H.text shelf.old) (H.lacks shelf.old)
+    ensures checked { IfOk result (λ checked. All (IsChecked (classic_texts (H.text shelf.old)) (H.lacks shelf.old)
         job.now media.now) checked.items) }
     ensures claims { IfOk result (λ checked. map (λ c. c.claim) checked.items ≡ claims.now) }
     ensures cause { IfErr result (λ e. OnReadFault e (λ i. (number : ℕ) × (i ≡ Input.Capture number)

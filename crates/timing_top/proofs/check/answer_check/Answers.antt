@@ -4,6 +4,11 @@ use Rattle.timing_base.specs.Media.{Media}
 use Rattle.timing_steps.specs.Answers.{AreThere}
 use Rattle.timing_steps.specs.Fetched.{AreFetched}
 use Rattle.flow_bank.specs.Found.{AreFound}
+use Rattle.std.specs.Prelude.{map}
+use Rattle.std.specs.Option.{option_map}
+use Rattle.pcapng_reader.specs.Classic.{classic, classic_texts}
+use Rattle.pcapng_reader.specs.Sources.{faults_of, left_of, name_of}
+use Rattle.timing_steps.proofs.Classics.{told-classic}
 use Rattle.timing_top.specs.Report.{rows}
 use Rattle.timing_top.proofs.Following.{capture-earlier, fetched-same, follows-failed, follows-report, input-rose, there-before, told-same}
 use Rattle.timing_top.proofs.Judgings.{fetched-fresh, fetched-length}
@@ -11,12 +16,12 @@ use Rattle.timing_top.proofs.check.answer_check.Goals as goal
 
 pub judge_alone-requires-clause-few : goal.judge_alone-requires-clause-few
 judge_alone-requires-clause-few g c =
-    let long = fetched-length g.H.Source.Source.name g.H.Source.Source.left g.H.Source.Source.faults (g.H.Shelf.text c.fetch_session.new.shelf) c.as_slice.result.now c.in_ok-sources.sources.items c.in_ok-sources.ensures.fetched in
+    let long = fetched-length (name_of g.H.Source.Source.name) (left_of g.H.Source.Source.left) (faults_of g.H.Source.Source.faults) (classic_texts (g.H.Shelf.text c.fetch_session.new.shelf)) c.as_slice.result.now c.in_ok-sources.sources.items c.in_ok-sources.ensures.fetched in
     omega (arith, long, c.job.invariant.captures_are.few, ap length c.as_slice.ensures)
 
 pub judge_alone-requires-clause-fresh : goal.judge_alone-requires-clause-fresh
 judge_alone-requires-clause-fresh g c = λ _ _.
-    fetched-fresh g.H.Source.Source.name g.H.Source.Source.left g.H.Source.Source.faults (g.H.Shelf.text c.fetch_session.new.shelf) c.as_slice.result.now c.in_ok-sources.sources.items c.in_ok-sources.ensures.fetched
+    fetched-fresh (name_of g.H.Source.Source.name) (left_of g.H.Source.Source.left) (faults_of g.H.Source.Source.faults) (classic_texts (g.H.Shelf.text c.fetch_session.new.shelf)) c.as_slice.result.now c.in_ok-sources.sources.items c.in_ok-sources.ensures.fetched
 
 pub returns-in-Err-judge_alone-clause-follows : goal.returns-in-Err-judge_alone-clause-follows
 returns-in-Err-judge_alone-clause-follows g c =
@@ -28,9 +33,9 @@ returns-in-Err-judge_alone-clause-follows g c =
     (capture-earlier (g.H.Shelf.faults c.args.shelf.now) (g.H.Shelf.faults c.fetch_captures.new.shelf) (g.H.Shelf.faults c.judge_alone.new.shelf) c.args.job.now.captures c.in-Err-judge_alone.failure
     (λ n. omega (arith, c.fetch_session.ensures.later n, c.fetch_captures.ensures.later n))
     (c.in-Err-judge_alone.ensures.cause c.args.job.now.captures
-    (fetched-same g.H.Source.Source.name g.H.Source.Source.left g.H.Source.Source.faults (g.H.Shelf.text c.fetch_session.new.shelf) (g.H.Shelf.text c.fetch_captures.new.shelf) c.args.job.now.captures c.in_ok-sources.sources.items
-    c.fetch_captures.ensures.texts
-    (subst (λ (names : List (List ℕ)). AreFetched g.H.Source.Source.name g.H.Source.Source.left g.H.Source.Source.faults (g.H.Shelf.text c.fetch_session.new.shelf) names c.in_ok-sources.sources.items) captures c.in_ok-sources.ensures.fetched))))
+    (fetched-same (name_of g.H.Source.Source.name) (left_of g.H.Source.Source.left) (faults_of g.H.Source.Source.faults) (classic_texts (g.H.Shelf.text c.fetch_session.new.shelf)) (classic_texts (g.H.Shelf.text c.fetch_captures.new.shelf)) c.args.job.now.captures c.in_ok-sources.sources.items
+    (λ n. ap (option_map classic) (c.fetch_captures.ensures.texts n))
+    (subst (λ (names : List (List ℕ)). AreFetched (name_of g.H.Source.Source.name) (left_of g.H.Source.Source.left) (faults_of g.H.Source.Source.faults) (classic_texts (g.H.Shelf.text c.fetch_session.new.shelf)) names c.in_ok-sources.sources.items) captures c.in_ok-sources.ensures.fetched))))
 
 pub returns-in-Err-judge_alone-clause-cause : goal.returns-in-Err-judge_alone-clause-cause
 returns-in-Err-judge_alone-clause-cause g c =
@@ -39,9 +44,9 @@ returns-in-Err-judge_alone-clause-cause g c =
     (capture-earlier (g.H.Shelf.faults c.args.shelf.now) (g.H.Shelf.faults c.fetch_captures.new.shelf) (g.H.Shelf.faults c.judge_alone.new.shelf) c.args.job.now.captures c.in-Err-judge_alone.failure
     (λ n. omega (arith, c.fetch_session.ensures.later n, c.fetch_captures.ensures.later n))
     (c.in-Err-judge_alone.ensures.cause c.args.job.now.captures
-    (fetched-same g.H.Source.Source.name g.H.Source.Source.left g.H.Source.Source.faults (g.H.Shelf.text c.fetch_session.new.shelf) (g.H.Shelf.text c.fetch_captures.new.shelf) c.args.job.now.captures c.in_ok-sources.sources.items
-    c.fetch_captures.ensures.texts
-    (subst (λ (names : List (List ℕ)). AreFetched g.H.Source.Source.name g.H.Source.Source.left g.H.Source.Source.faults (g.H.Shelf.text c.fetch_session.new.shelf) names c.in_ok-sources.sources.items) captures c.in_ok-sources.ensures.fetched))))
+    (fetched-same (name_of g.H.Source.Source.name) (left_of g.H.Source.Source.left) (faults_of g.H.Source.Source.faults) (classic_texts (g.H.Shelf.text c.fetch_session.new.shelf)) (classic_texts (g.H.Shelf.text c.fetch_captures.new.shelf)) c.args.job.now.captures c.in_ok-sources.sources.items
+    (λ n. ap (option_map classic) (c.fetch_captures.ensures.texts n))
+    (subst (λ (names : List (List ℕ)). AreFetched (name_of g.H.Source.Source.name) (left_of g.H.Source.Source.left) (faults_of g.H.Source.Source.faults) (classic_texts (g.H.Shelf.text c.fetch_session.new.shelf)) names c.in_ok-sources.sources.items) captures c.in_ok-sources.ensures.fetched))))
 
 pub returns-clause-follows : goal.returns-clause-follows
 returns-clause-follows g c =
@@ -54,12 +59,12 @@ returns-clause-follows g c =
     (λ text t. c.in_ok-session.ensures.told text (ap (g.H.Shelf.text c.args.shelf.now) named ∙ t) ∙ c.in-Ok.is)
     (there-before (g.H.Shelf.lacks c.args.shelf.now) (g.H.Shelf.lacks c.fetch_session.new.shelf) c.args.job.now.captures c.fetch_session.ensures.lacks
     (subst (λ (names : List (List ℕ)). AreThere (g.H.Shelf.lacks c.fetch_session.new.shelf) names) captures c.in_ok-sources.ensures.there))
-    (λ texts told.
-    subst (λ (m : List Media). AreFound texts (rows c.args.job.now m) c.in-Ok-judge_alone.found.notes.items c.in-Ok-judge_alone.found.rows.items) media
-    (subst (λ (j : CheckJob). AreFound texts (rows j c.as_slice-media.result.now) c.in-Ok-judge_alone.found.notes.items c.in-Ok-judge_alone.found.rows.items) c.job.view_is
-    (c.in-Ok-judge_alone.ensures.told c.args.job.now.captures texts
-    (fetched-same g.H.Source.Source.name g.H.Source.Source.left g.H.Source.Source.faults (g.H.Shelf.text c.fetch_session.new.shelf) (g.H.Shelf.text c.fetch_captures.new.shelf) c.args.job.now.captures c.in_ok-sources.sources.items
-    c.fetch_captures.ensures.texts
-    (subst (λ (names : List (List ℕ)). AreFetched g.H.Source.Source.name g.H.Source.Source.left g.H.Source.Source.faults (g.H.Shelf.text c.fetch_session.new.shelf) names c.in_ok-sources.sources.items) captures c.in_ok-sources.ensures.fetched))
-    (told-same (g.H.Shelf.text c.args.shelf.now) (g.H.Shelf.text c.fetch_captures.new.shelf) c.args.job.now.captures texts (λ n. c.fetch_captures.ensures.texts n ∙ c.fetch_session.ensures.texts n) told))))
+    (λ raw told.
+    subst (λ (m : List Media). AreFound (map classic raw) (rows c.args.job.now m) c.in-Ok-judge_alone.found.notes.items c.in-Ok-judge_alone.found.rows.items) media
+    (subst (λ (j : CheckJob). AreFound (map classic raw) (rows j c.as_slice-media.result.now) c.in-Ok-judge_alone.found.notes.items c.in-Ok-judge_alone.found.rows.items) c.job.view_is
+    (c.in-Ok-judge_alone.ensures.told c.args.job.now.captures (map classic raw)
+    (fetched-same (name_of g.H.Source.Source.name) (left_of g.H.Source.Source.left) (faults_of g.H.Source.Source.faults) (classic_texts (g.H.Shelf.text c.fetch_session.new.shelf)) (classic_texts (g.H.Shelf.text c.fetch_captures.new.shelf)) c.args.job.now.captures c.in_ok-sources.sources.items
+    (λ n. ap (option_map classic) (c.fetch_captures.ensures.texts n))
+    (subst (λ (names : List (List ℕ)). AreFetched (name_of g.H.Source.Source.name) (left_of g.H.Source.Source.left) (faults_of g.H.Source.Source.faults) (classic_texts (g.H.Shelf.text c.fetch_session.new.shelf)) names c.in_ok-sources.sources.items) captures c.in_ok-sources.ensures.fetched))
+    (told-classic (g.H.Shelf.text c.fetch_captures.new.shelf) c.args.job.now.captures raw (told-same (g.H.Shelf.text c.args.shelf.now) (g.H.Shelf.text c.fetch_captures.new.shelf) c.args.job.now.captures raw (λ n. c.fetch_captures.ensures.texts n ∙ c.fetch_session.ensures.texts n) told)))))
     c.report_on.ensures.text c.report_on.ensures.status c.report_on.ensures.memory

@@ -8,13 +8,15 @@ use Rattle.timing_base.specs.declared.row.Row.{Row}
 use Rattle.flow_bank.specs.Found.{AreFound}
 use Rattle.flow_bank.specs.Rows.{rows_over}
 use Rattle.flow_crew.specs.Judging.{AreTexts}
+use Rattle.pcapng_reader.specs.Classic.{classic_texts}
+use Rattle.pcapng_reader.specs.Sources.{faults_of, left_of, name_of}
 use Rattle.timing_top.proofs.Crewing.{back-length, fetched-texts, keys-of_session, some-at, unread-rose}
 use Rattle.timing_top.proofs.many.judge_many.Goals as goal
 
 pub first_unread-requires : goal.first_unread-requires
 first_unread-requires g c = record {
   few =
-      let long = back-length g.H.Source.Source.name g.H.Source.Source.faults c.args.sources.items c.in_ok-sources.field-0.notes.items c.in_ok-sources.field-0.sources.items c.in_ok-sources.ensures.back in
+      let long = back-length (name_of g.H.Source.Source.name) (faults_of g.H.Source.Source.faults) c.args.sources.items c.in_ok-sources.field-0.notes.items c.in_ok-sources.field-0.sources.items c.in_ok-sources.ensures.back in
       omega (arith, long, c.requires.few, ap length c.deref.ensures.value);
 }
 
@@ -25,21 +27,21 @@ returns-in-Some-clause-cause g c = λ names fetched.
     subst (λ (l : List FileNote). (c.in-Some.number < length l) × ((d : FileNote) → slice_index_or l c.in-Some.number d ≡ Refused ReadFault)) c.deref.ensures.value c.in-Some.ensures in (
       c.in-Some.number,
       refl,
-      unread-rose g.H.Source.Source.name g.H.Source.Source.left g.H.Source.Source.faults (g.H.Shelf.text c.args.shelf.now) (g.H.Shelf.faults c.args.shelf.now) (g.H.Shelf.faults c.give_back_all.new.shelf)
+      unread-rose (name_of g.H.Source.Source.name) (left_of g.H.Source.Source.left) (faults_of g.H.Source.Source.faults) (classic_texts (g.H.Shelf.text c.args.shelf.now)) (g.H.Shelf.faults c.args.shelf.now) (g.H.Shelf.faults c.give_back_all.new.shelf)
           names c.args.sources.items notes c.in_ok-sources.field-0.sources.items c.in-Some.number fetched c.in_ok-sources.ensures.back c.give_back_all.ensures.raised unread.0 unread.1,
     )
 
 pub returns-in-Some-rows-clause-told : goal.returns-in-Some-rows-clause-told
 returns-in-Some-rows-clause-told g c = λ names texts fetched told.
     some-at c.in_ok-sources.field-0.rows c.in-Some-rows.rows
-    (λ rows. (read : List (List ℕ)) → AreTexts g.H.Source.Source.left read c.args.sources.items
+    (λ rows. (read : List (List ℕ)) → AreTexts (left_of g.H.Source.Source.left) read c.args.sources.items
     → AreFound read (rows_over c.args.joined c.args.tai c.args.media.now) c.in_ok-sources.field-0.notes.items rows.items)
     c.in-Some-rows.is c.in_ok-sources.ensures.told texts
-    (fetched-texts g.H.Source.Source.name g.H.Source.Source.left g.H.Source.Source.faults (g.H.Shelf.text c.args.shelf.now) names texts c.args.sources.items fetched told)
+    (fetched-texts (name_of g.H.Source.Source.name) (left_of g.H.Source.Source.left) (faults_of g.H.Source.Source.faults) (classic_texts (g.H.Shelf.text c.args.shelf.now)) names texts c.args.sources.items fetched told)
 
 pub returns-in-Some-rows-clause-count : goal.returns-in-Some-rows-clause-count
 returns-in-Some-rows-clause-count g c =
-    back-length g.H.Source.Source.name g.H.Source.Source.faults c.args.sources.items c.in_ok-sources.field-0.notes.items c.in_ok-sources.field-0.sources.items c.in_ok-sources.ensures.back
+    back-length (name_of g.H.Source.Source.name) (faults_of g.H.Source.Source.faults) c.args.sources.items c.in_ok-sources.field-0.notes.items c.in_ok-sources.field-0.sources.items c.in_ok-sources.ensures.back
 
 pub returns-in-Some-rows-clause-of_session : goal.returns-in-Some-rows-clause-of_session
 returns-in-Some-rows-clause-of_session g c =

@@ -1,12 +1,13 @@
 use Rattle.std.proofs.Common.{◌≡◌, ◌≤◌, ℕ, List}
 use Rattle.std.specs.Prelude.{All, map, take}
+use Rattle.pcapng_reader.specs.Classic.{classic_texts}
 use Rattle.timing_verify.specs.Found.{IsChecked}
 use Rattle.timing_verify.specs.declared.checked.Checked.{Checked}
 use Rattle.timing_verify.proofs.needs.check_each.Given as goal
 
 abbrev pub invariant-loop-claim : goal.invariant-loop-claim
 invariant-loop-claim g l = record {
-  checked : All (IsChecked (g.H.Shelf.text l.fn.shelf) (g.H.Shelf.lacks l.fn.shelf) l.job l.media) l.checked.items;
+  checked : All (IsChecked (classic_texts (g.H.Shelf.text l.fn.shelf)) (g.H.Shelf.lacks l.fn.shelf) l.job l.media) l.checked.items;
   claims : map (λ (c : Checked). c.claim) l.checked.items ≡ take l.claim-index l.claims;
   lacks : (n : List ℕ) → g.H.Shelf.lacks l.fn.shelf n → g.H.Shelf.lacks l.shelf n;
   texts : (n : List ℕ) → g.H.Shelf.text l.shelf n ≡ g.H.Shelf.text l.fn.shelf n;

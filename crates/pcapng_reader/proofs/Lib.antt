@@ -1,0 +1,7 @@
+pub mod Blocks
+pub mod Buffers
+pub mod Numbers
+pub mod Options
+pub mod Packets
+pub mod Steps
+pub mod Texts

@@ -1,0 +1,86 @@
+use Rattle.std.proofs.Common.{refl, rules, ◌≡◌, ◌≤◌, ◌<◌, ◌⊎◌, inl, inr, ◌∙◌, ◌+◌, ◌-◌, ◌*◌, ◌^◌, ℕ, List, [], ◌∷◌, ◌++◌, length, take, drop, min, ap, sym, arith, length-append, length-drop, true, false, None, Some}
+use Rattle.pcapng_reader.specs.Texts.{text_by, section_of, ahead, whole, text_of}
+use Rattle.pcapng_reader.specs.Windows.{kept_bytes, held_bytes}
+use Rattle.pcapng_reader.specs.Stages.{is_start, is_due, rank}
+use Rattle.pcapng_reader.specs.declared.stage.Stage.TheVariants as stage
+use Rattle.pcapng_reader.specs.declared.stage.Content.TheVariants as content
+use Rattle.pcapng_reader.specs.declared.stage.Body.{Body}
+use Rattle.pcapng_reader.specs.Classic.{number, broken, options, add_interface, padded}
+use Rattle.pcapng_reader.specs.Converting.{content_given, found_by, found_with, after}
+use Rattle.pcapng_reader.specs.Classic.{BlockOption}
+use Rattle.pcapng_reader.proofs.Blocks.{after-short}
+use Rattle.pcapng_reader.proofs.Steps.{steps-waits, option-cut, text-at_option, options-broken, option-passed, option-unformed}
+use Rattle.pcapng_reader.proofs.converter.Converter.option.Goals as goal
+
+pub returns-then-from-body : goal.returns-then-from-body
+returns-then-from-body c =
+    let w = c.args.self.now in
+    let h = held_bytes w.window in
+    let b = c.args.body in
+    let f = c.args.found in
+    let s = section_of w in
+    record {
+      text = λ left.
+        let a = ahead w left in
+        c.settle.ensures.text left
+        ∙ sym (text-at_option w.stage s (kept_bytes w.window) a (whole w left) b f c.requires.stage
+        ∙ ap (after b a) (options-broken s h (take w.budget left) b f c.requires.held c.requires.left (omega (arith, c.requires.code)) (omega (arith, c.requires.size))));
+      tells = c.settle.ensures.work;
+      budget = c.settle.ensures.budget;
+    }
+
+pub returns-then-len-count : goal.returns-then-len-count
+returns-then-len-count c =
+    let w = c.args.self.now in
+    let h = held_bytes w.window in
+    steps-waits w c.wait.new.self c.wait.result c.wait.ensures (omega (arith, ap length c.requires.given)) (omega (arith, ap rank c.requires.stage))
+    (λ left z. option-cut w.stage (section_of w) (kept_bytes w.window) h left (whole w left) w.budget c.args.body c.args.found c.requires.stage (omega arith) z)
+
+pub returns-in-Some : goal.returns-in-Some
+returns-in-Some c =
+    let w = c.args.self.now in
+    let h = held_bytes w.window in
+    let b = c.args.body in
+    let f = c.args.found in
+    let s = section_of w in
+    let size : c.args.size ≡ number b.order 2 2 h = c.requires.size in
+    let count : c.min-count.result ≡ min b.left (4 + padded (number b.order 2 2 h)) =
+    c.min-count.ensures ∙ ap (λ n. min b.left (4 + n)) (c.padded.ensures.value ∙ ap padded c.requires.size) in
+    let bare : (4 + c.args.size) - 4 ≡ number b.order 2 2 h = omega (arith, c.requires.size) in
+    let value : take ((4 + c.args.size) - 4) (drop 4 c.peek.result.now) ≡ take (number b.order 2 2 h) (drop 4 h) =
+    ap (λ n. take n (drop 4 c.peek.result.now)) bare ∙ ap (λ x. take (number b.order 2 2 h) (drop 4 x)) c.peek.ensures in
+    record {
+      text = λ left.
+        let r = take w.budget left in
+        let a = h ++ r in
+        c.pass_option.ensures.text left
+        ∙ option-passed s h r (take ((4 + c.args.size) - 4) (drop 4 c.peek.result.now)) b f c.in-Some.found c.min-count.result c.requires.held (omega (arith, c.requires.code)) (omega arith) count (omega arith) value
+        (ap (λ n. found_with b.order (record { code = n; value = take ((4 + c.args.size) - 4) (drop 4 c.peek.result.now) }) f) (sym c.requires.code) ∙ sym c.with.ensures ∙ c.in-Some.is)
+        ∙ sym (text-at_option w.stage s (kept_bytes w.window) a (whole w left) b f c.requires.stage);
+      tells = c.pass_option.ensures.work;
+      budget = c.pass_option.ensures.budget;
+    }
+
+pub returns-in-None : goal.returns-in-None
+returns-in-None c =
+    let w = c.args.self.now in
+    let h = held_bytes w.window in
+    let b = c.args.body in
+    let f = c.args.found in
+    let s = section_of w in
+    let count : c.min-count.result ≡ min b.left (4 + padded (number b.order 2 2 h)) =
+    c.min-count.ensures ∙ ap (λ n. min b.left (4 + n)) (c.padded.ensures.value ∙ ap padded c.requires.size) in
+    let bare : (4 + c.args.size) - 4 ≡ number b.order 2 2 h = omega (arith, c.requires.size) in
+    let value : take ((4 + c.args.size) - 4) (drop 4 c.peek.result.now) ≡ take (number b.order 2 2 h) (drop 4 h) =
+    ap (λ n. take n (drop 4 c.peek.result.now)) bare ∙ ap (λ x. take (number b.order 2 2 h) (drop 4 x)) c.peek.ensures in
+    record {
+      text = λ left.
+        let r = take w.budget left in
+        let a = h ++ r in
+        c.settle-in-None.ensures.text left
+        ∙ ap (after b a) (sym (option-unformed s h r (take ((4 + c.args.size) - 4) (drop 4 c.peek.result.now)) b f c.min-count.result c.requires.held (omega (arith, c.requires.code)) (omega arith) count (omega arith) value
+        (ap (λ n. found_with b.order (record { code = n; value = take ((4 + c.args.size) - 4) (drop 4 c.peek.result.now) }) f) (sym c.requires.code) ∙ sym c.with.ensures ∙ c.in-None.is)))
+        ∙ sym (text-at_option w.stage s (kept_bytes w.window) a (whole w left) b f c.requires.stage);
+      tells = c.settle-in-None.ensures.work;
+      budget = c.settle-in-None.ensures.budget;
+    }

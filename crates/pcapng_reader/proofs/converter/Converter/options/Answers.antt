@@ -1,0 +1,51 @@
+use Rattle.std.proofs.Common.{refl, rules, ◌≡◌, ◌≤◌, ◌<◌, ◌⊎◌, inl, inr, ◌∙◌, ◌+◌, ◌-◌, ◌*◌, ◌^◌, ℕ, List, [], ◌∷◌, ◌++◌, length, take, drop, min, ap, sym, arith, length-append, length-drop, true, false, None, Some}
+use Rattle.pcapng_reader.specs.Texts.{text_by, section_of, ahead, whole, text_of}
+use Rattle.pcapng_reader.specs.Windows.{kept_bytes, held_bytes}
+use Rattle.pcapng_reader.specs.Stages.{is_start, is_due, rank}
+use Rattle.pcapng_reader.specs.declared.stage.Stage.TheVariants as stage
+use Rattle.pcapng_reader.specs.declared.stage.Content.TheVariants as content
+use Rattle.pcapng_reader.specs.declared.stage.Body.{Body}
+use Rattle.pcapng_reader.specs.Classic.{number, options, add_interface}
+use Rattle.pcapng_reader.specs.Converting.{content_given, found_by, found_interface, after}
+use Rattle.pcapng_reader.proofs.Steps.{steps-waits, option-cut, text-at_option, options-over, options-last}
+use Rattle.pcapng_reader.proofs.converter.Converter.options.Goals as goal
+
+pub returns-then-body-lt4 : goal.returns-then-body-lt4
+returns-then-body-lt4 c =
+    let w = c.args.self.now in
+    let b = c.args.body in
+    let f = c.args.found in
+    let s = section_of w in
+    record {
+      text = λ left.
+        let a = ahead w left in
+        c.settle.ensures.text left ∙ ap (λ i. after b a (add_interface s (Some i))) c.interface.ensures
+        ∙ sym (text-at_option w.stage s (kept_bytes w.window) a (whole w left) b f c.requires.stage ∙ ap (after b a) (options-over s a b f (omega arith)));
+      tells = c.settle.ensures.work;
+      budget = c.settle.ensures.budget;
+    }
+
+pub returns-then-len-lt4 : goal.returns-then-len-lt4
+returns-then-len-lt4 c =
+    let w = c.args.self.now in
+    let h = held_bytes w.window in
+    steps-waits w c.wait.new.self c.wait.result c.wait.ensures (omega (arith, ap length c.requires.given)) (omega (arith, ap rank c.requires.stage))
+    (λ left z. option-cut w.stage (section_of w) (kept_bytes w.window) h left (whole w left) w.budget c.args.body c.args.found c.requires.stage (omega arith) z)
+
+pub returns-then-code-eq0 : goal.returns-then-code-eq0
+returns-then-code-eq0 c =
+    let w = c.args.self.now in
+    let h = held_bytes w.window in
+    let b = c.args.body in
+    let f = c.args.found in
+    let s = section_of w in
+    let code = sym (c.read_u16-code.ensures ∙ ap (number b.order 2 0) c.peek.ensures) in
+    record {
+      text = λ left.
+        let a = ahead w left in
+        c.settle-then-code-eq0.ensures.text left ∙ ap (λ i. after b a (add_interface s (Some i))) c.interface-then-code-eq0.ensures
+        ∙ sym (text-at_option w.stage s (kept_bytes w.window) a (whole w left) b f c.requires.stage
+        ∙ ap (after b a) (options-last s h (take w.budget left) b f (omega arith) (omega arith) (omega (arith, code))));
+      tells = c.settle-then-code-eq0.ensures.work;
+      budget = c.settle-then-code-eq0.ensures.budget;
+    }

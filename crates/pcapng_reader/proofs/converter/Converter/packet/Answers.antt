@@ -1,0 +1,53 @@
+use Rattle.std.proofs.Common.{refl, rules, ◌≡◌, ◌≤◌, ◌<◌, ◌⊎◌, inl, inr, ◌∙◌, ◌+◌, ◌-◌, ◌*◌, ◌^◌, ℕ, List, [], ◌∷◌, ◌++◌, length, take, drop, min, ap, sym, arith, length-append, length-drop, true, false}
+use Rattle.pcapng_reader.specs.Texts.{text_by, section_of, ahead, whole, text_of}
+use Rattle.pcapng_reader.specs.Windows.{kept_bytes, held_bytes}
+use Rattle.pcapng_reader.specs.Stages.{is_start, is_due, rank}
+use Rattle.pcapng_reader.specs.declared.stage.Stage.TheVariants as stage
+use Rattle.pcapng_reader.specs.declared.stage.Content.TheVariants as content
+use Rattle.pcapng_reader.specs.declared.block.Kind.TheVariants as kind
+use Rattle.pcapng_reader.specs.declared.packet.Fate.TheVariants as fate
+use Rattle.pcapng_reader.specs.declared.step.Step.TheVariants as step
+use Rattle.pcapng_reader.specs.Described.{list_of}
+use Rattle.pcapng_reader.specs.Classic.{number, broken, late}
+use Rattle.pcapng_reader.specs.Converting.{fate_by}
+use Rattle.std.specs.Prelude.{slice_get}
+use Rattle.pcapng_reader.proofs.Blocks.{total-least}
+use Rattle.pcapng_reader.proofs.Steps.{steps-waits, head-cut, steps-entered, packet-given}
+use Rattle.pcapng_reader.proofs.converter.Converter.packet.Goals as goal
+
+pub returns-then-len-lt28 : goal.returns-then-len-lt28
+returns-then-len-lt28 c =
+    let w = c.args.self.now in
+    let least : 32 ≤ c.args.total = total-least kind.Packet c.args.total c.requires.total in
+    steps-waits w c.wait.new.self c.wait.result c.wait.ensures (omega (arith, ap length c.requires.given)) (omega (arith, ap rank c.requires.stage))
+    (head-cut w c.args.order kind.Packet c.args.total c.requires.head c.requires.total (omega arith))
+
+pub returns-in-Broken : goal.returns-in-Broken
+returns-in-Broken c =
+    let w = c.args.self.now in
+    let h = held_bytes w.window in
+    let o = c.args.order in
+    let total = c.args.total in
+    let items = list_of w.interfaces in
+    let least : 32 ≤ total = total-least kind.Packet total c.requires.total in
+    let len : 28 ≤ length h = omega arith in
+    let found = c.get-found.ensures ∙ ap (slice_get items) (c.read_u32-number.ensures ∙ ap (number o 4 8) c.peek.ensures) in
+    let e = sym (c.fate_of.ensures.fate ∙ ap (λ f. fate_by f o total c.peek-2.result.now) found ∙ ap (fate_by (slice_get items (number o 4 8 h)) o total) c.peek-2.ensures) ∙ c.in-Broken.is in
+    steps-entered w c.enter.new.self o kind.Packet total 28 ((total - 4) - 28) (λ left. broken) c.requires.head c.requires.total (omega arith) len refl
+    (λ left t. packet-given o (section_of w) total h (take w.budget left) fate.Broken len least e t)
+    c.enter.ensures.text c.enter.ensures.work c.enter.ensures.budget
+
+pub returns-in-Late : goal.returns-in-Late
+returns-in-Late c =
+    let w = c.args.self.now in
+    let h = held_bytes w.window in
+    let o = c.args.order in
+    let total = c.args.total in
+    let items = list_of w.interfaces in
+    let least : 32 ≤ total = total-least kind.Packet total c.requires.total in
+    let len : 28 ≤ length h = omega arith in
+    let found = c.get-found.ensures ∙ ap (slice_get items) (c.read_u32-number.ensures ∙ ap (number o 4 8) c.peek.ensures) in
+    let e = sym (c.fate_of.ensures.fate ∙ ap (λ f. fate_by f o total c.peek-2.result.now) found ∙ ap (fate_by (slice_get items (number o 4 8 h)) o total) c.peek-2.ensures) ∙ c.in-Late.is in
+    steps-entered w c.enter-in-Late.new.self o kind.Packet total 28 ((total - 4) - 28) (λ left. late) c.requires.head c.requires.total (omega arith) len refl
+    (λ left t. packet-given o (section_of w) total h (take w.budget left) fate.Late len least e t)
+    c.enter-in-Late.ensures.text c.enter-in-Late.ensures.work c.enter-in-Late.ensures.budget

@@ -1,0 +1,14 @@
+use Rattle.std.proofs.Common.{refl, rules, ◌≡◌, ◌≤◌, ◌<◌, ◌⊎◌, inl, inr, ◌∙◌, ◌+◌, ◌-◌, ◌*◌, ◌^◌, ℕ, List, [], ◌∷◌, ◌++◌, length, take, drop, min, ap, sym, arith, length-append, length-drop, true, false}
+use Rattle.pcapng_reader.specs.Texts.{text_by, section_of, ahead, whole, text_of}
+use Rattle.pcapng_reader.specs.Windows.{kept_bytes, held_bytes}
+use Rattle.pcapng_reader.specs.Stages.{is_start, is_due, rank}
+use Rattle.pcapng_reader.proofs.Steps.{text-option_passed}
+use Rattle.pcapng_reader.proofs.converter.Converter.pass_option.Goals as goal
+
+pub returns-clause-text : goal.returns-clause-text
+returns-clause-text c =
+    let w = c.args.self.now in
+    let g = held_bytes c.pass.new.self in
+    λ left.
+    text-option_passed _ (section_of w) (kept_bytes c.pass.new.self) (held_bytes w.window) g (take w.budget left) (g ++ left) c.args.count _ c.args.found refl
+    c.pass.ensures.held c.requires.held

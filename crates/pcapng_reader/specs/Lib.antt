@@ -1,0 +1,10 @@
+-- what is promised
+pub mod Classic
+pub mod Sources
+-- these serve the reader alone
+pub mod Converting
+pub mod Described
+pub mod Gifts
+pub mod Stages
+pub mod Texts
+pub mod Windows

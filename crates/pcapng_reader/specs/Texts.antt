@@ -1,0 +1,110 @@
+-- What a converter has still to give, by the bytes that its source has left, and what its steps leave
+-- of that.
+use Rattle.std.specs.Prelude.{◌≡◌, ◌≤◌, ◌<◌, ℕ, ◌+◌, ◌*◌, Bool, true, false, if◌then◌else◌, List, [], ◌∷◌, ◌++◌, length, take, drop, Option, Some}
+use Rattle.capture_gen.specs.Heads.{file_head}
+use Rattle.pcapng_reader.specs.declared.block.Order.{Order}
+use Rattle.pcapng_reader.specs.declared.block.Kind.{Kind}
+use Rattle.pcapng_reader.specs.declared.stage.Stage.{Stage}
+use Rattle.pcapng_reader.specs.declared.stage.Stage.TheVariants as stage
+use Rattle.pcapng_reader.specs.declared.converter.Converter.{Converter}
+use Rattle.pcapng_reader.specs.declared.step.Step.{Step}
+use Rattle.pcapng_reader.specs.declared.step.Step.TheVariants as step
+use Rattle.pcapng_reader.specs.declared.step.Gift.{Gift}
+use Rattle.pcapng_reader.specs.declared.step.Gift.TheVariants as gift
+use Rattle.pcapng_reader.specs.Classic.{Section, begins_section, no_section, blocks}
+use Rattle.pcapng_reader.specs.Converting.{content_given, options_text, after, head_text}
+use Rattle.pcapng_reader.specs.Described.{list_of}
+use Rattle.pcapng_reader.specs.Stages.{is_due, rank}
+use Rattle.pcapng_reader.specs.Windows.{kept_bytes, held_bytes}
+
+-- what is known of the section in which a converter stands
+abbrev pub section_of : Converter → Section
+section_of c = record { order = c.order; interfaces = list_of c.interfaces }
+
+-- the bytes that follow, as far as they count
+abbrev pub ahead : Converter → (left : List ℕ) → List ℕ
+ahead c left = held_bytes c.window ++ take c.budget left
+
+-- all bytes that follow
+abbrev pub whole : Converter → (left : List ℕ) → List ℕ
+whole c left = held_bytes c.window ++ left
+
+-- the text that comes at a stage of the bytes that follow, of which those of `near` count
+unfoldable pub text_by : Stage → Section → (kept near far : List ℕ) → List ℕ
+text_by stage.Start section kept near far =
+    if begins_section near then file_head ++ blocks no_section near else far
+text_by stage.Through section kept near far = kept ++ far
+text_by stage.Block section kept near far = kept ++ blocks section near
+text_by (stage.Options body found) section kept near far =
+    options_text body found section near
+text_by (stage.Passing body content) section kept near far =
+    after body near (content_given content body.order kept section)
+text_by stage.Over section kept near far = kept
+
+-- the text that a converter has still to give
+abbrev pub text_of : Converter → (left : List ℕ) → List ℕ
+text_of c left = text_by c.stage (section_of c) (kept_bytes c.window) (ahead c left) (whole c left)
+
+-- a bound of the steps that need no read
+abbrev pub work : Converter → ℕ
+work c = 100 * length (held_bytes c.window) + rank c.stage + length (kept_bytes c.window)
+
+-- there is room for a read
+abbrev pub HasRoom : Converter → Type 0
+HasRoom c = length (kept_bytes c.window) + length (held_bytes c.window) + 65536 ≤ 327708
+
+-- what a step answers: it went on, or must not before a read, or all is given
+abbrev pub Tells : (old new : Converter) → Step → Type 0
+Tells old new step.Moved = work new < work old
+Tells old new step.Hungry = (0 < new.budget) × HasRoom new
+Tells old new step.Through = (left : List ℕ) → text_of new left ≡ left
+Tells old new step.Over = (left : List ℕ) → text_of new left ≡ []
+
+-- a step leaves the text
+pub record Steps (old new : Converter) (answer : Step) : Type 0 where
+  pub text : (left : List ℕ) → text_of new left ≡ text_of old left
+  pub tells : Tells old new answer
+  pub budget : new.budget ≡ old.budget
+
+-- where more is wanted than is held, it is read, or the file ends within a block
+abbrev pub Waits : (old new : Converter) → Step → Type 0
+Waits old new step.Moved =
+    (old.budget ≡ 0) × ((left : List ℕ) → text_of new left ≡ 0 ∷ []) × (work new ≤ 1)
+    × (new.budget ≡ old.budget)
+Waits old new step.Hungry = (new ≡ old) × (0 < new.budget)
+Waits old new step.Through = ⊥
+Waits old new step.Over = ⊥
+
+-- the text is that of a block of this order, kind and total length
+abbrev pub IsHead : Order → Kind → (total : ℕ) → Converter → Type 0
+IsHead order kind total c =
+    (left : List ℕ) → text_of c left ≡ head_text order kind total (section_of c) (ahead c left)
+
+-- bytes of the text are put behind those before `at`, as far as there are any to be given
+pub record Pours (at : ℕ) (before now : List ℕ) (old new : Converter) (count : ℕ) : Type 0 where
+  pub same_length : length now ≡ length before
+  pub least : at ≤ count
+  pub most : count ≤ length now
+  pub text : (left : List ℕ)
+      → take count now ++ text_of new left ≡ take at before ++ text_of old left
+  pub stage : new.stage ≡ old.stage
+  pub budget : new.budget ≡ old.budget
+  pub given : count < length now → is_due new.stage ≡ true → kept_bytes new.window ≡ []
+  pub work : work new ≤ work old
+
+-- a gift takes its bytes off the text, and is none only where there is no room, or where it says why
+abbrev pub GiftTells : (out : List ℕ) → (old new : Converter) → Gift → Type 0
+GiftTells out old new (gift.Bytes count) =
+    (count ≤ length out) × (0 < length out → 0 < count)
+    × ((left : List ℕ) → text_of old left ≡ take count out ++ text_of new left)
+GiftTells out old new gift.Hungry =
+    ((left : List ℕ) → text_of old left ≡ text_of new left) × (0 < new.budget) × HasRoom new
+GiftTells out old new gift.Through =
+    ((left : List ℕ) → text_of old left ≡ left) × ((left : List ℕ) → text_of new left ≡ left)
+GiftTells out old new gift.Over =
+    ((left : List ℕ) → text_of old left ≡ []) × ((left : List ℕ) → text_of new left ≡ [])
+
+-- the same, and what does not change
+pub record Gives (out : List ℕ) (old new : Converter) (answer : Gift) : Type 0 where
+  pub tells : GiftTells out old new answer
+  pub budget : new.budget ≡ old.budget

@@ -1,0 +1,600 @@
+//! From the bytes of a file to its classic text, as far as they are held.
+
+ghost use Rattle.std.specs.Prelude.{◌≡◌, ◌≤◌, ◌<◌, ◌+◌, ◌-◌, ◌*◌, ◌^◌, ℕ, List, [], ◌++◌, ◌==◌, if◌then◌else◌, IfOk, true, length, take, drop, slice_get};
+ghost use Rattle.std.specs.Io.{ReadsAtMost};
+ghost use Rattle.std.specs.Io.KnownBytes.{Keeps, ReadConsumes};
+ghost use Rattle.capture_gen.specs.Heads.{file_head};
+ghost use Rattle.timing_outside.specs.Causes.{HasCause};
+ghost use Rattle.std.specs.Option.{option_map};
+ghost use Rattle.pcapng_reader.specs.Classic.{classic, number, kind_of, is_length, padded, blocks, go_on};
+ghost use Rattle.pcapng_reader.specs.Converting.{fate_by, content_given, options_text, after, IsFate};
+ghost use Rattle.pcapng_reader.specs.Stages.{is_start, is_due, rank};
+ghost use Rattle.pcapng_reader.specs.Windows.{kept_bytes, held_bytes};
+ghost use Rattle.pcapng_reader.specs.Described.{list_of};
+ghost use Rattle.pcapng_reader.specs.declared.block.Kind.TheVariants as kind;
+ghost use Rattle.pcapng_reader.specs.declared.stage.Stage.TheVariants as stage;
+ghost use Rattle.pcapng_reader.specs.declared.stage.Content.TheVariants as content;
+ghost use Rattle.pcapng_reader.specs.declared.packet.Fate.TheVariants as fate;
+ghost use Rattle.pcapng_reader.specs.declared.step.Step.TheVariants as step;
+
+use crate::block::{Kind, Order, begins_section};
+use crate::interfaces::Interfaces;
+use crate::packet::{Fate, fate_of};
+use crate::reads::Reads;
+use crate::stage::{Body, Content, Found, Stage};
+use crate::step::{Gift, Step};
+use crate::window::Window;
+use capture_gen::record_head;
+use std::alloc::{AllocError, Global};
+use timing_outside::Failed;
+
+/// The most bytes of a pcapng file that count.
+const MOST: u64 = 1 << 41;
+
+/// The most bytes that one read asks for.
+const READ: u64 = 65_536;
+
+/// What stands for a block that is cut: less than the head of a record.
+const CUT: [u8; 1] = [0];
+
+/// What stands for a block that is broken: the head of a record with 2^32 - 1 captured bytes.
+const BROKEN: [u8; 16] = [0, 0, 0, 0, 0, 0, 0, 0, 255, 255, 255, 255, 0, 0, 0, 0];
+
+/// What stands for a stamp that can't be told: the head of a record with 2^32 - 1 nanoseconds.
+const LATE: [u8; 16] = [0, 0, 0, 0, 255, 255, 255, 255, 0, 0, 0, 0, 0, 0, 0, 0];
+
+/// What a section gives whose head is this: only the major version 1 is known.
+fn section_content(order: Order, head: &[u8]) -> Content
+    requires { 16 ≤ length head.now }
+    ensures { result ≡ (if number order 2 12 head.now == 1 then content.Section else content.Broken) }
+{
+    if order.read_u16(head, 12) == 1 {
+        Content::Section
+    } else {
+        Content::Broken
+    }
+}
+
+/// So many bytes and what pads them to a multiple of 4.
+fn padded(size: u16) -> u32
+    ensures value { result ≡ padded size }
+    ensures some { size ≤ result }
+    ensures few { result ≤ 65536 }
+{
+    let size = u32::from(size);
+    size + (4 - size % 4) % 4
+}
+
+/// The classic text of a file, which comes from the bytes that are held.
+#[derive(Drop)]
+pub struct Converter {
+    window: Window,
+    interfaces: Interfaces,
+    /// The byte order of the section.
+    order: Order,
+    /// How many bytes may still be read; none where the source has ended.
+    budget: u64,
+    stage: Stage,
+    ghost begins: { is_start stage ≡ true → kept_bytes window ≡ file_head },
+}
+
+impl Converter {
+    ghost use Rattle.pcapng_reader.specs.Texts.{section_of, ahead, text_of, work, HasRoom, Steps, Waits, IsHead, Pours, Gives};
+
+    /// A converter at the start of a file.
+    pub fn new(alloc: Global) -> Result<Converter, AllocError>
+        ensures { IfOk result (λ c. (left : List ℕ) → text_of c left ≡ classic left) }
+    {
+        let window = Window::new(alloc)?;
+        let interfaces = Interfaces::new(alloc)?;
+        Ok(Converter {
+            window,
+            interfaces,
+            order: Order::Little,
+            budget: MOST,
+            stage: Stage::Start,
+        })
+    }
+
+    /// Gives these bytes as the last.
+    fn end(&mut self, bytes: &[u8])
+        requires { length bytes.now ≤ 16 }
+        ensures text { (left : List ℕ) → text_of self.new left ≡ bytes.now }
+        ensures budget { self.new.budget ≡ self.old.budget }
+        ensures work { work self.new ≡ length bytes.now }
+    {
+        self.stage = Stage::Over;
+        self.window.keep_only(bytes);
+    }
+
+    /// More bytes are wanted than are held.
+    fn wait(&mut self) -> Step
+        ensures { Waits self.old self.new result }
+    {
+        if self.budget > 0 {
+            return Step::Hungry;
+        }
+        self.end(&CUT);
+        Step::Moved
+    }
+
+    /// Lets the first bytes of a block go, and passes over the others.
+    fn enter(&mut self, order: Order, total: u32, count: u32, content: Content)
+        requires some { 0 < count }
+        requires held { count ≤ length (held_bytes self.old.window) }
+        requires total { count + 4 ≤ total }
+        requires stage { self.old.stage ≡ stage.Block }
+        ensures text { (left : List ℕ) → text_of self.new left
+            ≡ after (record { order = order; total = total; left = total - 4 - count })
+            (drop count (ahead self.old left))
+            (content_given content order (kept_bytes self.old.window) (section_of self.old)) }
+        ensures budget { self.new.budget ≡ self.old.budget }
+        ensures work { work self.new < work self.old }
+    {
+        self.stage = Stage::Passing(
+            Body {
+                order,
+                total,
+                left: total - 4 - count,
+            },
+            content,
+        );
+        self.window.pass(count as usize);
+    }
+
+    /// Looks at the first four bytes of a file.
+    fn begin(&mut self) -> Step
+        requires { self.old.stage ≡ stage.Start }
+        ensures { Steps self.old self.new result }
+    {
+        if self.window.len() < 4 && self.budget > 0 {
+            return Step::Hungry;
+        }
+        if begins_section(self.window.peek()) {
+            self.order = Order::Little;
+            self.interfaces.clear();
+            self.stage = Stage::Block;
+        } else {
+            self.stage = Stage::Through;
+            self.window.keep_front();
+        }
+        Step::Moved
+    }
+
+    /// Hands a file of another layout through.
+    fn hand_through(&mut self) -> Step
+        requires stage { self.old.stage ≡ stage.Through }
+        requires given { kept_bytes self.old.window ≡ [] }
+        ensures { Steps self.old self.new result }
+    {
+        if self.window.len() == 0 {
+            return Step::Through;
+        }
+        self.window.keep_front();
+        Step::Moved
+    }
+
+    /// Looks at the head of a section.
+    fn section(&mut self, order: Order, total: u32) -> Step
+        requires head { IsHead order kind.Section total self.old }
+        requires total { is_length kind.Section total ≡ true }
+        requires stage { self.old.stage ≡ stage.Block }
+        requires given { kept_bytes self.old.window ≡ [] }
+        ensures { Steps self.old self.new result }
+    {
+        if self.window.len() < 16 {
+            return self.wait();
+        }
+        let content = section_content(order, self.window.peek());
+        self.enter(order, total, 16, content);
+        Step::Moved
+    }
+
+    /// Looks at the head of an interface's description.
+    fn interface(&mut self, order: Order, total: u32) -> Step
+        requires head { IsHead order kind.Interface total self.old }
+        requires total { is_length kind.Interface total ≡ true }
+        requires stage { self.old.stage ≡ stage.Block }
+        requires given { kept_bytes self.old.window ≡ [] }
+        ensures { Steps self.old self.new result }
+    {
+        if self.window.len() < 16 {
+            return self.wait();
+        }
+        let found = Found {
+            offset: None,
+            link: order.read_u16(self.window.peek(), 8),
+            resolution: None,
+        };
+        let body = Body {
+            order,
+            total,
+            left: total - 20,
+        };
+        self.stage = Stage::Options(body, found);
+        self.window.pass(16);
+        Step::Moved
+    }
+
+    /// Keeps the record of a packet, once its data are held.
+    fn record(&mut self, order: Order, total: u32, at: u64, len: u32) -> Step
+        requires head { IsHead order kind.Packet total self.old }
+        requires total { is_length kind.Packet total ≡ true }
+        requires stage { self.old.stage ≡ stage.Block }
+        requires given { kept_bytes self.old.window ≡ [] }
+        requires held { 28 ≤ length (held_bytes self.old.window) }
+        requires fate { fate_by (slice_get (list_of self.old.interfaces)
+            (number order 4 8 (held_bytes self.old.window))) order total
+            (held_bytes self.old.window) ≡ fate.Record at len }
+        requires fits { IsFate total (fate.Record at len) }
+        ensures { Steps self.old self.new result }
+    {
+        let captured = len as usize;
+        if self.window.len() < 28 + captured {
+            return self.wait();
+        }
+        let body = Body {
+            order,
+            total,
+            left: total - 32 - len,
+        };
+        self.stage = Stage::Passing(body, Content::Record);
+        self.window.keep_record(&record_head(at, len), captured);
+        Step::Moved
+    }
+
+    /// Looks at the head of a packet.
+    fn packet(&mut self, order: Order, total: u32) -> Step
+        requires head { IsHead order kind.Packet total self.old }
+        requires total { is_length kind.Packet total ≡ true }
+        requires stage { self.old.stage ≡ stage.Block }
+        requires given { kept_bytes self.old.window ≡ [] }
+        ensures { Steps self.old self.new result }
+    {
+        if self.window.len() < 28 {
+            return self.wait();
+        }
+        let number = order.read_u32(self.window.peek(), 8);
+        let found = self.interfaces.get(number);
+        match fate_of(order, total, found, self.window.peek()) {
+            Fate::Broken => {
+                self.enter(order, total, 28, Content::Broken);
+                Step::Moved
+            }
+            Fate::Late => {
+                self.enter(order, total, 28, Content::Late);
+                Step::Moved
+            }
+            Fate::Record { at, len } => self.record(order, total, at, len),
+        }
+    }
+
+    /// Looks at the head of a block that is passed over.
+    fn other(&mut self, order: Order, total: u32) -> Step
+        requires head { IsHead order kind.Other total self.old }
+        requires total { is_length kind.Other total ≡ true }
+        requires stage { self.old.stage ≡ stage.Block }
+        requires held { 12 ≤ length (held_bytes self.old.window) }
+        requires given { kept_bytes self.old.window ≡ [] }
+        ensures { Steps self.old self.new result }
+    {
+        self.enter(order, total, 8, Content::Nothing);
+        Step::Moved
+    }
+
+    /// Looks at the kind and the length of a block of this byte order.
+    fn head(&mut self, order: Order) -> Step
+        requires head { IsHead order (kind_of order (held_bytes self.old.window))
+            (number order 4 4 (held_bytes self.old.window)) self.old }
+        requires held { 12 ≤ length (held_bytes self.old.window) }
+        requires stage { self.old.stage ≡ stage.Block }
+        requires given { kept_bytes self.old.window ≡ [] }
+        ensures { Steps self.old self.new result }
+    {
+        let kind = Kind::of_block(order, self.window.peek());
+        let total = order.read_u32(self.window.peek(), 4);
+        if !kind.is_length(total) {
+            self.end(&BROKEN);
+            return Step::Moved;
+        }
+        match kind {
+            Kind::Section => self.section(order, total),
+            Kind::Interface => self.interface(order, total),
+            Kind::Packet => self.packet(order, total),
+            Kind::Other => self.other(order, total),
+        }
+    }
+
+    /// Looks at a block.
+    fn block(&mut self) -> Step
+        requires stage { self.old.stage ≡ stage.Block }
+        requires given { kept_bytes self.old.window ≡ [] }
+        ensures { Steps self.old self.new result }
+    {
+        if self.window.len() < 12 {
+            if self.budget > 0 {
+                return Step::Hungry;
+            }
+            if self.window.len() == 0 {
+                self.end(&[]);
+            } else {
+                self.end(&CUT);
+            }
+            return Step::Moved;
+        }
+        match self.order.of_block(self.window.peek()) {
+            Some(order) => self.head(order),
+            None => {
+                self.end(&BROKEN);
+                Step::Moved
+            }
+        }
+    }
+
+    /// Lets an option go that was read.
+    fn pass_option(&mut self, body: Body, found: Found, count: u32)
+        requires held { count ≤ length (held_bytes self.old.window) }
+        requires some { 0 < count }
+        requires left { count ≤ body.left }
+        requires stage { rank self.old.stage ≡ 42 }
+        ensures text { (left : List ℕ) → text_of self.new left
+            ≡ options_text (record { order = body.order; total = body.total; left = body.left - count })
+            found (section_of self.old) (drop count (ahead self.old left)) }
+        ensures budget { self.new.budget ≡ self.old.budget }
+        ensures work { work self.new < work self.old }
+    {
+        let body = Body {
+            order: body.order,
+            total: body.total,
+            left: body.left - count,
+        };
+        self.stage = Stage::Options(body, found);
+        self.window.pass(count as usize);
+    }
+
+    /// Passes over what is left of a block, which gives this.
+    fn settle(&mut self, body: Body, content: Content)
+        requires { rank self.old.stage ≡ 42 }
+        ensures text { (left : List ℕ) → text_of self.new left
+            ≡ after body (ahead self.old left)
+            (content_given content body.order (kept_bytes self.old.window) (section_of self.old)) }
+        ensures budget { self.new.budget ≡ self.old.budget }
+        ensures work { work self.new < work self.old }
+    {
+        self.stage = Stage::Passing(body, content);
+    }
+
+    /// Reads an option of this code, which has so many bytes.
+    fn option(&mut self, body: Body, found: Found, code: u16, size: u16) -> Step
+        requires stage { self.old.stage ≡ stage.Options body found }
+        requires given { kept_bytes self.old.window ≡ [] }
+        requires held { 4 ≤ length (held_bytes self.old.window) }
+        requires left { 4 ≤ body.left }
+        requires code { code ≡ number body.order 2 0 (held_bytes self.old.window) }
+        requires size { size ≡ number body.order 2 2 (held_bytes self.old.window) }
+        requires some { 0 < code }
+        ensures { Steps self.old self.new result }
+    {
+        if 4 + u32::from(size) > body.left {
+            self.settle(body, Content::Broken);
+            return Step::Moved;
+        }
+        let count = body.left.min(4 + padded(size));
+        if self.window.len() < count as usize {
+            return self.wait();
+        }
+        let value = &self.window.peek()[4..4 + size as usize];
+        match found.with(body.order, code, value) {
+            Some(found) => self.pass_option(body, found, count),
+            None => self.settle(body, Content::Broken),
+        }
+        Step::Moved
+    }
+
+    /// Looks at an option of an interface's description, or at the end of the options.
+    fn options(&mut self, body: Body, found: Found) -> Step
+        requires stage { self.old.stage ≡ stage.Options body found }
+        requires given { kept_bytes self.old.window ≡ [] }
+        ensures { Steps self.old self.new result }
+    {
+        if body.left < 4 {
+            self.settle(body, Content::Interface(found.interface()));
+            return Step::Moved;
+        }
+        if self.window.len() < 4 {
+            return self.wait();
+        }
+        let code = body.order.read_u16(self.window.peek(), 0);
+        let size = body.order.read_u16(self.window.peek(), 2);
+        if code == 0 {
+            self.settle(body, Content::Interface(found.interface()));
+            return Step::Moved;
+        }
+        self.option(body, found, code, size)
+    }
+
+    /// Goes on to the next block, in a section of this order, where the block gave nothing.
+    fn go_on(&mut self, order: Order)
+        requires { rank self.old.stage ≡ 41 }
+        ensures text { (left : List ℕ) → text_of self.new left
+            ≡ blocks (record { order = order; interfaces = list_of self.old.interfaces })
+            (ahead self.old left) }
+        ensures budget { self.new.budget ≡ self.old.budget }
+        ensures work { work self.new ≤ 100 * length (held_bytes self.old.window) + 56 }
+    {
+        self.stage = Stage::Block;
+        self.order = order;
+        self.window.forget();
+    }
+
+    /// Goes on behind a block that stands, by what it gives.
+    fn finish(&mut self, order: Order, content: Content)
+        requires { rank self.old.stage ≡ 41 }
+        ensures text { (left : List ℕ) → text_of self.new left
+            ≡ go_on (λ next. blocks next (ahead self.old left))
+            (content_given content order (kept_bytes self.old.window) (section_of self.old)) }
+        ensures budget { self.new.budget ≡ self.old.budget }
+        ensures work { work self.new
+            ≤ 100 * length (held_bytes self.old.window) + 56 + length (kept_bytes self.old.window) }
+    {
+        match content {
+            Content::Broken => self.end(&BROKEN),
+            Content::Late => self.end(&LATE),
+            Content::Section => {
+                self.interfaces.clear();
+                self.go_on(order);
+            }
+            Content::Interface(interface) => {
+                if self.interfaces.has_room() {
+                    self.interfaces.push(interface);
+                    self.go_on(self.order);
+                } else {
+                    self.end(&BROKEN);
+                }
+            }
+            Content::Record => self.stage = Stage::Block,
+            Content::Nothing => self.go_on(self.order),
+        }
+    }
+
+    /// Looks at the second total length of a block.
+    fn close(&mut self, body: Body, content: Content) -> Step
+        requires stage { self.old.stage ≡ stage.Passing body content }
+        requires left { body.left ≡ 0 }
+        ensures { Steps self.old self.new result }
+    {
+        if self.window.len() < 4 {
+            return self.wait();
+        }
+        if body.order.read_u32(self.window.peek(), 0) == body.total {
+            self.window.pass(4);
+            self.finish(body.order, content);
+        } else {
+            self.end(&BROKEN);
+        }
+        Step::Moved
+    }
+
+    /// Passes over bytes of a block.
+    fn pass(&mut self, body: Body, content: Content) -> Step
+        requires { self.old.stage ≡ stage.Passing body content }
+        ensures { Steps self.old self.new result }
+    {
+        if body.left == 0 {
+            return self.close(body, content);
+        }
+        let held = self.window.len();
+        if held == 0 {
+            return self.wait();
+        }
+        let count = held.min(body.left as usize);
+        let body = Body {
+            order: body.order,
+            total: body.total,
+            left: body.left - count as u32,
+        };
+        self.stage = Stage::Passing(body, content);
+        self.window.pass(count);
+        Step::Moved
+    }
+
+    /// Goes a step on, where nothing is to be given.
+    fn step(&mut self) -> Step
+        requires { is_due self.old.stage ≡ true → kept_bytes self.old.window ≡ [] }
+        ensures { Steps self.old self.new result }
+    {
+        match self.stage {
+            Stage::Start => self.begin(),
+            Stage::Through => self.hand_through(),
+            Stage::Block => self.block(),
+            Stage::Options(body, found) => {
+                self.window.forget();
+                self.options(body, found)
+            }
+            Stage::Passing(body, content) => self.pass(body, content),
+            Stage::Over => Step::Over,
+        }
+    }
+
+    /// Whether what is kept is to be given.
+    fn is_due(&self) -> bool
+        ensures { result ≡ is_due self.now.stage }
+    {
+        match self.stage {
+            Stage::Through | Stage::Block | Stage::Over => true,
+            Stage::Start | Stage::Options(..) | Stage::Passing(..) => false,
+        }
+    }
+
+    /// Gives what is to be given, behind so many bytes of `out`. Answers how many bytes it has then.
+    fn pour(&mut self, out: &mut [u8], at: usize) -> usize
+        requires { at ≤ length out.old }
+        ensures { Pours at out.old out.new self.old self.new result }
+    {
+        if !self.is_due() {
+            return at;
+        }
+        at + self.window.give(&mut out[at..])
+    }
+
+    /// Gives the next bytes of the text into `out`, as many as it answers, from what is held. Where it
+    /// gives none it says why.
+    pub fn give(&mut self, out: &mut [u8]) -> Gift
+        ensures { Gives out.new self.old self.new result }
+    {
+        let mut at = 0;
+        loop {
+            at = self.pour(out, at);
+            if at == out.len() {
+                return Gift::Bytes(at);
+            }
+            let step = self.step();
+            if let Step::Moved = step {
+                continue;
+            }
+            return Gift::of(at, step);
+        }
+    }
+
+    /// Reads once.
+    pub fn read_more<S: Reads>(&mut self, source: &mut S) -> Result<(), Failed>
+        requires some { 0 < self.old.budget }
+        requires room { HasRoom self.old }
+        ensures text { Keeps (option_map (text_of self.old) (S.left source.old))
+            (option_map (text_of self.new) (S.left source.new)) }
+        ensures less { IfOk result (λ _. self.new.budget < self.old.budget) }
+        ensures name { S.name source.new ≡ S.name source.old }
+        ensures cause { HasCause (S.faults source.old) (S.faults source.new) result }
+    {
+        let most = READ.min(self.budget) as usize;
+        match self.window.read(source, most) {
+            Ok(0) => {
+                self.budget = 0;
+                Ok(())
+            }
+            Ok(got) => {
+                self.budget -= got as u64;
+                Ok(())
+            }
+            Err(failed) => Err(failed),
+        }
+    }
+
+    /// Gives the next bytes of the text, and reads where there are none.
+    pub fn give_read<S: Reads>(&mut self, source: &mut S, buf: &mut [u8]) -> Result<usize, Failed>
+        ensures same_name { S.name source.new ≡ S.name source.old }
+        ensures bound { ReadsAtMost result buf.new }
+        ensures bytes { ReadConsumes (option_map (text_of self.old) (S.left source.old))
+            (option_map (text_of self.new) (S.left source.new)) result buf.new }
+        ensures cause { HasCause (S.faults source.old) (S.faults source.new) result }
+    {
+        loop {
+            match self.give(buf) {
+                Gift::Bytes(count) => return Ok(count),
+                Gift::Hungry => self.read_more(source)?,
+                Gift::Through => return source.read_bytes(buf),
+                Gift::Over => return Ok(0),
+            }
+        }
+    }
+}

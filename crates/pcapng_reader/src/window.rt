@@ -1,0 +1,233 @@
+//! The bytes of a file that are held in the buffer.
+
+ghost use Rattle.std.specs.Prelude.{◌≡◌, ◌≤◌, ◌<◌, ◌+◌, ◌-◌, ◌++◌, ℕ, List, [], IfOk, IfErr, vec_len, length, min, take, drop};
+ghost use Rattle.std.specs.Io.KnownBytes.{Keeps, Consumes, IsAtEnd};
+ghost use Rattle.capture_gen.specs.Heads.{file_head};
+ghost use Rattle.timing_outside.specs.Causes.{HasCause};
+
+use capture_gen::file_head;
+use std::alloc::{AllocError, Global};
+use crate::reads::Reads;
+use timing_outside::Failed;
+
+/// The head of a packet's block and its data, and then a whole read.
+const ROOM: usize = 327_708;
+
+/// The bytes of the head of a packet's block, up to its data.
+const PACKET_HEAD: usize = 28;
+
+/// The most bytes that are kept: a record.
+const MOST_KEPT: usize = 262_160;
+
+/// The bytes of the head of a classic capture.
+const FILE_HEAD: usize = 24;
+
+/// The bytes of the head of a record.
+const RECORD_HEAD: usize = 16;
+
+/// So many bytes, all 0.
+fn blank(alloc: Global, size: usize) -> Result<Vec<u8>, AllocError>
+    ensures { IfOk result (λ v. vec_len v ≡ size) }
+{
+    vec![in alloc; 0u8; size]
+}
+
+/// Writes these bytes at a place.
+fn put_at(buf: &mut [u8], place: usize, bytes: &[u8])
+    requires { place + length bytes.now ≤ length buf.old }
+    ensures { buf.new ≡ take place buf.old ++ (bytes.now ++ drop (place + length bytes.now) buf.old) }
+{
+    buf[place..place + bytes.len()].copy_from_slice(bytes);
+}
+
+/// Moves the bytes between two places down to another.
+fn shift(buf: &mut [u8], from: usize, to: usize, place: usize)
+    requires down { place ≤ from }
+    requires ordered { from ≤ to }
+    requires within { to ≤ length buf.old }
+    ensures { buf.new ≡ take place buf.old
+        ++ (take (to - from) (drop from buf.old) ++ drop (place + (to - from)) buf.old) }
+{
+    buf.copy_within(from..to, place);
+}
+
+/// Reads once, so many bytes at most, to a place.
+fn read_at<S: Reads>(
+    source: &mut S,
+    buf: &mut [u8],
+    place: usize,
+    most: usize,
+) -> Result<usize, Failed>
+    requires some { 0 < most }
+    requires room { place + most ≤ length buf.old }
+    ensures len { length buf.new ≡ length buf.old }
+    ensures before { take place buf.new ≡ take place buf.old }
+    ensures failed { IfErr result (λ _. Keeps (S.left source.old) (S.left source.new)) }
+    ensures few { IfOk result (λ n. n ≤ most) }
+    ensures got { IfOk result (λ n. Consumes (S.left source.old) (S.left source.new)
+        (take n (drop place buf.new))) }
+    ensures end { IfOk result (λ n. n ≡ 0 → IsAtEnd (S.left source.new)) }
+    ensures name { S.name source.new ≡ S.name source.old }
+    ensures cause { HasCause (S.faults source.old) (S.faults source.new) result }
+{
+    source.read_bytes(&mut buf[place..place + most])
+}
+
+/// A buffer with two parts: the bytes from `kept` to `kept_end` are kept to be given out, those from
+/// `start` to `filled` were read and not let go.
+#[derive(Drop)]
+pub struct Window {
+    buf: Vec<u8>,
+    kept: usize,
+    kept_end: usize,
+    start: usize,
+    filled: usize,
+    ghost kept_first: { kept ≤ kept_end },
+    ghost apart: { kept_end ≤ start },
+    ghost ordered: { start ≤ filled },
+    ghost within: { filled ≤ vec_len buf },
+    ghost roomy: { vec_len buf ≡ 327708 },
+    ghost few: { kept_end - kept ≤ 262160 },
+}
+
+impl Window {
+    ghost use Rattle.pcapng_reader.specs.Windows.{kept_bytes, held_bytes};
+
+    /// A window that keeps the head of a classic capture, and holds nothing.
+    pub fn new(alloc: Global) -> Result<Window, AllocError>
+        ensures kept { IfOk result (λ w. kept_bytes w ≡ file_head) }
+        ensures held { IfOk result (λ w. held_bytes w ≡ []) }
+    {
+        let mut buf = blank(alloc, ROOM)?;
+        put_at(&mut buf, 0, &file_head());
+        Ok(Window {
+            buf,
+            kept: 0,
+            kept_end: FILE_HEAD,
+            start: FILE_HEAD,
+            filled: FILE_HEAD,
+        })
+    }
+
+    /// How many bytes are held.
+    pub fn len(&self) -> usize
+        ensures { result ≡ length (held_bytes self.now) }
+    {
+        self.filled - self.start
+    }
+
+    /// What is held.
+    pub fn peek(&self) -> &[u8]
+        ensures { result.now ≡ held_bytes self.now }
+    {
+        &self.buf[self.start..self.filled]
+    }
+
+    /// Gives out what is kept, as far as there is room. Answers how many bytes these are.
+    pub fn give(&mut self, out: &mut [u8]) -> usize
+        ensures count { result ≡ min (length out.old) (length (kept_bytes self.old)) }
+        ensures bytes { kept_bytes self.old ≡ take result out.new ++ kept_bytes self.new }
+        ensures len { length out.new ≡ length out.old }
+        ensures held { held_bytes self.new ≡ held_bytes self.old }
+    {
+        let count = out.len().min(self.kept_end - self.kept);
+        out[..count].copy_from_slice(&self.buf[self.kept..self.kept + count]);
+        self.kept += count;
+        count
+    }
+
+    /// Lets so many held bytes go.
+    pub fn pass(&mut self, count: usize)
+        requires { count ≤ length (held_bytes self.old) }
+        ensures kept { kept_bytes self.new ≡ kept_bytes self.old }
+        ensures held { held_bytes self.new ≡ drop count (held_bytes self.old) }
+    {
+        self.start += count;
+    }
+
+    /// Keeps the front of what is held, in the place of what was kept.
+    pub fn keep_front(&mut self)
+        ensures held { held_bytes self.old ≡ kept_bytes self.new ++ held_bytes self.new }
+        ensures some { 0 < length (held_bytes self.old) → 0 < length (kept_bytes self.new) }
+    {
+        self.kept = self.start;
+        self.kept_end = self.start + MOST_KEPT.min(self.filled - self.start);
+        self.start = self.kept_end;
+    }
+
+    /// Forgets what was kept.
+    pub fn forget(&mut self)
+        ensures kept { kept_bytes self.new ≡ [] }
+        ensures held { held_bytes self.new ≡ held_bytes self.old }
+    {
+        self.kept = self.kept_end;
+    }
+
+    /// Keeps these bytes, in the place of all that was kept and held.
+    pub fn keep_only(&mut self, bytes: &[u8])
+        requires { length bytes.now ≤ 16 }
+        ensures kept { kept_bytes self.new ≡ bytes.now }
+        ensures held { held_bytes self.new ≡ [] }
+    {
+        put_at(&mut self.buf, 0, bytes);
+        self.kept = 0;
+        self.kept_end = bytes.len();
+        self.start = bytes.len();
+        self.filled = bytes.len();
+    }
+
+    /// Lets the head of a packet's block and so many bytes of data go, and keeps a record, in the
+    /// place of what was kept: its head and the data.
+    pub fn keep_record(&mut self, head: &[u8; 16], captured: usize)
+        requires held { 28 + captured ≤ length (held_bytes self.old) }
+        requires few { captured ≤ 262144 }
+        ensures kept { kept_bytes self.new ≡ head.now ++ take captured (drop 28 (held_bytes self.old)) }
+        ensures held { held_bytes self.new ≡ drop (28 + captured) (held_bytes self.old) }
+    {
+        let data = self.start + PACKET_HEAD;
+        self.kept = data - RECORD_HEAD;
+        put_at(&mut self.buf, data - RECORD_HEAD, head);
+        self.kept_end = data + captured;
+        self.start = self.kept_end;
+    }
+
+    /// Moves what is kept to the front of the buffer, and what is held behind it.
+    fn compact(&mut self)
+        ensures kept { kept_bytes self.new ≡ kept_bytes self.old }
+        ensures held { held_bytes self.new ≡ held_bytes self.old }
+        ensures filled { self.new.filled ≡ length (kept_bytes self.old) + length (held_bytes self.old) }
+    {
+        let kept = self.kept_end - self.kept;
+        let held = self.filled - self.start;
+        shift(&mut self.buf, self.kept, self.kept_end, 0);
+        shift(&mut self.buf, self.start, self.filled, kept);
+        self.kept = 0;
+        self.kept_end = kept;
+        self.start = kept;
+        self.filled = kept + held;
+    }
+
+    /// Reads once behind what is held, so many bytes at most.
+    pub fn read<S: Reads>(&mut self, source: &mut S, most: usize) -> Result<usize, Failed>
+        requires some { 0 < most }
+        requires room { length (kept_bytes self.old) + length (held_bytes self.old) + most ≤ 327708 }
+        ensures kept { kept_bytes self.new ≡ kept_bytes self.old }
+        ensures failed { IfErr result (λ _. (held_bytes self.new ≡ held_bytes self.old)
+            × Keeps (S.left source.old) (S.left source.new)) }
+        ensures got { IfOk result (λ n. (bs : List ℕ) × (length bs ≡ n) × (n ≤ most)
+            × Consumes (S.left source.old) (S.left source.new) bs
+            × (held_bytes self.new ≡ held_bytes self.old ++ bs)) }
+        ensures end { IfOk result (λ n. n ≡ 0 → IsAtEnd (S.left source.new)) }
+        ensures name { S.name source.new ≡ S.name source.old }
+        ensures cause { HasCause (S.faults source.old) (S.faults source.new) result }
+    {
+        self.compact();
+        match read_at(source, &mut self.buf, self.filled, most) {
+            Ok(got) => {
+                self.filled += got;
+                Ok(got)
+            }
+            Err(failed) => Err(failed),
+        }
+    }
+}
