@@ -62,8 +62,8 @@ blocks_by-more (suc n) (suc m) s a h l =
     let total = total_by (order_by s.order a) a in
     go_on-same (λ next. blocks_by n next (drop total a)) (λ next. blocks_by m next (drop total a)) (block s a)
     (λ next e.
-      let least : 12 ≤ total = block-next s a next e in
-      blocks_by-more n m next (drop total a) (omega (arith, length-drop total a)) (omega (arith, length-drop total a)))
+    let least : 12 ≤ total = block-next s a next e in
+    blocks_by-more n m next (drop total a) (omega (arith, length-drop total a)) (omega (arith, length-drop total a)))
 
 -- the text of a rest is what its first block gives, and then the text of what follows
 pub blocks-step : (s : Section) (a : List ℕ) → blocks s a ≡ go_on (λ next. blocks next (drop (total_by (order_by s.order a) a) a)) (block s a)
@@ -74,8 +74,8 @@ blocks-step s (x ∷ xs) =
     let total = total_by (order_by s.order a) a in
     go_on-same (λ next. blocks_by (length xs) next (drop total a)) (λ next. blocks_by (length (drop total a)) next (drop total a)) (block s a)
     (λ next e.
-      let least : 12 ≤ total = block-next s a next e in
-      blocks_by-more (length xs) (length (drop total a)) next (drop total a) (omega (arith, length-drop total a)) (omega arith))
+    let least : 12 ≤ total = block-next s a next e in
+    blocks_by-more (length xs) (length (drop total a)) next (drop total a) (omega (arith, length-drop total a)) (omega arith))
 
 -- no block
 pub blocks-none : (s : Section) (a : List ℕ) → length a ≡ 0 → blocks s a ≡ []
@@ -122,10 +122,10 @@ pub head-broken : (o : Order) (k : Kind) (total : ℕ) (s : Section) (a : List �
 unfolding head_text
 head-broken o k total s a e =
     ap (λ b. go_on (λ next. blocks next (drop total a))
-      (if not b then broken
-      else if nat_lt (length a) total then cut
-      else if not (number o 4 (total - 4) a == total) then broken
-      else content k o s (take total a))) e
+    (if not b then broken
+    else if nat_lt (length a) total then cut
+    else if not (number o 4 (total - 4) a == total) then broken
+    else content k o s (take total a))) e
 
 -- a block that is cut
 pub head-short : (o : Order) (k : Kind) (total : ℕ) (s : Section) (a : List ℕ) → is_length k total ≡ true → length a < total → head_text o k total s a ≡ 0 ∷ []
@@ -133,14 +133,14 @@ unfolding head_text
 head-short o k total s a e h =
     let short : nat_lt (length a) total ≡ true = grind (arith, nat_tests) in
     ap (λ b. go_on (λ next. blocks next (drop total a))
-      (if not b then broken
-      else if nat_lt (length a) total then cut
-      else if not (number o 4 (total - 4) a == total) then broken
-      else content k o s (take total a))) e
+    (if not b then broken
+    else if nat_lt (length a) total then cut
+    else if not (number o 4 (total - 4) a == total) then broken
+    else content k o s (take total a))) e
     ∙ ap (λ b. go_on (λ next. blocks next (drop total a))
-      (if b then cut
-      else if not (number o 4 (total - 4) a == total) then broken
-      else content k o s (take total a))) short
+    (if b then cut
+    else if not (number o 4 (total - 4) a == total) then broken
+    else content k o s (take total a))) short
 
 -- so many bytes stand, before and after the first are let go
 short_by : (n k : ℕ) (a : List ℕ) (total : ℕ) → n + k ≡ total → n ≤ length a → nat_lt (length a) total ≡ nat_lt (length (drop n a)) k
@@ -174,10 +174,10 @@ head-passes o k total n s a x e m l h =
     let number_is : number o 4 (total - 4) a ≡ number o 4 left rest = ap (λ p. number o 4 p a) (sym place) ∙ sym (number-drop o 4 left n a) in
     let tail : drop total a ≡ drop (left + 4) rest = ap (λ p. drop p a) (sym sum) ∙ sym (drop-drop (left + 4) n a) in
     ap (λ b. go_on (λ next. blocks next (drop total a))
-      (if not b then broken
-      else if nat_lt (length a) total then cut
-      else if not (number o 4 (total - 4) a == total) then broken
-      else content k o s (take total a))) e
+    (if not b then broken
+    else if nat_lt (length a) total then cut
+    else if not (number o 4 (total - 4) a == total) then broken
+    else content k o s (take total a))) e
     ∙ ap (go_on (λ next. blocks next (drop total a)))
     (same_ends (not (number o 4 (total - 4) a == total)) (nat_lt (length a) total) (content k o s (take total a)) x (λ f. h (long_by a total f)))
     ∙ ap (λ b. go_on (λ next. blocks next (drop total a)) (if b then cut else if not (number o 4 (total - 4) a == total) then broken else x)) short

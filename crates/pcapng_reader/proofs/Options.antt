@@ -52,8 +52,8 @@ pub options-none : (o : Order) (b : List ℕ) → length b < 4 → options o b �
 options-none o b h =
     let short : nat_lt (length b) 4 ≡ true = grind (arith, nat_tests) in
     options-step o b ∙ ap (λ c. if c || (number o 2 0 b == 0) then Some []
-      else if nat_lt (length b) (4 + number o 2 2 b) then None
-      else option_map (λ os. option_at o b ∷ os) (options o (behind o b))) short
+    else if nat_lt (length b) (4 + number o 2 2 b) then None
+    else option_map (λ os. option_at o b ∷ os) (options o (behind o b))) short
 
 or_true : (c d : Bool) → d ≡ true → (c || d) ≡ true
 or_true true d h = refl
@@ -67,8 +67,8 @@ pub options-end : (o : Order) (b : List ℕ) → number o 2 0 b ≡ 0 → option
 options-end o b e =
     let last : (number o 2 0 b == 0) ≡ true = grind (arith, nat_tests) in
     options-step o b ∙ ap (λ c. if c then Some []
-      else if nat_lt (length b) (4 + number o 2 2 b) then None
-      else option_map (λ os. option_at o b ∷ os) (options o (behind o b))) (or_true (nat_lt (length b) 4) (number o 2 0 b == 0) last)
+    else if nat_lt (length b) (4 + number o 2 2 b) then None
+    else option_map (λ os. option_at o b ∷ os) (options o (behind o b))) (or_true (nat_lt (length b) 4) (number o 2 0 b == 0) last)
 
 options-some : (o : Order) (b : List ℕ) → 4 ≤ length b → 0 < number o 2 0 b
     → options o b ≡ (if nat_lt (length b) (4 + number o 2 2 b) then None else option_map (λ os. option_at o b ∷ os) (options o (behind o b)))
@@ -76,8 +76,8 @@ options-some o b h p =
     let long : nat_lt (length b) 4 ≡ false = grind (arith, nat_tests) in
     let not_last : (number o 2 0 b == 0) ≡ false = grind (arith, nat_tests) in
     options-step o b ∙ ap (λ c. if c then Some []
-      else if nat_lt (length b) (4 + number o 2 2 b) then None
-      else option_map (λ os. option_at o b ∷ os) (options o (behind o b))) (or_false (nat_lt (length b) 4) (number o 2 0 b == 0) long not_last)
+    else if nat_lt (length b) (4 + number o 2 2 b) then None
+    else option_map (λ os. option_at o b ∷ os) (options o (behind o b))) (or_false (nat_lt (length b) 4) (number o 2 0 b == 0) long not_last)
 
 -- an option that passes the end
 pub options-past : (o : Order) (b : List ℕ) → 4 ≤ length b → 0 < number o 2 0 b → length b < 4 + number o 2 2 b → options o b ≡ None
@@ -111,9 +111,9 @@ found_step : (o : Order) (f : Found) (v : List ℕ) (os : List BlockOption) (is_
     }) else None)
     ≡ then_found o
     (if is_unit then
-      (if unit_formed then Some (record { offset = f.offset; link = f.link; resolution = Some (unwrap_or f.resolution (slice_index v 0)) }) else None)
+    (if unit_formed then Some (record { offset = f.offset; link = f.link; resolution = Some (unwrap_or f.resolution (slice_index v 0)) }) else None)
     else if is_offset then
-      (if offset_formed then Some (record { offset = Some (unwrap_or f.offset (number o 8 0 v)); link = f.link; resolution = f.resolution }) else None)
+    (if offset_formed then Some (record { offset = Some (unwrap_or f.offset (number o 8 0 v)); link = f.link; resolution = f.resolution }) else None)
     else Some f) (Some os)
 found_step o f v os true true uf of h = let no : true ≡ false = h refl in cc
 found_step o f v os true false true of h = refl

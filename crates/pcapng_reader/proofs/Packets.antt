@@ -35,7 +35,8 @@ or_right false c h = h
 within : (c size : ℕ) → nat_lt (size - 4) (28 + c) ≡ false → c ≤ size - 28
 within c size h = grind (arith, nat_tests)
 
-packet-fate : (found : Option Interface) (o : Order) (s : Section) (block : List ℕ) → packet_by found o s block ≡ fate_given (fate_by found o (length block) block) s block
+-- what a block gives, by what its head tells
+pub packet-fate : (found : Option Interface) (o : Order) (s : Section) (block : List ℕ) → packet_by found o s block ≡ fate_given (fate_by found o (length block) block) s block
 packet-fate None o s block = refl
 packet-fate (Some i) o s block =
     let stamp = number o 4 12 block * 2 ^ 32 + number o 4 16 block in
@@ -43,9 +44,9 @@ packet-fate (Some i) o s block =
     packet_step (nanos i stamp) c s block (nat_lt 262144 c || nat_lt (length block - 4) (28 + c)) (is_late i stamp) (i.link == 1)
     (gives (record_by i stamp (take c (drop 28 block))) s)
     (λ h.
-      let fits : c ≤ length block - 28 = within c (length block) (or_right (nat_lt 262144 c) _ h) in
-      record_step (nanos i stamp) c (take c (drop 28 block)) s block (i.link == 1) refl
-      (length-take-le c (drop 28 block) (omega (arith, length-drop 28 block))))
+    let fits : c ≤ length block - 28 = within c (length block) (or_right (nat_lt 262144 c) _ h) in
+    record_step (nanos i stamp) c (take c (drop 28 block)) s block (i.link == 1) refl
+    (length-take-le c (drop 28 block) (omega (arith, length-drop 28 block))))
 
 -- the head of a block is in what is held of it
 fate-front : (found : Option Interface) (o : Order) (total : ℕ) (b h : List ℕ) → number o 4 12 b ≡ number o 4 12 h → number o 4 16 b ≡ number o 4 16 h → number o 4 20 b ≡ number o 4 20 h
@@ -53,9 +54,9 @@ fate-front : (found : Option Interface) (o : Order) (total : ℕ) (b h : List �
 fate-front None o total b h p q r = refl
 fate-front (Some i) o total b h p q r =
     let next : ℕ → ℕ → Fate = λ stamp c.
-      if nat_lt 262144 c || nat_lt (total - 4) (28 + c) then fate.Broken
-      else if is_late i stamp then fate.Late
-      else fate.Record (nanos i stamp) (if i.link == 1 then c else 0) in
+    if nat_lt 262144 c || nat_lt (total - 4) (28 + c) then fate.Broken
+    else if is_late i stamp then fate.Late
+    else fate.Record (nanos i stamp) (if i.link == 1 then c else 0) in
     ap (λ x. next (x * 2 ^ 32 + number o 4 16 b) (number o 4 20 b)) p
     ∙ ap (λ x. next (number o 4 12 h * 2 ^ 32 + x) (number o 4 20 b)) q
     ∙ ap (λ x. next (number o 4 12 h * 2 ^ 32 + number o 4 16 h) x) r

@@ -67,8 +67,8 @@ pub steps-entered : (old new : Converter) (o : Order) (k : Kind) (total n rest :
     → work new < work old → new.budget ≡ old.budget → Steps old new step.Moved
 steps-entered old new o k total n rest x is e m l left_is same text fewer budget = record {
   text = λ left.
-    text left ∙ ap (λ b. after (record { order = o; total = total; left = b }) (drop n (ahead old left)) (x left)) left_is
-    ∙ sym (is left ∙ head-passes o k total n (section_of old) (ahead old left) (x left) e m (omega (arith, length-append (held_bytes old.window) (take old.budget left))) (same left));
+      text left ∙ ap (λ b. after (record { order = o; total = total; left = b }) (drop n (ahead old left)) (x left)) left_is
+      ∙ sym (is left ∙ head-passes o k total n (section_of old) (ahead old left) (x left) e m (omega (arith, length-append (held_bytes old.window) (take old.budget left))) (same left));
   tells = fewer;
   budget = budget;
 }
@@ -169,8 +169,8 @@ option-cut st s kept h left far n b f e m z =
 number-left : (o : Order) (n p left : ℕ) (h r : List ℕ) → p + n ≤ left → p + n ≤ length h → number o n p (take left (h ++ r)) ≡ number o n p h
 number-left o n p left h r l m =
     elim (cases_lt (length (h ++ r)) left) as (λ _. number o n p (take left (h ++ r)) ≡ number o n p h) [
-      inl short ↦ ap (number o n p) (take_all left (h ++ r) (omega arith)) ∙ number-front o n p h r m
-    | inr long ↦ number-take o n p left (h ++ r) l long ∙ number-front o n p h r m
+      | inl short ↦ ap (number o n p) (take_all left (h ++ r) (omega arith)) ∙ number-front o n p h r m
+      | inr long ↦ number-take o n p left (h ++ r) l long ∙ number-front o n p h r m
     ]
 
 -- no option is left
@@ -200,14 +200,14 @@ options-broken s h r b f m l p q =
 left-behind : (left n count : ℕ) (a : List ℕ) → count ≡ min left n → drop n (take left a) ≡ take (left - count) (drop count a)
 left-behind left n count a e =
     elim (cases_lt n left) as (λ _. drop n (take left a) ≡ take (left - count) (drop count a)) [
-      inl less ↦
-      let same : count ≡ n = omega (arith, e) in
-      let sum : n + (left - n) ≡ left = omega arith in
-      ap (λ k. drop n (take k a)) (sym sum) ∙ drop-take n (left - n) a ∙ ap (λ k. take (left - k) (drop k a)) (sym same)
-    | inr more ↦
-      let none : left - count ≡ 0 = omega (arith, e) in
-      nil_from_length (drop n (take left a)) (omega (arith, length-drop n (take left a), length-take left a))
-      ∙ ap (λ k. take k (drop count a)) (sym none)
+      | inl less ↦
+          let same : count ≡ n = omega (arith, e) in
+          let sum : n + (left - n) ≡ left = omega arith in
+          ap (λ k. drop n (take k a)) (sym sum) ∙ drop-take n (left - n) a ∙ ap (λ k. take (left - k) (drop k a)) (sym same)
+      | inr more ↦
+          let none : left - count ≡ 0 = omega (arith, e) in
+          nil_from_length (drop n (take left a)) (omega (arith, length-drop n (take left a), length-take left a))
+          ∙ ap (λ k. take k (drop count a)) (sym none)
     ]
 
 -- the value of an option

@@ -51,17 +51,17 @@ begins-short b h = grind (arith, nat_tests)
 pub begins-take : (n : ℕ) (b : List ℕ) → 4 ≤ n → begins_section (take n b) ≡ begins_section b
 begins-take n b h =
     elim (cases_lt (length (take n b)) 4) as (λ _. begins_section (take n b) ≡ begins_section b) [
-      inl short ↦
-      let few : length b < 4 = omega (arith, length-take n b) in
-      begins-short (take n b) short ∙ sym (begins-short b few)
-    | inr long ↦ sym (begins-front (take n b) (drop n b) long) ∙ ap begins_section (take-append-drop n b)
+      | inl short ↦
+          let few : length b < 4 = omega (arith, length-take n b) in
+          begins-short (take n b) short ∙ sym (begins-short b few)
+      | inr long ↦ sym (begins-front (take n b) (drop n b) long) ∙ ap begins_section (take-append-drop n b)
     ]
 
 begins-true : (h r : List ℕ) → begins_section h ≡ true → begins_section (h ++ r) ≡ true
 begins-true h r e =
     elim (cases_lt (length h) 4) as (λ _. begins_section (h ++ r) ≡ true) [
-      inl short ↦ let no : begins_section h ≡ false = begins-short h short in cc
-    | inr long ↦ begins-front h r long ∙ e
+      | inl short ↦ let no : begins_section h ≡ false = begins-short h short in cc
+      | inr long ↦ begins-front h r long ∙ e
     ]
 
 begins-false : (h r : List ℕ) → begins_section h ≡ false → (4 ≤ length h) ⊎ (r ≡ []) → begins_section (h ++ r) ≡ false

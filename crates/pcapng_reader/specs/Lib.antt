@@ -4,6 +4,7 @@ pub mod Sources
 -- these serve the reader alone
 pub mod Converting
 pub mod Described
+pub mod Examples
 pub mod Gifts
 pub mod Stages
 pub mod Texts

@@ -1,9 +1,8 @@
 //! The bytes of a capture file as a classic capture, so that a reader of classic captures reads
 //! pcapng files (draft-ietf-opsawg-pcapng) too.
 //!
-//! [`Classic`] is a source over another source. A
-//! file that isn't a pcapng file is handed through as it is. Memory is taken when a source is
-//! wrapped, and none after that.
+//! [`Classic`] is a source over another source. A file that isn't a pcapng file is handed through as
+//! it is. Memory is taken when a source is wrapped, and none after that.
 //!
 //! ```text
 //! block      type (4), total length (4), body, total length (4)
@@ -20,6 +19,7 @@
 mod block;
 mod converter;
 mod interfaces;
+pub mod laws;
 mod packet;
 mod reads;
 mod source;
@@ -28,3 +28,6 @@ mod step;
 mod window;
 
 pub use source::Classic;
+
+#[cfg(test)]
+mod tests;

@@ -5,9 +5,9 @@ ghost use Rattle.std.specs.Io.KnownBytes.{Keeps, Consumes, IsAtEnd};
 ghost use Rattle.capture_gen.specs.Heads.{file_head};
 ghost use Rattle.timing_outside.specs.Causes.{HasCause};
 
+use crate::reads::Reads;
 use capture_gen::file_head;
 use std::alloc::{AllocError, Global};
-use crate::reads::Reads;
 use timing_outside::Failed;
 
 /// The head of a packet's block and its data, and then a whole read.
@@ -207,6 +207,20 @@ impl Window {
         self.filled = kept + held;
     }
 
+    /// Makes room for so many bytes behind what is held: moves what is kept and held to the front
+    /// where that is no more than what was let go, or where there is no room.
+    fn make_room(&mut self, most: usize)
+        requires { length (kept_bytes self.old) + length (held_bytes self.old) + most ≤ 327708 }
+        ensures kept { kept_bytes self.new ≡ kept_bytes self.old }
+        ensures held { held_bytes self.new ≡ held_bytes self.old }
+        ensures room { self.new.filled + most ≤ 327708 }
+    {
+        let used = (self.kept_end - self.kept) + (self.filled - self.start);
+        if used <= self.filled - used || ROOM - self.filled < most {
+            self.compact();
+        }
+    }
+
     /// Reads once behind what is held, so many bytes at most.
     pub fn read<S: Reads>(&mut self, source: &mut S, most: usize) -> Result<usize, Failed>
         requires some { 0 < most }
@@ -221,7 +235,7 @@ impl Window {
         ensures name { S.name source.new ≡ S.name source.old }
         ensures cause { HasCause (S.faults source.old) (S.faults source.new) result }
     {
-        self.compact();
+        self.make_room(most);
         match read_at(source, &mut self.buf, self.filled, most) {
             Ok(got) => {
                 self.filled += got;

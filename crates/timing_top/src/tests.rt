@@ -15,6 +15,7 @@ mod captures;
 mod descriptions;
 mod faults;
 mod joined;
+mod pcapng;
 mod refused;
 mod self_tests;
 mod senders;

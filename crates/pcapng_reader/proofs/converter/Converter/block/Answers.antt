@@ -20,9 +20,9 @@ returns-then-len-eq0 c =
     let z : w.budget ≡ 0 = omega arith in
     record {
       text = λ left.
-        c.end.ensures.text left
-        ∙ sym (text-at_block w.stage (section_of w) (kept_bytes w.window) (ahead w left) (whole w left) c.requires.stage c.requires.given
-        ∙ ap (blocks (section_of w)) (ahead_end h w.budget left z) ∙ blocks-none (section_of w) h (omega arith));
+          c.end.ensures.text left
+          ∙ sym (text-at_block w.stage (section_of w) (kept_bytes w.window) (ahead w left) (whole w left) c.requires.stage c.requires.given
+          ∙ ap (blocks (section_of w)) (ahead_end h w.budget left z) ∙ blocks-none (section_of w) h (omega arith));
       tells = omega (arith, c.end.ensures.work, ap rank c.requires.stage);
       budget = c.end.ensures.budget;
     }
@@ -34,9 +34,9 @@ returns-else-len-eq0 c =
     let z : w.budget ≡ 0 = omega arith in
     record {
       text = λ left.
-        c.end-else-len-eq0.ensures.text left
-        ∙ sym (text-at_block w.stage (section_of w) (kept_bytes w.window) (ahead w left) (whole w left) c.requires.stage c.requires.given
-        ∙ ap (blocks (section_of w)) (ahead_end h w.budget left z) ∙ blocks-short (section_of w) h (omega arith) (omega arith));
+          c.end-else-len-eq0.ensures.text left
+          ∙ sym (text-at_block w.stage (section_of w) (kept_bytes w.window) (ahead w left) (whole w left) c.requires.stage c.requires.given
+          ∙ ap (blocks (section_of w)) (ahead_end h w.budget left z) ∙ blocks-short (section_of w) h (omega arith) (omega arith));
       tells = omega (arith, c.end-else-len-eq0.ensures.work, ap rank c.requires.stage);
       budget = c.end-else-len-eq0.ensures.budget;
     }
@@ -55,9 +55,9 @@ returns-in-None c =
     let h = held_bytes w.window in
     record {
       text = λ left.
-        c.end-in-None.ensures.text left
-        ∙ sym (text-at_block w.stage (section_of w) (kept_bytes w.window) (ahead w left) (whole w left) c.requires.stage c.requires.given
-        ∙ blocks-unordered (section_of w) h (take w.budget left) (omega arith) (ap (order_by w.order) (sym c.peek.ensures) ∙ sym c.of_block.ensures ∙ c.in-None.is));
+          c.end-in-None.ensures.text left
+          ∙ sym (text-at_block w.stage (section_of w) (kept_bytes w.window) (ahead w left) (whole w left) c.requires.stage c.requires.given
+          ∙ blocks-unordered (section_of w) h (take w.budget left) (omega arith) (ap (order_by w.order) (sym c.peek.ensures) ∙ sym c.of_block.ensures ∙ c.in-None.is));
       tells = omega (arith, c.end-in-None.ensures.work, ap rank c.requires.stage);
       budget = c.end-in-None.ensures.budget;
     }

@@ -26,9 +26,9 @@ returns-then-len-lt4 c =
     let few = kept_few w.window in
     steps-waits w c.wait.new.self c.wait.result c.wait.ensures (omega (arith, few)) (omega (arith, ap rank c.requires.stage))
     (λ left z.
-      text-at_passing w.stage (section_of w) (kept_bytes w.window) (ahead w left) (whole w left) b c.args.content c.requires.stage
-      ∙ ap (λ a. after b a (content_given c.args.content b.order (kept_bytes w.window) (section_of w))) (ahead_end h w.budget left z)
-      ∙ after-short b h (content_given c.args.content b.order (kept_bytes w.window) (section_of w)) (omega arith))
+    text-at_passing w.stage (section_of w) (kept_bytes w.window) (ahead w left) (whole w left) b c.args.content c.requires.stage
+    ∙ ap (λ a. after b a (content_given c.args.content b.order (kept_bytes w.window) (section_of w))) (ahead_end h w.budget left z)
+    ∙ after-short b h (content_given c.args.content b.order (kept_bytes w.window) (section_of w)) (omega arith))
 
 pub returns-then-read_u32-body : goal.returns-then-read_u32-body
 returns-then-read_u32-body c =
@@ -41,14 +41,14 @@ returns-then-read_u32-body c =
     let len : 4 ≤ length h = omega arith in
     record {
       text = λ left.
-        let r = take w.budget left in
-        let a = h ++ r in
-        let given = content_given x b.order (kept_bytes w.window) s in
-        c.finish.ensures.text left
-        ∙ ap (λ k. go_on (λ next. blocks next (g ++ r)) (content_given x b.order k s)) c.pass.ensures.kept
-        ∙ ap (λ y. go_on (λ next. blocks next y) given) (ahead_pass 4 h g r c.pass.ensures.held len)
-        ∙ sym (text-at_passing w.stage s (kept_bytes w.window) a (whole w left) b x c.requires.stage
-        ∙ after-end b a given c.requires.left (omega (arith, length-append h r)) (number-front b.order 4 0 h r len ∙ sym (c.read_u32.ensures ∙ ap (number b.order 4 0) c.peek.ensures) ∙ c.if-read_u32-body.true));
+          let r = take w.budget left in
+          let a = h ++ r in
+          let given = content_given x b.order (kept_bytes w.window) s in
+          c.finish.ensures.text left
+          ∙ ap (λ k. go_on (λ next. blocks next (g ++ r)) (content_given x b.order k s)) c.pass.ensures.kept
+          ∙ ap (λ y. go_on (λ next. blocks next y) given) (ahead_pass 4 h g r c.pass.ensures.held len)
+          ∙ sym (text-at_passing w.stage s (kept_bytes w.window) a (whole w left) b x c.requires.stage
+          ∙ after-end b a given c.requires.left (omega (arith, length-append h r)) (number-front b.order 4 0 h r len ∙ sym (c.read_u32.ensures ∙ ap (number b.order 4 0) c.peek.ensures) ∙ c.if-read_u32-body.true));
       tells = omega (arith, c.finish.ensures.work, ap rank c.requires.stage, ap length c.pass.ensures.kept, ap length c.pass.ensures.held, length-drop 4 h);
       budget = c.finish.ensures.budget;
     }
@@ -63,12 +63,12 @@ returns-else-read_u32-body c =
     let len : 4 ≤ length h = omega arith in
     record {
       text = λ left.
-        let r = take w.budget left in
-        let a = h ++ r in
-        c.end.ensures.text left
-        ∙ sym (text-at_passing w.stage s (kept_bytes w.window) a (whole w left) b x c.requires.stage
-        ∙ after-broken b a (content_given x b.order (kept_bytes w.window) s) c.requires.left (omega (arith, length-append h r))
-        (ap (λ n. n == b.total) (number-front b.order 4 0 h r len ∙ sym (c.read_u32.ensures ∙ ap (number b.order 4 0) c.peek.ensures)) ∙ other_number c.read_u32.result b.total c.if-read_u32-body.false));
+          let r = take w.budget left in
+          let a = h ++ r in
+          c.end.ensures.text left
+          ∙ sym (text-at_passing w.stage s (kept_bytes w.window) a (whole w left) b x c.requires.stage
+          ∙ after-broken b a (content_given x b.order (kept_bytes w.window) s) c.requires.left (omega (arith, length-append h r))
+          (ap (λ n. n == b.total) (number-front b.order 4 0 h r len ∙ sym (c.read_u32.ensures ∙ ap (number b.order 4 0) c.peek.ensures)) ∙ other_number c.read_u32.result b.total c.if-read_u32-body.false));
       tells = omega (arith, c.end.ensures.work, ap rank c.requires.stage);
       budget = c.end.ensures.budget;
     }

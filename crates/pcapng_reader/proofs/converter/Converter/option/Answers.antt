@@ -21,10 +21,10 @@ returns-then-from-body c =
     let s = section_of w in
     record {
       text = λ left.
-        let a = ahead w left in
-        c.settle.ensures.text left
-        ∙ sym (text-at_option w.stage s (kept_bytes w.window) a (whole w left) b f c.requires.stage
-        ∙ ap (after b a) (options-broken s h (take w.budget left) b f c.requires.held c.requires.left (omega (arith, c.requires.code)) (omega (arith, c.requires.size))));
+          let a = ahead w left in
+          c.settle.ensures.text left
+          ∙ sym (text-at_option w.stage s (kept_bytes w.window) a (whole w left) b f c.requires.stage
+          ∙ ap (after b a) (options-broken s h (take w.budget left) b f c.requires.held c.requires.left (omega (arith, c.requires.code)) (omega (arith, c.requires.size))));
       tells = c.settle.ensures.work;
       budget = c.settle.ensures.budget;
     }
@@ -51,12 +51,12 @@ returns-in-Some c =
     ap (λ n. take n (drop 4 c.peek.result.now)) bare ∙ ap (λ x. take (number b.order 2 2 h) (drop 4 x)) c.peek.ensures in
     record {
       text = λ left.
-        let r = take w.budget left in
-        let a = h ++ r in
-        c.pass_option.ensures.text left
-        ∙ option-passed s h r (take ((4 + c.args.size) - 4) (drop 4 c.peek.result.now)) b f c.in-Some.found c.min-count.result c.requires.held (omega (arith, c.requires.code)) (omega arith) count (omega arith) value
-        (ap (λ n. found_with b.order (record { code = n; value = take ((4 + c.args.size) - 4) (drop 4 c.peek.result.now) }) f) (sym c.requires.code) ∙ sym c.with.ensures ∙ c.in-Some.is)
-        ∙ sym (text-at_option w.stage s (kept_bytes w.window) a (whole w left) b f c.requires.stage);
+          let r = take w.budget left in
+          let a = h ++ r in
+          c.pass_option.ensures.text left
+          ∙ option-passed s h r (take ((4 + c.args.size) - 4) (drop 4 c.peek.result.now)) b f c.in-Some.found c.min-count.result c.requires.held (omega (arith, c.requires.code)) (omega arith) count (omega arith) value
+          (ap (λ n. found_with b.order (record { code = n; value = take ((4 + c.args.size) - 4) (drop 4 c.peek.result.now) }) f) (sym c.requires.code) ∙ sym c.with.ensures ∙ c.in-Some.is)
+          ∙ sym (text-at_option w.stage s (kept_bytes w.window) a (whole w left) b f c.requires.stage);
       tells = c.pass_option.ensures.work;
       budget = c.pass_option.ensures.budget;
     }
@@ -75,12 +75,12 @@ returns-in-None c =
     ap (λ n. take n (drop 4 c.peek.result.now)) bare ∙ ap (λ x. take (number b.order 2 2 h) (drop 4 x)) c.peek.ensures in
     record {
       text = λ left.
-        let r = take w.budget left in
-        let a = h ++ r in
-        c.settle-in-None.ensures.text left
-        ∙ ap (after b a) (sym (option-unformed s h r (take ((4 + c.args.size) - 4) (drop 4 c.peek.result.now)) b f c.min-count.result c.requires.held (omega (arith, c.requires.code)) (omega arith) count (omega arith) value
-        (ap (λ n. found_with b.order (record { code = n; value = take ((4 + c.args.size) - 4) (drop 4 c.peek.result.now) }) f) (sym c.requires.code) ∙ sym c.with.ensures ∙ c.in-None.is)))
-        ∙ sym (text-at_option w.stage s (kept_bytes w.window) a (whole w left) b f c.requires.stage);
+          let r = take w.budget left in
+          let a = h ++ r in
+          c.settle-in-None.ensures.text left
+          ∙ ap (after b a) (sym (option-unformed s h r (take ((4 + c.args.size) - 4) (drop 4 c.peek.result.now)) b f c.min-count.result c.requires.held (omega (arith, c.requires.code)) (omega arith) count (omega arith) value
+          (ap (λ n. found_with b.order (record { code = n; value = take ((4 + c.args.size) - 4) (drop 4 c.peek.result.now) }) f) (sym c.requires.code) ∙ sym c.with.ensures ∙ c.in-None.is)))
+          ∙ sym (text-at_option w.stage s (kept_bytes w.window) a (whole w left) b f c.requires.stage);
       tells = c.settle-in-None.ensures.work;
       budget = c.settle-in-None.ensures.budget;
     }

@@ -18,9 +18,9 @@ returns-then-body-lt4 c =
     let s = section_of w in
     record {
       text = λ left.
-        let a = ahead w left in
-        c.settle.ensures.text left ∙ ap (λ i. after b a (add_interface s (Some i))) c.interface.ensures
-        ∙ sym (text-at_option w.stage s (kept_bytes w.window) a (whole w left) b f c.requires.stage ∙ ap (after b a) (options-over s a b f (omega arith)));
+          let a = ahead w left in
+          c.settle.ensures.text left ∙ ap (λ i. after b a (add_interface s (Some i))) c.interface.ensures
+          ∙ sym (text-at_option w.stage s (kept_bytes w.window) a (whole w left) b f c.requires.stage ∙ ap (after b a) (options-over s a b f (omega arith)));
       tells = c.settle.ensures.work;
       budget = c.settle.ensures.budget;
     }
@@ -42,10 +42,10 @@ returns-then-code-eq0 c =
     let code = sym (c.read_u16-code.ensures ∙ ap (number b.order 2 0) c.peek.ensures) in
     record {
       text = λ left.
-        let a = ahead w left in
-        c.settle-then-code-eq0.ensures.text left ∙ ap (λ i. after b a (add_interface s (Some i))) c.interface-then-code-eq0.ensures
-        ∙ sym (text-at_option w.stage s (kept_bytes w.window) a (whole w left) b f c.requires.stage
-        ∙ ap (after b a) (options-last s h (take w.budget left) b f (omega arith) (omega arith) (omega (arith, code))));
+          let a = ahead w left in
+          c.settle-then-code-eq0.ensures.text left ∙ ap (λ i. after b a (add_interface s (Some i))) c.interface-then-code-eq0.ensures
+          ∙ sym (text-at_option w.stage s (kept_bytes w.window) a (whole w left) b f c.requires.stage
+          ∙ ap (after b a) (options-last s h (take w.budget left) b f (omega arith) (omega arith) (omega (arith, code))));
       tells = c.settle-then-code-eq0.ensures.work;
       budget = c.settle-then-code-eq0.ensures.budget;
     }

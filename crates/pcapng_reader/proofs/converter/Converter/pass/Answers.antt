@@ -19,9 +19,9 @@ returns-then-held-eq0 c =
     let few = kept_few w.window in
     steps-waits w c.wait.new.self c.wait.result c.wait.ensures (omega (arith, few)) (omega (arith, ap rank c.requires))
     (λ left z.
-      text-at_passing w.stage (section_of w) (kept_bytes w.window) (ahead w left) (whole w left) b c.args.content c.requires
-      ∙ ap (λ a. after b a (content_given c.args.content b.order (kept_bytes w.window) (section_of w))) (ahead_end h w.budget left z)
-      ∙ after-short b h (content_given c.args.content b.order (kept_bytes w.window) (section_of w)) (omega arith))
+    text-at_passing w.stage (section_of w) (kept_bytes w.window) (ahead w left) (whole w left) b c.args.content c.requires
+    ∙ ap (λ a. after b a (content_given c.args.content b.order (kept_bytes w.window) (section_of w))) (ahead_end h w.budget left z)
+    ∙ after-short b h (content_given c.args.content b.order (kept_bytes w.window) (section_of w)) (omega arith))
 
 pub returns : goal.returns
 returns c =
@@ -37,11 +37,11 @@ returns c =
     let next : Body = record { order = b.order; total = b.total; left = b.left - n } in
     record {
       text = λ left.
-        let r = take w.budget left in
-        let given = content_given c.args.content b.order (kept_bytes w.window) s in
-        text-passed _ s (kept_bytes w.window) (kept_bytes c.pass.new.self) h g r (g ++ left) n next c.args.content refl c.pass.ensures.kept c.pass.ensures.held len
-        ∙ sym (text-at_passing w.stage s (kept_bytes w.window) (h ++ r) (whole w left) b c.args.content c.requires
-        ∙ after-passes b n (h ++ r) given within (omega (arith, length-append h r)));
+          let r = take w.budget left in
+          let given = content_given c.args.content b.order (kept_bytes w.window) s in
+          text-passed _ s (kept_bytes w.window) (kept_bytes c.pass.new.self) h g r (g ++ left) n next c.args.content refl c.pass.ensures.kept c.pass.ensures.held len
+          ∙ sym (text-at_passing w.stage s (kept_bytes w.window) (h ++ r) (whole w left) b c.args.content c.requires
+          ∙ after-passes b n (h ++ r) given within (omega (arith, length-append h r)));
       tells = omega (arith, some, len, ap rank c.requires, ap length c.pass.ensures.kept, ap length c.pass.ensures.held, length-drop n h);
       budget = refl;
     }

@@ -1,0 +1,159 @@
+//! The definition of a classic text, tried on numbers worked by hand. Each function is a theorem: it
+//! does nothing, and its clauses are proved.
+#![tactic(auto, unfolding(crate::specs::Classic::classic, crate::specs::Classic::blocks, crate::specs::Classic::options))]
+
+ghost use Rattle.std.specs.Prelude.{◌≡◌, ◌^◌, ℕ, List, [], ◌∷◌, ◌++◌, length, take, drop, true, Option, Some, None};
+ghost use Rattle.capture_gen.specs.Heads.{file_head};
+ghost use Rattle.pcapng_reader.specs.declared.block.Interface.{Interface};
+ghost use Rattle.pcapng_reader.specs.declared.block.Order.TheVariants.{Little};
+ghost use Rattle.pcapng_reader.specs.Classic.{Section, begins_section, number, broken, gives, add_interface, packet_by, classic, classic_texts};
+ghost use Rattle.pcapng_reader.specs.Examples.{little_section, big_section, little_interface, big_interface, interface_with, resolution, offset, comment, last_option, nano_interface, packet_at, little_packet, big_packet, other_block, nano_record, micro_record, bad, untold, changed, Gives};
+
+/// Worked by hand: whole files.
+pub fn worked_whole()
+    ensures little { Gives (little_section ++ (nano_interface ++ little_packet)) nano_record }
+    ensures big { Gives (big_section ++ (big_interface ++ big_packet)) micro_record }
+    ensures two { Gives (little_section ++ (nano_interface ++ (little_packet ++ little_packet)))
+        (nano_record ++ nano_record) }
+
+    // Any other block gives nothing, and a section alone nothing either.
+    ensures other { Gives (little_section ++ (nano_interface ++ (other_block ++ little_packet)))
+        nano_record }
+    ensures section { Gives little_section [] }
+
+    // A section in the other order: the next blocks are in its order.
+    ensures orders { Gives (little_section ++ (nano_interface ++ (little_packet
+        ++ (big_section ++ (big_interface ++ big_packet))))) (nano_record ++ micro_record) }
+
+    // What isn't a pcapng file is its own text, a front of the first four bytes too.
+    ensures classic { classic nano_record ≡ nano_record }
+    ensures front { classic (take 3 little_section) ≡ take 3 little_section }
+    ensures none { classic [] ≡ [] }
+
+    // A name without a text stays one.
+    ensures texts { (texts : List ℕ → Option (List ℕ)) (name : List ℕ) → texts name ≡ None
+        → classic_texts texts name ≡ None }
+    ensures text { (texts : List ℕ → Option (List ℕ)) (name text : List ℕ)
+        → texts name ≡ Some text → classic_texts texts name ≡ Some (classic text) }
+{}
+
+/// Worked by hand: files that are cut give one byte more.
+pub fn worked_cut()
+    ensures head { Gives (little_section ++ take 11 little_interface) (0 ∷ []) }
+    ensures body { Gives (little_section ++ (nano_interface ++ take 35 little_packet)) (0 ∷ []) }
+    ensures only_head { Gives (take 4 little_section) (0 ∷ []) }
+    ensures behind { Gives (little_section ++ (nano_interface ++ (little_packet ++ take 1 little_packet)))
+        (nano_record ++ 0 ∷ []) }
+
+    // A cut comes before what is broken behind the length, and after a length that no block has.
+    ensures version { Gives (take 27 (changed 12 2 little_section)) (0 ∷ []) }
+    ensures length { Gives (take 27 (changed 4 29 little_section)) bad }
+    ensures order { Gives (take 27 (changed 8 0x4c little_section)) bad }
+{}
+
+/// Worked by hand: byte orders and total lengths, at both sides of their limits.
+pub fn worked_lengths()
+    ensures order { Gives (changed 8 0x4c little_section) bad }
+    ensures multiple { Gives (little_section ++ changed 4 21 little_interface) bad }
+    ensures other_least { Gives (little_section ++ 5 ∷ 0 ∷ 0 ∷ 0 ∷ 12 ∷ 0 ∷ 0 ∷ 0 ∷ 12 ∷ 0 ∷ 0 ∷ 0 ∷ []) [] }
+    ensures other_short { Gives (little_section ++ 5 ∷ 0 ∷ 0 ∷ 0 ∷ 8 ∷ 0 ∷ 0 ∷ 0 ∷ 8 ∷ 0 ∷ 0 ∷ 0 ∷ []) bad }
+    ensures section_short { Gives (changed 4 24 little_section) bad }
+    ensures interface_least { Gives (little_section ++ little_interface) [] }
+    ensures interface_short { Gives (little_section ++ changed 4 16 little_interface) bad }
+    ensures packet_least { Gives (little_section ++ (nano_interface
+        ++ (6 ∷ 0 ∷ 0 ∷ 0 ∷ 32 ∷ 0 ∷ 0 ∷ 0 ∷ 0 ∷ 0 ∷ 0 ∷ 0 ∷ 0 ∷ 0 ∷ 0 ∷ 0 ∷ 7 ∷ 0 ∷ 0 ∷ 0 ∷ 0 ∷ 0 ∷ 0 ∷ 0
+        ∷ 0 ∷ 0 ∷ 0 ∷ 0 ∷ 32 ∷ 0 ∷ 0 ∷ 0 ∷ [])))
+        (0 ∷ 0 ∷ 0 ∷ 0 ∷ 7 ∷ 0 ∷ 0 ∷ 0 ∷ 0 ∷ 0 ∷ 0 ∷ 0 ∷ 0 ∷ 0 ∷ 0 ∷ 0 ∷ []) }
+    ensures packet_short { Gives (little_section ++ (nano_interface ++ changed 4 28 little_packet)) bad }
+{}
+
+/// Worked by hand: blocks that stand whole and are broken.
+pub fn worked_broken()
+    ensures ends { Gives (little_section ++ (nano_interface ++ changed 32 40 little_packet)) bad }
+    ensures section_ends { Gives (changed 24 32 little_section) bad }
+    ensures other_ends { Gives (little_section ++ changed 12 20 other_block) bad }
+    ensures version { Gives (changed 12 2 little_section) bad }
+    ensures minor { Gives (changed 14 2 little_section) [] }
+    ensures undescribed { Gives (little_section ++ little_packet) bad }
+    ensures second { Gives (little_section ++ (nano_interface ++ changed 8 1 little_packet)) bad }
+    ensures captured { Gives (little_section ++ (nano_interface ++ changed 20 5 little_packet)) bad }
+    ensures fits { Gives (little_section ++ (nano_interface ++ changed 20 4 little_packet))
+        (changed 8 4 (changed 12 4 nano_record) ++ 0 ∷ []) }
+
+    // A section forgets the interfaces before it, and nothing comes behind a broken block.
+    ensures forgets { Gives (little_section ++ (nano_interface ++ (little_section ++ little_packet))) bad }
+    ensures ended { Gives (little_section ++ (little_packet ++ little_section)) bad }
+{}
+
+/// Worked by hand: the options of an interface.
+pub fn worked_options()
+    ensures none { Gives (little_section ++ (little_interface ++ packet_at (0 ∷ 0 ∷ 0 ∷ 0 ∷ []) (0xc5 ∷ 0xc6 ∷ 0x2d ∷ 0 ∷ [])))
+        micro_record }
+    ensures passed { Gives (little_section ++ (interface_with 36 (comment ++ resolution 9) ++ little_packet))
+        nano_record }
+    ensures ended { Gives (little_section ++ (interface_with 32 (resolution 9 ++ last_option) ++ little_packet))
+        nano_record }
+
+    // The first of its kind counts, up to the last option.
+    ensures first { Gives (little_section ++ (interface_with 36 (resolution 9 ++ resolution 6) ++ little_packet))
+        nano_record }
+    ensures behind { Gives (little_section ++ (interface_with 32 (last_option ++ resolution 9)
+        ++ packet_at (0 ∷ 0 ∷ 0 ∷ 0 ∷ []) (0xc5 ∷ 0xc6 ∷ 0x2d ∷ 0 ∷ []))) micro_record }
+    ensures first_offset { Gives (little_section
+        ++ (interface_with 52 (resolution 9 ++ (offset 0 ++ offset 1)) ++ little_packet)) nano_record }
+
+    // Lengths, and an option that passes the end; behind the last option nothing is looked at.
+    ensures resolution { Gives (little_section ++ interface_with 28 (changed 2 2 (resolution 9))) bad }
+    ensures second_resolution { Gives (little_section
+        ++ interface_with 36 (resolution 9 ++ changed 2 2 (resolution 9))) bad }
+    ensures offset { Gives (little_section ++ interface_with 32 (changed 2 7 (offset 0))) bad }
+    ensures past { Gives (little_section ++ interface_with 28 (changed 2 5 comment)) bad }
+    ensures whole { Gives (little_section ++ interface_with 28 (changed 2 4 comment)) [] }
+    ensures last { Gives (little_section ++ interface_with 24 (changed 2 9 last_option)) [] }
+{}
+
+/// Worked by hand: stamps that can't be told, at both sides of the limits.
+pub fn worked_late()
+    ensures last { Gives (little_section
+        ++ (nano_interface ++ packet_at (0xff ∷ 0xc9 ∷ 0x9a ∷ 0x3b ∷ []) (255 ∷ 255 ∷ 255 ∷ 255 ∷ [])))
+        (255 ∷ 255 ∷ 255 ∷ 255 ∷ 0xff ∷ 0xc9 ∷ 0x9a ∷ 0x3b ∷ 3 ∷ 0 ∷ 0 ∷ 0 ∷ 3 ∷ 0 ∷ 0 ∷ 0 ∷ 7 ∷ 8 ∷ 9 ∷ []) }
+    ensures past { Gives (little_section
+        ++ (nano_interface ++ packet_at (0 ∷ 0xca ∷ 0x9a ∷ 0x3b ∷ []) (0 ∷ 0 ∷ 0 ∷ 0 ∷ []))) untold }
+    ensures seconds { Gives (little_section
+        ++ (interface_with 28 (resolution 0) ++ packet_at (0 ∷ 0 ∷ 0 ∷ 0 ∷ []) (255 ∷ 255 ∷ 255 ∷ 255 ∷ [])))
+        (255 ∷ 255 ∷ 255 ∷ 255 ∷ 0 ∷ 0 ∷ 0 ∷ 0 ∷ 3 ∷ 0 ∷ 0 ∷ 0 ∷ 3 ∷ 0 ∷ 0 ∷ 0 ∷ 7 ∷ 8 ∷ 9 ∷ []) }
+    ensures seconds_past { Gives (little_section
+        ++ (interface_with 28 (resolution 0) ++ packet_at (1 ∷ 0 ∷ 0 ∷ 0 ∷ []) (0 ∷ 0 ∷ 0 ∷ 0 ∷ []))) untold }
+    ensures finer { Gives (little_section ++ (interface_with 28 (resolution 10) ++ little_packet)) untold }
+    ensures binary { Gives (little_section ++ (interface_with 28 (resolution 128) ++ little_packet)) untold }
+    ensures offset { Gives (little_section
+        ++ (interface_with 40 (resolution 9 ++ offset 1) ++ little_packet)) untold }
+
+    // It comes before the link type, and behind what is broken.
+    ensures link { Gives (little_section
+        ++ (changed 8 2 (interface_with 28 (resolution 10)) ++ little_packet)) untold }
+    ensures broken { Gives (little_section
+        ++ (interface_with 28 (resolution 10) ++ changed 32 40 little_packet)) bad }
+    ensures captured { Gives (little_section
+        ++ (interface_with 28 (resolution 10) ++ changed 20 5 little_packet)) bad }
+    ensures other { Gives (little_section ++ (changed 8 2 nano_interface ++ (little_packet ++ little_packet)))
+        (3 ∷ 0 ∷ 0 ∷ 0 ∷ 5 ∷ 0 ∷ 0 ∷ 0 ∷ 0 ∷ 0 ∷ 0 ∷ 0 ∷ 0 ∷ 0 ∷ 0 ∷ 0 ∷ 3 ∷ 0 ∷ 0 ∷ 0 ∷ 5 ∷ 0 ∷ 0 ∷ 0 ∷ 0 ∷ 0 ∷ 0 ∷ 0
+        ∷ 0 ∷ 0 ∷ 0 ∷ 0 ∷ []) }
+{}
+
+/// Limits that are too great for a text laid out by hand.
+pub fn limits()
+    ensures interfaces { (s : Section) (i : Interface) → length s.interfaces ≡ 1023
+        → add_interface s (Some i)
+        ≡ gives [] (record { order = s.order; interfaces = s.interfaces ++ i ∷ [] }) }
+    ensures too_many { (s : Section) (i : Interface) → length s.interfaces ≡ 1024
+        → add_interface s (Some i) ≡ broken }
+    ensures captured { (s : Section) (i : Interface) (block : List ℕ)
+        → number Little 4 20 block ≡ 262145 → packet_by (Some i) Little s block ≡ broken }
+    ensures most { (s : Section) (block : List ℕ) → length block ≡ 262176
+        → number Little 4 20 block ≡ 262144 → number Little 4 12 block ≡ 0 → number Little 4 16 block ≡ 5
+        → packet_by (Some (record { offset = 0; link = 1; resolution = 9 })) Little s block
+        ≡ gives (0 ∷ 0 ∷ 0 ∷ 0 ∷ 5 ∷ 0 ∷ 0 ∷ 0 ∷ 0 ∷ 0 ∷ 4 ∷ 0 ∷ 0 ∷ 0 ∷ 4 ∷ 0 ∷ take 262144 (drop 28 block)) s }
+    ensures text { (text more : List ℕ) → length text ≡ 2 ^ 41 → begins_section text ≡ true
+        → classic (text ++ more) ≡ classic text }
+{}

@@ -1,0 +1,81 @@
+//! Captures in the layout of pcapng (draft-ietf-opsawg-pcapng), little-endian.
+
+use std::alloc::{AllocError, Global};
+
+/// A section: type, total length, byte order, version 1.0, length not told, total length.
+pub const SECTION: [u8; 28] = [
+    0x0a, 0x0d, 0x0d, 0x0a, 28, 0, 0, 0, 0x4d, 0x3c, 0x2b, 0x1a, 1, 0, 0, 0, 255, 255, 255, 255,
+    255, 255, 255, 255, 28, 0, 0, 0,
+];
+
+/// An interface of stamps in nanoseconds: type, total length, link type 1, snaplen, option 9 and the
+/// last option, total length.
+pub const NANOS: [u8; 32] = [
+    1, 0, 0, 0, 32, 0, 0, 0, 1, 0, 0, 0, 0, 0, 4, 0, 9, 0, 1, 0, 9, 0, 0, 0, 0, 0, 0, 0, 32, 0, 0,
+    0,
+];
+
+/// The same without options, so that stamps are microseconds.
+pub const MICROS: [u8; 20] = [1, 0, 0, 0, 20, 0, 0, 0, 1, 0, 0, 0, 0, 0, 4, 0, 20, 0, 0, 0];
+
+/// Puts a number of 32 bits at the end of a file.
+pub fn push_number(file: &mut Vec<u8>, number: u32) -> Result<(), AllocError> {
+    file.extend_from_slice(&number.to_le_bytes())
+}
+
+/// Puts an enhanced packet block at the end of a file: of this interface, with this stamp, these data,
+/// a whole number of words, and so many bytes behind them that stand for options.
+pub fn push_packet(
+    file: &mut Vec<u8>,
+    interface: u32,
+    stamp: u64,
+    data: &[u8],
+    options: u32,
+) -> Result<(), AllocError> {
+    let len = data.len().min(65_536) as u32;
+    let total = 32 + len + options.min(1 << 20);
+    push_number(file, 6)?;
+    push_number(file, total)?;
+    push_number(file, interface)?;
+    push_number(file, (stamp / 4_294_967_296) as u32)?;
+    push_number(file, (stamp % 4_294_967_296) as u32)?;
+    push_number(file, len)?;
+    push_number(file, len)?;
+    file.extend_from_slice(data)?;
+    for _ in 0..options.min(1 << 20) {
+        file.push(7)?;
+    }
+    push_number(file, total)
+}
+
+/// The number in the first four bytes.
+fn little(bytes: &[u8]) -> u32 {
+    let mut number = 0;
+    for byte in bytes.iter().take(4).rev() {
+        number = (number << 8) | u32::from(*byte);
+    }
+    number
+}
+
+/// A made capture, whose records have 72 bytes, as a pcapng file with one interface. Its stamps are
+/// divided by `unit` nanoseconds.
+pub fn as_pcapng(
+    alloc: Global,
+    capture: &[u8],
+    interface: &[u8],
+    unit: u64,
+) -> Result<Vec<u8>, AllocError> {
+    let mut file = Vec::from_slice(alloc, &SECTION)?;
+    file.extend_from_slice(interface)?;
+    if capture.len() < 24 {
+        return Ok(file);
+    }
+    for record in capture[24..].chunks(72) {
+        if record.len() < 72 {
+            break;
+        }
+        let stamp = u64::from(little(record)) * 1_000_000_000 + u64::from(little(&record[4..]));
+        push_packet(&mut file, 0, stamp / unit.max(1), &record[16..72], 0)?;
+    }
+    Ok(file)
+}
