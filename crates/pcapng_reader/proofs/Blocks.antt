@@ -1,7 +1,7 @@
 -- Lemmas on the text of the blocks of a rest: one block, and what comes of the next.
 use Rattle.std.proofs.Common.{refl, ◌≡◌, ◌≤◌, ◌<◌, ◌+◌, ◌-◌, ◌^◌, ℕ, zero, suc, Bool, true, false, List, [], ◌∷◌, ◌++◌, length, take, drop, None, Some, sym, ap, ◌∙◌, arith, length-drop, length-append}
 use Rattle.std.proofs.lemmas.Bool.Decides.{nat_tests}
-use Rattle.std.proofs.lemmas.List.{nil_from_length, drop-drop}
+use Rattle.std.proofs.lemmas.List.{drop-drop}
 use Rattle.std.specs.Prelude.{◌==◌, nat_lt, not, if◌then◌else◌, Option}
 use Rattle.std.specs.Option.{option_map_or}
 use Rattle.pcapng_reader.specs.declared.block.Order.{Order}
@@ -9,8 +9,8 @@ use Rattle.pcapng_reader.specs.declared.block.Kind.{Kind}
 use Rattle.pcapng_reader.specs.declared.block.Kind.TheVariants as kind
 use Rattle.pcapng_reader.specs.declared.stage.Body.{Body}
 use Rattle.pcapng_reader.specs.Classic.{number, Section, Given, ended, cut, broken, bare_head, content, least_length, is_length, kind_of, order_by, total_by, sized_block, ordered_block, block, go_on, blocks_by, blocks}
-use Rattle.pcapng_reader.specs.Converting.{closing, after, head_text}
-use Rattle.pcapng_reader.proofs.Numbers.{number-front, number-take, number-drop, kind_of-front, order_by-front}
+use Rattle.pcapng_reader.specs.Converting.{after, head_text}
+use Rattle.pcapng_reader.proofs.Numbers.{number-front, number-drop, kind_of-front, order_by-front}
 
 -- what comes of the next block, where there is one
 same_later : (f g : Section → List ℕ) (x : Option Section) → ((next : Section) → x ≡ Some next → f next ≡ g next) → option_map_or f x [] ≡ option_map_or g x []

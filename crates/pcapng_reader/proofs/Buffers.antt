@@ -1,6 +1,6 @@
 -- Lemmas on the parts of a buffer, after bytes were written into it.
-use Rattle.std.proofs.Common.{◌≡◌, ◌≤◌, ◌+◌, ◌-◌, ℕ, List, ◌++◌, length, take, drop, sym, ap, ◌∙◌, arith, rules, append_assoc, length-append, length-drop}
-use Rattle.std.proofs.lemmas.List.{same_lists, places, drop-take, drop-drop, drop-append-le, take-append-le, length-take}
+use Rattle.std.proofs.Common.{◌≡◌, ◌≤◌, ◌+◌, ◌-◌, ℕ, List, ◌++◌, length, take, drop, sym, ap, ◌∙◌, arith, rules}
+use Rattle.std.proofs.lemmas.List.{same_lists, places, drop-take, drop-drop}
 use Rattle.std.proofs.lemmas.Grind.{common_steps}
 
 -- the bytes from a place to another

@@ -1,8 +1,8 @@
 -- Lemmas on what the front of a text says of the whole.
-use Rattle.std.proofs.Common.{refl, ◌≡◌, ◌≤◌, ◌<◌, ◌+◌, ℕ, List, ◌++◌, length, take, drop, None, Some, sym, ap, ◌∙◌, arith, length-drop, length-append}
+use Rattle.std.proofs.Common.{refl, ◌≡◌, ◌≤◌, ◌+◌, ℕ, List, ◌++◌, length, take, drop, Some, sym, ap, ◌∙◌, arith, length-drop, length-append}
 use Rattle.std.proofs.lemmas.List.{drop-append-le, drop-drop, take-append-drop, length-take-le}
 use Rattle.std.proofs.lemmas.Bool.Decides.{nat_tests}
-use Rattle.std.specs.Prelude.{◌==◌, if◌then◌else◌, Option}
+use Rattle.std.specs.Prelude.{◌==◌, if◌then◌else◌}
 use Rattle.byteorder.specs.Endian.{big_number, little_number}
 use Rattle.byteorder.specs.Numbers.{big_from-append, little_from-append}
 use Rattle.pcapng_reader.specs.declared.block.Order.{Order}

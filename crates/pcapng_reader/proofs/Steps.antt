@@ -1,5 +1,5 @@
 -- Lemmas on the steps of a converter: each leaves the text that is still to be given.
-use Rattle.std.proofs.Common.{refl, subst, ◌≡◌, ◌≤◌, ◌<◌, ◌+◌, ◌-◌, ◌*◌, ◌^◌, ◌⊎◌, inl, inr, ℕ, min, Bool, true, false, List, [], ◌∷◌, ◌++◌, length, take, drop, None, Some, sym, ap, ◌∙◌, arith, append-nil, append_assoc, length-append, length-drop}
+use Rattle.std.proofs.Common.{refl, subst, ◌≡◌, ◌≤◌, ◌<◌, ◌+◌, ◌-◌, inl, inr, ℕ, min, Bool, true, false, List, [], ◌∷◌, ◌++◌, length, take, drop, None, Some, sym, ap, ◌∙◌, arith, append-nil, append_assoc, length-append, length-drop}
 use Rattle.std.proofs.Math.Seq.{take-append-add}
 use Rattle.std.proofs.lemmas.Bool.{cases_lt}
 use Rattle.std.proofs.lemmas.List.{drop-append-le, take-append-le, length-take, drop-take, take-take, length-take-le, nil_from_length, take_all}
@@ -20,18 +20,18 @@ use Rattle.pcapng_reader.specs.declared.step.Step.{Step}
 use Rattle.pcapng_reader.specs.declared.step.Step.TheVariants as step
 use Rattle.pcapng_reader.specs.declared.converter.Converter.{Converter}
 use Rattle.pcapng_reader.specs.declared.window.Window.{Window}
-use Rattle.pcapng_reader.specs.Classic.{number, Section, Given, broken, gives, options, padded, interface_by, body_from, described, add_interface, content, is_length, blocks}
+use Rattle.pcapng_reader.specs.Classic.{number, Section, Given, broken, gives, options, padded, interface_by, body_from, add_interface, content, is_length}
 use Rattle.pcapng_reader.specs.Converting.{found_by, found_with, found_interface, fate_by, fate_given, content_given, options_text, after, head_text}
-use Rattle.pcapng_reader.specs.Texts.{text_by, section_of, ahead, whole, text_of, work, HasRoom, Steps, Waits, IsHead}
+use Rattle.pcapng_reader.specs.Texts.{text_by, section_of, ahead, text_of, work, HasRoom, Steps, Waits, IsHead}
 use Rattle.pcapng_reader.specs.Windows.{kept_bytes, held_bytes}
 use Rattle.pcapng_reader.proofs.Numbers.{number-front, number-take}
 use Rattle.pcapng_reader.proofs.Blocks.{head-short, head-passes, after-short, after-passes}
-use Rattle.pcapng_reader.proofs.Options.{option_at, behind, then_found, options-none, options-end, options-past, found-more, found_by-none}
+use Rattle.pcapng_reader.proofs.Options.{option_at, behind, then_found, options-none, options-end, options-past, found-more}
 use Rattle.pcapng_reader.proofs.Packets.{packet-content, block-data}
 use Rattle.std.specs.Option.{option_map}
 use Rattle.std.specs.Io.KnownBytes.{Consumes, Keeps}
 use Rattle.pcapng_reader.specs.Stages.{is_due}
-use Rattle.pcapng_reader.proofs.Texts.{text-block, text-options, text-passing, text-through, text-due}
+use Rattle.pcapng_reader.proofs.Texts.{text-options, text-passing, text-due}
 
 -- nothing is ahead but what is held, where the source has ended
 pub ahead_end : (h : List ℕ) (n : ℕ) (left : List ℕ) → n ≡ 0 → h ++ take n left ≡ h

@@ -1,18 +1,18 @@
 -- Lemmas on the text that comes at each stage, and on the bytes that follow.
-use Rattle.std.proofs.Common.{refl, ◌≡◌, ◌≤◌, ◌<◌, ◌+◌, ◌-◌, ◌^◌, ◌⊎◌, inl, inr, lit≤, ℕ, Bool, true, false, List, [], ◌++◌, length, take, drop, None, Some, sym, ap, ◌∙◌, arith, append_assoc, append-nil, length-append, length-drop}
+use Rattle.std.proofs.Common.{refl, ◌≡◌, ◌≤◌, ◌<◌, ◌^◌, ◌⊎◌, inl, inr, lit≤, ℕ, true, false, List, [], ◌++◌, length, take, drop, sym, ap, ◌∙◌, arith, append_assoc, append-nil}
 use Rattle.std.proofs.lemmas.Bool.{cases_lt}
 use Rattle.std.proofs.lemmas.Bool.Decides.{nat_tests}
-use Rattle.std.proofs.lemmas.List.{drop-append-le, take-append-drop, nil_from_length, length-take}
-use Rattle.std.specs.Prelude.{if◌then◌else◌, nat_le, nat_lt}
+use Rattle.std.proofs.lemmas.List.{take-append-drop, length-take}
+use Rattle.std.specs.Prelude.{if◌then◌else◌}
 use Rattle.capture_gen.specs.Heads.{file_head}
-use Rattle.pcapng_reader.specs.declared.block.Order.TheVariants.{Big, Little}
+use Rattle.pcapng_reader.specs.declared.block.Order.TheVariants.{Little}
 use Rattle.pcapng_reader.specs.declared.block.Interface.{Interface}
 use Rattle.pcapng_reader.specs.declared.stage.Stage.{Stage}
 use Rattle.pcapng_reader.specs.declared.stage.Stage.TheVariants as stage
 use Rattle.pcapng_reader.specs.declared.stage.Body.{Body}
 use Rattle.pcapng_reader.specs.declared.stage.Found.{Found}
 use Rattle.pcapng_reader.specs.declared.stage.Content.{Content}
-use Rattle.pcapng_reader.specs.Classic.{Section, begins_section, no_section, add_interface, options, blocks, classic}
+use Rattle.pcapng_reader.specs.Classic.{Section, begins_section, no_section, blocks, classic}
 use Rattle.pcapng_reader.specs.Converting.{content_given, options_text, after}
 use Rattle.pcapng_reader.specs.Stages.{is_due}
 use Rattle.pcapng_reader.specs.Texts.{text_by}

@@ -1,10 +1,10 @@
 -- What comes of a file from a place within a block on: of the bytes that follow there and of what
 -- the block said so far. Where the text ends within the block, or its second total length isn't the
 -- first, that is all the same.
-use Rattle.std.specs.Prelude.{◌≡◌, ℕ, ◌+◌, ◌-◌, ◌*◌, ◌^◌, ◌<◌, ◌≤◌, ◌==◌, nat_lt, not, ◌||◌, if◌then◌else◌, List, [], ◌∷◌, ◌++◌, length, take, drop, slice_index, Option, Some, None, ⊤}
+use Rattle.std.specs.Prelude.{ℕ, ◌+◌, ◌-◌, ◌*◌, ◌^◌, ◌<◌, ◌≤◌, ◌==◌, nat_lt, not, ◌||◌, if◌then◌else◌, List, [], ◌++◌, length, take, drop, slice_index, Option, Some, None, ⊤}
 use Rattle.std.specs.Option.{option_map_or, unwrap_or}
 use Rattle.std.specs.List.{list_all}
-use Rattle.capture_gen.specs.Heads.{file_head, record_head}
+use Rattle.capture_gen.specs.Heads.{record_head}
 use Rattle.pcapng_reader.specs.declared.block.Order.{Order}
 use Rattle.pcapng_reader.specs.declared.block.Kind.{Kind}
 use Rattle.pcapng_reader.specs.declared.block.Interface.{Interface}

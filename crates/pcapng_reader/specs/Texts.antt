@@ -1,6 +1,6 @@
 -- What a converter has still to give, by the bytes that its source has left, and what its steps leave
 -- of that.
-use Rattle.std.specs.Prelude.{◌≡◌, ◌≤◌, ◌<◌, ℕ, ◌+◌, ◌*◌, Bool, true, false, if◌then◌else◌, List, [], ◌∷◌, ◌++◌, length, take, drop, Option, Some}
+use Rattle.std.specs.Prelude.{◌≡◌, ◌≤◌, ◌<◌, ℕ, ◌+◌, ◌*◌, true, if◌then◌else◌, List, [], ◌∷◌, ◌++◌, length, take}
 use Rattle.capture_gen.specs.Heads.{file_head}
 use Rattle.pcapng_reader.specs.declared.block.Order.{Order}
 use Rattle.pcapng_reader.specs.declared.block.Kind.{Kind}

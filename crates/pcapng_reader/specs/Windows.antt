@@ -1,5 +1,5 @@
 -- What a window holds of a file.
-use Rattle.std.specs.Prelude.{◌≡◌, ℕ, ◌-◌, List, take, drop}
+use Rattle.std.specs.Prelude.{ℕ, ◌-◌, List, take, drop}
 use Rattle.pcapng_reader.specs.declared.window.Window.{Window}
 
 -- the bytes that are kept to be given out

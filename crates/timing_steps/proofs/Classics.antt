@@ -1,5 +1,5 @@
 -- The texts of captures, as a shelf of classic captures tells them.
-use Rattle.std.proofs.Common.{◌≡◌, ℕ, List, [], ◌∷◌, Option, ap}
+use Rattle.std.proofs.Common.{ℕ, List, [], ◌∷◌, Option, ap}
 use Rattle.std.specs.Prelude.{map}
 use Rattle.std.specs.Option.{option_map}
 use Rattle.pcapng_reader.specs.Classic.{classic, classic_texts}

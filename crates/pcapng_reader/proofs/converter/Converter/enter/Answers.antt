@@ -1,7 +1,6 @@
-use Rattle.std.proofs.Common.{refl, rules, ◌≡◌, ◌≤◌, ◌<◌, ◌⊎◌, inl, inr, ◌∙◌, ◌+◌, ◌-◌, ◌*◌, ◌^◌, ℕ, List, [], ◌∷◌, ◌++◌, length, take, drop, min, ap, sym, arith, length-append, length-drop, true, false}
-use Rattle.pcapng_reader.specs.Texts.{text_by, section_of, ahead, whole, text_of}
+use Rattle.std.proofs.Common.{refl, ◌++◌, take}
+use Rattle.pcapng_reader.specs.Texts.{section_of}
 use Rattle.pcapng_reader.specs.Windows.{kept_bytes, held_bytes}
-use Rattle.pcapng_reader.specs.Stages.{is_start, is_due, rank}
 use Rattle.pcapng_reader.proofs.Steps.{text-passed}
 use Rattle.pcapng_reader.proofs.converter.Converter.enter.Goals as goal
 

@@ -1,7 +1,6 @@
-use Rattle.std.proofs.Common.{refl, rules, ◌≡◌, ◌≤◌, ◌<◌, ◌⊎◌, inl, inr, ◌∙◌, ◌+◌, ◌-◌, ◌*◌, ◌^◌, ℕ, List, [], ◌∷◌, ◌++◌, length, take, drop, min, ap, sym, arith, length-append, length-drop, true, false}
-use Rattle.pcapng_reader.specs.Texts.{text_by, section_of, ahead, whole, text_of}
+use Rattle.std.proofs.Common.{refl, ◌≡◌, ◌<◌, ◌∙◌, [], ◌++◌, length, take, ap, arith, length-append}
+use Rattle.pcapng_reader.specs.Texts.{section_of, ahead}
 use Rattle.pcapng_reader.specs.Windows.{kept_bytes, held_bytes}
-use Rattle.pcapng_reader.specs.Stages.{is_start, is_due, rank}
 use Rattle.pcapng_reader.proofs.Texts.{text-at_through, text-handed_on}
 use Rattle.std.proofs.lemmas.List.{nil_from_length}
 use Rattle.pcapng_reader.proofs.converter.Converter.hand_through.Goals as goal

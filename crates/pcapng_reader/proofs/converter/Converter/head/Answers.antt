@@ -1,14 +1,8 @@
-use Rattle.std.proofs.Common.{refl, rules, ◌≡◌, ◌≤◌, ◌<◌, ◌⊎◌, inl, inr, ◌∙◌, ◌+◌, ◌-◌, ◌*◌, ◌^◌, ℕ, List, [], ◌∷◌, ◌++◌, length, take, drop, min, ap, sym, arith, length-append, length-drop, true, false}
-use Rattle.pcapng_reader.specs.Texts.{text_by, section_of, ahead, whole, text_of}
-use Rattle.pcapng_reader.specs.Windows.{kept_bytes, held_bytes}
-use Rattle.pcapng_reader.specs.Stages.{is_start, is_due, rank}
-use Rattle.pcapng_reader.specs.declared.stage.Stage.TheVariants as stage
-use Rattle.pcapng_reader.specs.declared.stage.Content.TheVariants as content
-use Rattle.pcapng_reader.specs.declared.block.Kind.TheVariants as kind
-use Rattle.pcapng_reader.specs.declared.packet.Fate.TheVariants as fate
-use Rattle.pcapng_reader.specs.declared.step.Step.TheVariants as step
+use Rattle.std.proofs.Common.{◌∙◌, ap, sym, arith}
+use Rattle.pcapng_reader.specs.Texts.{section_of, ahead}
+use Rattle.pcapng_reader.specs.Windows.{held_bytes}
+use Rattle.pcapng_reader.specs.Stages.{rank}
 use Rattle.pcapng_reader.specs.Classic.{number, kind_of, is_length}
-use Rattle.pcapng_reader.specs.Converting.{head_text}
 use Rattle.pcapng_reader.proofs.Blocks.{head-broken}
 use Rattle.pcapng_reader.proofs.converter.Converter.head.Goals as goal
 

@@ -1,9 +1,7 @@
-use Rattle.std.proofs.Common.{refl, rules, ◌≡◌, ◌≤◌, ◌<◌, ◌⊎◌, inl, inr, ◌∙◌, ◌+◌, ◌-◌, ◌*◌, ◌^◌, ℕ, List, [], ◌∷◌, ◌++◌, length, take, drop, min, ap, sym, arith, length-append, length-drop, true, false, None, Some}
-use Rattle.pcapng_reader.specs.Texts.{text_by, section_of, ahead, whole, text_of}
+use Rattle.std.proofs.Common.{refl, ◌≤◌, ◌<◌, ◌∙◌, ◌-◌, ◌++◌, length, take, ap, sym, arith, length-append, length-drop}
+use Rattle.pcapng_reader.specs.Texts.{section_of, ahead, whole}
 use Rattle.pcapng_reader.specs.Windows.{kept_bytes, held_bytes}
-use Rattle.pcapng_reader.specs.Stages.{is_start, is_due, rank}
-use Rattle.pcapng_reader.specs.declared.stage.Stage.TheVariants as stage
-use Rattle.pcapng_reader.specs.declared.stage.Content.TheVariants as content
+use Rattle.pcapng_reader.specs.Stages.{rank}
 use Rattle.pcapng_reader.specs.declared.stage.Body.{Body}
 use Rattle.pcapng_reader.specs.Converting.{content_given, after}
 use Rattle.pcapng_reader.proofs.Blocks.{after-short, after-passes}

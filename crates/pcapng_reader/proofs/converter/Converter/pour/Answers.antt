@@ -1,10 +1,7 @@
-use Rattle.std.proofs.Common.{refl, rules, ◌≡◌, ◌≤◌, ◌<◌, ◌⊎◌, inl, inr, ◌∙◌, ◌+◌, ◌-◌, ◌*◌, ◌^◌, ℕ, List, [], ◌∷◌, ◌++◌, length, take, drop, min, ap, sym, arith, length-append, length-drop, true, false, None, Some}
-use Rattle.pcapng_reader.specs.Texts.{text_by, section_of, ahead, whole, text_of}
-use Rattle.pcapng_reader.specs.Windows.{kept_bytes, held_bytes}
-use Rattle.pcapng_reader.specs.Stages.{is_start, is_due, rank}
-use Rattle.pcapng_reader.specs.declared.stage.Stage.TheVariants as stage
-use Rattle.pcapng_reader.specs.declared.stage.Content.TheVariants as content
-use Rattle.pcapng_reader.specs.declared.stage.Body.{Body}
+use Rattle.std.proofs.Common.{refl, rules, ◌≡◌, ◌≤◌, ◌∙◌, ◌-◌, ◌++◌, length, take, ap, sym, arith, length-append, true}
+use Rattle.pcapng_reader.specs.Texts.{section_of, ahead, whole}
+use Rattle.pcapng_reader.specs.Windows.{kept_bytes}
+use Rattle.pcapng_reader.specs.Stages.{is_due}
 use Rattle.pcapng_reader.proofs.Steps.{text-poured, front-written}
 use Rattle.std.proofs.lemmas.List.{places, nil_from_length, length-take-le}
 use Rattle.pcapng_reader.proofs.converter.Converter.pour.Goals as goal

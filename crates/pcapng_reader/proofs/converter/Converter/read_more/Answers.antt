@@ -1,9 +1,7 @@
-use Rattle.std.proofs.Common.{refl, rules, ◌≡◌, ◌≤◌, ◌<◌, ◌⊎◌, inl, inr, ◌∙◌, ◌+◌, ◌-◌, ◌*◌, ◌^◌, ℕ, List, [], ◌∷◌, ◌++◌, length, take, drop, min, ap, sym, arith, length-append, length-drop, true, false, None, Some}
-use Rattle.pcapng_reader.specs.Texts.{text_by, section_of, ahead, whole, text_of}
+use Rattle.std.proofs.Common.{◌-◌, ap, sym, arith}
+use Rattle.pcapng_reader.specs.Texts.{section_of}
 use Rattle.pcapng_reader.specs.Windows.{kept_bytes, held_bytes}
-use Rattle.pcapng_reader.specs.Stages.{is_start, is_due, rank}
 use Rattle.pcapng_reader.proofs.Steps.{texts-read}
-use Rattle.std.specs.Io.KnownBytes.{Keeps}
 use Rattle.pcapng_reader.proofs.converter.Converter.read_more.Goals as goal
 
 pub returns-in-Ok-clause-text : goal.returns-in-Ok-clause-text

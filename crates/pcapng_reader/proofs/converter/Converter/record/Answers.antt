@@ -1,18 +1,13 @@
-use Rattle.std.proofs.Common.{refl, rules, ◌≡◌, ◌≤◌, ◌<◌, ◌⊎◌, inl, inr, ◌∙◌, ◌+◌, ◌-◌, ◌*◌, ◌^◌, ℕ, List, [], ◌∷◌, ◌++◌, length, take, drop, min, ap, sym, arith, length-append, length-drop, true, false}
-use Rattle.pcapng_reader.specs.Texts.{text_by, section_of, ahead, whole, text_of}
+use Rattle.std.proofs.Common.{refl, ◌≤◌, ◌∙◌, ◌+◌, ◌-◌, ◌++◌, length, take, drop, ap, arith, length-append, length-drop}
+use Rattle.pcapng_reader.specs.Texts.{section_of}
 use Rattle.pcapng_reader.specs.Windows.{kept_bytes, held_bytes}
-use Rattle.pcapng_reader.specs.Stages.{is_start, is_due, rank}
-use Rattle.pcapng_reader.specs.declared.stage.Stage.TheVariants as stage
+use Rattle.pcapng_reader.specs.Stages.{rank}
 use Rattle.pcapng_reader.specs.declared.stage.Content.TheVariants as content
 use Rattle.pcapng_reader.specs.declared.block.Kind.TheVariants as kind
-use Rattle.pcapng_reader.specs.declared.packet.Fate.TheVariants as fate
-use Rattle.pcapng_reader.specs.declared.step.Step.TheVariants as step
 use Rattle.pcapng_reader.specs.Classic.{gives}
-use Rattle.pcapng_reader.specs.Converting.{fate_by}
 use Rattle.capture_gen.specs.Heads.{record_head}
 use Rattle.std.proofs.lemmas.List.{length-take}
 use Rattle.pcapng_reader.specs.declared.stage.Body.{Body}
-use Rattle.pcapng_reader.proofs.Blocks.{total-least}
 use Rattle.pcapng_reader.proofs.Steps.{steps-waits, head-cut, steps-entered, record-given, text-passed}
 use Rattle.pcapng_reader.proofs.converter.Converter.record.Goals as goal
 

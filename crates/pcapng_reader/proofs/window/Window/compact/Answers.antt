@@ -1,4 +1,4 @@
-use Rattle.std.proofs.Common.{rules, ◌≡◌, ◌-◌, ◌∙◌, sym, ap, drop, take, ◌+◌, ◌++◌}
+use Rattle.std.proofs.Common.{rules, ◌-◌, ◌∙◌, ap, drop, take, ◌+◌, ◌++◌}
 use Rattle.std.proofs.lemmas.List.{with_items_is, places}
 use Rattle.std.specs.Vec.{with_items}
 use Rattle.pcapng_reader.proofs.Buffers.{held-moved, range}
