@@ -15,7 +15,7 @@ export LC_ALL=C
 not_run=(
     'tcpdump -i|a network card'
     'dumpcap -i|a network card'
-    'editcap -F nsecpcap in.pcapng|a capture of your own'
+    'editcap -r in.pcapng|a capture of your own'
     'curl -o|a node on the network'
     'gst-launch-1.0|a network to send into'
     './run check --sdp gst_1080.sdp|a capture of 1.4 MB that does not ship'
