@@ -9,17 +9,16 @@ use timing_report::Status;
 #[derive(Debug, Drop)]
 pub struct Answer {
     /// What is printed, whole.
-    pub text: String,
+    pub text: Vec<u8>,
     pub status: Status,
 }
 
 impl Model for Answer {
-    ghost use Rattle.std.specs.Prelude.{string_bytes};
     ghost use Rattle.timing_steps.specs.Answers.{Answer as Seen};
 
     ghost Value = { Seen };
 
-    ghost view = { λ answer. record { text = string_bytes answer.text; status = answer.status } };
+    ghost view = { λ answer. record { text = answer.text.items; status = answer.status } };
 }
 
 impl Answer {
@@ -31,7 +30,7 @@ impl Answer {
         ensures { result ≡ silent status }
     {
         Answer {
-            text: String::new(alloc),
+            text: Vec::new(alloc),
             status,
         }
     }

@@ -48,8 +48,8 @@ pub fn fetch_session<H: Shelf>(
     }
 }
 
-/// Fetches a text, to be read as a classic capture.
-fn fetch_classic<H: Shelf>(
+/// Fetches a text, to be read as a classic capture: its source, at the start of its classic text.
+pub fn fetch_classic<H: Shelf>(
     alloc: Global,
     shelf: &mut H,
     name: &str,

@@ -13,6 +13,6 @@ mod text;
 
 pub use answer::Answer;
 pub use failure::Failure;
-pub use fetch::{fetch_captures, fetch_session, give_back, give_back_all};
+pub use fetch::{fetch_captures, fetch_classic, fetch_session, give_back, give_back_all};
 pub use print::conclude;
 pub use text::fetch_front;

@@ -16,7 +16,7 @@ fn print<K: Sink>(out: &mut K, outcome: Result<Answer, Failure>) -> Status
     ensures later { K.faults out.old ≤ K.faults out.new }
 {
     match outcome {
-        Ok(answer) => match put_all(out, answer.text.as_bytes()) {
+        Ok(answer) => match put_all(out, &answer.text) {
             Ok(()) => answer.status,
             Err(_) => Status::from(Failure::WriteFault),
         },

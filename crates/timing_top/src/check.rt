@@ -52,7 +52,7 @@ fn report_on(
     ensures answers { IfOk result (λ answer. IsAnswered answer.status) }
 {
     Ok(Answer {
-        text: text_on(alloc, job, session, found)?,
+        text: text_on(alloc, job, session, found)?.into_bytes(),
         status: status_of(session, &found.notes, &found.rows),
     })
 }

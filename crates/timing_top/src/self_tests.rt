@@ -129,7 +129,7 @@ pub fn answer_self_test<R: Threads + Wait + Sync, G: Gate>(
         text.push_str(line_of(rt, alloc, frames, flaw, workers, gate)?.as_str())?;
     }
     Ok(Answer {
-        text,
+        text: text.into_bytes(),
         status: Status::Pass,
     })
 }

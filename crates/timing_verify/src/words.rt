@@ -41,7 +41,7 @@ pub fn verified(alloc: Global, media: &Media, finding: Finding) -> Result<Answer
     ensures { IfOk result (λ answer. answer ≡ verified finding) }
 {
     Ok(Answer {
-        text: finding_line(alloc, media, finding)?,
+        text: finding_line(alloc, media, finding)?.into_bytes(),
         status: finding_status(finding),
     })
 }
@@ -51,7 +51,7 @@ pub fn unconfirmed(alloc: Global) -> Result<Answer, OutOfMemory>
     ensures { IfOk result (λ answer. answer ≡ verified (Ok false)) }
 {
     Ok(Answer {
-        text: String::from_str(alloc, "not confirmed\n")?,
+        text: String::from_str(alloc, "not confirmed\n")?.into_bytes(),
         status: Status::Fail,
     })
 }
@@ -155,7 +155,7 @@ pub fn reported(alloc: Global, checked: &[Checked]) -> Result<Answer, OutOfMemor
     ensures { IfOk result (λ answer. answer ≡ reported checked.now) }
 {
     Ok(Answer {
-        text: checked_text(alloc, checked)?,
+        text: checked_text(alloc, checked)?.into_bytes(),
         status: status_of(checked),
     })
 }
