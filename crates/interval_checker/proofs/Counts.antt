@@ -1,21 +1,22 @@
 -- The claimed counts of packets and of reads, by the two of them on either side.
-use Rattle.std.proofs.Common.{◌≡◌, ◌≤◌, ◌<◌, ◌+◌, ◌-◌, ◌*◌, ◌^◌, ◌↔◌, ◌⊎◌, ℕ, ℤ, zero, suc, Bool, true, false, cond, not, List, [], ◌∷◌, length, refl, ap, sym, ◌∙◌, subst, arith, inl, inr}
+use Rattle.std.proofs.Common.{◌≡◌, ◌≤◌, ◌<◌, ◌+◌, ◌-◌, ◌*◌, ◌↔◌, ◌⊎◌, ℕ, ℤ, zero, suc, Bool, true, false, cond, not, List, [], ◌∷◌, length, refl, ap, sym, ◌∙◌, subst, arith, inl, inr}
 use Rattle.std.specs.Prelude.{IsTrue, slice_index}
 use Rattle.std.specs.List.{count_by, range_with_len}
-use Rattle.std.proofs.lemmas.Bool.{cases_lt}
+use Rattle.std.proofs.lemmas.Bool.{false_from_ne_true}
 use Rattle.std.proofs.lemmas.List.FromFn.{length-range_with_len, get_or-range_with_len}
 use Rattle.std.proofs.lemmas.List.Sums.{sum_by-cons}
-use Rattle.fraction128.specs.Fractions.{AtMost, at_most, below, whole}
+use Rattle.std.proofs.Math.Nat.{mul-le-mul_right}
+use Rattle.fraction128.specs.Fractions.{at_most, below, whole}
+use Rattle.fraction128.proofs.Order.{at_most-true, true-at_most}
 use Rattle.timing_base.specs.Media.{Media}
 use Rattle.timing_base.specs.declared.media.Kind.{Kind}
 use Rattle.sender_params.specs.Keeps.{arrived_by_read, due_among, held_at}
 use Rattle.sender_params.specs.Limits.{gapped_of}
 use Rattle.sender_params.specs.Reads.{anchor_of, read_of}
 use Rattle.sender_params.specs.Ticks.{NeverFall}
-use Rattle.interval_checker.specs.Schedule.{AreReads, parts_at, parts_of}
+use Rattle.interval_checker.specs.Schedule.{AreReads}
 use Rattle.interval_checker.specs.declared.reads.Reads.{Reads}
-use Rattle.interval_checker.proofs.Schedules.{at_most-at_most, at_most-true, not_true, parts_at-le}
-use Rattle.std.proofs.Math.Nat.{mul-le-mul_right}
+use Rattle.interval_checker.proofs.Schedules.{parts_at-le}
 
 -- a test that holds of no element behind one of which it doesn't
 abbrev pub Falls : (ℕ → Bool) → List ℕ → Type 0
@@ -74,7 +75,7 @@ cut-of p (x ∷ xs) falls = elim (bool_cases (p x)) as (λ _. (c : ℕ) × IsCut
     record {
       few = omega arith;
       low = λ j h. absurd (omega (arith, h));
-      high = λ j h l. not_true (p (slice_index (x ∷ xs) j)) (λ e. differ (sym head ∙ falls 0 j (omega arith) l e));
+      high = λ j h l. false_from_ne_true (p (slice_index (x ∷ xs) j)) (λ e. differ (sym head ∙ falls 0 j (omega arith) l e));
     },
   )
 ]
@@ -96,7 +97,7 @@ pub count-is : (p : ℕ → Bool) (xs : List ℕ) (d : ℕ) → Falls p xs → d
 count-is p xs d falls few last next = cut-count p xs d record {
   few = few;
   low = λ j h. falls j (d - 1) (omega (arith, h)) (omega (arith, h, few)) (last (omega (arith, h)));
-  high = λ j h l. not_true (p (slice_index xs j)) (λ e. differ (sym (next (omega (arith, h, l))) ∙ falls d j h l e));
+  high = λ j h l. false_from_ne_true (p (slice_index xs j)) (λ e. differ (sym (next (omega (arith, h, l))) ∙ falls d j h l e));
 }
   where
     differ : (false ≡ true) → ⊥
@@ -110,7 +111,7 @@ due-falls m n anchor gapped r t k are i j h l e =
     let at_i : slice_index (range_with_len 0 k) i ≡ i = get_or-range_with_len 0 k i 0 (omega (arith, h, few)) ∙ omega arith in
     let at_j : slice_index (range_with_len 0 k) j ≡ j = get_or-range_with_len 0 k j 0 few ∙ omega arith in
     let there : at_most (read_of m n anchor gapped j) (whole t) ≡ true = subst (λ x. at_most (read_of m n anchor gapped x) (whole t) ≡ true) at_j e in
-    let later = (are.before j t).0 (at_most-at_most (read_of m n anchor gapped j) (whole t) there) in
+    let later = (are.before j t).0 (true-at_most (read_of m n anchor gapped j) (whole t) there) in
     let order = parts_at-le r i j h in
     let here : at_most (read_of m n anchor gapped i) (whole t) ≡ true = at_most-true (read_of m n anchor gapped i) (whole t) ((are.before i t).1 (omega (arith, later, order))) in
     subst (λ x. at_most (read_of m n anchor gapped x) (whole t) ≡ true) (sym at_i) here
@@ -119,7 +120,7 @@ due-falls m n anchor gapped r t k are i j h l e =
 arrived-falls : (m : Media) (n : ℕ) (anchor : ℤ) (gapped : Bool) (r : Reads) (stamps : List ℕ) (x : ℕ) → AreReads m n anchor gapped r → NeverFall stamps
     → Falls (λ at. at_most (whole at) (read_of m n anchor gapped x)) stamps
 arrived-falls m n anchor gapped r stamps x are rising i j h l e =
-    let later = (are.after x (slice_index stamps j)).0 (at_most-at_most (whole (slice_index stamps j)) (read_of m n anchor gapped x) e) in
+    let later = (are.after x (slice_index stamps j)).0 (true-at_most (whole (slice_index stamps j)) (read_of m n anchor gapped x) e) in
     let order : slice_index stamps i * r.den ≤ slice_index stamps j * r.den = mul-le-mul_right r.den (rising i j h l) in
     at_most-true (whole (slice_index stamps i)) (read_of m n anchor gapped x) ((are.after x (slice_index stamps i)).1 (omega (arith, later, order)))
 

@@ -1,9 +1,7 @@
-pub mod Compare
 pub mod Counts
 pub mod Faults
 pub mod Intervals
 pub mod Schedules
-pub mod Times
 pub mod Walking
 pub mod Outcomes
 pub mod Feeding

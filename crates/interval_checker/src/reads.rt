@@ -6,7 +6,7 @@ ghost use Rattle.fraction128.specs.Fractions.{at_most, below, whole};
 ghost use Rattle.timing_base.specs.Media.{Media as MediaValue};
 ghost use Rattle.sender_params.specs.Reads.{anchor_of, read_of};
 
-use sender_params::Params;
+use sender_params::{Params, sizes_of};
 
 /// The groups that a first read may be before 0 of TAI.
 const GROUPS_BEFORE: u32 = 480;
@@ -45,16 +45,13 @@ impl Reads {
         ensures { AreReads params.now.media params.now.n (anchor_of params.now.media a0) gapped result }
     {
         let anchor = params.anchor(a0);
-        let (_, den) = params.step(true);
-        let group = parts(params.group(), den);
-        let step = parts(params.step(gapped), den);
-        let offset = parts(params.offset(), den);
+        let sizes = sizes_of(params, gapped);
         Reads {
-            den,
+            den: sizes.den,
             n: u64::from(params.n()),
-            step,
-            group,
-            start: lifted(anchor) * group + offset,
+            step: sizes.step,
+            group: sizes.group,
+            start: lifted(anchor) * sizes.group + sizes.offset,
         }
     }
 
@@ -94,16 +91,6 @@ impl Reads {
     {
         self.read(x) < self.instant(at)
     }
-}
-
-/// A time in nanoseconds, as numerator and denominator, in parts of which a nanosecond has `den`.
-fn parts(time: (u128, u128), den: u128) -> u128
-    requires some { 1 ≤ time.1 }
-    requires num_small { time.0 < 2 ^ 50 }
-    requires den_small { den < 2 ^ 48 }
-    ensures { result ≡ time.0 * den / time.1 }
-{
-    time.0 * den / time.1
 }
 
 /// The number of a group, counted from the earliest one that there may be.

@@ -5,39 +5,10 @@ ghost use Rattle.std.specs.Prelude.{◌≡◌, ◌+◌, IfOk, length};
 use super::*;
 use std::alloc::{AllocError, Global};
 use std::test::Fail;
-use timing_base::{Broken, FailProof, Kind, Media, PacketFault, Unjudged};
-use timing_outside::{MemoryShelf, MemorySource, OpenFault, ReadPlan, Shelf};
-
-// A file header: little-endian, nanoseconds, Ethernet.
-const HEAD: [u8; 24] = [
-    0x4d, 0x3c, 0xb2, 0xa1, 2, 0, 4, 0, 0, 0, 0, 0, 0, 0, 0, 0, 0, 0, 4, 0, 1, 0, 0, 0,
-];
-
-// One packet to 239.0.0.1.
-const FRAME: [u8; 56] = [
-    0x01, 0x00, 0x5e, 0x00, 0x00, 0x01, 0x02, 0x00, 0x00, 0x00, 0x00, 0x01, 0x08, 0x00, // Ethernet
-    0x45, 0x00, 0x00, 0x2a, 0x00, 0x00, 0x40, 0x00, 0x40, 0x11, 0x00, 0x00, // IPv4
-    0xc0, 0x00, 0x02, 0x01, 0xef, 0x00, 0x00, 0x01, // addresses
-    0xc3, 0x50, 0xc3, 0x50, 0x00, 0x16, 0x00, 0x00, // UDP, to port 50000
-    0x80, 0x60, 0x00, 0x00, 0x00, 0x00, 0x07, 0x08, 0x00, 0x00, 0x00, 0x01, // RTP
-    0x00, 0x00, // extended sequence number
-];
-
-// 1080 lines, progressive, at 50 frames per second.
-const HD_50: Media = Media {
-    line: 5,
-    address: 0xef00_0001,
-    port: 50_000,
-    pt: 96,
-    width: 1920,
-    height: 1080,
-    interlaced: false,
-    p: 50,
-    q: 1,
-    declared: Some(Kind::N),
-    troff: None,
-    cmax: None,
-};
+use timing_base::worked::PLAIN;
+use timing_base::{Broken, FailProof, Kind, PacketFault, Unjudged};
+use timing_examples::{FRAME, HEAD, source_of};
+use timing_outside::{MemorySource, OpenFault};
 
 // Five packets of 20 at once: five in the bucket, and four are the most.
 const BURST: FailProof = FailProof {
@@ -100,18 +71,6 @@ fn capture(alloc: Global, sender: Sender, from: u8, to: u8) -> Result<Vec<u8>, A
     Ok(text)
 }
 
-// A source of this text, which comes in pieces of 100 bytes. The reads of these numbers fail.
-fn source(alloc: Global, text: Vec<u8>, fails: &[u32]) -> Result<MemorySource, OpenFault> {
-    let plan = ReadPlan {
-        fetch_fails: false,
-        piece: 100,
-        fails: Vec::from_slice(alloc, fails)?,
-    };
-    let mut shelf = MemoryShelf::new(alloc);
-    shelf.put(String::from_str(alloc, "a.pcap")?, text, plan)?;
-    shelf.fetch("a.pcap")
-}
-
 // Puts a source at the end of a list.
 fn add(sources: &mut Vec<MemorySource>, source: MemorySource) -> Result<(), OpenFault>
     ensures { IfOk result (λ _. length sources.new.items ≡ length sources.old.items + 1) }
@@ -130,8 +89,8 @@ fn told(
     proof: FailProof,
 ) -> Result<Result<bool, CheckFault>, OpenFault> {
     let mut sources = Vec::new(alloc);
-    add(&mut sources, source(alloc, text, &[])?)?;
-    let (_, answer) = confirm(alloc, &HD_50, Kind::N, run, &proof, 0, sources);
+    add(&mut sources, source_of(alloc, &text, 100, &[])?)?;
+    let (_, answer) = confirm(alloc, &PLAIN, Kind::N, run, &proof, 0, sources);
     Ok(answer)
 }
 
@@ -141,9 +100,9 @@ fn joined(alloc: Global, fails: &[u32]) -> Result<(usize, Result<bool, CheckFaul
     let first = capture(alloc, Sender::Burst, 0, 4)?;
     let second = capture(alloc, Sender::Burst, 4, 21)?;
     let mut sources = Vec::new(alloc);
-    add(&mut sources, source(alloc, first, &[])?)?;
-    add(&mut sources, source(alloc, second, fails)?)?;
-    let (back, answer) = confirm(alloc, &HD_50, Kind::N, 0, &BURST, 0, sources);
+    add(&mut sources, source_of(alloc, &first, 100, &[])?)?;
+    add(&mut sources, source_of(alloc, &second, 100, fails)?)?;
+    let (back, answer) = confirm(alloc, &PLAIN, Kind::N, 0, &BURST, 0, sources);
     Ok((back.len(), answer))
 }
 

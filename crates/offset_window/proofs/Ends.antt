@@ -1,7 +1,6 @@
 -- How an end of a window moves with one packet more, whatever breaks packets.
 use Rattle.std.proofs.Common.{◌≡◌, ◌≤◌, ◌<◌, ◌+◌, ◌-◌, ℕ, Bool, true, false, Option, Some, None, ap, sym, subst, ◌∙◌, arith, inl, inr}
-use Rattle.std.proofs.lemmas.Bool.{cases_lt}
-use Rattle.read_schedule.proofs.Instants.{not_true}
+use Rattle.std.proofs.lemmas.Bool.{cases_lt, false_from_ne_true}
 use Rattle.offset_window.specs.Moves.{IsLowerBy, IsUpperBy, MovesBy}
 use Rattle.offset_window.specs.Window.{BindsLower, BindsUpper, IsFirstBroken, IsGreatest, IsLeast, IsLowerEnd, IsUpperEnd, Serves}
 use Rattle.offset_window.specs.declared.window.WindowEnd.{WindowEnd}
@@ -170,7 +169,7 @@ lower-moved broken count here x binding (At y bound) falls is h late by =
     record {
       most = by.most;
       serves = serves-more broken count y
-          (λ i few. not_true (broken y i) (λ holds. clash (broken x i) (falls x y i (omega (arith, above)) holds) (h.serves i few)))
+          (λ i few. false_from_ne_true (broken y i) (λ holds. clash (broken x i) (falls x y i (omega (arith, above)) holds) (h.serves i few)))
           (is y ∙ by.serves);
       least = λ z low serves. clash (broken z count) (falls z (y - 1) count (omega (arith, low)) (is (y - 1) ∙ by.under)) (serves count (omega arith));
       binds = subst (BindsLower broken (count + 1) y) (sym by.binds) (
@@ -178,7 +177,7 @@ lower-moved broken count here x binding (At y bound) falls is h late by =
         record {
           within = omega arith;
           here = is (y - 1) ∙ by.under;
-          first = λ j low. not_true (broken (y - 1) j) (λ holds. clash (broken x j) (falls x (y - 1) j (omega (arith, above)) holds) (h.serves j low));
+          first = λ j low. false_from_ne_true (broken (y - 1) j) (λ holds. clash (broken x j) (falls x (y - 1) j (omega (arith, above)) holds) (h.serves j low));
         },
       );
     }
@@ -219,7 +218,7 @@ upper-moved broken count here x binding (At y bound) rises rises_here is h early
     record {
       most = omega (arith, most);
       serves = serves-more broken count y
-          (λ i few. not_true (broken y i) (λ holds. clash (broken x i) (rises y x i (omega (arith, under)) h.most holds) (h.serves i few)))
+          (λ i few. false_from_ne_true (broken y i) (λ holds. clash (broken x i) (rises y x i (omega (arith, under)) h.most holds) (h.serves i few)))
           (is y (omega (arith, most)) ∙ by.serves);
       greatest = λ z high top serves. clash (broken z count) (rises (y + 1) z count (omega (arith, high)) top next) (serves count (omega arith));
       binds = subst (BindsUpper broken (count + 1) y) (sym by.binds) (
@@ -227,7 +226,7 @@ upper-moved broken count here x binding (At y bound) rises rises_here is h early
         record {
           within = omega arith;
           here = next;
-          first = λ j low. not_true (broken (y + 1) j) (λ holds. clash (broken x j) (rises (y + 1) x j (omega (arith, under)) h.most holds) (h.serves j low));
+          first = λ j low. false_from_ne_true (broken (y + 1) j) (λ holds. clash (broken x j) (rises (y + 1) x j (omega (arith, under)) h.most holds) (h.serves j low));
         },
       );
     }

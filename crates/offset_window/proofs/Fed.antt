@@ -8,17 +8,18 @@ use Rattle.timing_base.specs.Media.{IsMedia, Media}
 use Rattle.timing_base.specs.declared.media.Kind.{Kind}
 use Rattle.sender_params.specs.Keeps.{due_among}
 use Rattle.sender_params.specs.Limits.{gapped_of, vrx_full_of}
-use Rattle.offset_window.specs.declared.grid.Grid.{Grid}
+use Rattle.read_schedule.specs.Parts.{IsGridWithout}
+use Rattle.read_schedule.specs.declared.grid.Grid.{Grid}
 use Rattle.offset_window.specs.declared.window.WindowEnd.{WindowEnd}
 use Rattle.offset_window.specs.Moves.{IsLowerBy, IsUpperBy, MovesBy}
-use Rattle.offset_window.specs.Parts.{IsGridOf, comes_after, comes_before}
+use Rattle.offset_window.specs.Parts.{comes_after, comes_before}
 use Rattle.offset_window.specs.Window.{IsLowerEnd, IsUpperEnd, is_empty_with, is_over_with, read_with, with_offset}
 use Rattle.offset_window.proofs.Ends.{lower-more, lower-same, upper-more, upper-quiet, upper-same}
 use Rattle.offset_window.proofs.Offsets.{after-is, before-is, comes_before-rises, empty-falls, over-is, over-rises, over-room}
 
 -- the lower end of one packet more
 pub lower-fed : (m : Media) (n : ℕ) (anchor : ℤ) (stamps : List ℕ) (at : ℕ) (kind : Kind) (g : Grid) (i packet : ℕ) (old end : WindowEnd)
-    → IsGridOf m n anchor (gapped_of kind) g
+    → IsGridWithout m n anchor (gapped_of kind) g
     → i ≡ length stamps
     → packet ≡ length stamps
     → IsLowerEnd (is_empty_with m n anchor stamps kind) (length stamps) old
@@ -44,7 +45,7 @@ lower-fed m n anchor stamps at kind g i packet old end grid ei ep h moves =
 pub upper-fed : (m : Media) (n : ℕ) (anchor : ℤ) (stamps : List ℕ) (at : ℕ) (kind : Kind) (g : Grid) (i packet full : ℕ) (old end : WindowEnd)
     → IsMedia m
     → 1 ≤ n
-    → IsGridOf m n anchor (gapped_of kind) g
+    → IsGridWithout m n anchor (gapped_of kind) g
     → full ≡ vrx_full_of m n kind
     → i ≡ length stamps - vrx_full_of m n kind
     → packet ≡ length stamps
@@ -82,10 +83,10 @@ upper-fed m n anchor stamps at kind g i packet full old end is some grid ef ei e
 pub grid-same : (m : Media) (n : ℕ) (anchor : ℤ) (gapped same : Bool) (g h : Grid)
     → gapped ≡ same
     → h ≡ g
-    → IsGridOf m n anchor gapped g
-    → IsGridOf m n anchor same h
+    → IsGridWithout m n anchor gapped g
+    → IsGridWithout m n anchor same h
 grid-same m n anchor gapped same g h eg eh is =
-    subst (λ b. IsGridOf m n anchor b h) eg (subst (IsGridOf m n anchor gapped) (sym eh) is)
+    subst (λ b. IsGridWithout m n anchor b h) eg (subst (IsGridWithout m n anchor gapped) (sym eh) is)
 
 -- the limit of a sender type under another name
 pub full-is : (m : Media) (n : ℕ) (kind same : Kind) (full : ℕ) → kind ≡ same → full ≡ vrx_full_of m n kind → full ≡ vrx_full_of m n same

@@ -1,7 +1,6 @@
 pub mod ByHand
 pub mod Ends
 pub mod Fed
-pub mod Grids
 pub mod Offsets
 pub mod Steps
 pub mod Unique

@@ -1,23 +1,24 @@
 -- What a later or earlier offset does to one packet.
 use Rattle.std.proofs.Common.{◌≡◌, ◌≤◌, ◌<◌, ◌+◌, ◌-◌, ◌*◌, ℕ, ℤ, Bool, true, false, nat_lt, not, min, Option, Some, List, length, slice_index, ap, sym, subst, ◌∙◌, arith, inl, inr}
-use Rattle.std.proofs.lemmas.Bool.{cases_lt, le-ltb}
+use Rattle.std.proofs.lemmas.Bool.{cases_lt, false_from_ne_true, le-ltb}
 use Rattle.std.proofs.lemmas.Bool.Decides.{nat_tests}
 use Rattle.std.proofs.lemmas.Int.{ints}
 use Rattle.std.proofs.lemmas.Option.{same_Some}
 use Rattle.std.proofs.Math.Nat.{mul-le-mul_right}
 use Rattle.fraction128.specs.Fractions.{AtMost, below, whole}
+use Rattle.fraction128.proofs.Order.{at_most-false, at_most-true, fraction_cases}
 use Rattle.timing_base.specs.Media.{IsMedia, Media}
 use Rattle.timing_base.specs.declared.media.Kind.{Kind}
 use Rattle.sender_params.specs.Keeps.{due_among, is_empty, is_over}
 use Rattle.sender_params.specs.Limits.{gapped_of, vrx_full_of}
 use Rattle.sender_params.specs.Reads.{AreDue, anchor_of, read_of}
 use Rattle.sender_params.specs.Times.{group_time, read_step}
-use Rattle.read_schedule.proofs.Grids.{late_of, read_of-at_least, read_of-at_most}
+use Rattle.sender_params.proofs.Lines.{late_of, read_of-at_least, read_of-at_most}
+use Rattle.read_schedule.specs.Parts.{IsGridWithout, parts_of}
+use Rattle.read_schedule.specs.declared.grid.Grid.{Grid}
 use Rattle.read_schedule.proofs.Held.{due_among-is}
-use Rattle.read_schedule.proofs.Instants.{at_most-false, at_most-true, fraction_cases, not_true}
 use Rattle.read_schedule.proofs.Rising.{difference, due-some}
-use Rattle.offset_window.specs.declared.grid.Grid.{Grid}
-use Rattle.offset_window.specs.Parts.{IsGridOf, comes_after, comes_before, parts_of, parts_with}
+use Rattle.offset_window.specs.Parts.{comes_after, comes_before, parts_with}
 use Rattle.offset_window.specs.Window.{IsGreatest, IsLeast, IsLowerEnd, IsUpperEnd, IsWindow, Serves, held_with, is_empty_with, is_over_with, read_with, with_offset}
 use Rattle.offset_window.specs.declared.window.Window.{Window}
 use Rattle.offset_window.specs.declared.window.WindowEnd.TheVariants.{At}
@@ -93,7 +94,7 @@ before-rises m n anchor gapped i t x y order holds =
 
 -- the same by a grid
 pub after-is : (m : Media) (n : ℕ) (anchor : ℤ) (gapped : Bool) (g : Grid) (micros i t : ℕ)
-    → IsGridOf m n anchor gapped g
+    → IsGridWithout m n anchor gapped g
     → below (read_with m n anchor gapped micros i) (whole t) ≡ comes_after g i t micros
 after-is m n anchor gapped g micros i t is =
     let read = read_with m n anchor gapped micros i in
@@ -111,7 +112,7 @@ after-is m n anchor gapped g micros i t is =
     ]
 
 pub before-is : (m : Media) (n : ℕ) (anchor : ℤ) (gapped : Bool) (g : Grid) (micros i t : ℕ)
-    → IsGridOf m n anchor gapped g
+    → IsGridWithout m n anchor gapped g
     → below (whole t) (read_with m n anchor gapped micros i) ≡ comes_before g i t micros
 before-is m n anchor gapped g micros i t is =
     let read = read_with m n anchor gapped micros i in
@@ -209,7 +210,7 @@ pub from-lower : (m : Media) (n : ℕ) (stamps : List ℕ) (kind : Kind) (w : Wi
 from-lower m n stamps kind w micros other binding is e order i few =
     let broken = is_empty_with m n (anchor_of m (slice_index stamps 0)) stamps kind in
     let least : IsLeast broken (length stamps) micros binding = subst (IsLowerEnd broken (length stamps)) e is.lower in
-    not_true (broken other i)
+    false_from_ne_true (broken other i)
     (λ holds. clash (broken micros i) (empty-falls m n (anchor_of m (slice_index stamps 0)) stamps kind micros other i order holds) (least.serves i few))
 
 pub to-upper : (m : Media) (n : ℕ) (stamps : List ℕ) (kind : Kind) (w : Window) (micros other : ℕ) (binding : Option ℕ)
@@ -222,7 +223,7 @@ pub to-upper : (m : Media) (n : ℕ) (stamps : List ℕ) (kind : Kind) (w : Wind
 to-upper m n stamps kind w micros other binding video some is e order i few =
     let broken = is_over_with m n (anchor_of m (slice_index stamps 0)) stamps kind in
     let greatest : IsGreatest broken (length stamps) micros binding = subst (IsUpperEnd broken (length stamps)) e is.upper in
-    not_true (broken other i)
+    false_from_ne_true (broken other i)
     (λ holds. clash (broken micros i) (over-rises m n (anchor_of m (slice_index stamps 0)) stamps kind video some other micros i order greatest.most holds) (greatest.serves i few))
 
 -- the packets up to i less all reads that are due

@@ -1,53 +1,19 @@
--- From one read to the next, in parts of a nanosecond.
+-- A packet and a read, in parts of a nanosecond.
 use Rattle.std.proofs.Common.{◌≡◌, ◌≤◌, ◌<◌, ◌+◌, ◌-◌, ◌*◌, ◌/◌, ◌%◌, ◌^◌, ℕ, true, false, ap, sym, arith, inl, inr}
 use Rattle.std.proofs.lemmas.Bool.{cases_lt, le-ltb, ltb-true}
 use Rattle.std.proofs.lemmas.Bool.Decides.{nat_tests}
 use Rattle.std.proofs.lemmas.Nat.{div-add-mod', mod_below}
-use Rattle.std.proofs.Math.Nat.{add-mul, mul_assoc, mul-le-mul_left, mul-le-mul_right, div-mul-le_self}
-use Rattle.read_schedule.proofs.Turns.{next_group, same_group}
-use Rattle.offset_window.specs.declared.grid.Grid.{Grid}
-use Rattle.offset_window.specs.Parts.{comes_after, comes_before, parts_at, parts_of, parts_with}
+use Rattle.std.proofs.Math.Nat.{add-mul, mul-le-mul_right}
+use Rattle.sender_params.proofs.Turns.{groups-small, place-small}
+use Rattle.read_schedule.specs.Parts.{parts_at, parts_of}
+use Rattle.read_schedule.specs.declared.grid.Grid.{Grid}
+use Rattle.offset_window.specs.Parts.{comes_after, comes_before, parts_with}
 
--- a step within a group
-pub parts_at-step : (g : Grid) (x : ℕ) → x % g.n + 1 < g.n → parts_at g (x + 1) ≡ parts_at g x + g.step
-parts_at-step g x inside =
-    let e = same_group x g.n inside in
-    let whole : ((x + 1) / g.n) * g.group ≡ (x / g.n) * g.group = ap (λ k. k * g.group) e.0 in
-    let part : ((x + 1) % g.n) * g.step ≡ (x % g.n + 1) * g.step = ap (λ k. k * g.step) e.1 in
-    omega (arith, whole, part, add-mul (x % g.n) 1 g.step)
-
--- a step to the next group
-pub parts_at-turn : (g : Grid) (x turn : ℕ)
-    → x % g.n + 1 ≡ g.n
-    → turn + (g.n - 1) * g.step ≡ g.group
-    → parts_at g (x + 1) ≡ parts_at g x + turn
-parts_at-turn g x turn outside is =
-    let e = next_group x g.n outside in
-    let whole : ((x + 1) / g.n) * g.group ≡ (x / g.n + 1) * g.group = ap (λ k. k * g.group) e.0 in
-    let part : ((x + 1) % g.n) * g.step ≡ 0 * g.step = ap (λ k. k * g.step) e.1 in
-    let last : (x % g.n) * g.step ≡ (g.n - 1) * g.step = ap (λ k. k * g.step) (omega (arith, outside)) in
-    omega (arith, whole, part, last, add-mul (x / g.n) 1 g.group)
-
--- the reads of a group end before the group does
-pub turn-fits : (g : Grid) → (g.n - 1) * g.step ≤ g.group
-turn-fits g =
-    let low : (g.n - 1) * g.step ≤ g.n * g.step = mul-le-mul_right g.step (omega arith) in
-    omega (arith, low, g.group_fits)
-
-pub group-most : (g : Grid) → g.group ≤ 2 ^ 69
-group-most g =
-    let most : g.n * 2 ^ 51 ≤ 262144 * 2 ^ 51 = mul-le-mul_right (2 ^ 51) g.n_most in
-    omega (arith, most, g.group_small)
-
--- the parts of 2^41 reads fit 114 bits
-pub parts_at-small : (g : Grid) (x : ℕ) → x < 2 ^ 41 → parts_at g x < 2 ^ 114
+-- the parts of 2^41 reads fit 116 bits
+pub parts_at-small : (g : Grid) (x : ℕ) → x < 2 ^ 41 → parts_at g x < 2 ^ 116
 parts_at-small g x few =
-    let whole : (x / g.n) * g.group ≤ (x / g.n) * (g.n * 2 ^ 51) = mul-le-mul_left (x / g.n) g.group_small in
-    let split : (x / g.n) * g.n ≤ x = div-mul-le_self x g.n in
-    let parts : ((x / g.n) * g.n) * 2 ^ 51 ≤ x * 2 ^ 51 = mul-le-mul_right (2 ^ 51) split in
-    let low : x % g.n ≤ 2 ^ 18 = omega (arith, mod_below x g.n (omega (arith, g.n_some)), g.n_most) in
-    let place : (x % g.n) * g.step ≤ (2 ^ 18) * g.step = mul-le-mul_right g.step low in
-    omega (arith, whole, parts, mul_assoc (x / g.n) g.n (2 ^ 51), few, place, g.step_small, g.start_small)
+    let whole = groups-small g.n g.group x g.group_small (omega (arith, few)) in
+    omega (arith, whole, place-small g.n g.step x g.n_some g.n_most g.step_small, g.start_small)
 
 -- an instant less so many microseconds, in parts
 pub reached-is : (micros at den before : ℕ)

@@ -3,7 +3,7 @@ use Rattle.std.specs.Prelude.{◌≡◌, ◌-◌, ℕ, ℤ, List, length}
 use Rattle.timing_base.specs.declared.media.Kind.{Kind}
 use Rattle.sender_params.specs.Limits.{gapped_of, vrx_full_of}
 use Rattle.sender_params.specs.declared.params.Params.{Params}
-use Rattle.offset_window.specs.Parts.{IsGridOf}
+use Rattle.read_schedule.specs.Parts.{IsGridWithout}
 use Rattle.offset_window.specs.Window.{IsLowerEnd, IsUpperEnd, is_empty_with, is_over_with}
 use Rattle.offset_window.specs.declared.meter.WindowMeter.{WindowMeter}
 
@@ -13,8 +13,8 @@ pub record StandsFor (params : Params) (kind : Kind) (anchor : ℤ) (meter : Win
   pub kind_is : meter.kind ≡ kind
   pub seen : meter.seen ≡ length stamps
   -- the next packet's own read, and the one that has to be due when it comes
-  pub own : IsGridOf params.media params.n anchor (gapped_of kind) meter.own.grid
-  pub freeing : IsGridOf params.media params.n anchor (gapped_of kind) meter.freeing.grid
+  pub own : IsGridWithout params.media params.n anchor (gapped_of kind) meter.own.grid
+  pub freeing : IsGridWithout params.media params.n anchor (gapped_of kind) meter.freeing.grid
   pub freeing_number : meter.freeing.number ≡ length stamps - vrx_full_of params.media params.n kind
   pub lower : IsLowerEnd (is_empty_with params.media params.n anchor stamps kind) (length stamps) meter.lower
   pub upper : IsUpperEnd (is_over_with params.media params.n anchor stamps kind) (length stamps) meter.upper

@@ -5,11 +5,9 @@
 //! offsets are microseconds, and packets are counted from 0.
 #![tactic(auto)]
 
-mod grid;
 pub mod laws;
 mod meter;
 mod read;
-mod sizes;
 mod window;
 
 pub use meter::WindowMeter;

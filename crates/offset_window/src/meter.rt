@@ -8,9 +8,9 @@ ghost use Rattle.timing_base.specs.declared.media.Kind.{Kind};
 ghost use Rattle.offset_window.specs.Moves.{IsLowerBy, IsUpperBy, MovesBy};
 ghost use Rattle.offset_window.specs.Parts.{comes_after, comes_before};
 
-use crate::grid::Grid;
 use crate::read::{MOST, Read};
 use crate::window::{Window, WindowEnd};
+use read_schedule::Grid;
 use sender_params::Params;
 use timing_base::Kind;
 
@@ -45,7 +45,7 @@ impl WindowMeter {
         ensures seen { result.seen ≡ 0 }
         ensures stands { StandsFor params.now kind n0 result [] }
     {
-        let read = Read::first(Grid::of(params, is_gapped(kind), n0));
+        let read = Read::first(Grid::without_offset(params, is_gapped(kind), n0));
         WindowMeter {
             kind,
             seen: 0,

@@ -1,9 +1,9 @@
 //! One read of a schedule, for every offset.
 
 ghost use Rattle.std.specs.Prelude.{◌≡◌, ◌≤◌, ◌<◌, ◌+◌, ◌-◌, ◌*◌, ◌/◌, ◌%◌, ◌^◌, ℕ, true, false, MatchOption};
-ghost use Rattle.offset_window.specs.Parts.{parts_at};
+ghost use Rattle.read_schedule.specs.Parts.{parts_at};
 
-use crate::grid::{BEFORE, Grid};
+use read_schedule::{BEFORE, Grid};
 
 /// The greatest offset, in microseconds.
 pub const MOST: u32 = 1_000_000;
@@ -24,7 +24,8 @@ pub struct Read {
 }
 
 impl Read {
-    ghost use Rattle.offset_window.specs.Parts.{comes_after, comes_before, parts_of};
+    ghost use Rattle.read_schedule.specs.Parts.{parts_of};
+    ghost use Rattle.offset_window.specs.Parts.{comes_after, comes_before};
 
     /// Read 0.
     pub fn first(grid: Grid) -> Read

@@ -15,9 +15,9 @@ use Rattle.path_skew.specs.declared.arrivals.Arrivals.{Arrivals}
 use Rattle.path_skew.specs.declared.row.Extreme.{Extreme}
 use Rattle.path_skew.specs.declared.skew.Skew.{Skew}
 use Rattle.path_skew.specs.Pair.{has_number, packet_with, number_of, is_unread, repeats, opens, repeated, opening, extreme, extreme_with, skews, skew, alone}
-use Rattle.path_skew.specs.Kept.{IsKept, Opens, Repeats, arrival_of, count_numbers}
+use Rattle.path_skew.specs.Kept.{IsKept, Opens, Repeats, Skips, arrival_of, count_numbers}
 use Rattle.path_skew.specs.Holds.{HoldsSkews}
-use Rattle.path_skew.specs.Step.{Steps}
+use Rattle.path_skew.specs.Step.{Comes, Steps}
 use Rattle.path_skew.specs.Stands.{HoldsFlow, StandsFor, record_and_stamp, record_and_stamp_of}
 use Rattle.path_skew.proofs.Flows.{packet_with-append, packet_with-other, chosen-append, skews_by, skews_by-same, none-same, one-more, matched-alone}
 
@@ -190,7 +190,7 @@ length-insert n m es fs left right e one before is new = omega (arith, one, befo
 
 module _ (s t : Skew) (f g : List FlowPacket) (rtp : Rtp) (a : Arrival) (stood : StandsFor s f g) (whole : t.spent ≡ false) where
   -- a packet of the first flow that is matched
-  pub first-told : (x : Arrival) → Steps s.first t.first s.second rtp.number a (Some x) → IsKept s.second t.second → t.matches.matched ≡ s.matches.matched + 1
+  first-told : (x : Arrival) → Steps s.first t.first s.second rtp.number a (Some x) → IsKept s.second t.second → t.matches.matched ≡ s.matches.matched + 1
       → ((before after : List Extreme) → HoldsSkews s.matches (before ++ after) → HoldsSkews t.matches (before ++ record { skew = pos x.at -ℤ pos a.at; first_rec = a.rec; second_rec = x.rec } ∷ after))
       → StandsFor t (f ++ packet_of rtp a ∷ []) g
   first-told x steps kept one put =
@@ -206,7 +206,7 @@ module _ (s t : Skew) (f g : List FlowPacket) (rtp : Rtp) (a : Arrival) (stood :
       }
 
   -- a packet of the first flow that is not
-  pub first-none : Steps s.first t.first s.second rtp.number a None → IsKept s.second t.second → t.matches ≡ s.matches → StandsFor t (f ++ packet_of rtp a ∷ []) g
+  first-none : Steps s.first t.first s.second rtp.number a None → IsKept s.second t.second → t.matches ≡ s.matches → StandsFor t (f ++ packet_of rtp a ∷ []) g
   first-none steps kept same =
       let no_more = skews-none s.first t.first s.second f g rtp a stood.first stood.second steps in
       record {
@@ -218,7 +218,7 @@ module _ (s t : Skew) (f g : List FlowPacket) (rtp : Rtp) (a : Arrival) (stood :
       }
 
   -- a packet of the second flow that is matched
-  pub second-told : (x : Arrival) → Steps s.second t.second s.first rtp.number a (Some x) → IsKept s.first t.first → t.matches.matched ≡ s.matches.matched + 1
+  second-told : (x : Arrival) → Steps s.second t.second s.first rtp.number a (Some x) → IsKept s.first t.first → t.matches.matched ≡ s.matches.matched + 1
       → ((before after : List Extreme) → HoldsSkews s.matches (before ++ after) → HoldsSkews t.matches (before ++ record { skew = pos a.at -ℤ pos x.at; first_rec = x.rec; second_rec = a.rec } ∷ after))
       → StandsFor t f (g ++ packet_of rtp a ∷ [])
   second-told x steps kept one put =
@@ -236,7 +236,7 @@ module _ (s t : Skew) (f g : List FlowPacket) (rtp : Rtp) (a : Arrival) (stood :
       }
 
   -- a packet of the second flow that is not
-  pub second-none : Steps s.second t.second s.first rtp.number a None → IsKept s.first t.first → t.matches ≡ s.matches → StandsFor t f (g ++ packet_of rtp a ∷ [])
+  second-none : Steps s.second t.second s.first rtp.number a None → IsKept s.first t.first → t.matches ≡ s.matches → StandsFor t f (g ++ packet_of rtp a ∷ [])
   second-none steps kept same =
       let no_more = skews-none s.second t.second s.first g f rtp a stood.second stood.first steps in
       record {
@@ -260,13 +260,6 @@ found-unread flow rec at fault n = packet_with-other n flow (unread_of rec at fa
 unread-more : (flow : List FlowPacket) (rec at : ℕ) (fault : PacketFault) → count_by is_unread (flow ++ unread_of rec at fault ∷ []) ≡ count_by is_unread flow + 1
 unread-more flow rec at fault = grind (arith, common_steps)
 
--- what a packet that was not read changes of a flow
-pub record Skips (old new : Arrivals) : Type 0 where
-  pub found : (n : ℕ) → arrival_of new n ≡ arrival_of old n
-  pub numbers : count_numbers new ≡ count_numbers old
-  pub repeated : new.repeated ≡ old.repeated
-  pub unread : new.unread ≡ old.unread + 1
-
 holds-unread : (old new : Arrivals) (flow : List FlowPacket) (rec at : ℕ) (fault : PacketFault) → HoldsFlow old flow → Skips old new → HoldsFlow new (flow ++ unread_of rec at fault ∷ [])
 holds-unread old new flow rec at fault h k = record {
   found = λ n. ap (option_map record_and_stamp) (k.found n) ∙ h.found n ∙ ap (option_map record_and_stamp_of) (sym (found-unread flow rec at fault n));
@@ -280,38 +273,54 @@ skews-unread flow pair rec at fault =
     (ap (skews_by (λ n. packet_with n pair)) (opening-unread flow rec at fault), skews_by-same (λ n. packet_with n flow) (λ n. packet_with n (flow ++ unread_of rec at fault ∷ [])) (found-unread flow rec at fault) (opening pair))
 
 -- a packet of the first flow that was not read
-first-unread_of : (s t : Skew) (f g : List FlowPacket) (rec at : ℕ) (fault : PacketFault) → StandsFor s f g → t.spent ≡ s.spent → Skips s.first t.first → t.second ≡ s.second → t.matches ≡ s.matches → StandsFor t (f ++ unread_of rec at fault ∷ []) g
-first-unread_of s t f g rec at fault stood whole skips kept same =
+first-unread : (s t : Skew) (f g : List FlowPacket) (rec at : ℕ) (fault : PacketFault) → StandsFor s f g → t.spent ≡ false → Skips s.first t.first → IsKept s.second t.second → t.matches ≡ s.matches → StandsFor t (f ++ unread_of rec at fault ∷ []) g
+first-unread s t f g rec at fault stood whole skips kept same =
     let no_more = skews-unread f g rec at fault in
     record {
-      whole = whole ∙ stood.whole;
+      whole = whole;
       first = holds-unread s.first t.first f rec at fault stood.first skips;
-      second = subst (λ a. HoldsFlow a g) (sym kept) stood.second;
+      second = holds-kept s.second t.second g stood.second kept;
       matches = subst (λ m. HoldsSkews m (skews (f ++ unread_of rec at fault ∷ []) g)) (sym same) (subst (HoldsSkews s.matches) (sym no_more.0) stood.matches);
       back = ap (λ m. m.matched) same ∙ stood.back ∙ ap length (sym no_more.1);
     }
 
-pub first-unread : (s t : Skew) (f g : List FlowPacket) (rec at : ℕ) (r : Result Rtp PacketFault) (fault : PacketFault) → r ≡ Err fault → StandsFor s f g → t.spent ≡ s.spent → Skips s.first t.first → t.second ≡ s.second → t.matches ≡ s.matches → StandsFor t (f ++ record { rec = rec; at = at; rtp = r } ∷ []) g
-first-unread s t f g rec at r fault is stood whole skips kept same =
-    let P : Result Rtp PacketFault → Type 0 = λ x. StandsFor t (f ++ record { rec = rec; at = at; rtp = x } ∷ []) g in
-    subst P (sym is) (first-unread_of s t f g rec at fault stood whole skips kept same)
-
 -- a packet of the second flow that was not read
-second-unread_of : (s t : Skew) (f g : List FlowPacket) (rec at : ℕ) (fault : PacketFault) → StandsFor s f g → t.spent ≡ s.spent → Skips s.second t.second → t.first ≡ s.first → t.matches ≡ s.matches → StandsFor t f (g ++ unread_of rec at fault ∷ [])
-second-unread_of s t f g rec at fault stood whole skips kept same =
+second-unread : (s t : Skew) (f g : List FlowPacket) (rec at : ℕ) (fault : PacketFault) → StandsFor s f g → t.spent ≡ false → Skips s.second t.second → IsKept s.first t.first → t.matches ≡ s.matches → StandsFor t f (g ++ unread_of rec at fault ∷ [])
+second-unread s t f g rec at fault stood whole skips kept same =
     let no_more = skews-unread g f rec at fault in
     record {
-      whole = whole ∙ stood.whole;
-      first = subst (λ a. HoldsFlow a f) (sym kept) stood.first;
+      whole = whole;
+      first = holds-kept s.first t.first f stood.first kept;
       second = holds-unread s.second t.second g rec at fault stood.second skips;
       matches = subst (λ m. HoldsSkews m (skews f (g ++ unread_of rec at fault ∷ []))) (sym same) (subst (HoldsSkews s.matches) (sym no_more.1) stood.matches);
       back = ap (λ m. m.matched) same ∙ stood.back ∙ ap length (sym no_more.0);
     }
 
-pub second-unread : (s t : Skew) (f g : List FlowPacket) (rec at : ℕ) (r : Result Rtp PacketFault) (fault : PacketFault) → r ≡ Err fault → StandsFor s f g → t.spent ≡ s.spent → Skips s.second t.second → t.first ≡ s.first → t.matches ≡ s.matches → StandsFor t f (g ++ record { rec = rec; at = at; rtp = r } ∷ [])
-second-unread s t f g rec at r fault is stood whole skips kept same =
-    let P : Result Rtp PacketFault → Type 0 = λ x. StandsFor t f (g ++ record { rec = rec; at = at; rtp = x } ∷ []) in
-    subst P (sym is) (second-unread_of s t f g rec at fault stood whole skips kept same)
+module _ (s t : Skew) (f g : List FlowPacket) (a : Arrival) (stood : StandsFor s f g) (whole : t.spent ≡ false) where
+  -- a packet of the first flow, read or not, that is matched
+  pub first-matched : (r : Result Rtp PacketFault) (x : Arrival) → Comes s.first t.first s.second a r (Some x) → IsKept s.second t.second → t.matches.matched ≡ s.matches.matched + 1
+      → ((before after : List Extreme) → HoldsSkews s.matches (before ++ after) → HoldsSkews t.matches (before ++ record { skew = pos x.at -ℤ pos a.at; first_rec = a.rec; second_rec = x.rec } ∷ after))
+      → StandsFor t (f ++ record { rec = a.rec; at = a.at; rtp = r } ∷ []) g
+  first-matched (Ok rtp) x comes kept one put = first-told s t f g rtp a stood whole x comes kept one put
+  first-matched (Err fault) x comes kept one put = absurd (let bad = comes.1 in cc)
+
+  -- and that is not
+  pub first-alone : (r : Result Rtp PacketFault) → Comes s.first t.first s.second a r None → IsKept s.second t.second → t.matches ≡ s.matches
+      → StandsFor t (f ++ record { rec = a.rec; at = a.at; rtp = r } ∷ []) g
+  first-alone (Ok rtp) comes kept same = first-none s t f g rtp a stood whole comes kept same
+  first-alone (Err fault) comes kept same = first-unread s t f g a.rec a.at fault stood whole comes.0 kept same
+
+  -- the same of the second flow
+  pub second-matched : (r : Result Rtp PacketFault) (x : Arrival) → Comes s.second t.second s.first a r (Some x) → IsKept s.first t.first → t.matches.matched ≡ s.matches.matched + 1
+      → ((before after : List Extreme) → HoldsSkews s.matches (before ++ after) → HoldsSkews t.matches (before ++ record { skew = pos a.at -ℤ pos x.at; first_rec = x.rec; second_rec = a.rec } ∷ after))
+      → StandsFor t f (g ++ record { rec = a.rec; at = a.at; rtp = r } ∷ [])
+  second-matched (Ok rtp) x comes kept one put = second-told s t f g rtp a stood whole x comes kept one put
+  second-matched (Err fault) x comes kept one put = absurd (let bad = comes.1 in cc)
+
+  pub second-alone : (r : Result Rtp PacketFault) → Comes s.second t.second s.first a r None → IsKept s.first t.first → t.matches ≡ s.matches
+      → StandsFor t f (g ++ record { rec = a.rec; at = a.at; rtp = r } ∷ [])
+  second-alone (Ok rtp) comes kept same = second-none s t f g rtp a stood whole comes kept same
+  second-alone (Err fault) comes kept same = second-unread s t f g a.rec a.at fault stood whole comes.0 kept same
 
 -- the numbers of one flow alone
 alone-is : (flow pair : List FlowPacket) → length (opening flow) ≡ length (skews flow pair) + alone flow pair

@@ -41,3 +41,10 @@ pub record Opens (old new : Arrivals) (number : ℕ) (arrival : Arrival) : Type 
   pub numbers : count_numbers new ≡ count_numbers old + 1
   pub repeated : new.repeated ≡ old.repeated
   pub unread : new.unread ≡ old.unread
+
+-- a packet came that was not read
+pub record Skips (old new : Arrivals) : Type 0 where
+  pub found : (number : ℕ) → arrival_of new number ≡ arrival_of old number
+  pub numbers : count_numbers new ≡ count_numbers old
+  pub repeated : new.repeated ≡ old.repeated
+  pub unread : new.unread ≡ old.unread + 1

@@ -75,31 +75,8 @@ impl Skew {
         if self.spent {
             return Err(OutOfMemory);
         }
-        match rtp {
-            Ok(read) => self.first_read(read, Arrival { rec, at }),
-            Err(_) => {
-                self.first.unread += 1;
-                Ok(())
-            }
-        }
-    }
-
-    /// The same for a packet that was read, where memory was never refused.
-    #[inline(always)]
-    fn first_read(&mut self, rtp: Rtp, arrival: Arrival) -> Result<(), OutOfMemory>
-        requires few { count_first self.old < 2 ^ 41 }
-        requires whole { self.old.spent ≡ false }
-
-        ensures stands { (first second : List FlowPacket) → StandsFor self.old first second
-            → OnOk result (StandsFor self.new
-            (first ++ record { rec = arrival.rec; at = arrival.at; rtp = Ok rtp } ∷ []) second) }
-
-        ensures given { OnOk result (count_first self.new ≡ count_first self.old + 1) }
-        ensures kept { OnErr result (count_first self.new ≡ count_first self.old) }
-        ensures other { count_second self.new ≡ count_second self.old }
-        ensures spends { OnErr result (IsSpent self.new) }
-    {
-        match take(&mut self.first, &mut self.second, rtp.number, arrival) {
+        let arrival = Arrival { rec, at };
+        match take(&mut self.first, &mut self.second, rtp, arrival) {
             Ok(Some(second)) => {
                 self.matches.put(arrival, second);
                 Ok(())
@@ -148,31 +125,8 @@ impl Skew {
         if self.spent {
             return Err(OutOfMemory);
         }
-        match rtp {
-            Ok(read) => self.second_read(read, Arrival { rec, at }),
-            Err(_) => {
-                self.second.unread += 1;
-                Ok(())
-            }
-        }
-    }
-
-    /// The same for a packet that was read, where memory was never refused.
-    #[inline(always)]
-    fn second_read(&mut self, rtp: Rtp, arrival: Arrival) -> Result<(), OutOfMemory>
-        requires few { count_second self.old < 2 ^ 41 }
-        requires whole { self.old.spent ≡ false }
-
-        ensures stands { (first second : List FlowPacket) → StandsFor self.old first second
-            → OnOk result (StandsFor self.new first
-            (second ++ record { rec = arrival.rec; at = arrival.at; rtp = Ok rtp } ∷ [])) }
-
-        ensures given { OnOk result (count_second self.new ≡ count_second self.old + 1) }
-        ensures kept { OnErr result (count_second self.new ≡ count_second self.old) }
-        ensures other { count_first self.new ≡ count_first self.old }
-        ensures spends { OnErr result (IsSpent self.new) }
-    {
-        match take(&mut self.second, &mut self.first, rtp.number, arrival) {
+        let arrival = Arrival { rec, at };
+        match take(&mut self.second, &mut self.first, rtp, arrival) {
             Ok(Some(first)) => {
                 self.matches.put(first, arrival);
                 Ok(())
@@ -208,14 +162,36 @@ impl Skew {
 }
 
 ghost use Rattle.path_skew.specs.Kept.{IsKept};
-ghost use Rattle.path_skew.specs.Step.{Steps};
+ghost use Rattle.path_skew.specs.Step.{Comes, Steps};
 
-/// Takes a packet of one flow, and answers the other flow's first packet of its number where this is
-/// the first of its own flow.
+/// Takes a packet of one flow, and answers the other flow's first packet of its number where this was
+/// read and is the first of its own flow.
 ///
 /// `Err` is want of memory: nothing is kept.
 #[inline(always)]
 fn take(
+    flow: &mut Arrivals,
+    other: &mut Arrivals,
+    rtp: Result<Rtp, PacketFault>,
+    arrival: Arrival,
+) -> Result<Option<Arrival>, OutOfMemory>
+    requires { count_given flow.old < 2 ^ 41 }
+    ensures ok { IfOk result (Comes flow.old flow.new other.old arrival rtp) }
+    ensures err { OnErr result (IsKept flow.old flow.new) }
+    ensures other { IsKept other.old other.new }
+{
+    match rtp {
+        Ok(read) => take_read(flow, other, read.number, arrival),
+        Err(_) => {
+            flow.unread += 1;
+            Ok(None)
+        }
+    }
+}
+
+/// The same for a packet that was read.
+#[inline(always)]
+fn take_read(
     flow: &mut Arrivals,
     other: &mut Arrivals,
     number: u32,

@@ -4,10 +4,10 @@ use Rattle.std.specs.List.{count_by, range_with_len}
 use Rattle.std.proofs.lemmas.Bool.{cases_lt}
 use Rattle.std.proofs.lemmas.List.Sums.{sum_by-cons}
 use Rattle.fraction128.specs.Fractions.{Fraction, at_most, whole}
+use Rattle.fraction128.proofs.Order.{at_most-false, at_most-true}
 use Rattle.timing_base.specs.Media.{Media}
 use Rattle.sender_params.specs.Keeps.{due_among, held_at}
 use Rattle.sender_params.specs.Reads.{AreDue, anchor_of, read_of}
-use Rattle.read_schedule.proofs.Instants.{at_most-false, at_most-true}
 
 -- a count over a range of what holds below c alone
 pub count_by-range : (p : ℕ → Bool) (c a k : ℕ)

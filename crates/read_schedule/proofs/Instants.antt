@@ -1,47 +1,15 @@
 -- From the parts of a grid to the reads of the video.
-use Rattle.std.proofs.Common.{◌≡◌, ◌≤◌, ◌<◌, ◌-◌, ◌⊎◌, ◌↔◌, ℕ, ℤ, Bool, true, false, cond, nat_lt, not, ap, sym, ◌∙◌, arith, inl, inr, pos, negsuc, ◌≤ℤ◌, ◌<ℤ◌, refl}
-use Rattle.std.proofs.lemmas.Bool.{cases_lt}
+use Rattle.std.proofs.Common.{◌≡◌, ◌≤◌, ◌<◌, ◌-◌, ◌↔◌, ℕ, ℤ, Bool, true, false, cond, nat_lt, not, ap, sym, ◌∙◌, arith, inl, inr}
+use Rattle.std.proofs.lemmas.Bool.{cases_lt, false_from_ne_true}
 use Rattle.std.proofs.lemmas.Bool.Decides.{nat_tests}
 use Rattle.std.proofs.lemmas.Int.{ints}
-use Rattle.fraction128.specs.Fractions.{AtMost, Below, Fraction, at_most, below, whole}
+use Rattle.fraction128.specs.Fractions.{Below, at_most, below, whole}
+use Rattle.fraction128.proofs.Order.{at_most-false, at_most-true, fraction_cases}
 use Rattle.timing_base.specs.Media.{Media}
 use Rattle.sender_params.specs.Reads.{AreDue, read_of}
 use Rattle.read_schedule.specs.declared.grid.Grid.{Grid}
 use Rattle.read_schedule.specs.Parts.{IsGridOf, parts_at, parts_of}
 use Rattle.read_schedule.specs.Stands.{is_on_time}
-
--- of two whole numbers one is at most the other, or above it
-pub int_cases : (a b : ℤ) → (a ≤ℤ b) ⊎ (b <ℤ a)
-int_cases (pos a) (pos b) = elim (cases_lt b a) as (λ _. (pos a ≤ℤ pos b) ⊎ (pos b <ℤ pos a)) [
-  | inl less ↦ inr (omega (arith, ints, less))
-  | inr more ↦ inl (omega (arith, ints, more))
-]
-int_cases (pos a) (negsuc b) = inr (omega (arith, ints))
-int_cases (negsuc a) (pos b) = inl (omega (arith, ints))
-int_cases (negsuc a) (negsuc b) = elim (cases_lt a b) as (λ _. (negsuc a ≤ℤ negsuc b) ⊎ (negsuc b <ℤ negsuc a)) [
-  | inl less ↦ inr (omega (arith, ints, less))
-  | inr more ↦ inl (omega (arith, ints, more))
-]
-
-pub fraction_cases : (x y : Fraction) → AtMost x y ⊎ Below y x
-fraction_cases x y = int_cases _ _
-
--- what isn't true is false
-pub not_true : (b : Bool) → (b ≡ true → ⊥) → b ≡ false
-not_true b isnt = (elim b as (λ b. (b ≡ true → ⊥) → b ≡ false) [
-  | true ↦ λ f. absurd (f refl)
-  | false ↦ λ _. refl
-]) isnt
-
--- the tests of fractions
-pub at_most-true : (x y : Fraction) → AtMost x y → at_most x y ≡ true
-at_most-true x y h = grind (arith, ints)
-
-pub at_most-false : (x y : Fraction) → Below y x → at_most x y ≡ false
-at_most-false x y h = grind (arith, ints)
-
-pub at_most-at_most : (x y : Fraction) → at_most x y ≡ true → AtMost x y
-at_most-at_most x y h = grind (arith, ints)
 
 -- what isn't due is ahead
 pub ahead_of : (m : Media) (n : ℕ) (anchor : ℤ) (gapped : Bool) (g : Grid) (x t : ℕ)
@@ -109,7 +77,7 @@ on_time-is m n anchor gapped g t count answer is due none some =
                 (some reads).1 (omega (arith, low, last)) ∙ sym (at_most-true (whole t) (read_of m n anchor gapped x) here)
             | inr gone ↦
                 let no : (answer ≡ true) → ⊥ = λ yes. omega (arith, ints, gone, (is.after x t).1 (omega (arith, (some reads).0 yes))) in
-                not_true answer no ∙ sym (at_most-false (whole t) (read_of m n anchor gapped x) gone)
+                false_from_ne_true answer no ∙ sym (at_most-false (whole t) (read_of m n anchor gapped x) gone)
           ] in
           same ∙ sym (ap (λ b. cond b (at_most (whole t) (read_of m n anchor gapped (count - 1))) false) e)
     ]

@@ -1,5 +1,5 @@
 -- Reads rise, and only so many are due at any instant.
-use Rattle.std.proofs.Common.{◌≡◌, ◌≤◌, ◌<◌, ◌+◌, ◌-◌, ◌*◌, ◌%◌, ◌↔◌, ℕ, zero, suc, ℤ, Bool, true, false, Some, None, ap, arith, inl, inr, pos, negsuc, ◌-ℤ◌, ◌*ℤ◌, ◌≤ℤ◌, ◌<ℤ◌}
+use Rattle.std.proofs.Common.{◌≡◌, ◌≤◌, ◌<◌, ◌+◌, ◌-◌, ◌*◌, ◌%◌, ◌↔◌, ℕ, zero, suc, ℤ, Bool, true, false, ap, arith, inl, inr, pos, negsuc, ◌-ℤ◌, ◌*ℤ◌, ◌≤ℤ◌, ◌<ℤ◌}
 use Rattle.std.proofs.lemmas.Bool.{cases_lt}
 use Rattle.std.proofs.lemmas.Int.{ints}
 use Rattle.std.proofs.lemmas.Nat.{mod_below}
@@ -7,31 +7,11 @@ use Rattle.std.proofs.Math.Nat.{mul-le-mul, mul-le-mul_left, mul-le-mul_right}
 use Rattle.fraction128.specs.Fractions.{Below, Fraction}
 use Rattle.timing_base.specs.Media.{IsMedia, Media}
 use Rattle.sender_params.specs.Reads.{AreDue, read_of}
-use Rattle.sender_params.specs.Times.{active_part, group_time, groups_of, offset_by, offset_part, offset_time, read_step}
+use Rattle.sender_params.specs.Times.{active_part, group_time, groups_of, offset_time, read_step}
 use Rattle.sender_params.proofs.Floors.{sub-times}
-use Rattle.read_schedule.specs.Sizes.{HavePer}
-use Rattle.read_schedule.proofs.Grids.{early_of, late_of, per_of, read_of-num}
-use Rattle.read_schedule.proofs.Times.{active-low, active-within, groups-some, offset-low}
-use Rattle.read_schedule.proofs.Turns.{next_group, same_group}
-
--- the denominators of the times of a video
-pub have_per : (m : Media) (n : ℕ) (gapped : Bool) → IsMedia m → 1 ≤ n → HavePer m n gapped
-have_per m n gapped is some =
-    let h : 1 ≤ groups_of m = groups-some m in
-    let hp : 1 * 1 ≤ groups_of m * m.p = mul-le-mul h is.p_some in
-    let hn : 1 * 1 ≤ groups_of m * n = mul-le-mul h some in
-    let hn_some : 1 ≤ groups_of m * n = omega (arith, hn) in
-    let s : 1 ≤ (active_part m).1 = omega (arith, active-low m, active-within m) in
-    let ps : 1 * 1 ≤ m.p * (active_part m).1 = mul-le-mul is.p_some s in
-    let ps_some : 1 ≤ m.p * (active_part m).1 = omega (arith, ps) in
-    let all : 1 * 1 ≤ (m.p * (active_part m).1) * (groups_of m * n) = mul-le-mul ps_some hn_some in
-    let line : 1 * 1 ≤ m.p * (groups_of m * n) = mul-le-mul is.p_some hn_some in
-    let part : 1 * 1 ≤ (offset_part m).1 * m.p = mul-le-mul (offset-low m) is.p_some in
-    record {
-      group = omega (arith, hp);
-      offset = elim m.troff as (λ t. 1 ≤ (offset_by m t).1) [ Some troff ↦ omega arith | None ↦ omega (arith, part) ];
-      step = elim gapped as (λ g. 1 ≤ (read_step m n g).1) [ true ↦ omega (arith, all) | false ↦ omega (arith, line) ];
-    }
+use Rattle.sender_params.proofs.Lines.{early_of, late_of, per_of, read_of-num}
+use Rattle.sender_params.proofs.Parts.{active-low, active-within, have_per}
+use Rattle.sender_params.proofs.Turns.{next_group, same_group}
 
 -- the reads of a group take no longer than the group
 pub step-fits : (m : Media) (n : ℕ) (gapped : Bool) → n * (read_step m n gapped).0 * (group_time m).1 ≤ (group_time m).0 * (read_step m n gapped).1

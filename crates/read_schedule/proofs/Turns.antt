@@ -1,73 +1,30 @@
 -- From one read to the next, in parts of a nanosecond.
-use Rattle.std.proofs.Common.{◌≡◌, ◌≤◌, ◌<◌, ◌+◌, ◌-◌, ◌*◌, ◌/◌, ◌%◌, ◌^◌, ℕ, zero, suc, sym, ap, ◌∙◌, arith, inl, inr, le_of_eq, min}
+use Rattle.std.proofs.Common.{◌≡◌, ◌≤◌, ◌<◌, ◌+◌, ◌-◌, ◌*◌, ◌/◌, ◌%◌, ℕ, ap, arith, inl, inr, min}
 use Rattle.std.proofs.lemmas.Bool.{cases_lt}
 use Rattle.std.proofs.lemmas.Nat.{div-mul-add, mod-mul-add, div-add-mod', mod_below}
 use Rattle.std.proofs.Math.Nat.{add-mul, mul_assoc, mul-le-mul_left, mul-le-mul_right, lt_of_mul-lt-mul_right, div-mul-le_self}
+use Rattle.sender_params.proofs.Turns.{place_of-le, place_of-rises, place_of-step, place_of-turn, turn-low}
 use Rattle.read_schedule.specs.declared.grid.Grid.{Grid}
 use Rattle.read_schedule.specs.Parts.{parts_at}
 
--- the read after one that isn't the last of its group
-pub same_group : (x n : ℕ) → x % n + 1 < n → ((x + 1) / n ≡ x / n) × ((x + 1) % n ≡ x % n + 1)
-same_group x n inside =
-    let split : (x / n) * n + (x % n + 1) ≡ x + 1 = omega (arith, div-add-mod' x n) in
-    (sym (ap (λ y. y / n) split) ∙ div-mul-add (x / n) n (x % n + 1) inside, sym (ap (λ y. y % n) split) ∙ mod-mul-add (x / n) n (x % n + 1) inside)
-
--- the read after the last of a group
-pub next_group : (x n : ℕ) → x % n + 1 ≡ n → ((x + 1) / n ≡ x / n + 1) × ((x + 1) % n ≡ 0)
-next_group x n outside =
-    let split : (x / n + 1) * n + 0 ≡ x + 1 = omega (arith, div-add-mod' x n, add-mul (x / n) 1 n) in
-    let some : 0 < n = omega arith in
-    (sym (ap (λ y. y / n) split) ∙ div-mul-add (x / n + 1) n 0 some, sym (ap (λ y. y % n) split) ∙ mod-mul-add (x / n + 1) n 0 some)
-
 -- a step within a group
 pub parts_at-step : (g : Grid) (x : ℕ) → x % g.n + 1 < g.n → parts_at g (x + 1) ≡ parts_at g x + g.step
-parts_at-step g x inside =
-    let e = same_group x g.n inside in
-    let whole : ((x + 1) / g.n) * g.group ≡ (x / g.n) * g.group = ap (λ k. k * g.group) e.0 in
-    let part : ((x + 1) % g.n) * g.step ≡ (x % g.n + 1) * g.step = ap (λ k. k * g.step) e.1 in
-    omega (arith, whole, part, add-mul (x % g.n) 1 g.step)
+parts_at-step g x inside = place_of-step g.start g.n g.group g.step x inside
 
 -- a step to the next group
 pub parts_at-turn : (g : Grid) (x turn : ℕ)
     → x % g.n + 1 ≡ g.n
     → turn + (g.n - 1) * g.step ≡ g.group
     → parts_at g (x + 1) ≡ parts_at g x + turn
-parts_at-turn g x turn outside is =
-    let e = next_group x g.n outside in
-    let whole : ((x + 1) / g.n) * g.group ≡ (x / g.n + 1) * g.group = ap (λ k. k * g.group) e.0 in
-    let part : ((x + 1) % g.n) * g.step ≡ 0 * g.step = ap (λ k. k * g.step) e.1 in
-    let last : (x % g.n) * g.step ≡ (g.n - 1) * g.step = ap (λ k. k * g.step) (omega (arith, outside)) in
-    omega (arith, whole, part, last, add-mul (x / g.n) 1 g.group)
-
--- the last read of a group is a step or more before the first of the next
-pub turn-low : (g : Grid) → (g.n - 1) * g.step + g.step ≤ g.group
-turn-low g =
-    let e : g.n - 1 + 1 ≡ g.n = omega (arith, g.n_some) in
-    omega (arith, g.group_fits, add-mul (g.n - 1) 1 g.step, ap (λ m. m * g.step) e)
+parts_at-turn g x turn outside is = place_of-turn g.start g.n g.group g.step x turn outside is
 
 -- a read is a step or more before the next one
 pub parts_at-rises : (g : Grid) (x : ℕ) → parts_at g x + g.step ≤ parts_at g (x + 1)
-parts_at-rises g x =
-    elim (cases_lt (x % g.n + 1) g.n) as (λ _. parts_at g x + g.step ≤ parts_at g (x + 1)) [
-      | inl inside ↦ omega (arith, parts_at-step g x inside)
-      | inr last ↦
-          let outside : x % g.n + 1 ≡ g.n = omega (arith, last, mod_below x g.n (omega (arith, g.n_some))) in
-          let low = turn-low g in
-          omega (arith, low, parts_at-turn g x (g.group - (g.n - 1) * g.step) outside (omega (arith, low)))
-    ]
-
--- so reads are in order
-pub parts_at-order : (g : Grid) (x k : ℕ) → parts_at g x ≤ parts_at g (x + k)
-parts_at-order g x zero = le_of_eq (ap (parts_at g) (omega arith))
-parts_at-order g x (suc k) =
-    let e : parts_at g (x + suc k) ≡ parts_at g ((x + k) + 1) = ap (parts_at g) (omega arith) in
-    omega (arith, e, parts_at-order g x k, parts_at-rises g (x + k))
+parts_at-rises g x = place_of-rises g.start g.n g.group g.step x g.n_some g.group_fits
 
 -- an earlier read is no later
 pub parts_at-le : (g : Grid) (x y : ℕ) → x ≤ y → parts_at g x ≤ parts_at g y
-parts_at-le g x y h =
-    let e : parts_at g (x + (y - x)) ≡ parts_at g y = ap (parts_at g) (omega (arith, h)) in
-    omega (arith, e, parts_at-order g x (y - x))
+parts_at-le g x y order = place_of-le g.start g.n g.group g.step x y g.n_some g.group_fits order
 
 -- each read has a nanosecond for itself
 pub parts_at-least : (g : Grid) (x : ℕ) → x * g.den ≤ parts_at g x
@@ -77,20 +34,6 @@ parts_at-least g x =
     let part : (x % g.n) * g.den ≤ (x % g.n) * g.step = mul-le-mul_left (x % g.n) g.step_slow in
     let parts : ((x / g.n) * g.n + x % g.n) * g.den ≡ x * g.den = ap (λ y. y * g.den) split in
     omega (arith, whole, part, parts, mul_assoc (x / g.n) g.n g.den, add-mul ((x / g.n) * g.n) (x % g.n) g.den)
-
--- the parts of 2^64 reads fit 116 bits
-pub groups-small : (g : Grid) (x : ℕ) → x < 2 ^ 64 → (x / g.n) * g.group ≤ 2 ^ 115
-groups-small g x few =
-    let whole : (x / g.n) * g.group ≤ (x / g.n) * (g.n * 2 ^ 51) = mul-le-mul_left (x / g.n) g.group_small in
-    let split : (x / g.n) * g.n ≤ x = div-mul-le_self x g.n in
-    let parts : ((x / g.n) * g.n) * 2 ^ 51 ≤ x * 2 ^ 51 = mul-le-mul_right (2 ^ 51) split in
-    omega (arith, whole, parts, mul_assoc (x / g.n) g.n (2 ^ 51), few)
-
-pub place-small : (g : Grid) (x : ℕ) → (x % g.n) * g.step ≤ 2 ^ 69
-place-small g x =
-    let low : x % g.n ≤ 2 ^ 18 = omega (arith, mod_below x g.n (omega (arith, g.n_some)), g.n_most) in
-    let parts : (x % g.n) * g.step ≤ (2 ^ 18) * g.step = mul-le-mul_right g.step low in
-    omega (arith, parts, g.step_small)
 
 -- whole groups before a stamp have fewer reads than it has nanoseconds
 pub groups-few : (g : Grid) (since t : ℕ) → since ≤ t * g.den → (since / g.group) * g.n ≤ t
@@ -132,7 +75,7 @@ count-parts g since place is =
             omega (arith, here, next, rest, split, add-mul place 1 g.step)
         | inr last ↦
             let outside : x % g.n + 1 ≡ g.n = omega (arith, part, last, within) in
-            let turns = turn-low g in
+            let turns = turn-low g.n g.group g.step g.n_some g.group_fits in
             let next = parts_at-turn g x (g.group - (g.n - 1) * g.step) outside (omega (arith, turns)) in
             let same : place * g.step ≡ (g.n - 1) * g.step = ap (λ y. y * g.step) (omega (arith, outside, part)) in
             omega (arith, here, next, same, left, split, turns)

@@ -1,5 +1,6 @@
 pub mod Stands
-pub mod Worked
--- these only serve proofs
+pub mod Between
+-- the reads of a grid
 pub mod Parts
-pub mod Sizes
+-- what is worked by hand
+pub mod Worked

@@ -1,6 +1,6 @@
 -- The reads of one schedule in parts of a nanosecond, from 2^49 ns before 0 on, so that none is below 0. Read x is the
 -- read x % n of group x / n.
-use Rattle.std.specs.Prelude.{◌≤◌, ◌+◌, ◌*◌, ◌/◌, ◌%◌, ◌^◌, ◌↔◌, ℕ, ℤ, Bool}
+use Rattle.std.specs.Prelude.{◌≤◌, ◌+◌, ◌*◌, ◌/◌, ◌%◌, ◌^◌, ◌↔◌, ℕ, ℤ, Bool, Some}
 use Rattle.fraction128.specs.Fractions.{AtMost, whole}
 use Rattle.timing_base.specs.Media.{Media}
 use Rattle.sender_params.specs.Reads.{read_of}
@@ -19,3 +19,10 @@ parts_of g t = (t + 2 ^ 49) * g.den
 pub record IsGridOf (m : Media) (n : ℕ) (anchor : ℤ) (gapped : Bool) (g : Grid) : Type 0 where
   pub before : (x t : ℕ) → AtMost (read_of m n anchor gapped x) (whole t) ↔ (parts_at g x ≤ parts_of g t)
   pub after : (x t : ℕ) → AtMost (whole t) (read_of m n anchor gapped x) ↔ (parts_of g t ≤ parts_at g x)
+
+-- with each offset on top, in microseconds, they are those of the video that has this offset in the place of its own
+pub record IsGridWithout (m : Media) (n : ℕ) (anchor : ℤ) (gapped : Bool) (g : Grid) : Type 0 where
+  pub before : (micros x t : ℕ) → AtMost (read_of (record m { troff = Some micros }) n anchor gapped x) (whole t)
+      ↔ (parts_at g x + 1000 * micros * g.den ≤ parts_of g t)
+  pub after : (micros x t : ℕ) → AtMost (whole t) (read_of (record m { troff = Some micros }) n anchor gapped x)
+      ↔ (parts_of g t ≤ parts_at g x + 1000 * micros * g.den)

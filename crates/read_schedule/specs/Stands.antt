@@ -1,6 +1,6 @@
 -- What a `Schedule` says of the stamps that it was asked for. m is the video, n the packets of one group, `anchor` the
 -- number of the group of read 0, and the schedule is gapped or linear (SMPTE ST 2110-21, read schedules).
-use Rattle.std.specs.Prelude.{◌≡◌, ◌≤◌, ◌<◌, ◌+◌, ◌-◌, ◌^◌, ◌↔◌, ℕ, ℤ, Bool, false, cond, nat_lt}
+use Rattle.std.specs.Prelude.{◌≡◌, ◌≤◌, ◌<◌, ◌+◌, ◌-◌, ◌%◌, ◌^◌, ◌↔◌, ℕ, ℤ, Bool, false, cond, nat_lt}
 use Rattle.fraction128.specs.Fractions.{AtMost, at_most, whole}
 use Rattle.timing_base.specs.Media.{Media}
 use Rattle.sender_params.specs.Reads.{AreDue, read_of}
@@ -18,6 +18,10 @@ is_on_time m n anchor gapped at count =
 pub record IsDueAt (m : Media) (n : ℕ) (anchor : ℤ) (gapped : Bool) (at : ℕ) (due : Due) : Type 0 where
   pub count : AreDue m n anchor gapped (whole at) due.count
   pub on_time : due.on_time ≡ is_on_time m n anchor gapped at due.count
+
+-- the reads of its group from this one on
+abbrev pub left_of : Schedule → ℕ → ℕ
+left_of s read = s.grid.n - read % s.grid.n
 
 -- the first read that isn't due at the whole nanosecond `at`, and when it is; the read after it is due no less than a
 -- nanosecond later

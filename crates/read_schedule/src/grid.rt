@@ -1,10 +1,9 @@
 //! The reads of one schedule, in whole numbers.
 
-ghost use Rattle.std.specs.Prelude.{◌≡◌, ◌≤◌, ◌<◌, ◌+◌, ◌-◌, ◌*◌, ◌^◌, ℕ};
+ghost use Rattle.std.specs.Prelude.{◌≡◌, ◌≤◌, ◌<◌, ◌+◌, ◌-◌, ◌*◌, ◌^◌, ℕ, true, false, cond};
 ghost use Rattle.std.specs.Prelude.{pos, negsuc, ◌≤ℤ◌, ◌+ℤ◌};
 
-use crate::sizes::sizes_of;
-use sender_params::Params;
+use sender_params::{Params, sizes_of};
 
 /// Instants are counted from so many nanoseconds before 0 of TAI, and no read is before that.
 pub const BEFORE: u64 = 1 << 49;
@@ -40,13 +39,32 @@ pub struct Grid {
 }
 
 impl Grid {
-    ghost use Rattle.read_schedule.specs.Parts.{IsGridOf, parts_at};
+    ghost use Rattle.read_schedule.specs.Parts.{IsGridOf, IsGridWithout, parts_at};
 
     /// The reads of one schedule, where read 0 is of group `n0`.
     pub fn of(params: &Params, gapped: bool, n0: i128) -> Grid
         requires low { negsuc 479 ≤ℤ n0 }
         requires high { n0 ≤ℤ pos (2 ^ 42) }
         ensures { IsGridOf params.now.media params.now.n n0 gapped result }
+    {
+        Grid::begun(params, gapped, n0, true)
+    }
+
+    /// The reads of one schedule with the offset 0, where read 0 is of group `n0`.
+    pub fn without_offset(params: &Params, gapped: bool, n0: i128) -> Grid
+        requires low { negsuc 479 ≤ℤ n0 }
+        requires high { n0 ≤ℤ pos (2 ^ 42) }
+        ensures { IsGridWithout params.now.media params.now.n n0 gapped result }
+    {
+        Grid::begun(params, gapped, n0, false)
+    }
+
+    /// The reads of one schedule with TR_OFFSET or with the offset 0.
+    fn begun(params: &Params, gapped: bool, n0: i128, has_offset: bool) -> Grid
+        requires low { negsuc 479 ≤ℤ n0 }
+        requires high { n0 ≤ℤ pos (2 ^ 42) }
+        ensures with { has_offset ≡ true → IsGridOf params.now.media params.now.n n0 gapped result }
+        ensures without { has_offset ≡ false → IsGridWithout params.now.media params.now.n n0 gapped result }
     {
         let sizes = sizes_of(params, gapped);
         let early = u128::from(BEFORE) * sizes.den - u128::from(GROUPS_BEFORE) * sizes.group;
@@ -55,7 +73,7 @@ impl Grid {
             n: u64::from(params.n()),
             step: sizes.step as u64,
             group: sizes.group,
-            start: lifted(n0) * sizes.group + early + sizes.offset,
+            start: lifted(n0) * sizes.group + early + offset_if(has_offset, sizes.offset),
         }
     }
 
@@ -92,6 +110,13 @@ impl Grid {
     {
         self.group - u128::from(self.n - 1) * u128::from(self.step)
     }
+}
+
+/// The offset, or none.
+fn offset_if(has_offset: bool, offset: u128) -> u128
+    ensures { result ≡ cond has_offset offset 0 }
+{
+    if has_offset { offset } else { 0 }
 }
 
 /// The number of a group, counted from the earliest one that there may be.

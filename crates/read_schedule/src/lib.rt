@@ -5,12 +5,14 @@
 //! it is many reads behind. Instants are nanoseconds of TAI; reads are counted from 0.
 #![tactic(auto)]
 
+mod between;
 mod grid;
 mod instant;
 pub mod laws;
 mod schedule;
-mod sizes;
 
+pub use between::Between;
+pub use grid::{BEFORE, Grid};
 pub use instant::{is_late, reads};
 pub use schedule::{Due, NextRead, Schedule};
 

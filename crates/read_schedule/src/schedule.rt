@@ -3,6 +3,7 @@
 ghost use Rattle.std.specs.Prelude.{◌≡◌, ◌≤◌, ◌<◌, ◌+◌, ◌-◌, ◌*◌, ◌/◌, ◌%◌, ◌^◌, ◌↔◌, ℕ, IsTrue, false};
 ghost use Rattle.read_schedule.specs.Parts.{parts_at};
 
+use crate::between::Between;
 use crate::grid::{BEFORE, Grid};
 use sender_params::Params;
 
@@ -86,7 +87,8 @@ pub struct Schedule {
 impl Schedule {
     ghost use Rattle.std.specs.Prelude.{ℤ, pos, negsuc, ◌≤ℤ◌, Bool};
     ghost use Rattle.timing_base.specs.Media.{Media};
-    ghost use Rattle.read_schedule.specs.Stands.{IsDueAt, IsNextAfter, StandsBy};
+    ghost use Rattle.read_schedule.specs.Between.{IsFrom, IsUpTo};
+    ghost use Rattle.read_schedule.specs.Stands.{IsDueAt, IsNextAfter, StandsBy, left_of};
 
     /// The reads of a sender, gapped or linear, where read 0 is of group `n0`. None is due yet.
     pub fn new(params: &Params, gapped: bool, n0: i128) -> Schedule
@@ -141,6 +143,50 @@ impl Schedule {
             number: self.passed,
             at: self.next.at.saturating_sub(BEFORE),
         }
+    }
+
+    /// The reads of a group from this one on.
+    pub fn reads_left(&self, read: u64) -> u64
+        ensures { result ≡ left_of self.now read }
+    {
+        self.grid.n - read % self.grid.n
+    }
+
+    /// The instants from one read on and up to another one.
+    pub fn between(&self, early: u64, late: u64) -> Between
+        ensures from { (m : Media) (n : ℕ) (anchor : ℤ) (gapped : Bool) (at left : ℕ)
+            → StandsBy m n anchor gapped self.now at → left ≤ left_of self.now early
+            → IsFrom m n anchor gapped early left result }
+        ensures up_to { (m : Media) (n : ℕ) (anchor : ℤ) (gapped : Bool) (at left : ℕ)
+            → StandsBy m n anchor gapped self.now at → left ≤ left_of self.now late
+            → IsUpTo m n anchor gapped late left result }
+    {
+        let from = self.first_due(early);
+        let to = self.first_due(late);
+        Between::of(from, to.saturating_sub(from), self.step.whole + 1)
+    }
+
+    /// The instants from one read on.
+    pub fn after(&self, early: u64) -> Between
+        ensures { (m : Media) (n : ℕ) (anchor : ℤ) (gapped : Bool) (at left : ℕ)
+            → StandsBy m n anchor gapped self.now at → left ≤ left_of self.now early
+            → IsFrom m n anchor gapped early left result }
+    {
+        Between::of(self.first_due(early), NEVER, self.step.whole + 1)
+    }
+
+    /// The first whole nanosecond of TAI at which a read is due, and 0 where that is one before; one
+    /// that is 2^62 or more only says that the read is no earlier than 2^62.
+    fn first_due(&self, read: u64) -> u64
+        ensures due { (at : ℕ) → at < 2 ^ 62 → result ≤ at
+            → parts_at self.now.grid read ≤ (result + 2 ^ 49) * self.now.grid.den }
+        ensures ahead { 1 ≤ result
+            → (result + 2 ^ 49) * self.now.grid.den < parts_at self.now.grid read + self.now.grid.den }
+        ensures small { result < 2 ^ 63 }
+    {
+        rounded_up(self.grid.instant(read), self.grid.den)
+            .at
+            .saturating_sub(BEFORE)
     }
 
     /// The schedule at its start, with no read due.

@@ -1,11 +1,12 @@
 -- The group of a first packet, over one denominator.
-use Rattle.std.proofs.Common.{◌≡◌, ◌≤◌, ◌<◌, ◌+◌, ◌*◌, ◌^◌, ℕ, true, false, cond, arith, ap, sym, ◌∙◌, pos, ◌+ℤ◌, ◌-ℤ◌, ◌*ℤ◌}
+use Rattle.std.proofs.Common.{◌≡◌, ◌≤◌, ◌<◌, ◌+◌, ◌*◌, ◌^◌, ℕ, arith, ap, sym, ◌∙◌, pos, ◌+ℤ◌, ◌-ℤ◌, ◌*ℤ◌}
 use Rattle.std.proofs.Math.Nat.{mul-le-mul_right}
 use Rattle.fraction128.specs.Fractions.{floor_of_signed}
 use Rattle.timing_base.specs.Media.{IsMedia, Media}
 use Rattle.sender_params.specs.Reads.{anchor_of}
 use Rattle.sender_params.specs.Times.{group_time, groups_of, offset_time}
 use Rattle.sender_params.proofs.Floors.{anchor-floor}
+use Rattle.sender_params.proofs.Parts.{groups-most}
 
 -- the code's quotient is the definition's
 pub anchor-is : (m : Media) (a0 a off per group rate : ℕ)
@@ -25,14 +26,10 @@ anchor-is m a0 a off per group rate ea eo ep eg er =
     (ap (λ z. floor_of_signed z (p * g * 2)) (sym (anchor-floor a0 o p g r))
     ∙ ap (λ d. floor_of_signed (((((pos a0 *ℤ pos p) -ℤ ((pos 1 *ℤ pos o) *ℤ pos 1)) *ℤ pos r) *ℤ pos 2) +ℤ ((pos 1 *ℤ pos 1) *ℤ pos ((1 * p) * g))) d) e)
 
--- a frame has at most two groups
-pub groups_of-most : (m : Media) → groups_of m ≤ 2
-groups_of-most m = elim (m.interlaced) as (λ b. cond b 2 1 ≤ 2) [ true ↦ omega arith | false ↦ omega arith ]
-
 -- a second has at most 480 groups
 pub group_time-most : (m : Media) → IsMedia m → (group_time m).1 ≤ 480 * m.q
 group_time-most m is =
-    let h : groups_of m * m.p ≤ 2 * m.p = mul-le-mul_right (m.p) (groups_of-most m) in
+    let h : groups_of m * m.p ≤ 2 * m.p = mul-le-mul_right (m.p) (groups-most m) in
     omega (arith, h, is.p_most)
 
 -- a first packet before 2^62 is of a group below 2^42

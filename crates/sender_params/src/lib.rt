@@ -10,9 +10,11 @@
 pub mod laws;
 mod params;
 mod rules;
+mod sizes;
 pub mod worked;
 
 pub use params::Params;
+pub use sizes::{Sizes, sizes_of};
 
 #[cfg(test)]
 mod tests;

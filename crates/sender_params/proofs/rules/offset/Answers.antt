@@ -2,7 +2,8 @@ use Rattle.std.proofs.Common.{◌≡◌, ◌≤◌, ◌*◌, ap, arith, subst}
 use Rattle.std.proofs.Math.Nat.{mul-le-mul_right}
 use Rattle.timing_base.specs.Media.{IsMedia}
 use Rattle.sender_params.specs.Times.{groups_of}
-use Rattle.sender_params.proofs.Anchors.{group_time-most, groups_of-most}
+use Rattle.sender_params.proofs.Anchors.{group_time-most}
+use Rattle.sender_params.proofs.Parts.{groups-most}
 use Rattle.sender_params.proofs.Floors.{within-part, within-troff}
 use Rattle.sender_params.proofs.rules.offset.Goals as goal
 
@@ -19,7 +20,7 @@ returns-in-None-clause-within c =
     let a = c.offset_share-share.result.num in
     let b = c.offset_share-share.result.den in
     let few : a * groups_of m ≤ 43 * groups_of m = mul-le-mul_right (groups_of m) c.offset_share-share.ensures.num_most in
-    let part : a * groups_of m ≤ 480 * b = omega (arith, few, groups_of-most m) in
+    let part : a * groups_of m ≤ 480 * b = omega (arith, few, groups-most m) in
     let all = within-part a b (groups_of m) (m.p) (m.q * 1000000000) part in
     let p : c.media.inside.p ≡ m.p = ap (λ x. x.p) c.media.view_is in
     let q : c.media.inside.q ≡ m.q = ap (λ x. x.q) c.media.view_is in

@@ -1,7 +1,8 @@
 use Rattle.std.proofs.Common.{◌<◌, ◌+◌, ◌%◌, arith}
 use Rattle.std.proofs.lemmas.Nat.{mod_below}
-use Rattle.read_schedule.proofs.Turns.{same_group}
-use Rattle.offset_window.proofs.Steps.{parts_at-small, parts_at-step}
+use Rattle.sender_params.proofs.Turns.{same_group}
+use Rattle.read_schedule.proofs.Turns.{parts_at-step}
+use Rattle.offset_window.proofs.Steps.{parts_at-small}
 use Rattle.offset_window.proofs.read.Read.advance.Goals as goal
 
 pub overflow_add-self-2 : goal.overflow_add-self-2

@@ -1,5 +1,5 @@
 use Rattle.std.proofs.Common.{◌-◌, refl, arith}
-use Rattle.offset_window.specs.Parts.{parts_at, parts_of}
+use Rattle.read_schedule.specs.Parts.{parts_at, parts_of}
 use Rattle.offset_window.proofs.Steps.{before-false, before-true, greatest-is, offset-less, true-before}
 use Rattle.offset_window.proofs.read.Read.greatest_offset.Goals as goal
 

@@ -1,5 +1,6 @@
 use Rattle.std.proofs.Common.{◌≡◌, ◌+◌, ◌-◌, ◌/◌, refl, ap, ◌∙◌, arith}
-use Rattle.offset_window.specs.Parts.{comes_after, parts_at, parts_of}
+use Rattle.read_schedule.specs.Parts.{parts_at, parts_of}
+use Rattle.offset_window.specs.Parts.{comes_after}
 use Rattle.offset_window.proofs.Steps.{after-false, after-true, least-is, true-after}
 use Rattle.offset_window.proofs.read.Read.least_offset.Goals as goal
 

@@ -1,5 +1,6 @@
 use Rattle.std.proofs.Common.{arith}
-use Rattle.read_schedule.proofs.Turns.{parts_at-step, same_group}
+use Rattle.sender_params.proofs.Turns.{same_group}
+use Rattle.read_schedule.proofs.Turns.{parts_at-step}
 use Rattle.read_schedule.proofs.schedule.Schedule.step_ahead.Goals as goal
 
 pub returns-clause-reach : goal.returns-clause-reach

@@ -1,5 +1,6 @@
 use Rattle.std.proofs.Common.{arith}
-use Rattle.read_schedule.proofs.Turns.{next_group, parts_at-turn}
+use Rattle.sender_params.proofs.Turns.{next_group}
+use Rattle.read_schedule.proofs.Turns.{parts_at-turn}
 use Rattle.read_schedule.proofs.schedule.Schedule.turn_ahead.Goals as goal
 
 pub returns-clause-reach : goal.returns-clause-reach

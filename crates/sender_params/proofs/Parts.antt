@@ -5,10 +5,7 @@ use Rattle.std.proofs.lemmas.Nat.{div-mul-add}
 use Rattle.std.proofs.Math.Nat.{mul-le-mul, mul-le-mul_left, mul-le-mul_right}
 use Rattle.timing_base.specs.Media.{IsMedia, Media}
 use Rattle.sender_params.specs.Times.{active_part, group_time, groups_of, offset_by, offset_part, offset_time, read_step}
-
--- T_RS in parts
-abbrev pub step_parts : Media → Bool → ℕ
-step_parts m gapped = m.q * 1000000000 * cond gapped (active_part m).0 (active_part m).1
+use Rattle.sender_params.specs.Sizes.{HavePer, step_parts}
 
 -- a quotient without remainder
 pub quotient-exact : (y d x : ℕ) → 1 ≤ d → y * d ≡ x → x / d ≡ y
@@ -98,6 +95,11 @@ offset-low-share false false middle = omega arith
 pub offset-low : (m : Media) → 1 ≤ (offset_part m).1
 offset-low m = offset-low-share m.interlaced (nat_le 1080 m.height) (nat_le 576 m.height)
 
+-- T_RS is at most that of the linear schedule, and at least 487 parts for each nanosecond of a second's q
+pub step-low : (m : Media) (gapped : Bool) → m.q * 1000000000 * 487 ≤ step_parts m gapped
+step-low m true = mul-le-mul_left (m.q * 1000000000) (active-low m)
+step-low m false = mul-le-mul_left (m.q * 1000000000) (omega (arith, active-low m, active-within m))
+
 pub step-high : (m : Media) (gapped : Bool) → step_parts m gapped ≤ m.q * 1000000000 * (active_part m).1
 step-high m true = mul-le-mul_left (m.q * 1000000000) (active-within m)
 step-high m false = omega arith
@@ -108,15 +110,38 @@ rate-small m is =
     let a : m.q * (active_part m).1 ≤ m.q * 1125 = mul-le-mul_left m.q (active-most m) in
     omega (arith, a, is.q_most)
 
+pub den-slow : (m : Media) (n : ℕ) → IsMedia m → n ≤ 262144 → (read_step m n true).1 ≤ m.q * 1000000000 * 487
+den-slow m n is few =
+    let s = (active_part m).1 in
+    let h = groups_of m in
+    let a : h * n ≤ 2 * n = mul-le-mul_right n (groups-most m) in
+    let b : s * (h * n) ≤ 1125 * (h * n) = mul-le-mul_right (h * n) (active-most m) in
+    let c : m.p * (s * (h * n)) ≤ m.p * 589824000 = mul-le-mul_left m.p (omega (arith, a, b, few)) in
+    omega (arith, c, is.p_most)
+
 pub group-fits : (m : Media) (n : ℕ) (gapped : Bool) → n * step_parts m gapped ≤ m.q * 1000000000 * (active_part m).1 * n
 group-fits m n gapped =
     let a : n * step_parts m gapped ≤ n * (m.q * 1000000000 * (active_part m).1) = mul-le-mul_left n (step-high m gapped) in
     omega (arith, a)
 
+pub group-slow : (m : Media) (n : ℕ) (gapped : Bool) → IsMedia m → n ≤ 262144 → n * (read_step m n true).1 ≤ m.q * 1000000000 * (active_part m).1 * n
+group-slow m n gapped is few =
+    let d : (read_step m n true).1 ≤ step_parts m gapped = omega (arith, den-slow m n is few, step-low m gapped) in
+    let a : n * (read_step m n true).1 ≤ n * step_parts m gapped = mul-le-mul_left n d in
+    omega (arith, a, group-fits m n gapped)
+
 pub group-small : (m : Media) (n : ℕ) → IsMedia m → m.q * 1000000000 * (active_part m).1 * n ≤ n * 2 ^ 51
 group-small m n is =
     let a : n * (m.q * 1000000000 * (active_part m).1) ≤ n * 2 ^ 51 = mul-le-mul_left n (omega (arith, rate-small m is)) in
     omega (arith, a)
+
+pub group-most : (m : Media) (n : ℕ) → IsMedia m → m.q * 1000000000 * (active_part m).1 * n ≤ 1001000000000 * (read_step m n true).1
+group-most m n is =
+    let s = (active_part m).1 in
+    let h = groups_of m in
+    let a : 1 * (s * n) ≤ (m.p * h) * (s * n) = mul-le-mul_right (s * n) (omega (arith, mul-le-mul_left m.p (groups-some m), is.p_some)) in
+    let b : m.q * (s * n) ≤ 1001 * (s * n) = mul-le-mul_right (s * n) is.q_most in
+    omega (arith, a, b)
 
 -- T_GROUP by division
 pub group-is : (m : Media) (n num den per group : ℕ)
@@ -162,12 +187,6 @@ pub offset-small : (m : Media) (offset den : ℕ)
 offset-small m offset den some is =
     let a : offset * 1 ≤ offset * (offset_time m).1 = mul-le-mul_left offset some in
     omega (arith, a, is)
-
--- the denominators of a video's times aren't 0
-pub record HavePer (m : Media) (n : ℕ) (gapped : Bool) : Type 0 where
-  pub group : 1 ≤ (group_time m).1
-  pub offset : 1 ≤ (offset_time m).1
-  pub step : 1 ≤ (read_step m n gapped).1
 
 -- the denominators of the times of a video
 pub have_per : (m : Media) (n : ℕ) (gapped : Bool) → IsMedia m → 1 ≤ n → HavePer m n gapped

@@ -1,9 +1,9 @@
-//! The times of a sender over one denominator.
+//! The times of a sender over one denominator, in which the reads of its schedules are whole numbers.
 
 ghost use Rattle.std.specs.Prelude.{◌≡◌, ◌≤◌, ◌<◌, ◌*◌, ◌/◌, ◌^◌};
-ghost use Rattle.read_schedule.specs.Sizes.{AreSizes, HavePer};
+ghost use Rattle.sender_params.specs.Sizes.{AreSizes, HavePer};
 
-use sender_params::Params;
+use crate::params::Params;
 
 /// The times of a sender, in parts of a nanosecond, each a whole number of them.
 #[derive(Clone, Copy, Debug, PartialEq, Eq)]
@@ -18,7 +18,8 @@ pub struct Sizes {
     pub offset: u128,
 }
 
-/// The times of the sender, in parts of which T_RS of the gapped schedule has its numerator.
+/// The times of the sender with T_RS of the schedule, gapped or linear, in parts of which a nanosecond has as many
+/// as T_RS of the gapped schedule has in its denominator.
 pub fn sizes_of(params: &Params, gapped: bool) -> Sizes
     ensures sizes { let s = result in
         AreSizes params.now.media params.now.n gapped s.den s.group s.step s.offset }
