@@ -39,14 +39,14 @@ pub record Bounds (params : Params) (meters : Meters) (at : ℕ) : Type 0 where
 pub bounds : (params : Params) (meters : Meters) (stamps : List ℕ) (at : ℕ) → CanFollow params meters stamps at → Bounds params meters at
 bounds params meters stamps at c = record {
   begun = elim (cases_lt 0 (length stamps)) as (λ _. meters.bucket.origin ≤ at) [
-    | inl some ↦ omega (arith, c.stands.first some, first-low stamps at c.fit some)
+    | inl some ↦ omega (arith, c.stands.fed.first some, first-low stamps at c.fit some)
     | inr none ↦ omega (arith, c.first (omega (arith, none)))
   ];
   in_time = last-early stamps at c.fit;
-  few = omega (arith, c.stands.bucket.seen, before-few stamps at c.fit);
-  narrow = omega (arith, c.stands.narrow.vrx.seen, before-few stamps at c.fit);
-  narrow_linear = omega (arith, c.stands.narrow_linear.vrx.seen, before-few stamps at c.fit);
-  wide = omega (arith, c.stands.wide.vrx.seen, before-few stamps at c.fit);
+  few = omega (arith, c.stands.fed.bucket.seen, before-few stamps at c.fit);
+  narrow = omega (arith, c.stands.fed.narrow.vrx.seen, before-few stamps at c.fit);
+  narrow_linear = omega (arith, c.stands.fed.narrow_linear.vrx.seen, before-few stamps at c.fit);
+  wide = omega (arith, c.stands.fed.wide.vrx.seen, before-few stamps at c.fit);
 }
 
 pub bounds-known : (params : Params) (meters : Meters) (at : ℕ) → ∥ ((stamps : List ℕ) × CanFollow params meters stamps at) ∥₁ → Bounds params meters at

@@ -1,5 +1,5 @@
 -- A judge is fed one packet, and answers its row.
-use Rattle.std.proofs.Common.{◌≡◌, ◌<◌, ◌+◌, ◌^◌, ℕ, List, [], ◌∷◌, ◌++◌, length, length-append, Some, Result, arith, ap, ◌∙◌, sym, subst}
+use Rattle.std.proofs.Common.{◌≡◌, ◌<◌, ◌+◌, ◌^◌, ℕ, List, [], ◌∷◌, ◌++◌, length, length-append, Some, Ok, Result, arith, ap, ◌∙◌, sym, subst}
 use Rattle.std.proofs.Math.Logic.{∥∥₁_map}
 use Rattle.timing_base.specs.Captures.{IsStamp}
 use Rattle.timing_base.specs.Flows.{first_fault_below, packet}
@@ -13,6 +13,7 @@ use Rattle.timing_base.specs.declared.row.Row.{Row}
 use Rattle.timing_base.specs.declared.row.Verdict.{Verdict}
 use Rattle.timing_base.proofs.FirstFaults.{fault-kept}
 use Rattle.fail_interval.specs.Flowing.{CanGoOn, StandsFor as FlowStandsFor, has_fault}
+use Rattle.fail_interval.specs.Goings.{GoesOn as WentOn}
 use Rattle.fail_interval.specs.Row.{row, verdict_of}
 use Rattle.fail_interval.specs.Stands.{StandsFor}
 use Rattle.fail_interval.specs.States.{IsAt, IsFedTo, IsKnown, IsRefused}
@@ -85,6 +86,35 @@ going-more m key tai rec at rtp judge flow new known packets e few stamp media s
     let is = at-flow m tai at judge.state flow packets e s.state in
     let c : CanGoOn flow packets at = record { stands = is.2; stamped = s.stamped; stamp = stamp; few = omega (arith, s.fed, few) } in
     more m key tai rec at rtp judge (Going new) known packets stamp s (media ∙ is.0, seconds ∙ is.1, goes packets c)
+
+-- the same judge with a state that is the same
+pub same-state : (m : Media) (key : FlowKey) (tai : ℕ) (judge : FlowJudge) (state : State) (known : ∥ IsKnown judge.fed state ∥₁) (packets : List FlowPacket)
+    → state ≡ judge.state
+    → StandsFor m key tai judge packets
+    → StandsFor m key tai (judge_by judge.key judge.fed state known) packets
+same-state m key tai judge state known packets e s = record {
+  key_is = s.key_is;
+  fed = s.fed;
+  stamped = s.stamped;
+  state = subst (IsAt m tai packets) (sym e) s.state;
+}
+
+-- what is known of a flow that went on
+pub went-known : (fed rec at : ℕ) (rtp : Rtp) (old new : State) → WentOn old new at rtp → ∥ IsKnown fed old ∥₁ → fed < 2 ^ 41 → IsStamp at → ∥ IsKnown (fed + 1) new ∥₁
+went-known fed rec at rtp old new went known few stamp =
+    subst (λ s. ∥ IsKnown (fed + 1) s ∥₁) (sym went.becomes)
+    (known-more fed rec at (Ok rtp) old went.flow went.later went.is known few stamp (λ packets c. went.goes packets rec c))
+
+-- its judge stands for one packet more
+pub went-on : (m : Media) (key : FlowKey) (tai rec at : ℕ) (rtp : Rtp) (judge : FlowJudge) (new : State) (known : ∥ IsKnown (judge.fed + 1) new ∥₁) (packets : List FlowPacket)
+    → WentOn judge.state new at rtp → judge.fed < 2 ^ 41 → IsStamp at
+    → StandsFor m key tai judge packets
+    → StandsFor m key tai (judge_by judge.key (judge.fed + 1) new known) (packets ++ fed_packet rec at (Ok rtp) ∷ [])
+went-on m key tai rec at rtp judge new known packets went few stamp s =
+    let is = at-flow m tai at judge.state went.flow packets went.is s.state in
+    let c : CanGoOn went.flow packets at = record { stands = is.2; stamped = s.stamped; stamp = stamp; few = omega (arith, s.fed, few) } in
+    more m key tai rec at (Ok rtp) judge new known packets stamp s
+    (subst (IsAt m tai (packets ++ fed_packet rec at (Ok rtp) ∷ [])) (sym went.becomes) (went.media ∙ is.0, went.tai ∙ is.1, went.goes packets rec c))
 
 -- the first fault of a flow stays the first
 refused-more : (m : Media) (packets : List FlowPacket) (p : FlowPacket) (rec : ℕ) (fault : PacketFault) → IsRefused m packets rec fault → IsRefused m (packets ++ p ∷ []) rec fault

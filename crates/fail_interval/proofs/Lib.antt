@@ -6,6 +6,7 @@ pub mod Going
 pub mod Judging
 pub mod SenderTypes
 pub mod Limits
+pub mod Lulls
 pub mod Metering
 pub mod Prefixes
 pub mod Rows

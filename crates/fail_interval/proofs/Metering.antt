@@ -18,18 +18,23 @@ use Rattle.sender_params.specs.declared.params.Params.{Params}
 use Rattle.drain_bucket.specs.Stands.{CanFollow as BucketCanFollow, StandsFor as BucketStandsFor}
 use Rattle.drain_bucket.specs.Word.{bucket_of}
 use Rattle.drain_bucket.specs.declared.bucket.Bucket.{Bucket}
+use Rattle.read_schedule.specs.Between.{Holds as HoldsBetween}
 use Rattle.read_schedule.specs.Stands.{IsDueAt, StandsBy}
+use Rattle.read_schedule.specs.declared.between.Between.{Between}
 use Rattle.read_schedule.specs.declared.schedule.Due.{Due}
 use Rattle.read_schedule.specs.declared.schedule.Schedule.{Schedule}
 use Rattle.vrx_buffer.specs.Stands.{StandsFor as VrxStandsFor}
 use Rattle.vrx_buffer.specs.declared.vrx.Vrx.{Vrx}
 use Rattle.fail_interval.specs.Fails.{greatest, kind_verdict}
-use Rattle.fail_interval.specs.Kinds.{ComesNext, StandsFor as KindStandsFor}
-use Rattle.fail_interval.specs.Meters.{CanFollow, StandsFor, last_stamp}
+use Rattle.fail_interval.specs.Kinds.{ComesNext, PassesBy, StandsFor as KindStandsFor}
+use Rattle.fail_interval.specs.Lulls.{IsCalm}
+use Rattle.fail_interval.specs.Meters.{AreFed, CanFollow, StandsFor, last_stamp, with_bucket}
 use Rattle.fail_interval.specs.Row.{judged_values}
 use Rattle.fail_interval.specs.SoFar.{AreStamps}
 use Rattle.fail_interval.specs.declared.kind.KindMeter.{KindMeter}
+use Rattle.fail_interval.specs.declared.lull.Lull.{Lull}
 use Rattle.fail_interval.specs.declared.meters.Meters.{Meters}
+use Rattle.fail_interval.proofs.Lulls.{calm-over, calm-quiet, stands-later}
 
 greatest-most : (f : ℕ → ℕ) (count peak : ℕ) → ((k : ℕ) → k < count → f k ≤ peak) → greatest f count ≤ peak
 greatest-most f zero peak h = omega arith
@@ -67,7 +72,7 @@ bucket-peak params bucket stamps s =
     ]
 
 -- the peak of a buffer
-vrx-peak : (params : Params) (vrx : Vrx) (stamps : List ℕ) (kind : Kind) → vrx.kind ≡ kind → VrxStandsFor params vrx stamps
+pub vrx-peak : (params : Params) (vrx : Vrx) (stamps : List ℕ) (kind : Kind) → vrx.kind ≡ kind → VrxStandsFor params vrx stamps
     → vrx.peak ≡ greatest (held_at params.media params.n stamps (gapped_of kind)) (length stamps)
 vrx-peak params vrx stamps kind e s =
     greatest-is (held_at params.media params.n stamps (gapped_of vrx.kind)) (length stamps) vrx.peak s.peak_most s.peak_reached
@@ -100,18 +105,19 @@ pub says : (params : Params) (meters : Meters) (stamps : List ℕ) (frames head 
     (meters.narrow.verdict ∷ meters.narrow_linear.verdict ∷ meters.wide.verdict ∷ [])
     ≡ judged_values params.media (record { n = params.n; groups = frames; head = head; tail = 0; stamps = stamps })
 says params meters stamps frames head s =
-    judged-same params.n frames _ _ head _ _ _ _ _ _ _ _ _ _ _ _ s.bucket.seen (bucket-peak params meters.bucket stamps s.bucket)
-    (vrx-peak params meters.narrow.vrx stamps N s.narrow_kind s.narrow.vrx) (vrx-peak params meters.narrow_linear.vrx stamps NL s.narrow_linear_kind s.narrow_linear.vrx)
-    (kind-verdict-is params meters.narrow stamps N s.narrow_kind s.narrow) (kind-verdict-is params meters.narrow_linear stamps NL s.narrow_linear_kind s.narrow_linear)
-    (kind-verdict-is params meters.wide stamps W s.wide_kind s.wide)
+    let f = s.fed in
+    judged-same params.n frames _ _ head _ _ _ _ _ _ _ _ _ _ _ _ f.bucket.seen (bucket-peak params meters.bucket stamps f.bucket)
+    (vrx-peak params meters.narrow.vrx stamps N f.narrow_kind f.narrow.vrx) (vrx-peak params meters.narrow_linear.vrx stamps NL f.narrow_linear_kind f.narrow_linear.vrx)
+    (kind-verdict-is params meters.narrow stamps N f.narrow_kind f.narrow) (kind-verdict-is params meters.narrow_linear stamps NL f.narrow_linear_kind f.narrow_linear)
+    (kind-verdict-is params meters.wide stamps W f.wide_kind f.wide)
 
 -- the first stamp of one packet more
-first-is : (params : Params) (meters : Meters) (stamps : List ℕ) (at : ℕ) → CanFollow params meters stamps at → slice_index (stamps ++ at ∷ []) 0 ≡ meters.bucket.origin
+pub first-is : (params : Params) (meters : Meters) (stamps : List ℕ) (at : ℕ) → CanFollow params meters stamps at → slice_index (stamps ++ at ∷ []) 0 ≡ meters.bucket.origin
 first-is params meters [] at c = c.first refl
-first-is params meters (x ∷ stamps) at c = c.stands.first (omega arith)
+first-is params meters (x ∷ stamps) at c = c.stands.fed.first (omega arith)
 
 -- the last stamp comes no later
-last-low : (stamps : List ℕ) (at : ℕ) → NeverFall (stamps ++ at ∷ []) → last_stamp stamps ≤ at
+pub last-low : (stamps : List ℕ) (at : ℕ) → NeverFall (stamps ++ at ∷ []) → last_stamp stamps ≤ at
 last-low stamps at falls =
     elim (cases_lt 0 (length stamps)) as (λ _. last_stamp stamps ≤ at) [
       | inl some ↦
@@ -129,13 +135,13 @@ last-low stamps at falls =
     no-stamps [] e = refl
     no-stamps (x ∷ xs) e = absurd (omega (arith, e))
 
-last-is : (stamps : List ℕ) (at : ℕ) → last_stamp (stamps ++ at ∷ []) ≡ at
+pub last-is : (stamps : List ℕ) (at : ℕ) → last_stamp (stamps ++ at ∷ []) ≡ at
 last-is stamps at =
     let long : length (stamps ++ at ∷ []) - 1 ≡ length stamps = omega (arith, length-append stamps (at ∷ [])) in
     ap (slice_index (stamps ++ at ∷ [])) long ∙ get_or-append_seam stamps at [] 0
 
 -- the packet may follow those that the bucket was fed
-bucket-follows : (params : Params) (meters : Meters) (stamps : List ℕ) (at : ℕ) → CanFollow params meters stamps at → BucketCanFollow meters.bucket stamps at
+pub bucket-follows : (params : Params) (meters : Meters) (stamps : List ℕ) (at : ℕ) → CanFollow params meters stamps at → BucketCanFollow meters.bucket stamps at
 bucket-follows params meters stamps at c = record {
   first = c.first;
   later = λ i size.
@@ -158,70 +164,118 @@ abbrev pub KindFed : Params → Bucket → Due → KindMeter → KindMeter → T
 KindFed params bucket due meter new = (stamps : List ℕ) (at : ℕ) → KindStandsFor params meter stamps → ComesNext params bucket due meter.vrx.kind stamps at → KindStandsFor params new (stamps ++ at ∷ [])
 
 -- what comes next for a sender type
-comes : (params : Params) (meters : Meters) (bucket : Bucket) (due : Due) (kind k : Kind) (stamps : List ℕ) (at : ℕ) → CanFollow params meters stamps at
+comes : (params : Params) (origin : ℕ) (bucket : Bucket) (due : Due) (kind k : Kind) (stamps : List ℕ) (at : ℕ) → NeverFall (stamps ++ at ∷ [])
+    → slice_index (stamps ++ at ∷ []) 0 ≡ origin
     → BucketStandsFor params bucket (stamps ++ at ∷ [])
-    → IsDueAt params.media params.n (anchor_of params.media meters.bucket.origin) (gapped_of k) at due
+    → IsDueAt params.media params.n (anchor_of params.media origin) (gapped_of k) at due
     → kind ≡ k
     → ComesNext params bucket due kind stamps at
-comes params meters bucket due kind k stamps at c stands is e = record {
-  ordered = c.fit.ordered;
+comes params origin bucket due kind k stamps at ordered first stands is e = record {
+  ordered = ordered;
   bucket_is = stands;
-  due_is = subst (λ a. IsDueAt params.media params.n (anchor_of params.media a) (gapped_of kind) at due) (sym (first-is params meters stamps at c))
-      (subst (λ j. IsDueAt params.media params.n (anchor_of params.media meters.bucket.origin) (gapped_of j) at due) (sym e) is);
+  due_is = subst (λ a. IsDueAt params.media params.n (anchor_of params.media a) (gapped_of kind) at due) (sym first)
+      (subst (λ j. IsDueAt params.media params.n (anchor_of params.media origin) (gapped_of j) at due) (sym e) is);
 }
 
 -- meters by their parts
-abbrev meters_by : Bucket → Schedule → Schedule → KindMeter → KindMeter → KindMeter → Meters
-meters_by bucket gapped linear narrow narrow_linear wide = record {
+abbrev pub meters_by : Bucket → Schedule → Schedule → KindMeter → KindMeter → KindMeter → Lull → Meters
+meters_by bucket gapped linear narrow narrow_linear wide lull = record {
   bucket = bucket;
   gapped = gapped;
   linear = linear;
   narrow = narrow;
   narrow_linear = narrow_linear;
   wide = wide;
+  lull = lull;
 }
 
--- the meters stand for one packet more
-pub fed : (params : Params) (meters : Meters) (at : ℕ) (bucket : Bucket) (gapped linear : Schedule) (due_gapped due_linear : Due) (narrow narrow_linear wide : KindMeter)
-    → bucket.origin ≡ meters.bucket.origin
-    → BucketFed params meters.bucket bucket at
+-- the meters were fed one packet more
+pub fed : (params : Params) (meters : Meters) (lull : Lull) (at : ℕ) (gapped linear : Schedule) (due_gapped due_linear : Due) (narrow narrow_linear wide : KindMeter)
     → Advanced meters.gapped gapped due_gapped at
     → Advanced meters.linear linear due_linear at
     → narrow.vrx.kind ≡ meters.narrow.vrx.kind
-    → KindFed params bucket due_gapped meters.narrow narrow
+    → KindFed params meters.bucket due_gapped meters.narrow narrow
     → narrow_linear.vrx.kind ≡ meters.narrow_linear.vrx.kind
-    → KindFed params bucket due_linear meters.narrow_linear narrow_linear
+    → KindFed params meters.bucket due_linear meters.narrow_linear narrow_linear
     → wide.vrx.kind ≡ meters.wide.vrx.kind
-    → KindFed params bucket due_linear meters.wide wide
-    → (stamps : List ℕ)
-    → CanFollow params meters stamps at
-    → StandsFor params (meters_by bucket gapped linear narrow narrow_linear wide) (stamps ++ at ∷ [])
-fed params meters at bucket gapped linear due_gapped due_linear narrow narrow_linear wide origin bucket_fed gapped_more linear_more n_kind n_fed nl_kind nl_fed w_kind w_fed stamps c =
+    → KindFed params meters.bucket due_linear meters.wide wide
+    → (before : Bucket) (stamps : List ℕ)
+    → CanFollow params (with_bucket meters before) stamps at
+    → meters.bucket.origin ≡ before.origin
+    → BucketStandsFor params meters.bucket (stamps ++ at ∷ [])
+    → AreFed params (meters_by meters.bucket gapped linear narrow narrow_linear wide lull) (stamps ++ at ∷ [])
+fed params meters lull at gapped linear due_gapped due_linear narrow narrow_linear wide gapped_more linear_more n_kind n_fed nl_kind nl_fed w_kind w_fed before stamps c origin stands =
     let m = params.media in
     let n = params.n in
-    let anchor = anchor_of m meters.bucket.origin in
-    let s = c.stands in
+    let anchor = anchor_of m before.origin in
+    let s = c.stands.fed in
     let low = last-low stamps at c.fit.ordered in
-    let stands = bucket_fed stamps s.bucket (bucket-follows params meters stamps at c) in
+    let first = first-is params (with_bucket meters before) stamps at c in
     let gapped_due : IsDueAt m n anchor true at due_gapped = gapped_more.0 m n anchor true (last_stamp stamps) low s.gapped in
     let linear_due : IsDueAt m n anchor false at due_linear = linear_more.0 m n anchor false (last_stamp stamps) low s.linear in
     record {
-      first = λ some. first-is params meters stamps at c ∙ sym origin;
+      first = λ some. first ∙ sym origin;
       bucket = stands;
       gapped = subst (λ a. StandsBy m n (anchor_of m a) true gapped (last_stamp (stamps ++ at ∷ []))) (sym origin)
           (subst (StandsBy m n anchor true gapped) (sym (last-is stamps at)) (gapped_more.1 m n anchor true (last_stamp stamps) low s.gapped));
       linear = subst (λ a. StandsBy m n (anchor_of m a) false linear (last_stamp (stamps ++ at ∷ []))) (sym origin)
           (subst (StandsBy m n anchor false linear) (sym (last-is stamps at)) (linear_more.1 m n anchor false (last_stamp stamps) low s.linear));
       narrow_kind = n_kind ∙ s.narrow_kind;
-      narrow = n_fed stamps at s.narrow (comes params meters bucket due_gapped meters.narrow.vrx.kind N stamps at c stands gapped_due s.narrow_kind);
+      narrow = n_fed stamps at s.narrow (comes params before.origin meters.bucket due_gapped meters.narrow.vrx.kind N stamps at c.fit.ordered first stands gapped_due s.narrow_kind);
       narrow_linear_kind = nl_kind ∙ s.narrow_linear_kind;
-      narrow_linear = nl_fed stamps at s.narrow_linear (comes params meters bucket due_linear meters.narrow_linear.vrx.kind NL stamps at c stands linear_due s.narrow_linear_kind);
+      narrow_linear = nl_fed stamps at s.narrow_linear (comes params before.origin meters.bucket due_linear meters.narrow_linear.vrx.kind NL stamps at c.fit.ordered first stands linear_due s.narrow_linear_kind);
       wide_kind = w_kind ∙ s.wide_kind;
-      wide = w_fed stamps at s.wide (comes params meters bucket due_linear meters.wide.vrx.kind W stamps at c stands linear_due s.wide_kind);
+      wide = w_fed stamps at s.wide (comes params before.origin meters.bucket due_linear meters.wide.vrx.kind W stamps at c.fit.ordered first stands linear_due s.wide_kind);
+    }
+
+-- whatever the lull
+pub fed-again : (params : Params) (meters : Meters) (lull : Lull) (stamps : List ℕ) → AreFed params meters stamps
+    → AreFed params (meters_by meters.bucket meters.gapped meters.linear meters.narrow meters.narrow_linear meters.wide lull) stamps
+fed-again params meters lull stamps s = record {
+  first = s.first;
+  bucket = s.bucket;
+  gapped = s.gapped;
+  linear = s.linear;
+  narrow_kind = s.narrow_kind;
+  narrow = s.narrow;
+  narrow_linear_kind = s.narrow_linear_kind;
+  narrow_linear = s.narrow_linear;
+  wide_kind = s.wide_kind;
+  wide = s.wide;
+}
+
+-- a schedule stands by the next packet, too
+pub later-by : (params : Params) (gapped : Bool) (schedule : Schedule) (origin also : ℕ) (stamps : List ℕ) (at : ℕ) → origin ≡ also → NeverFall (stamps ++ at ∷ [])
+    → StandsBy params.media params.n (anchor_of params.media origin) gapped schedule (last_stamp stamps)
+    → StandsBy params.media params.n (anchor_of params.media also) gapped schedule (last_stamp (stamps ++ at ∷ []))
+later-by params gapped schedule origin also stamps at same falls stood =
+    subst (λ o. StandsBy params.media params.n (anchor_of params.media o) gapped schedule (last_stamp (stamps ++ at ∷ []))) same
+    (subst (StandsBy params.media params.n (anchor_of params.media origin) gapped schedule) (sym (last-is stamps at))
+    (stands-later params.media params.n (anchor_of params.media origin) gapped schedule (last_stamp stamps) at (last-low stamps at falls) stood))
+
+-- a sender type lets the packet pass in a lull
+pub kind-passes : (params : Params) (meter new : KindMeter) (bucket : Bucket) (origin left brim : ℕ) (b : Between) (stamps : List ℕ) (at : ℕ)
+    → ((params : Params) (bucket : Bucket) (stamps : List ℕ) (at : ℕ) → KindStandsFor params meter stamps → PassesBy params bucket meter stamps at → KindStandsFor params new (stamps ++ at ∷ []))
+    → NeverFall (stamps ++ at ∷ [])
+    → BucketStandsFor params bucket (stamps ++ at ∷ [])
+    → slice_index (stamps ++ at ∷ []) 0 ≡ origin
+    → at < 2 ^ 62
+    → 1 ≤ left
+    → bucket.count ≤ brim
+    → HoldsBetween b at
+    → IsCalm params origin meter left brim b
+    → KindStandsFor params meter stamps
+    → KindStandsFor params new (stamps ++ at ∷ [])
+kind-passes params meter new bucket origin left brim b stamps at passes falls stands first in_time some within held calm s =
+    passes params bucket stamps at s record {
+      ordered = falls;
+      bucket_is = stands;
+      within = λ pass. omega (arith, within, calm.within pass);
+      quiet = calm-quiet params origin meter left brim b stamps at first in_time some held calm;
     }
 
 -- before the first packet
-pub fresh : (params : Params) (origin : ℕ) (n0 : ℤ) (bucket : Bucket) (gapped linear : Schedule) (narrow narrow_linear wide : KindMeter)
+pub fresh : (params : Params) (origin : ℕ) (n0 : ℤ) (bucket : Bucket) (gapped linear : Schedule) (narrow narrow_linear wide : KindMeter) (lull : Lull)
     → bucket.origin ≡ origin
     → n0 ≡ anchor_of params.media origin
     → BucketStandsFor params bucket []
@@ -233,20 +287,29 @@ pub fresh : (params : Params) (origin : ℕ) (n0 : ℤ) (bucket : Bucket) (gappe
     → KindStandsFor params narrow_linear []
     → wide.vrx.kind ≡ W
     → KindStandsFor params wide []
-    → StandsFor params (meters_by bucket gapped linear narrow narrow_linear wide) []
-fresh params origin n0 bucket gapped linear narrow narrow_linear wide e anchor stands by_gapped by_linear n_kind n_stands nl_kind nl_stands w_kind w_stands =
+    → lull.left ≡ 0
+    → lull.brim ≡ 0
+    → StandsFor params (meters_by bucket gapped linear narrow narrow_linear wide lull) []
+fresh params origin n0 bucket gapped linear narrow narrow_linear wide lull e anchor stands by_gapped by_linear n_kind n_stands nl_kind nl_stands w_kind w_stands left brim =
     let is : n0 ≡ anchor_of params.media bucket.origin = anchor ∙ ap (anchor_of params.media) (sym e) in
     record {
-      first = λ some. absurd (omega (arith, some));
-      bucket = stands;
-      gapped = subst (λ z. StandsBy params.media params.n z true gapped 0) is (by_gapped 0);
-      linear = subst (λ z. StandsBy params.media params.n z false linear 0) is (by_linear 0);
-      narrow_kind = n_kind;
-      narrow = n_stands;
-      narrow_linear_kind = nl_kind;
-      narrow_linear = nl_stands;
-      wide_kind = w_kind;
-      wide = w_stands;
+      fed = record {
+        first = λ some. absurd (omega (arith, some));
+        bucket = stands;
+        gapped = subst (λ z. StandsBy params.media params.n z true gapped 0) is (by_gapped 0);
+        linear = subst (λ z. StandsBy params.media params.n z false linear 0) is (by_linear 0);
+        narrow_kind = n_kind;
+        narrow = n_stands;
+        narrow_linear_kind = nl_kind;
+        narrow_linear = nl_stands;
+        wide_kind = w_kind;
+        wide = w_stands;
+      };
+      lull = record {
+        narrow = calm-over params bucket.origin narrow lull.left lull.brim lull.gapped left brim;
+        narrow_linear = calm-over params bucket.origin narrow_linear lull.left lull.brim lull.linear left brim;
+        wide = calm-over params bucket.origin wide lull.left lull.brim lull.linear left brim;
+      };
     }
 
 -- the first stamps of some within the limits are so

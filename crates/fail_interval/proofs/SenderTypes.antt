@@ -1,7 +1,8 @@
 -- A sender type is fed one packet.
-use Rattle.std.proofs.Common.{◌≡◌, ◌≤◌, ◌<◌, ◌+◌, ℕ, Bool, true, false, nat_lt, List, [], ◌∷◌, ◌++◌, length, length-append, Option, Some, None, refl, arith, ap, ◌∙◌, subst, sym}
+use Rattle.std.proofs.Common.{◌≡◌, ◌≤◌, ◌<◌, ◌+◌, ℕ, Bool, true, false, nat_lt, List, [], ◌∷◌, ◌++◌, length, length-append, slice_index, Option, Some, None, refl, arith, ap, ◌∙◌, subst, sym}
 use Rattle.std.specs.Prelude.{if◌then◌else◌, is_some}
 use Rattle.std.proofs.lemmas.Bool.Decides.{nat_tests}
+use Rattle.fraction128.specs.Fractions.{whole}
 use Rattle.timing_base.specs.declared.fail.FailProof.{FailProof}
 use Rattle.timing_base.specs.declared.fail.Broken.{Broken}
 use Rattle.timing_base.specs.declared.fail.Broken.TheVariants as broken
@@ -10,11 +11,14 @@ use Rattle.timing_base.specs.declared.row.KindVerdict.{KindVerdict}
 use Rattle.timing_base.specs.declared.row.KindVerdict.TheVariants.{Pass, Fail}
 use Rattle.sender_params.specs.Keeps.{held_at, is_empty, is_over}
 use Rattle.sender_params.specs.Limits.{c_max_of, gapped_of, vrx_full_of}
+use Rattle.sender_params.specs.Reads.{anchor_of}
 use Rattle.sender_params.specs.declared.params.Params.{Params}
 use Rattle.drain_bucket.specs.Stands.{IsAfter}
 use Rattle.drain_bucket.specs.Word.{bucket_of}
 use Rattle.drain_bucket.specs.declared.bucket.Bucket.{Bucket}
+use Rattle.read_schedule.specs.Stands.{IsDueAt, is_on_time}
 use Rattle.read_schedule.specs.declared.schedule.Due.{Due}
+use Rattle.read_schedule.proofs.Rising.{due-some}
 use Rattle.vrx_buffer.specs.Faults.{BreaksNowhere, fault_at}
 use Rattle.vrx_buffer.specs.Stands.{StandsFor as VrxStandsFor}
 use Rattle.vrx_buffer.specs.declared.vrx.Vrx.{Vrx}
@@ -22,7 +26,7 @@ use Rattle.vrx_buffer.specs.declared.vrx.VrxFault.{VrxFault}
 use Rattle.vrx_buffer.specs.declared.vrx.VrxFault.TheVariants.{Over, Empty}
 use Rattle.fail_interval.specs.Early.{early_at, early_by}
 use Rattle.fail_interval.specs.Fails.{is_overfull, kind_verdict, latest_start, verdict_next}
-use Rattle.fail_interval.specs.Kinds.{ComesNext, StandsFor}
+use Rattle.fail_interval.specs.Kinds.{ComesNext, PassesBy, StandsFor}
 use Rattle.fail_interval.specs.declared.kind.KindMeter.{KindMeter}
 use Rattle.fail_interval.proofs.Prefixes.{latest-is, verdict-more}
 use Rattle.fail_interval.proofs.Verdicts.{broken_by, none-broken, pass-before}
@@ -245,3 +249,35 @@ filled-more params meter new vrx bucket due stamps at s next kind stands same_vr
     let stood = kind-more params meter vrx new.verdict bucket due stamps at s next kind stands is in
     subst (λ c. StandsFor params (meter_by new.vrx new.verdict c) all) (sym same_max)
     (subst (λ v. StandsFor params (meter_by v new.verdict meter.c_max) all) (sym same_vrx) stood)
+
+-- what is due at an instant
+due-some-at : (params : Params) (kind : Kind) (stamps : List ℕ) (at : ℕ)
+    → (due : Due) × IsDueAt params.media params.n (anchor_of params.media (slice_index (stamps ++ at ∷ []) 0)) (gapped_of kind) at due
+due-some-at params kind stamps at =
+    let anchor = anchor_of params.media (slice_index (stamps ++ at ∷ []) 0) in
+    let reads = due-some params.media params.n anchor (gapped_of kind) (whole at) params.media_is params.n_some (omega arith) in
+    (record { count = reads.0; on_time = is_on_time params.media params.n anchor (gapped_of kind) at reads.0 }, record { count = reads.1; on_time = refl })
+
+-- a packet that has no fault leaves the verdict, where the bucket is within its limit as long as that is Pass
+passed-verdict : (params : Params) (bucket : Bucket) (due : Due) (kind : Kind) (stamps : List ℕ) (at limit : ℕ) (before : KindVerdict)
+    → ComesNext params bucket due kind stamps at
+    → limit ≡ c_max_of params.media params.n kind
+    → (before ≡ Pass → bucket.count ≤ limit)
+    → (before ≡ Pass → fault_at params.media params.n (stamps ++ at ∷ []) kind (length stamps) ≡ None)
+    → before ≡ verdict_next before (early_at params.media params.n (stamps ++ at ∷ []) kind (length stamps))
+passed-verdict params bucket due kind stamps at limit Pass next e within none = quiet-verdict params bucket due kind stamps at limit Pass next e (within refl) none
+passed-verdict params bucket due kind stamps at limit (Fail proof) next e within none = refl
+
+-- a packet that passes by
+pub passes-by : (params : Params) (meter : KindMeter) (vrx : Vrx) (bucket : Bucket) (stamps : List ℕ) (at : ℕ)
+    → StandsFor params meter stamps
+    → PassesBy params bucket meter stamps at
+    → vrx.kind ≡ meter.vrx.kind
+    → VrxStandsFor params vrx (stamps ++ at ∷ [])
+    → (BreaksNowhere params.media params.n stamps meter.vrx.kind → fault_at params.media params.n (stamps ++ at ∷ []) meter.vrx.kind (length stamps) ≡ None)
+    → StandsFor params (meter_by vrx meter.verdict meter.c_max) (stamps ++ at ∷ [])
+passes-by params meter vrx bucket stamps at s passes kind stands none =
+    let due = due-some-at params meter.vrx.kind stamps at in
+    let next : ComesNext params bucket due.0 meter.vrx.kind stamps at = record { ordered = passes.ordered; bucket_is = passes.bucket_is; due_is = due.1 } in
+    kind-more params meter vrx meter.verdict bucket due.0 stamps at s next kind stands
+    (passed-verdict params bucket due.0 meter.vrx.kind stamps at meter.c_max meter.verdict next s.c_max passes.within (λ pass. none (pass-nowhere params meter stamps s pass)))

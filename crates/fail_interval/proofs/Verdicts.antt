@@ -4,6 +4,7 @@ use Rattle.std.specs.Prelude.{if◌then◌else◌}
 use Rattle.std.proofs.lemmas.Bool.{cases_lt}
 use Rattle.std.proofs.lemmas.Int.{ints}
 use Rattle.fraction128.specs.Fractions.{AtMost, Below, at_most, whole}
+use Rattle.fraction128.proofs.Order.{at_most-false, at_most-true, fraction_cases}
 use Rattle.timing_base.specs.Media.{IsMedia, Media}
 use Rattle.timing_base.specs.declared.fail.FailProof.{FailProof}
 use Rattle.timing_base.specs.declared.fail.Broken.{Broken}
@@ -15,7 +16,6 @@ use Rattle.sender_params.specs.Keeps.{arrived_by_read, is_empty, is_over}
 use Rattle.sender_params.specs.Limits.{gapped_of}
 use Rattle.sender_params.specs.Reads.{anchor_of, read_of}
 use Rattle.sender_params.specs.Ticks.{NeverFall}
-use Rattle.read_schedule.proofs.Instants.{at_most-false, at_most-true, fraction_cases}
 use Rattle.read_schedule.proofs.Rising.{read-rises}
 use Rattle.vrx_buffer.proofs.Instants.{arrived-is, read_of-den}
 use Rattle.vrx_buffer.proofs.Order.{at_most-at_most, below-at_most}

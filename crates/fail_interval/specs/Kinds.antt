@@ -1,5 +1,5 @@
 -- What a `KindMeter` says of the judged packets of a run.
-use Rattle.std.specs.Prelude.{◌≡◌, ℕ, List, [], ◌∷◌, ◌++◌, slice_index}
+use Rattle.std.specs.Prelude.{◌≡◌, ◌≤◌, ℕ, List, [], ◌∷◌, ◌++◌, slice_index}
 use Rattle.drain_bucket.specs.Stands.{StandsFor as BucketStandsFor}
 use Rattle.drain_bucket.specs.declared.bucket.Bucket.{Bucket}
 use Rattle.read_schedule.specs.Stands.{IsDueAt}
@@ -9,6 +9,8 @@ use Rattle.sender_params.specs.Reads.{anchor_of}
 use Rattle.sender_params.specs.Ticks.{NeverFall}
 use Rattle.sender_params.specs.declared.params.Params.{Params}
 use Rattle.timing_base.specs.declared.media.Kind.{Kind}
+use Rattle.timing_base.specs.declared.row.KindVerdict.TheVariants.{Pass}
+use Rattle.vrx_buffer.specs.Quiet.{IsQuiet}
 use Rattle.vrx_buffer.specs.Stands.{StandsFor as VrxStandsFor}
 use Rattle.fail_interval.specs.Fails.{kind_verdict}
 use Rattle.fail_interval.specs.declared.kind.KindMeter.{KindMeter}
@@ -24,3 +26,10 @@ pub record ComesNext (params : Params) (bucket : Bucket) (due : Due) (kind : Kin
   pub ordered : NeverFall (stamps ++ at ∷ [])
   pub bucket_is : BucketStandsFor params bucket (stamps ++ at ∷ [])
   pub due_is : IsDueAt params.media params.n (anchor_of params.media (slice_index (stamps ++ at ∷ []) 0)) (gapped_of kind) at due
+
+-- the next packet comes at this instant, with this bucket after it, and changes neither peak nor verdict
+pub record PassesBy (params : Params) (bucket : Bucket) (meter : KindMeter) (stamps : List ℕ) (at : ℕ) : Type 0 where
+  pub ordered : NeverFall (stamps ++ at ∷ [])
+  pub bucket_is : BucketStandsFor params bucket (stamps ++ at ∷ [])
+  pub within : meter.verdict ≡ Pass → bucket.count ≤ meter.c_max
+  pub quiet : IsQuiet params meter.vrx stamps at

@@ -7,8 +7,10 @@ pub mod Worked
 -- these only serve proofs
 pub mod Early
 pub mod Flowing
+pub mod Goings
 pub mod Groups
 pub mod Kinds
+pub mod Lulls
 pub mod Meters
 pub mod Runs
 pub mod SoFar

@@ -1,11 +1,13 @@
 -- What `Meters` say of the judged packets of a run.
 use Rattle.std.specs.Prelude.{◌≡◌, ◌≤◌, ℕ, ◌-◌, true, false, List, [], ◌∷◌, ◌++◌, length, slice_index}
 use Rattle.drain_bucket.specs.Stands.{StandsFor as BucketStandsFor}
+use Rattle.drain_bucket.specs.declared.bucket.Bucket.{Bucket}
 use Rattle.read_schedule.specs.Stands.{StandsBy}
 use Rattle.sender_params.specs.Reads.{anchor_of}
 use Rattle.sender_params.specs.declared.params.Params.{Params}
 use Rattle.timing_base.specs.declared.media.Kind.TheVariants.{N, NL, W}
 use Rattle.fail_interval.specs.Kinds.{StandsFor as KindStandsFor}
+use Rattle.fail_interval.specs.Lulls.{IsLull}
 use Rattle.fail_interval.specs.SoFar.{AreStamps}
 use Rattle.fail_interval.specs.declared.meters.Meters.{Meters}
 
@@ -13,8 +15,8 @@ use Rattle.fail_interval.specs.declared.meters.Meters.{Meters}
 abbrev pub last_stamp : List ℕ → ℕ
 last_stamp stamps = slice_index stamps (length stamps - 1)
 
--- the meters were fed packets with these stamps and no others
-pub record StandsFor (params : Params) (meters : Meters) (stamps : List ℕ) : Type 0 where
+-- the meters were fed packets with these stamps and no others, whatever lull there is
+pub record AreFed (params : Params) (meters : Meters) (stamps : List ℕ) : Type 0 where
   pub first : 1 ≤ length stamps → slice_index stamps 0 ≡ meters.bucket.origin
   pub bucket : BucketStandsFor params meters.bucket stamps
   pub gapped : StandsBy params.media params.n (anchor_of params.media meters.bucket.origin) true meters.gapped (last_stamp stamps)
@@ -26,8 +28,32 @@ pub record StandsFor (params : Params) (meters : Meters) (stamps : List ℕ) : T
   pub wide_kind : meters.wide.vrx.kind ≡ W
   pub wide : KindStandsFor params meters.wide stamps
 
+-- the meters were fed packets with these stamps and no others
+pub record StandsFor (params : Params) (meters : Meters) (stamps : List ℕ) : Type 0 where
+  pub fed : AreFed params meters stamps
+  pub lull : IsLull params meters.bucket.origin meters.narrow meters.narrow_linear meters.wide meters.lull
+
 -- a packet at this instant may be the next one
 pub record CanFollow (params : Params) (meters : Meters) (stamps : List ℕ) (at : ℕ) : Type 0 where
   pub stands : StandsFor params meters stamps
   pub first : length stamps ≡ 0 → at ≡ meters.bucket.origin
   pub fit : AreStamps (stamps ++ at ∷ [])
+
+-- the same meters with another bucket
+abbrev pub with_bucket : Meters → Bucket → Meters
+with_bucket meters bucket = record {
+  bucket = bucket;
+  gapped = meters.gapped;
+  linear = meters.linear;
+  narrow = meters.narrow;
+  narrow_linear = meters.narrow_linear;
+  wide = meters.wide;
+  lull = meters.lull;
+}
+
+-- the packet at this instant went into the bucket, and now goes into all meters
+abbrev pub TakesNext : Params → (old new : Meters) → (at : ℕ) → Type 0
+TakesNext params old new at = (before : Bucket) (stamps : List ℕ) → CanFollow params (with_bucket old before) stamps at
+    → old.bucket.origin ≡ before.origin
+    → BucketStandsFor params old.bucket (stamps ++ at ∷ [])
+    → StandsFor params new (stamps ++ at ∷ [])

@@ -1,6 +1,6 @@
 //! A flow without a fault, as far as it has come.
 
-ghost use Rattle.std.specs.Prelude.{◌≡◌, ◌≤◌, ◌<◌, ◌+◌, ◌++◌, ◌∷◌, [], ℕ, List, length, Ok, None, Some, OnOk, IfOk};
+ghost use Rattle.std.specs.Prelude.{◌≡◌, ◌≤◌, ◌<◌, ◌+◌, ◌++◌, ◌∷◌, [], ℕ, List, length, Ok, None, Some, OnOk, IfOk, true, false};
 ghost use Rattle.timing_base.specs.Captures.{IsStamp};
 ghost use Rattle.timing_base.specs.Flows.{first_fault_below};
 ghost use Rattle.timing_base.specs.declared.packet.FlowPacket.{FlowPacket};
@@ -169,8 +169,35 @@ impl Flow {
         }
     }
 
-    /// Takes the next packet, which was read, or answers its fault. `Err` is want of memory.
+    /// Takes the next packet, which was read, where it goes on in a run with the timestamp of the packet before and no
+    /// marker, as most do, and answers whether it does. Else nothing changes. `Err` is want of memory.
     #[inline(always)]
+    pub fn feed_on(&mut self, at: u64, rtp: Rtp) -> Result<bool, OutOfMemory>
+        requires { ∥ ((packets : List FlowPacket) × CanGoOn self.old packets at) ∥₁ }
+        ensures media { self.new.media ≡ self.old.media }
+        ensures tai { self.new.tai ≡ self.old.tai }
+        ensures other { result ≡ Ok false → self.new ≡ self.old }
+        ensures goes_on { result ≡ Ok true → (packets : List FlowPacket) (rec : ℕ)
+            → CanGoOn self.old packets at
+            → StandsFor self.new (packets ++ record { rec = rec; at = at; rtp = Ok rtp } ∷ []) }
+    {
+        if self.open.is_none() {
+            return Ok(false);
+        }
+        let Some(_) = self.grouper.feed_on(at, rtp) else {
+            return Ok(false);
+        };
+        match &mut self.open {
+            Some(open) => {
+                let came = at + self.tai * 1_000_000_000;
+                open.judge.feed(self.alloc, &self.media, came, rtp.marker)?;
+                Ok(true)
+            }
+            None => unreachable!(),
+        }
+    }
+
+    /// Takes the next packet, which was read, or answers its fault. `Err` is want of memory.
     pub fn feed_read(
         &mut self,
         rec: u64,

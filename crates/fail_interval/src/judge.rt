@@ -1,6 +1,6 @@
 //! The judge of one flow.
 
-ghost use Rattle.std.specs.Prelude.{◌≡◌, ◌≤◌, ◌<◌, ◌+◌, ◌^◌, ◌++◌, ◌∷◌, [], ℕ, List, Ok, Err, IsErr, OnErr, OnOk};
+ghost use Rattle.std.specs.Prelude.{◌≡◌, ◌≤◌, ◌<◌, ◌+◌, ◌^◌, ◌++◌, ◌∷◌, [], ℕ, List, Ok, Err, IsErr, OnErr, OnOk, true, false};
 ghost use Rattle.timing_base.specs.Captures.{IsStamp};
 ghost use Rattle.timing_base.specs.declared.packet.FlowPacket.{FlowPacket};
 ghost use Rattle.timing_base.specs.declared.key.FlowKey.{FlowKey as KeyValue};
@@ -23,7 +23,26 @@ enum State {
 }
 
 impl State {
-    ghost use Rattle.fail_interval.specs.declared.judge.State.TheVariants.{Refused, Spent};
+    ghost use Rattle.fail_interval.specs.Flowing.{CanGoOn};
+    ghost use Rattle.fail_interval.specs.Goings.{GoesOn};
+    ghost use Rattle.fail_interval.specs.declared.flow.Flow.{Flow as FlowValue};
+    ghost use Rattle.fail_interval.specs.declared.judge.State.TheVariants.{Going, Refused, Spent};
+
+    /// Takes the next packet, where it goes on in its flow as most do, and answers whether it does. Else nothing
+    /// changes. `Err` is want of memory.
+    #[inline(always)]
+    fn feed_on(&mut self, at: u64, rtp: Rtp) -> Result<bool, OutOfMemory>
+        requires { (flow : FlowValue) → self.old ≡ Going flow
+            → ∥ ((packets : List FlowPacket) × CanGoOn flow packets at) ∥₁ }
+        ensures other { result ≡ Ok false → self.new ≡ self.old }
+        ensures goes_on { result ≡ Ok true → GoesOn self.old self.new at rtp }
+        ensures spent { self.old ≡ Spent → result ≡ Ok false }
+    {
+        match self {
+            State::Going(flow) => flow.feed_on(at, rtp),
+            _ => Ok(false),
+        }
+    }
 
     /// The flow has a fault.
     #[cold]
@@ -107,6 +126,46 @@ impl FlowJudge {
     /// The same for a packet that was read.
     #[inline(always)]
     fn feed_read(&mut self, rec: u64, at: u64, rtp: Rtp) -> Result<(), OutOfMemory>
+        requires stamp { IsStamp at }
+        requires few { count_fed self.old < 2 ^ 41 }
+
+        ensures fed { count_fed self.new ≡ count_fed self.old + 1 }
+
+        // Whatever packets the judge stood for, it now stands for those and this one.
+        ensures stands { (media : MediaValue) (key : KeyValue) (tai : ℕ) (packets : List FlowPacket)
+            → StandsFor media key tai self.old packets
+            → OnOk result (StandsFor media key tai self.new
+            (packets ++ record { rec = rec; at = at; rtp = Ok rtp } ∷ [])) }
+
+        ensures spends { OnErr result (IsSpent self.new) }
+        ensures stays { IsSpent self.old → IsErr result }
+    {
+        match self.state.feed_on(at, rtp) {
+            Ok(true) => {
+                self.fed += 1;
+                return Ok(());
+            }
+            Ok(false) => {}
+            Err(refused) => {
+                self.fed += 1;
+                self.state.spend();
+                return Err(refused);
+            }
+        }
+        // A copy of its own, so that a usual packet is never laid out in memory.
+        let other = Rtp {
+            number: rtp.number,
+            timestamp: rtp.timestamp,
+            marker: rtp.marker,
+            pt: rtp.pt,
+            ssrc: rtp.ssrc,
+        };
+        self.feed_other(rec, at, other)
+    }
+
+    /// The same for one that may begin or end a group, or have a fault.
+    #[inline(never)]
+    fn feed_other(&mut self, rec: u64, at: u64, rtp: Rtp) -> Result<(), OutOfMemory>
         requires stamp { IsStamp at }
         requires few { count_fed self.old < 2 ^ 41 }
 

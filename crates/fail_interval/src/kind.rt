@@ -1,6 +1,6 @@
 //! The meter of one sender type.
 
-ghost use Rattle.std.specs.Prelude.{◌≡◌, ◌<◌, ◌^◌, ◌++◌, ◌∷◌, [], ℕ, List, None};
+ghost use Rattle.std.specs.Prelude.{◌≡◌, ◌≤◌, ◌<◌, ◌+◌, ◌^◌, ◌++◌, ◌∷◌, [], ℕ, List, None};
 
 use drain_bucket::Bucket;
 use read_schedule::Due;
@@ -18,7 +18,9 @@ pub struct KindMeter {
 }
 
 impl KindMeter {
-    ghost use Rattle.fail_interval.specs.Kinds.{ComesNext, StandsFor};
+    ghost use Rattle.drain_bucket.specs.declared.bucket.Bucket.{Bucket as BucketValue};
+    ghost use Rattle.fail_interval.specs.Kinds.{ComesNext, PassesBy, StandsFor};
+    ghost use Rattle.sender_params.specs.declared.params.Params.{Params};
 
     /// The meter of this sender type before the first packet.
     pub fn new(params: &Params, kind: Kind) -> KindMeter
@@ -53,6 +55,33 @@ impl KindMeter {
             return self.feed_passing(params, bucket, due);
         }
         self.vrx.pass_due(params, due);
+    }
+
+    /// Takes the next packet, which changes neither peak nor verdict.
+    #[inline(always)]
+    pub fn pass(&mut self)
+        requires { self.old.vrx.seen < 2 ^ 41 }
+        ensures kind { self.new.vrx.kind ≡ self.old.vrx.kind }
+        ensures seen { self.new.vrx.seen ≡ self.old.vrx.seen + 1 }
+        ensures peak { self.new.vrx.peak ≡ self.old.vrx.peak }
+        ensures fault { self.new.vrx.fault ≡ self.old.vrx.fault }
+        ensures verdict { self.new.verdict ≡ self.old.verdict }
+        ensures c_max { self.new.c_max ≡ self.old.c_max }
+        ensures stands { (params : Params) (bucket : BucketValue) (stamps : List ℕ) (at : ℕ)
+            → StandsFor params self.old stamps → PassesBy params bucket self.old stamps at
+            → StandsFor params self.new (stamps ++ at ∷ []) }
+    {
+        self.vrx.pass_quiet();
+    }
+
+    /// The most packets in the bucket that leave the verdict.
+    pub fn brim(&self) -> u64
+        ensures { self.now.verdict ≡ Pass → result ≤ self.now.c_max }
+    {
+        match self.verdict {
+            KindVerdict::Pass => self.c_max,
+            KindVerdict::Fail(_) => u64::MAX,
+        }
     }
 
     /// The bucket may hold too much at this packet, which the buffer took.

@@ -9,6 +9,7 @@ mod flow;
 mod judge;
 mod kind;
 pub mod laws;
+mod lull;
 mod meters;
 mod run;
 

@@ -5,10 +5,12 @@ ghost use Rattle.fail_interval.specs.SoFar.{AreStamps};
 ghost use Rattle.fail_interval.specs.Row.{judged_values};
 
 use crate::kind::KindMeter;
+use crate::lull::Lull;
 use drain_bucket::Bucket;
-use read_schedule::Schedule;
+use read_schedule::{Between, Schedule};
 use sender_params::Params;
 use timing_base::{Judged, Kind};
+use vrx_buffer::VrxFault;
 
 /// What the two models say of the judged packets of one run.
 #[derive(Clone, Copy)]
@@ -19,10 +21,13 @@ pub struct Meters {
     narrow: KindMeter,
     narrow_linear: KindMeter,
     wide: KindMeter,
+    lull: Lull,
 }
 
 impl Meters {
-    ghost use Rattle.fail_interval.specs.Meters.{CanFollow, StandsFor};
+    ghost use Rattle.fail_interval.specs.Lulls.{Holds, IsLull};
+    ghost use Rattle.fail_interval.specs.Meters.{AreFed, CanFollow, StandsFor, TakesNext};
+    ghost use Rattle.sender_params.specs.declared.params.Params.{Params as ParamsValue};
 
     /// The meters before the first packet, which comes at `origin` in nanoseconds of TAI.
     fn new(params: &Params, origin: u64) -> Meters
@@ -38,6 +43,7 @@ impl Meters {
             narrow: KindMeter::new(params, Kind::N),
             narrow_linear: KindMeter::new(params, Kind::NL),
             wide: KindMeter::new(params, Kind::W),
+            lull: Lull::over(),
         }
     }
 
@@ -63,11 +69,69 @@ impl Meters {
             → StandsFor params.now self.new (stamps ++ at ∷ []) }
     {
         self.bucket.feed(params, at);
+        if self.lull.holds(self.bucket.count, at) {
+            self.pass(at);
+        } else {
+            self.tell(params, at);
+        }
+    }
+
+    /// Takes the next judged packet, which went into the bucket, in a lull.
+    #[inline(always)]
+    fn pass(&mut self, at: u64)
+        requires lull { Holds self.old.lull self.old.bucket.count at }
+        requires in_time { at < 2 ^ 62 }
+        requires narrow { self.old.narrow.vrx.seen < 2 ^ 41 }
+        requires narrow_linear { self.old.narrow_linear.vrx.seen < 2 ^ 41 }
+        requires wide { self.old.wide.vrx.seen < 2 ^ 41 }
+        ensures bucket { self.new.bucket ≡ self.old.bucket }
+        ensures takes { (params : ParamsValue) → TakesNext params self.old self.new at }
+    {
+        self.narrow.pass();
+        self.narrow_linear.pass();
+        self.wide.pass();
+        self.lull.left -= 1;
+        self.lull.gapped.go_on(at);
+        self.lull.linear.go_on(at);
+    }
+
+    /// The same in no lull.
+    #[inline(never)]
+    fn tell(&mut self, params: &Params, at: u64)
+        requires in_time { at < 2 ^ 62 }
+        requires narrow { self.old.narrow.vrx.seen < 2 ^ 41 }
+        requires narrow_linear { self.old.narrow_linear.vrx.seen < 2 ^ 41 }
+        requires wide { self.old.wide.vrx.seen < 2 ^ 41 }
+        ensures bucket { self.new.bucket ≡ self.old.bucket }
+        ensures takes { TakesNext params.now self.old self.new at }
+    {
         let gapped = self.gapped.advance(at);
         let linear = self.linear.advance(at);
         self.narrow.feed(params, &self.bucket, gapped);
         self.narrow_linear.feed(params, &self.bucket, linear);
         self.wide.feed(params, &self.bucket, linear);
+        self.lull = self.next_lull();
+    }
+
+    /// The lull from the next packet on.
+    fn next_lull(&self) -> Lull
+        ensures { (params : ParamsValue) (stamps : List ℕ) → AreFed params self.now stamps
+            → IsLull params self.now.bucket.origin self.now.narrow self.now.narrow_linear self.now.wide result }
+    {
+        let seen = self.narrow.vrx.seen;
+        let gapped = seen.saturating_sub(self.narrow.vrx.peak);
+        let linear = seen.saturating_sub(self.narrow_linear.vrx.peak);
+        let breaks = both_break(self.narrow_linear.vrx.fault, self.wide.vrx.fault);
+        Lull {
+            left: left(&self.gapped, gapped, seen).min(left(&self.linear, linear, seen)),
+            brim: self
+                .narrow
+                .brim()
+                .min(self.narrow_linear.brim())
+                .min(self.wide.brim()),
+            gapped: calm(&self.gapped, gapped, seen, self.narrow.vrx.fault.is_some()),
+            linear: calm(&self.linear, linear, seen, breaks),
+        }
     }
 
     /// The verdict on a run of so many whole groups with this head and no tail.
@@ -96,5 +160,42 @@ impl Meters {
                 self.wide.verdict,
             ],
         }
+    }
+}
+
+ghost use Rattle.std.specs.Prelude.{ℤ, Bool, false, None};
+ghost use Rattle.timing_base.specs.Media.{Media as MediaValue};
+ghost use Rattle.read_schedule.specs.Between.{IsFrom, IsUpTo};
+ghost use Rattle.read_schedule.specs.Stands.{StandsBy, left_of};
+
+/// Whether two buffers have a fault.
+fn both_break(first: Option<VrxFault>, second: Option<VrxFault>) -> bool
+    ensures first { first ≡ None → result ≡ false }
+    ensures second { second ≡ None → result ≡ false }
+{
+    first.is_some() && second.is_some()
+}
+
+/// The packets for which two reads go on in their groups.
+fn left(schedule: &Schedule, early: u64, late: u64) -> u64
+    ensures early { result ≤ left_of schedule.now early }
+    ensures late { result ≤ left_of schedule.now late }
+{
+    schedule.reads_left(early).min(schedule.reads_left(late))
+}
+
+/// The instants from one read on; up to the other one, too, where nothing breaks yet.
+fn calm(schedule: &Schedule, early: u64, late: u64, breaks: bool) -> Between
+    ensures due { (m : MediaValue) (n : ℕ) (anchor : ℤ) (gapped : Bool) (at left : ℕ)
+        → StandsBy m n anchor gapped schedule.now at → left ≤ left_of schedule.now early
+        → IsFrom m n anchor gapped early left result }
+    ensures ahead { (m : MediaValue) (n : ℕ) (anchor : ℤ) (gapped : Bool) (at left : ℕ)
+        → StandsBy m n anchor gapped schedule.now at → left ≤ left_of schedule.now late
+        → breaks ≡ false → IsUpTo m n anchor gapped late left result }
+{
+    if breaks {
+        schedule.after(early)
+    } else {
+        schedule.between(early, late)
     }
 }

@@ -52,7 +52,7 @@ impl WholeGroups {
 
     /// Takes the next packet.
     #[inline(always)]
-    fn feed(&mut self, at: u64, marker: bool)
+    pub fn feed(&mut self, at: u64, marker: bool)
         requires { ∥ ((m : MediaValue) × (so_far : Groups) × CanGoOn m self.old so_far at marker) ∥₁ }
         ensures { (m : MediaValue) (so_far : Groups) → CanGoOn m self.old so_far at marker
             → IsWhole m self.new (groups_next so_far at marker) }

@@ -9,8 +9,9 @@ use Rattle.timing_base.specs.declared.packet.Rtp.{Rtp}
 use Rattle.timing_base.proofs.Places.{cuts-here, cuts-other, markers-here, markers-other, places-none, run_start-cut, run_start-other}
 use Rattle.frame_group.specs.Marks.{IsIn}
 use Rattle.frame_group.specs.Placing.{answer_at, cut_at, place_after, placed_at, unless_fault}
-use Rattle.frame_group.specs.Reads.{IsRead}
+use Rattle.frame_group.specs.Reads.{GoesAfter, IsRead}
 use Rattle.frame_group.specs.Stands.{Keeps, StandsBefore, StandsFor, count_fed, what}
+use Rattle.frame_group.specs.declared.before.Before.{Before}
 use Rattle.frame_group.specs.declared.group.Group.{Group}
 use Rattle.frame_group.specs.declared.grouper.Grouper.{Grouper}
 use Rattle.frame_group.specs.declared.place.Place.{Place}
@@ -171,3 +172,8 @@ passes pt packets rest rec at r g s none on =
     told pt packets rest rec at r g None None g.group s none
     (λ all i kept read _ _. sym (on.sound all i kept read)) on.cut
     (λ all i kept is. enters-run all i g.group (sym is) kept.group)
+
+-- a packet that goes on has no marker
+pub unmarked : (before : Option Before) (r : Rtp) → GoesAfter before r → r.marker ≡ false
+unmarked None r h = absurd h
+unmarked (Some b) r h = h.2

@@ -1,5 +1,5 @@
 -- What is kept of the packet before packet i of a flow, and how packet i itself comes.
-use Rattle.std.specs.Prelude.{◌≡◌, ◌<◌, ◌-◌, ℕ, List, Option, Some, None, Ok}
+use Rattle.std.specs.Prelude.{◌≡◌, ◌<◌, ◌-◌, ℕ, false, List, Option, Some, None, Ok}
 use Rattle.timing_base.specs.Flows.{packet, rtp}
 use Rattle.timing_base.specs.declared.packet.FlowPacket.{FlowPacket}
 use Rattle.timing_base.specs.declared.packet.Rtp.{Rtp}
@@ -18,6 +18,11 @@ pub record IsAfter (packets : List FlowPacket) (i : ℕ) (b : Before) : Type 0 w
   pub timestamp : b.timestamp ≡ (rtp packets (i - 1)).timestamp
   pub marker : b.marker ≡ (rtp packets (i - 1)).marker
   pub source : b.source ≡ (rtp packets 0).ssrc
+
+-- this packet goes on after that one: with the same timestamp, and neither has the marker
+abbrev pub GoesAfter : Option Before → Rtp → Type 0
+GoesAfter None r = ⊥
+GoesAfter (Some b) r = (b.timestamp ≡ r.timestamp) × (b.marker ≡ false) × (r.marker ≡ false)
 
 -- packet i comes after this one, or is the first
 abbrev pub ComesAfter : List FlowPacket → ℕ → Option Before → Type 0

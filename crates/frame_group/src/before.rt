@@ -22,7 +22,20 @@ pub struct Before {
 }
 
 impl Before {
-    ghost use Rattle.frame_group.specs.Reads.{IsRead, IsAfter};
+    ghost use Rattle.frame_group.specs.Reads.{IsRead, IsAfter, ComesAfter, GoesAfter};
+
+    // Goes on to the next packet, which goes on after the one before.
+    #[inline(always)]
+    pub fn go_on(before: &mut Option<Before>, at: u64, rtp: Rtp)
+        requires { GoesAfter before.old rtp }
+        ensures { (packets : List FlowPacket) (i : ℕ) → ComesAfter packets i before.old
+            → IsRead packets i at rtp → ComesAfter packets (i + 1) before.new }
+    {
+        if let Some(before) = before {
+            before.at = at;
+            before.number = rtp.number;
+        }
+    }
 
     // The number that would have gone on, where a cut stands at the next packet.
     pub fn cut(&self, rtp: Rtp) -> Option<u32>

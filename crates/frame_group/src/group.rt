@@ -90,6 +90,19 @@ impl Group {
         }
     }
 
+    // Goes on with the next packet, which isn't the last of the group.
+    #[inline(always)]
+    pub fn go_on_in(group: &mut Option<Group>)
+        requires fits { ForSome group.old (λ g. g.place < g.most) }
+        ensures is { (marks : List ℕ) (i : ℕ) → IsIn marks i group.old → IsIn marks (i + 1) group.new }
+        ensures frame { (n : ℕ) → ForSome group.old (λ g. g.frame < n)
+            → ForSome group.new (λ g. g.frame < n + 1) }
+    {
+        if let Some(group) = group {
+            group.place += 1;
+        }
+    }
+
     // The fault of the next packet by its group, if it stands in one.
     pub fn fault_in(group: Option<Group>, last: bool) -> Option<PacketFault>
         ensures is { (packets : List FlowPacket) (i : ℕ)

@@ -1,6 +1,6 @@
 //! The grouper.
 
-ghost use Rattle.std.specs.Prelude.{◌≡◌, ◌≤◌, ◌<◌, ◌+◌, ◌^◌, ◌++◌, ◌∷◌, [], ℕ, List, Ok, None, true, length, IfOk};
+ghost use Rattle.std.specs.Prelude.{◌≡◌, ◌≤◌, ◌<◌, ◌+◌, ◌^◌, ◌++◌, ◌∷◌, [], ℕ, List, Ok, None, true, false, length, IfOk, IfSome};
 ghost use Rattle.std.specs.Option.{ForSome};
 ghost use Rattle.timing_base.specs.declared.packet.FlowPacket.{FlowPacket};
 ghost use Rattle.timing_base.specs.Flows.{cuts, fault, fault_if, first_of, is_second_source, markers_before, order_fault};
@@ -9,7 +9,7 @@ ghost use Rattle.frame_group.specs.Placing.{answer_at, cut_at, IsInRange};
 
 use crate::before::Before;
 use crate::group::Group;
-use crate::place::Placed;
+use crate::place::{Place, Placed};
 use timing_base::{PacketFault, Rtp};
 
 /// What is kept of the packets of one flow between two of them.
@@ -28,7 +28,7 @@ pub struct Grouper {
 
 impl Grouper {
     ghost use Rattle.frame_group.specs.Marks.{IsIn};
-    ghost use Rattle.frame_group.specs.Reads.{IsAfter, IsRead};
+    ghost use Rattle.frame_group.specs.Reads.{GoesAfter, IsAfter, IsRead};
     ghost use Rattle.frame_group.specs.Stands.{count_fed, Keeps, StandsFor};
 
     /// Before the first packet of a flow whose media has the payload type `pt`.
@@ -156,8 +156,8 @@ impl Grouper {
         self.group = Group::after_in(group, rtp.marker);
     }
 
-    // Whether the next packet goes on in the group of the packet before and has no fault, as most do. One
-    // that ends a group doesn't count.
+    // Whether the next packet goes on after the packet before, with its timestamp and no marker, and has no
+    // fault, as most do.
     #[inline(always)]
     fn goes_on(&self, at: u64, rtp: Rtp) -> bool
         ensures cut { result ≡ true → (packets : List FlowPacket) (i stamp : ℕ)
@@ -166,8 +166,12 @@ impl Grouper {
             → Keeps packets i self.now → IsRead packets i at rtp
             → fault packets self.now.pt i ≡ None }
         ensures fits { result ≡ true → ForSome self.now.group (λ g. g.place < g.most) }
+        ensures after { result ≡ true → GoesAfter self.now.before rtp }
     {
-        if self.before.is_none() || self.group.is_none() || rtp.marker {
+        let Some(before) = self.before else {
+            return false;
+        };
+        if before.marker || rtp.marker || rtp.timestamp != before.timestamp {
             return false;
         }
         if self.cut(rtp).is_some() {
@@ -176,54 +180,60 @@ impl Grouper {
         self.fault_at(at, rtp, None, self.group).is_none()
     }
 
+    // Goes past the next packet, which goes on so and has no fault.
+    #[inline(always)]
+    fn go_on(&mut self, at: u64, rtp: Rtp)
+        requires few { self.old.fed < 2 ^ 41 }
+        requires fits { ForSome self.old.group (λ g. g.place < g.most) }
+        requires after { GoesAfter self.old.before rtp }
+        ensures keeps { (packets : List FlowPacket) (i : ℕ) → Keeps packets i self.old
+            → IsRead packets i at rtp → None ≡ cut_at packets i → Keeps packets (i + 1) self.new }
+        ensures pt { self.new.pt ≡ self.old.pt }
+        ensures fed { self.new.fed ≡ self.old.fed + 1 }
+        ensures fault { self.new.fault ≡ self.old.fault }
+    {
+        Before::go_on(&mut self.before, at, rtp);
+        Group::go_on_in(&mut self.group);
+        self.fed += 1;
+    }
+
+    /// Takes the next packet as [`Grouper::feed`] does, and answers where it stands, if it goes on after the
+    /// packet before it, with the same timestamp and no marker, and has no fault, as most packets do. Else
+    /// nothing changes: for callers that then go on with `feed`.
+    #[inline(always)]
+    pub fn feed_on(&mut self, at: u64, rtp: Rtp) -> Option<Place>
+        requires few { count_fed self.old < 2 ^ 41 }
+
+        ensures other { result ≡ None → self.new ≡ self.old }
+        ensures fed { IfSome result (λ _. count_fed self.new ≡ count_fed self.old + 1) }
+        ensures unmarked { IfSome result (λ _. rtp.marker ≡ false) }
+
+        // The packet's place in every flow that begins with the packets before it and goes on so: no gap
+        // stands before it.
+        ensures answer { IfSome result (λ place. (pt : ℕ) (packets rest : List FlowPacket) (rec : ℕ)
+            → StandsFor pt self.old packets
+            → Ok (record { cut = None; place = place }) ≡ answer_at
+            (packets ++ record { rec = rec; at = at; rtp = Ok rtp } ∷ rest) pt (length packets)) }
+
+        // Whatever packets the grouper stood for, it now stands for those and this one.
+        ensures stands { IfSome result (λ _. (pt : ℕ) (packets : List FlowPacket) (rec : ℕ)
+            → StandsFor pt self.old packets
+            → StandsFor pt self.new (packets ++ record { rec = rec; at = at; rtp = Ok rtp } ∷ [])) }
+    {
+        if self.fault.is_some() || !self.goes_on(at, rtp) {
+            return None;
+        }
+        let place = Group::place_in(self.group, rtp.marker);
+        self.go_on(at, rtp);
+        Some(place)
+    }
+
     /// Takes the next packet of the flow, captured at `at` in nanoseconds, and answers where it stands,
     /// or its fault: the first that holds, in the order of [`PacketFault`]. After a fault each later
     /// packet is answered with that same fault.
     ///
     /// A packet that could not be read (`Short` or `Version`) is not fed, nor is any after it.
     pub fn feed(&mut self, at: u64, rtp: Rtp) -> Result<Placed, PacketFault>
-        requires few { count_fed self.old < 2 ^ 41 }
-
-        ensures fed { count_fed self.new ≡ count_fed self.old + 1 }
-
-        // The packet's place in every flow that begins with the packets before it and goes on so.
-        ensures answer { (pt : ℕ) (packets rest : List FlowPacket) (rec : ℕ)
-            → StandsFor pt self.old packets
-            → result ≡ answer_at
-            (packets ++ record { rec = rec; at = at; rtp = Ok rtp } ∷ rest) pt (length packets) }
-
-        // What a caller may count on without knowing the packets before.
-        ensures in_range { IfOk result (λ placed. IsInRange (count_fed self.old) placed.place) }
-
-        // Whatever packets the grouper stood for, it now stands for those and this one.
-        ensures stands { (pt : ℕ) (packets : List FlowPacket) (rec : ℕ)
-            → StandsFor pt self.old packets
-            → StandsFor pt self.new (packets ++ record { rec = rec; at = at; rtp = Ok rtp } ∷ []) }
-    {
-        if self.fault.is_none() {
-            if self.goes_on(at, rtp) {
-                let group = self.group;
-                self.pass(at, rtp, None, group);
-                return Ok(Placed {
-                    cut: None,
-                    place: Group::place_in(group, rtp.marker),
-                });
-            }
-        }
-        // A copy of its own, so that a usual packet is never laid out in memory.
-        let other = Rtp {
-            number: rtp.number,
-            timestamp: rtp.timestamp,
-            marker: rtp.marker,
-            pt: rtp.pt,
-            ssrc: rtp.ssrc,
-        };
-        self.feed_other(at, other)
-    }
-
-    // The same, for a packet that may begin or end a group, or have a fault.
-    #[inline(never)]
-    fn feed_other(&mut self, at: u64, rtp: Rtp) -> Result<Placed, PacketFault>
         requires few { count_fed self.old < 2 ^ 41 }
 
         ensures fed { count_fed self.new ≡ count_fed self.old + 1 }

@@ -1,6 +1,6 @@
 //! The reader, which lends one frame after the other.
 
-ghost use Rattle.std.specs.Prelude.{◌≡◌, ◌≤◌, ◌^◌, List, ℕ, Some, None, Err, IfOk, IfErr, MatchResult, drop};
+ghost use Rattle.std.specs.Prelude.{◌≡◌, ◌≤◌, ◌^◌, List, ℕ, Some, None, Ok, Err, IfOk, IfErr, IfSome, MatchResult, drop};
 ghost use Rattle.std.specs.Option.{ForSome};
 ghost use Rattle.timing_base.specs.Captures.{Record};
 ghost use Rattle.timing_base.specs.declared.capture.PcapFault.TheVariants as fault;
@@ -178,7 +178,6 @@ impl<S: Source> PcapReader<S> {
     }
 
     /// Reads the next record and lets it go.
-    #[inline(always)]
     fn read_record(&mut self, layout: Layout) -> Result<Head, FileNote>
         requires begun { self.old.window.stage ≡ stage.Records layout }
         ensures gives { (text : List ℕ) (items : List Record) (note : _)
@@ -212,7 +211,6 @@ impl<S: Source> PcapReader<S> {
     }
 
     /// Reads on to the end of the next record, or to how the capture ends.
-    #[inline(always)]
     fn advance(&mut self) -> Result<Head, FileNote>
         ensures finds { Finds S.left S.name S.faults self.old self.new result }
         ensures goes_on { IfOk result (λ _. end_note self.new ≡ None) }
@@ -231,9 +229,42 @@ impl<S: Source> PcapReader<S> {
         }
     }
 
+    /// Reads the next record, where it has no fault and is held whole, as most records are. Else nothing
+    /// changes.
+    #[inline(always)]
+    fn read_front(&mut self) -> Option<Head>
+        ensures other { result ≡ None → self.new ≡ self.old }
+        ensures finds { IfSome result (λ head. Finds S.left S.name S.faults self.old self.new (Ok head)) }
+        ensures goes_on { IfSome result (λ _. end_note self.new ≡ None) }
+        ensures begun { IfSome result (λ _. end_note self.old ≡ None) }
+    {
+        let Stage::Records(layout) = self.window.stage else {
+            return None;
+        };
+        let head = self.window.front(layout)?;
+        self.window.pass_record(head.captured);
+        Some(head)
+    }
+
     /// Finds the next record, or says how all ended, and keeps that.
     #[inline(always)]
     fn find(&mut self) -> Result<Head, FileNote>
+        ensures finds { Finds S.left S.name S.faults self.old self.new result }
+        ensures tells { MatchResult result (λ _. end_note self.new ≡ None)
+            (λ note. end_note self.new ≡ Some note) }
+        ensures again { (note : _) → end_note self.old ≡ Some note → self.new ≡ self.old }
+        ensures given { IfErr result IsGiven }
+    {
+        match self.read_front() {
+            Some(head) => Ok(head),
+            None => self.find_other(),
+        }
+    }
+
+    /// The same, for a record that isn't held whole, or none.
+    #[cold]
+    #[inline(never)]
+    fn find_other(&mut self) -> Result<Head, FileNote>
         ensures finds { Finds S.left S.name S.faults self.old self.new result }
         ensures tells { MatchResult result (λ _. end_note self.new ≡ None)
             (λ note. end_note self.new ≡ Some note) }

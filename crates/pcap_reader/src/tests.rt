@@ -5,7 +5,8 @@ use std::alloc::{AllocError, Global};
 use std::process::Abort;
 use std::test::Fail;
 use timing_base::{FileNote, PcapFault};
-use timing_outside::{MemoryShelf, MemorySource, OpenFault, ReadPlan, Shelf};
+use timing_examples::source_of;
+use timing_outside::{MemorySource, OpenFault};
 
 const MOST: u64 = 1 << 40;
 
@@ -110,18 +111,7 @@ fn open(
     fails: &[u32],
     most: u64,
 ) -> Result<PcapReader<MemorySource>, OpenFault> {
-    let plan = ReadPlan {
-        fetch_fails: false,
-        piece: piece.max(1),
-        fails: Vec::from_slice(alloc, fails)?,
-    };
-    let mut shelf = MemoryShelf::new(alloc);
-    shelf.put(
-        String::from_str(alloc, "a.pcap")?,
-        Vec::from_slice(alloc, text)?,
-        plan,
-    )?;
-    let source = shelf.fetch("a.pcap")?;
+    let source = source_of(alloc, text, piece, fails)?;
     match PcapReader::start(alloc, source, most.max(24).min(MOST)) {
         Ok(reader) => Ok(reader),
         Err(_) => Err(OpenFault::OutOfMemory),

@@ -5,9 +5,9 @@ ghost use Rattle.std.specs.Option.{ForSome};
 ghost use Rattle.pcap_reader.specs.Stages.{is_begun, stage_note};
 ghost use Rattle.pcap_reader.specs.Records.{IsGiven};
 ghost use Rattle.pcap_reader.specs.declared.stage.Stage.TheVariants as stage;
-ghost use Rattle.std.specs.Prelude.{◌≡◌, ◌≤◌, ◌<◌, ◌+◌, ◌-◌, ◌*◌, ◌^◌, ◌++◌, ℕ, [], IfOk, IfErr, Some, None, IsTrue, true, false, vec_len, length, take, drop};
+ghost use Rattle.std.specs.Prelude.{◌≡◌, ◌≤◌, ◌<◌, ◌+◌, ◌-◌, ◌*◌, ◌^◌, ◌++◌, ℕ, [], IfOk, IfErr, IfSome, Some, None, IsTrue, true, false, vec_len, length, take, drop};
 
-use crate::layout::Layout;
+use crate::layout::{Layout, Order};
 use crate::stage::{Head, Stage};
 use std::alloc::{AllocError, Global};
 use timing_base::{FileNote, PcapFault};
@@ -139,6 +139,65 @@ impl Window {
         ensures same { self.old.stage ≡ stage.Ended note → self.new ≡ self.old }
     {
         self.stage = Stage::Ended(note);
+    }
+
+    /// The head of the record at the front, where it has no fault and the whole record is held, as most
+    /// records are.
+    #[inline(always)]
+    pub fn front(&self, layout: Layout) -> Option<Head>
+        ensures held { IfSome result (λ h. 16 + h.captured ≤ length (held_bytes self.now)) }
+        ensures stamp { IfSome result (λ h. h.at ≡ stamp layout (held_bytes self.now)) }
+        ensures captured { IfSome result (λ h. h.captured ≡ captured layout (held_bytes self.now)) }
+        ensures below { IfSome result (λ h. IsStamp h.at) }
+        ensures few { IfSome result (λ h. h.captured ≤ 262144) }
+        ensures most { IfSome result (λ h. self.now.place + 16 + h.captured ≤ self.now.most) }
+        ensures whole { IfSome result (λ h. (long : ℕ) → 16 + h.captured ≤ long
+            → front_note layout self.now long ≡ None) }
+    {
+        // Each is compiled for itself.
+        match layout.order {
+            Order::Little => self.front_in(Layout {
+                order: Order::Little,
+                fraction: layout.fraction,
+            }),
+            Order::Big => self.front_in(Layout {
+                order: Order::Big,
+                fraction: layout.fraction,
+            }),
+        }
+    }
+
+    /// The same, for one layout.
+    #[inline(always)]
+    fn front_in(&self, layout: Layout) -> Option<Head>
+        ensures held { IfSome result (λ h. 16 + h.captured ≤ length (held_bytes self.now)) }
+        ensures stamp { IfSome result (λ h. h.at ≡ stamp layout (held_bytes self.now)) }
+        ensures captured { IfSome result (λ h. h.captured ≡ captured layout (held_bytes self.now)) }
+        ensures below { IfSome result (λ h. IsStamp h.at) }
+        ensures few { IfSome result (λ h. h.captured ≤ 262144) }
+        ensures most { IfSome result (λ h. self.now.place + 16 + h.captured ≤ self.now.most) }
+        ensures whole { IfSome result (λ h. (long : ℕ) → 16 + h.captured ≤ long
+            → front_note layout self.now long ≡ None) }
+    {
+        let bytes = self.peek();
+        if bytes.len() < 16 {
+            return None;
+        }
+        let seconds = layout.order.read_u32(bytes, 0);
+        let fraction = layout.order.read_u32(bytes, 4);
+        let captured = layout.order.read_u32(bytes, 8);
+        if fraction >= layout.fraction.per_second()
+            || captured > MOST_CAPTURED
+            || self.place + 16 + u64::from(captured) > self.most
+            || bytes.len() < 16 + captured as usize
+        {
+            return None;
+        }
+        let nanos = layout.fraction.to_nanos(fraction);
+        Some(Head {
+            at: u64::from(seconds) * 1_000_000_000 + u64::from(nanos),
+            captured: captured as usize,
+        })
     }
 
     /// Looks at the head of the record at the front of what is held. The first fault wins: the

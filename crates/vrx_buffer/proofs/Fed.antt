@@ -255,11 +255,11 @@ quiet-at params v stamps at due s are nowhere few low =
     ∙ took-fault params v w stamps at due.count false answer s are.count late record { kind = refl; seen = refl; peak = refl; fault = refl; answer_is = refl })
 
 -- the buffer with one packet more
-abbrev one_more : Vrx → Vrx
+abbrev pub one_more : Vrx → Vrx
 one_more v = record { kind = v.kind; seen = v.seen + 1; peak = v.peak; fault = v.fault }
 
 -- it stands for that packet too, whether one before had a fault or not
-quiet-more : (params : Params) (v : Vrx) (stamps : List ℕ) (at : ℕ) (due : Due) (fault : Option VrxFault)
+pub quiet-more : (params : Params) (v : Vrx) (stamps : List ℕ) (at : ℕ) (due : Due) (fault : Option VrxFault)
     → v.fault ≡ fault
     → StandsFor params v stamps
     → IsDueAt params.media params.n (anchor_of params.media (slice_index (stamps ++ at ∷ []) 0)) (gapped_of v.kind) at due

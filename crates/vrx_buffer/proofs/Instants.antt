@@ -6,6 +6,7 @@ use Rattle.std.proofs.lemmas.Int.{ints}
 use Rattle.std.proofs.lemmas.List.Sums.{sum_by-cons}
 use Rattle.std.proofs.Math.Nat.{mul-le-mul}
 use Rattle.fraction128.specs.Fractions.{AtMost, Below, Fraction, at_most, whole}
+use Rattle.fraction128.proofs.Order.{at_most-false, at_most-true, fraction_cases}
 use Rattle.timing_base.specs.Media.{IsMedia, Media}
 use Rattle.timing_base.specs.declared.media.Kind.{Kind}
 use Rattle.sender_params.specs.Keeps.{KeepsBuffer, arrived, due_among, held_at, is_empty, is_over}
@@ -13,9 +14,9 @@ use Rattle.sender_params.specs.Limits.{gapped_of, vrx_full_of}
 use Rattle.sender_params.specs.Reads.{AreDue, anchor_of, read_of}
 use Rattle.sender_params.specs.Ticks.{NeverFall}
 use Rattle.sender_params.specs.Times.{group_time, offset_time, read_step}
+use Rattle.sender_params.proofs.Parts.{have_per}
 use Rattle.read_schedule.proofs.Held.{due_among-is, held_at-is}
-use Rattle.read_schedule.proofs.Instants.{at_most-false, at_most-true, fraction_cases}
-use Rattle.read_schedule.proofs.Rising.{due-some, have_per}
+use Rattle.read_schedule.proofs.Rising.{due-some}
 use Rattle.vrx_buffer.specs.Faults.{BreaksNowhere, IsFirstFault}
 use Rattle.vrx_buffer.specs.declared.vrx.VrxFault.{VrxFault}
 use Rattle.vrx_buffer.specs.declared.vrx.VrxFault.TheVariants.{Over, Empty}

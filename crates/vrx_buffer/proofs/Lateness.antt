@@ -4,11 +4,11 @@ use Rattle.std.proofs.lemmas.Bool.{cases_lt}
 use Rattle.std.proofs.lemmas.Bool.Decides.{nat_tests}
 use Rattle.std.proofs.lemmas.Int.{ints}
 use Rattle.fraction128.specs.Fractions.{AtMost, at_most, below, whole}
+use Rattle.fraction128.proofs.Order.{at_most-false, at_most-true}
 use Rattle.timing_base.specs.Media.{IsMedia, Media}
 use Rattle.sender_params.specs.Reads.{AreDue, read_of}
 use Rattle.read_schedule.specs.Stands.{IsDueAt, is_on_time}
 use Rattle.read_schedule.specs.declared.schedule.Due.{Due}
-use Rattle.read_schedule.proofs.Instants.{at_most-false, at_most-true}
 use Rattle.read_schedule.proofs.Rising.{read-rises}
 use Rattle.vrx_buffer.proofs.Order.{below-at_most}
 

@@ -5,8 +5,9 @@ ghost use Rattle.std.specs.Prelude.{◌≤◌, ◌*◌};
 use super::*;
 use read_schedule::Schedule;
 use sender_params::Params;
+use sender_params::worked::video;
 use std::process::Abort;
-use timing_base::{Kind, Media};
+use timing_base::Kind;
 
 // TAI second 1,600,000,000 begins frame 80,000,000,000 at 50 frames per second.
 const SECOND: u64 = 1_600_000_000_000_000_000;
@@ -14,31 +15,6 @@ const SECOND: u64 = 1_600_000_000_000_000_000;
 const FIRST: u64 = SECOND + 764_000;
 
 const KINDS: [Kind; 3] = [Kind::N, Kind::NL, Kind::W];
-
-// A video of this height, declared narrow, without TROFF and CMAX.
-fn video(height: u32, interlaced: bool, p: u32, q: u32) -> Media
-    requires height_some { 1 ≤ height }
-    requires height_most { height ≤ 32767 }
-    requires p_some { 1 ≤ p }
-    requires p_most { p ≤ 240 * q }
-    requires q_some { 1 ≤ q }
-    requires q_most { q ≤ 1001 }
-{
-    Media {
-        line: 5,
-        address: 0xef00_0001,
-        port: 50000,
-        pt: 96,
-        width: 1920,
-        height,
-        interlaced,
-        p,
-        q,
-        declared: Some(Kind::N),
-        troff: None,
-        cmax: None,
-    }
-}
 
 // 1080p at 50 with 20 packets per frame.
 fn plain() -> Params {

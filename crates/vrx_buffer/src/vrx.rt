@@ -43,6 +43,7 @@ impl Vrx {
     ghost use Rattle.read_schedule.specs.Stands.{IsDueAt};
     ghost use Rattle.sender_params.specs.declared.params.Params.{Params};
     ghost use Rattle.vrx_buffer.specs.Faults.{BreaksNowhere, fault_at};
+    ghost use Rattle.vrx_buffer.specs.Quiet.{IsQuiet};
     ghost use Rattle.vrx_buffer.specs.Stands.{StandsFor};
     ghost use Rattle.vrx_buffer.specs.Taking.{IsWithin, Took, earlier, fault_by};
 
@@ -165,6 +166,29 @@ impl Vrx {
         }
         self.seen += 1;
         true
+    }
+
+    /// Puts in a packet that raises no peak and, as long as there is no fault, comes before its own read:
+    /// for callers that know so by its stamp, without counting the reads.
+    #[inline(always)]
+    pub fn pass_quiet(&mut self)
+        requires { self.old.seen < 2 ^ 41 }
+
+        ensures kind { self.new.kind ≡ self.old.kind }
+        ensures seen { self.new.seen ≡ self.old.seen + 1 }
+        ensures peak { self.new.peak ≡ self.old.peak }
+        ensures fault { self.new.fault ≡ self.old.fault }
+
+        // Whatever packets the buffer stood for: it has no fault where none before it breaks the model.
+        ensures none { (params : Params) (stamps : List ℕ) (at : ℕ)
+            → StandsFor params self.old stamps → IsQuiet params self.old stamps at
+            → BreaksNowhere params.media params.n stamps self.old.kind
+            → fault_at params.media params.n (stamps ++ at ∷ []) self.old.kind (length stamps) ≡ None }
+        ensures stands { (params : Params) (stamps : List ℕ) (at : ℕ)
+            → StandsFor params self.old stamps → IsQuiet params self.old stamps at
+            → StandsFor params self.new (stamps ++ at ∷ []) }
+    {
+        self.seen += 1;
     }
 
     /// After the first fault: a packet came when so many reads were due.

@@ -1,5 +1,5 @@
 use Rattle.fail_interval.proofs.Fit.{bounds-known}
-use Rattle.fail_interval.proofs.Metering.{fed}
+use Rattle.fail_interval.proofs.Metering.{bucket-follows}
 use Rattle.fail_interval.proofs.meters.Meters.feed.Goals as goal
 
 pub feed-requires-clause-begun : goal.feed-requires-clause-begun
@@ -11,23 +11,36 @@ feed-requires-clause-in_time c = (bounds-known _ _ _ c.requires).in_time
 pub feed-requires-clause-few : goal.feed-requires-clause-few
 feed-requires-clause-few c = (bounds-known _ _ _ c.requires).few
 
-pub advance-gapped-requires : goal.advance-gapped-requires
-advance-gapped-requires c = (bounds-known _ _ _ c.requires).in_time
+pub pass-requires-clause-in_time : goal.pass-requires-clause-in_time
+pass-requires-clause-in_time c = (bounds-known _ _ _ c.requires).in_time
 
-pub advance-linear-requires : goal.advance-linear-requires
-advance-linear-requires c = (bounds-known _ _ _ c.requires).in_time
+pub pass-requires-clause-narrow : goal.pass-requires-clause-narrow
+pass-requires-clause-narrow c = (bounds-known _ _ _ c.requires).narrow
 
-pub feed-requires-2 : goal.feed-requires-2
-feed-requires-2 c = (bounds-known _ _ _ c.requires).narrow
+pub pass-requires-clause-narrow_linear : goal.pass-requires-clause-narrow_linear
+pass-requires-clause-narrow_linear c = (bounds-known _ _ _ c.requires).narrow_linear
 
-pub feed-requires-3 : goal.feed-requires-3
-feed-requires-3 c = (bounds-known _ _ _ c.requires).narrow_linear
+pub pass-requires-clause-wide : goal.pass-requires-clause-wide
+pass-requires-clause-wide c = (bounds-known _ _ _ c.requires).wide
 
-pub feed-requires-4 : goal.feed-requires-4
-feed-requires-4 c = (bounds-known _ _ _ c.requires).wide
+pub tell-requires-clause-in_time : goal.tell-requires-clause-in_time
+tell-requires-clause-in_time c = (bounds-known _ _ _ c.requires).in_time
 
-pub returns-clause-stands : goal.returns-clause-stands
-returns-clause-stands c =
-    fed c.args.params.now c.args.self.now c.args.at _ _ _ _ _ _ _ _ c.feed.ensures.origin c.feed.ensures.stands
-    (c.advance-gapped.ensures.due, c.advance-gapped.ensures.stands) (c.advance-linear.ensures.due, c.advance-linear.ensures.stands)
-    c.feed-2.ensures.kind c.feed-2.ensures.stands c.feed-3.ensures.kind c.feed-3.ensures.stands c.feed-4.ensures.kind c.feed-4.ensures.stands
+pub tell-requires-clause-narrow : goal.tell-requires-clause-narrow
+tell-requires-clause-narrow c = (bounds-known _ _ _ c.requires).narrow
+
+pub tell-requires-clause-narrow_linear : goal.tell-requires-clause-narrow_linear
+tell-requires-clause-narrow_linear c = (bounds-known _ _ _ c.requires).narrow_linear
+
+pub tell-requires-clause-wide : goal.tell-requires-clause-wide
+tell-requires-clause-wide c = (bounds-known _ _ _ c.requires).wide
+
+pub returns-then-holds-clause-stands : goal.returns-then-holds-clause-stands
+returns-then-holds-clause-stands c = λ stamps follows.
+    c.pass.ensures.takes c.args.params.now c.args.self.now.bucket stamps follows c.feed.ensures.origin
+    (c.feed.ensures.stands stamps follows.stands.fed.bucket (bucket-follows c.args.params.now c.args.self.now stamps c.args.at follows))
+
+pub returns-else-holds-clause-stands : goal.returns-else-holds-clause-stands
+returns-else-holds-clause-stands c = λ stamps follows.
+    c.tell.ensures.takes c.args.self.now.bucket stamps follows c.feed.ensures.origin
+    (c.feed.ensures.stands stamps follows.stands.fed.bucket (bucket-follows c.args.params.now c.args.self.now stamps c.args.at follows))

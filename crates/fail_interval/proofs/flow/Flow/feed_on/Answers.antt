@@ -1,0 +1,24 @@
+use Rattle.std.proofs.Common.{arith, None, refl}
+use Rattle.frame_group.specs.declared.place.Placed.{Placed}
+use Rattle.fail_interval.proofs.Feeding.{few-known, goes_on, seconds-known, stamp-known, take-known}
+use Rattle.fail_interval.proofs.flow.Flow.feed_on.Goals as goal
+
+pub feed_on-requires : goal.feed_on-requires
+feed_on-requires c = record { few = few-known _ _ c.requires }
+
+pub overflow_mul-came : goal.overflow_mul-came
+overflow_mul-came c = omega (arith, seconds-known _ _ c.requires)
+
+pub overflow_add-came : goal.overflow_add-came
+overflow_add-came c = omega (arith, stamp-known _ _ c.requires, seconds-known _ _ c.requires)
+
+pub feed-requires : goal.feed-requires
+feed-requires c =
+    let placed : Placed = record { cut = None; place = c.in-Some.field-0 } in
+    take-known _ 0 c.args.at c.args.rtp placed _ c.in-Some-open.is refl (λ packets s rest. c.in-Some.ensures.answer _ packets rest 0 s) c.requires
+
+pub returns-clause-goes_on : goal.returns-clause-goes_on
+returns-clause-goes_on c = λ _ packets rec_number h.
+    let placed : Placed = record { cut = None; place = c.in-Some.field-0 } in
+    goes_on _ packets rec_number c.args.at c.args.rtp placed _ _ _ c.in-Some-open.is refl
+    (λ rest. c.in-Some.ensures.answer _ packets rest rec_number h.stands.grouper) (c.in-Some.ensures.stands _ packets rec_number h.stands.grouper) c.in_ok-feed-in-Some-open.ensures h

@@ -1,0 +1,13 @@
+use Rattle.std.proofs.Common.{refl}
+use Rattle.fail_interval.proofs.judge.State.feed_on.Goals as goal
+
+pub returns-in-Going-clause-goes_on : goal.returns-in-Going-clause-goes_on
+returns-in-Going-clause-goes_on c = λ took. record {
+  flow = c.in-Going.flow;
+  later = c.feed_on.new.self;
+  is = c.in-Going.is;
+  becomes = refl;
+  media = c.feed_on.ensures.media;
+  tai = c.feed_on.ensures.tai;
+  goes = λ packets rec_number can. c.feed_on.ensures.goes_on took packets rec_number can;
+}

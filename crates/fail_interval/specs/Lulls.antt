@@ -1,0 +1,30 @@
+-- What a `Lull` says of the meters of a run.
+use Rattle.std.specs.Prelude.{◌≡◌, ◌≤◌, ℕ, ◌-◌, None}
+use Rattle.read_schedule.specs.Between.{Holds as HoldsBetween, IsFrom, IsUpTo}
+use Rattle.read_schedule.specs.declared.between.Between.{Between}
+use Rattle.sender_params.specs.Limits.{gapped_of}
+use Rattle.sender_params.specs.Reads.{anchor_of}
+use Rattle.sender_params.specs.declared.params.Params.{Params}
+use Rattle.timing_base.specs.declared.row.KindVerdict.TheVariants.{Pass}
+use Rattle.fail_interval.specs.declared.kind.KindMeter.{KindMeter}
+use Rattle.fail_interval.specs.declared.lull.Lull.{Lull}
+
+-- the lull holds for a packet at this instant, after which the bucket holds so many
+pub record Holds (lull : Lull) (count at : ℕ) : Type 0 where
+  pub lasts : 1 ≤ lull.left
+  pub within : count ≤ lull.brim
+  pub gapped : HoldsBetween lull.gapped at
+  pub linear : HoldsBetween lull.linear at
+
+-- for `left` packets at these instants of the reads of a sender type: no more is held than before, and as long as it has no
+-- fault each comes before its own read; and as long as it passes, the bucket is within its limit up to the brim
+pub record IsCalm (params : Params) (origin : ℕ) (meter : KindMeter) (left brim : ℕ) (b : Between) : Type 0 where
+  pub within : meter.verdict ≡ Pass → brim ≤ meter.c_max
+  pub due : IsFrom params.media params.n (anchor_of params.media origin) (gapped_of meter.vrx.kind) (meter.vrx.seen - meter.vrx.peak) left b
+  pub ahead : meter.vrx.fault ≡ None → IsUpTo params.media params.n (anchor_of params.media origin) (gapped_of meter.vrx.kind) meter.vrx.seen left b
+
+-- so of each sender type: narrow, narrow linear and wide
+pub record IsLull (params : Params) (origin : ℕ) (first second third : KindMeter) (lull : Lull) : Type 0 where
+  pub narrow : IsCalm params origin first lull.left lull.brim lull.gapped
+  pub narrow_linear : IsCalm params origin second lull.left lull.brim lull.linear
+  pub wide : IsCalm params origin third lull.left lull.brim lull.linear
