@@ -5,41 +5,10 @@ use super::*;
 use pcap_reader::PcapReader;
 use std::alloc::{AllocError, Global};
 use std::test::Fail;
-use timing_base::{FileNote, FlowKey, Media, PacketFault, Row, Unjudged, Verdict};
-use timing_outside::{MemoryShelf, MemorySource, OpenFault, ReadPlan, Shelf};
-
-// A file header: little-endian, nanoseconds, Ethernet.
-const HEAD: [u8; 24] = [
-    0x4d, 0x3c, 0xb2, 0xa1, 2, 0, 4, 0, 0, 0, 0, 0, 0, 0, 0, 0, 0, 0, 4, 0, 1, 0, 0, 0,
-];
-
-// One packet to 239.0.0.1, laid out by hand.
-const FRAME: [u8; 56] = [
-    0x01, 0x00, 0x5e, 0x00, 0x00, 0x01, 0x02, 0x00, 0x00, 0x00, 0x00, 0x01, 0x08, 0x00, // Ethernet
-    0x45, 0x00, 0x00, 0x2a, 0x00, 0x00, 0x40, 0x00, 0x40, 0x11, 0x00, 0x00, // IPv4
-    0xc0, 0x00, 0x02, 0x01, 0xef, 0x00, 0x00, 0x01, // addresses
-    0xc3, 0x50, 0xc3, 0x50, 0x00, 0x16, 0x00, 0x00, // UDP, to port 50000
-    0x80, 0x60, 0x00, 0x00, 0x00, 0x00, 0x07, 0x08, 0x00, 0x00, 0x00, 0x01, // RTP
-    0x00, 0x00, // extended sequence number
-];
-
-// A video stream to this port of 239.0.0.1.
-fn media(port: u16) -> Media {
-    Media {
-        line: 5,
-        address: 0xef00_0001,
-        port: port.max(1),
-        pt: 96,
-        width: 1920,
-        height: 1080,
-        interlaced: false,
-        p: 50,
-        q: 1,
-        declared: None,
-        troff: None,
-        cmax: None,
-    }
-}
+use timing_base::worked::undeclared_to;
+use timing_base::{FileNote, FlowKey, PacketFault, Row, Unjudged, Verdict};
+use timing_examples::{FRAME, HEAD, source_of};
+use timing_outside::{MemorySource, OpenFault};
 
 // A frame to port 50000 and so many more, with the packet of this number: the last of its frame, or
 // not, of this frame of video.
@@ -81,18 +50,7 @@ fn open(alloc: Global, text: &[u8], fails: &[u32]) -> Result<PcapReader<MemorySo
     ensures first { IfOk result (λ reader. frame_count reader ≡ 0) }
     ensures most { IfOk result (λ reader. most_of reader ≤ 2 ^ 40) }
 {
-    let plan = ReadPlan {
-        fetch_fails: false,
-        piece: 100,
-        fails: Vec::from_slice(alloc, fails)?,
-    };
-    let mut shelf = MemoryShelf::new(alloc);
-    shelf.put(
-        String::from_str(alloc, "a.pcap")?,
-        Vec::from_slice(alloc, text)?,
-        plan,
-    )?;
-    let source = shelf.fetch("a.pcap")?;
+    let source = source_of(alloc, text, 100, fails)?;
     match PcapReader::start(alloc, source, 1 << 40) {
         Ok(reader) => Ok(reader),
         Err(_) => Err(OpenFault::OutOfMemory),
@@ -102,7 +60,11 @@ fn open(alloc: Global, text: &[u8], fails: &[u32]) -> Result<PcapReader<MemorySo
 // What a bank of the media at ports 50000 to 50002, in the third file, takes of this text behind 100
 // records.
 fn taken(alloc: Global, text: &[u8], fails: &[u32]) -> Result<(Taken, Vec<Row>), OpenFault> {
-    let all = [media(50_000), media(50_001), media(50_002)];
+    let all = [
+        undeclared_to(50_000),
+        undeclared_to(50_001),
+        undeclared_to(50_002),
+    ];
     let mut bank = Bank::new(alloc, &all, 2, 37)?;
     let mut reader = open(alloc, text, fails)?;
     let taken = take_records(&mut reader, 100, &mut bank)?;

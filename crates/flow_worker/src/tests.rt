@@ -12,44 +12,10 @@ use std::process::Abort;
 use std::slice;
 use std::sync::Wait;
 use std::test::Fail;
-use timing_base::{FileNote, Media, PcapFault};
-use timing_outside::{MemoryShelf, MemorySink, MemorySource, NoGate, OpenFault, ReadPlan, Shelf};
-
-// A file header: little-endian, nanoseconds, Ethernet.
-const HEAD: [u8; 24] = [
-    0x4d, 0x3c, 0xb2, 0xa1, 2, 0, 4, 0, 0, 0, 0, 0, 0, 0, 0, 0, 0, 0, 4, 0, 1, 0, 0, 0,
-];
-
-// One packet to 239.0.0.1, laid out by hand.
-const FRAME: [u8; 56] = [
-    0x01, 0x00, 0x5e, 0x00, 0x00, 0x01, 0x02, 0x00, 0x00, 0x00, 0x00, 0x01, 0x08, 0x00, // Ethernet
-    0x45, 0x00, 0x00, 0x2a, 0x00, 0x00, 0x40, 0x00, 0x40, 0x11, 0x00, 0x00, // IPv4
-    0xc0, 0x00, 0x02, 0x01, 0xef, 0x00, 0x00, 0x01, // addresses
-    0xc3, 0x50, 0xc3, 0x50, 0x00, 0x16, 0x00, 0x00, // UDP, to port 50000
-    0x80, 0x60, 0x00, 0x00, 0x00, 0x00, 0x07, 0x08, 0x00, 0x00, 0x00, 0x01, // RTP
-    0x00, 0x00, // extended sequence number
-];
-
-// A source of this text, which comes in pieces of so many bytes. The reads of these numbers fail.
-fn source_of(
-    alloc: Global,
-    text: &[u8],
-    piece: u32,
-    fails: &[u32],
-) -> Result<MemorySource, OpenFault> {
-    let plan = ReadPlan {
-        fetch_fails: false,
-        piece: piece.max(1),
-        fails: Vec::from_slice(alloc, fails)?,
-    };
-    let mut shelf = MemoryShelf::new(alloc);
-    shelf.put(
-        String::from_str(alloc, "a.pcap")?,
-        Vec::from_slice(alloc, text)?,
-        plan,
-    )?;
-    shelf.fetch("a.pcap")
-}
+use timing_base::worked::undeclared_to;
+use timing_base::{FileNote, PcapFault};
+use timing_examples::{FRAME, HEAD, source_of};
+use timing_outside::{MemorySink, NoGate};
 
 // The made capture of 13 frames of 20 packets: with the packet before them it has 261 records.
 fn made(alloc: Global) -> Result<MemorySink, Fail> {
@@ -168,24 +134,6 @@ fn failed_read(rt: HostRuntime) -> Result<(), Fail> {
     Ok(())
 }
 
-// A video stream to this port of 239.0.0.1.
-fn media_to(port: u16) -> Media {
-    Media {
-        line: 5,
-        address: 0xef00_0001,
-        port: port.max(1),
-        pt: 96,
-        width: 1920,
-        height: 1080,
-        interlaced: false,
-        p: 50,
-        q: 1,
-        declared: None,
-        troff: None,
-        cmax: None,
-    }
-}
-
 // A capture with a record for each of these, to port 50000 and so many more.
 fn capture(alloc: Global, ports: &[u8]) -> Result<Vec<u8>, AllocError> {
     let mut text = Vec::from_slice(alloc, &HEAD)?;
@@ -204,7 +152,7 @@ fn capture(alloc: Global, ports: &[u8]) -> Result<Vec<u8>, AllocError> {
 #[test]
 fn two_lanes(rt: HostRuntime) -> Result<(), Fail> {
     let alloc = rt.alloc();
-    let media = [media_to(50_000), media_to(50_001)];
+    let media = [undeclared_to(50_000), undeclared_to(50_001)];
     let source = source_of(alloc, &capture(alloc, &[0, 1, 1, 9, 0])?, 65_536, &[])?;
     let (first, mut passes, mut first_taker) = one_lane(alloc)?;
     let (second, mut more, mut second_taker) = one_lane(alloc)?;

@@ -10,27 +10,10 @@ use std::alloc::{AllocError, Global};
 use std::process::Abort;
 use std::sync::Wait;
 use std::test::Fail;
-use timing_base::{
-    FileNote, FlowKey, FlowPacket, Items, Media, PacketFault, Row, Rtp, Unjudged, Verdict,
-};
+use timing_base::worked::undeclared_to;
+use timing_base::{FileNote, FlowKey, FlowPacket, Items, PacketFault, Row, Rtp, Unjudged, Verdict};
 use timing_outside::NoGate;
 use verdict_book::{Book, Receipt};
-
-// A video stream.
-const VIDEO: Media = Media {
-    line: 5,
-    address: 0xef00_0001,
-    port: 50_000,
-    pt: 96,
-    width: 1920,
-    height: 1080,
-    interlaced: false,
-    p: 50,
-    q: 1,
-    declared: None,
-    troff: None,
-    cmax: None,
-};
 
 // The packet of a media with this number, of this record. It doesn't end its frame.
 fn packet(media: u32, rec: u32, number: u32) -> Packet {
@@ -129,7 +112,7 @@ fn worked<R: Wait + Abort>(
     assert!(rt; worker < workers && workers <= 16);
     let (lane, passes, taker) = Lane::new(alloc, 1)?;
     send_all(rt, &lane, passes, messages);
-    let media = [VIDEO; 2];
+    let media = [undeclared_to(50_000); 2];
     let done = work(
         rt, alloc, worker, workers, joined, &media, 2, 37, &lane, taker, book, halt, &NoGate,
     );

@@ -7,6 +7,7 @@ use super::*;
 use SdpCause::*;
 use std::alloc::{AllocError, Global};
 use std::process::Abort;
+use timing_base::worked::PLAIN;
 use timing_base::{Kind, Media};
 
 // The plain description: lines 1 to 4, 5, 6, 7, and after line 8 the lines 9 and 10.
@@ -100,21 +101,7 @@ fn assert_media(rt: &impl Abort, alloc: Global, text: &str, want: &[Media]) {
 #[test]
 fn plain(rt: HostRuntime) -> Result<(), AllocError> {
     let text = plain_with(rt.alloc(), "50", "")?;
-    let want = Media {
-        line: 5,
-        address: 0xef00_0001,
-        port: 50_000,
-        pt: 96,
-        width: 1920,
-        height: 1080,
-        interlaced: false,
-        p: 50,
-        q: 1,
-        declared: Some(Kind::N),
-        troff: None,
-        cmax: None,
-    };
-    assert_media(&rt, rt.alloc(), &text, &[want]);
+    assert_media(&rt, rt.alloc(), &text, &[PLAIN]);
     Ok(())
 }
 

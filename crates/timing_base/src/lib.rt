@@ -21,6 +21,7 @@ mod name;
 mod packet;
 mod row;
 mod target;
+pub mod worked;
 
 pub use capture::{FileNote, PcapFault};
 pub use fail::{Broken, FailProof};

@@ -13,6 +13,14 @@ pub fn described(alloc: Global, own: &str, other: &str) -> Result<Vec<u8>, Alloc
     Vec::from_slice(alloc, text.as_bytes())
 }
 
+/// The plain description with a second media, which differs from its own by its address, 239.0.0.2.
+pub fn two_paths(alloc: Global) -> Result<Vec<u8>, AllocError> {
+    let mut sdp = Vec::from_slice(alloc, description().as_bytes())?;
+    let media = MEDIA.replace(alloc, "239.0.0.1", "239.0.0.2")?;
+    sdp.extend_from_slice(media.as_bytes())?;
+    Ok(sdp)
+}
+
 /// The plain description with two more media, which differ from its own by their ports, 50002 and
 /// 50004.
 pub fn three_media(alloc: Global) -> Result<Vec<u8>, AllocError> {

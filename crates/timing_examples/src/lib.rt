@@ -2,12 +2,16 @@
 //! call it.
 #![tactic(auto)]
 
+mod by_hand;
 mod description;
+mod path;
 mod pcapng;
 mod spread;
 mod usual;
 
-pub use description::{MEDIA, described, three_media};
+pub use by_hand::{FRAME, HEAD, source_of};
+pub use description::{MEDIA, described, three_media, two_paths};
+pub use path::second_path;
 pub use pcapng::{MICROS, NANOS, SECTION, as_pcapng, push_number, push_packet};
 pub use spread::{NARROW, Spread};
 pub use usual::usual_equipment;

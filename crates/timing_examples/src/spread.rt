@@ -38,13 +38,21 @@ pub const NARROW: Spread = Spread {
     at_once: 1,
 };
 
+/// The packet that comes before the groups.
+pub const BEFORE: Packet = Packet {
+    at: START - 1_000_000,
+    timestamp: 0,
+    marker: true,
+    number: 0,
+};
+
 impl Spread {
     ghost use Rattle.timing_examples.specs.Spreads.{instant, packet_at};
 
     /// When a packet of a group comes, in nanoseconds since 1970-01-01 00:00:00.
     fn instant(&self, group: u8, place: u8) -> u64
         ensures value { result ≡ instant self.now group place }
-        ensures fits { result < 2 ^ 32 * 1000000000 }
+        ensures fits { result < 2 ^ 61 }
     {
         let late = if group == self.bunched && place < self.at_once {
             0
@@ -55,9 +63,9 @@ impl Spread {
     }
 
     /// A packet of a group.
-    fn packet(&self, group: u8, place: u8) -> Packet
+    pub fn packet(&self, group: u8, place: u8) -> Packet
         ensures value { result ≡ packet_at self.now group place }
-        ensures fits { result.at < 2 ^ 32 * 1000000000 }
+        ensures fits { result.at < 2 ^ 61 }
     {
         Packet {
             at: self.instant(group, place),
@@ -78,13 +86,7 @@ impl Spread {
     /// The capture.
     pub fn capture(&self, alloc: Global) -> Result<Vec<u8>, AllocError> {
         let mut out = Vec::from_slice(alloc, &file_head())?;
-        let head = Packet {
-            at: START - 1_000_000,
-            timestamp: 0,
-            marker: true,
-            number: 0,
-        };
-        out.extend_from_slice(&head.record())?;
+        out.extend_from_slice(&BEFORE.record())?;
         for group in 0..self.groups {
             self.add_group(&mut out, group)?;
         }

@@ -5,83 +5,13 @@ use super::*;
 use std::alloc::{AllocError, Global};
 use std::process::Abort;
 use std::test::Fail;
-use timing_base::{
-    Broken, CheckJob, FailProof, FileName, FileNote, FlowKey, Items, Judged, Kind, KindVerdict,
-    Media, Row, Session, Unjudged, Verdict,
-};
-
-const PLAIN: Media = Media {
-    line: 5,
-    address: 0xef00_0001,
-    port: 50_000,
-    pt: 96,
-    width: 1920,
-    height: 1080,
-    interlaced: false,
-    p: 50,
-    q: 1,
-    declared: Some(Kind::N),
-    troff: None,
-    cmax: None,
-};
-
-// The packet 1 of a linear sender is late by the gapped reads.
-const LATE: FailProof = FailProof {
-    model: Broken::Empty,
-    from: 1,
-    to: 1,
-    count: 1,
-    limit: 2,
-};
-
-const LINEAR: Judged = Judged {
-    n: 20,
-    frames: 2,
-    packets: 40,
-    head: 1,
-    tail: 0,
-    bucket_peak: 1,
-    gapped_peak: 1,
-    linear_peak: 1,
-    kinds: [
-        KindVerdict::Fail(LATE),
-        KindVerdict::Pass,
-        KindVerdict::Pass,
-    ],
-};
-
-// The name `e.pcap`.
-fn capture(alloc: Global) -> Result<FileName, AllocError> {
-    Ok(FileName::from_text(String::from_str(alloc, "e.pcap")?))
-}
-
-// The check of one capture.
-fn check(alloc: Global) -> Result<CheckJob, AllocError> {
-    let mut captures = Vec::new(alloc);
-    captures.push(capture(alloc)?)?;
-    Ok(CheckJob {
-        sdp: capture(alloc)?,
-        captures: Items::from_vec(captures),
-        workers: 0,
-        tai: 0,
-        json: true,
-        joined: false,
-    })
-}
-
-// The session of one media.
-fn session(alloc: Global) -> Result<Session, AllocError> {
-    let mut media = Vec::new(alloc);
-    media.push(PLAIN)?;
-    Ok(Session {
-        media: Items::from_vec(media),
-    })
-}
+use timing_base::worked::{LATE, LINEAR, check_of, plain_session};
+use timing_base::{Broken, FailProof, FileNote, FlowKey, Kind, Row, Unjudged, Verdict};
 
 // The report of one capture that ends whole, with this verdict on its flow.
 fn report(alloc: Global, verdict: Verdict) -> Result<String, AllocError> {
-    let job = check(alloc)?;
-    let session = session(alloc)?;
+    let job = check_of(alloc, "e.pcap", true)?;
+    let session = plain_session(alloc)?;
     let row = Row {
         key: FlowKey { file: 0, media: 0 },
         verdict,

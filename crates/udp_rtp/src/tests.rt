@@ -5,6 +5,7 @@ ghost use Rattle.udp_rtp.specs.Flow.{flow};
 
 use super::*;
 use std::alloc::{AllocError, Global};
+use timing_base::worked::PLAIN;
 use timing_base::{FlowPacket, Media, PacketFault, Rtp};
 
 // The first packet of a capture, laid out by hand: the frame of a marked RTP packet to 239.0.0.1.
@@ -36,24 +37,9 @@ const READ: Rtp = Rtp {
     ssrc: 1,
 };
 
-const MEDIA: Media = Media {
-    line: 5,
-    address: 0xef00_0001,
-    port: 50_000,
-    pt: 96,
-    width: 1920,
-    height: 1080,
-    interlaced: false,
-    p: 50,
-    q: 1,
-    declared: None,
-    troff: None,
-    cmax: None,
-};
-
 // What is read of a frame that goes to the media.
 fn reading_of(frame: &[u8]) -> Option<Result<Rtp, PacketFault>> {
-    packet_of(&MEDIA, 1, 0, frame).map(|packet| packet.rtp)
+    packet_of(&PLAIN, 1, 0, frame).map(|packet| packet.rtp)
 }
 
 #[test]
@@ -61,7 +47,7 @@ fn shows_each_part(rt: HostRuntime) {
     let Some(seen) = datagram(&FRAME) else {
         panic!(rt; "no datagram");
     };
-    assert_eq!(rt; seen.target, MEDIA.target());
+    assert_eq!(rt; seen.target, PLAIN.target());
     assert!(rt; seen.payload == &FRAME[42..]);
     assert_eq!(rt; read_rtp(seen.payload), Ok(READ));
 }
@@ -212,7 +198,7 @@ fn flow_of_records(rt: HostRuntime) {
         (5, 530, &FRAME[..30]),
         (6, 540, &FRAME[..]),
     ];
-    let Ok(packets) = packets_of(rt.alloc(), &MEDIA, &records) else {
+    let Ok(packets) = packets_of(rt.alloc(), &PLAIN, &records) else {
         panic!(rt; "out of memory");
     };
     let want = [
