@@ -14,9 +14,9 @@ use Rattle.sender_params.specs.Limits.{gapped_of}
 use Rattle.sender_params.specs.Reads.{anchor_of, read_of}
 use Rattle.sender_params.specs.Ticks.{ticks_of}
 use Rattle.sender_params.specs.Times.{drain_time, group_time, groups_of, offset_time, read_step}
+use Rattle.sender_params.proofs.Parts.{groups-some, have_per}
 use Rattle.sender_params.proofs.Ticks.{ticks_of-rises}
-use Rattle.read_schedule.proofs.Rising.{at_most-parts, difference, due-some, have_per}
-use Rattle.read_schedule.proofs.Times.{groups-some}
+use Rattle.read_schedule.proofs.Rising.{at_most-parts, difference, due-some}
 use Rattle.flow_shaper.specs.Plan.{IsLeast, Models, Shaped, models_of}
 use Rattle.flow_shaper.proofs.Buffers.{due-below, due-rises, held-is}
 use Rattle.flow_shaper.proofs.Greedy.{Rises, Serves, least-append, least-none}

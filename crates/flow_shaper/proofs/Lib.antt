@@ -6,3 +6,4 @@ pub mod Greedy
 pub mod Limits
 pub mod Next
 pub mod Seams
+pub mod SomeBound

@@ -9,6 +9,7 @@ ghost use Rattle.sender_params.specs.Worked.{at_once, hd_50};
 ghost use Rattle.flow_shaper.specs.Bounds.{BoundAt, IsBound};
 ghost use Rattle.flow_shaper.specs.Plan.{IsLeast, IsPlan, Shaped, load, models_of};
 ghost use Rattle.flow_shaper.specs.Worked.{burst_shaped, even, first, hd_50_wide_bucket, narrow, small};
+ghost use Rattle.flow_shaper.specs.declared.departure.Bound.{Bound};
 ghost use Rattle.flow_shaper.specs.declared.departure.Bound.TheVariants.{Arrival, Bucket, Buffer, Order};
 
 /// Every list of arrivals has a plan that is least at each packet, and only one.
@@ -25,6 +26,14 @@ pub fn first_leaves_as_it_comes()
     ensures { (m : Media) (n : ℕ) (kind : Kind) (arrivals departures : List ℕ) → IsMedia m → 1 ≤ n
         → Shaped m n kind arrivals departures → 0 < length arrivals
         → slice_index departures 0 ≡ slice_index arrivals 0 }
+{}
+
+/// In it each packet leaves when it comes, or the bucket, the buffer or the packet before it holds it
+/// back, in groups of at most 262,144 packets: there T_DRAIN is a nanosecond or more.
+pub fn some_bound()
+    ensures { (m : Media) (n : ℕ) (kind : Kind) (arrivals departures : List ℕ) (i : ℕ) → IsMedia m
+        → n ≤ 262144 → Shaped m n kind arrivals departures → i < length arrivals
+        → (bound : Bound) × BoundAt m n kind arrivals departures i bound }
 {}
 
 /// Each condition of a plan alone, and at its limit: with a tick each 10 ns, a read each 100 ns, and

@@ -88,6 +88,7 @@ impl Shaper {
         ensures origin { self.new.origin ≡ self.old.origin }
         ensures end { self.new.end ≡ self.old.end }
         ensures seen { self.new.seen ≤ self.old.seen + 1 }
+        ensures in_time { IfOk result (λ d. d.at < self.old.end) }
 
         // Whatever packets the shaper stood for, and however they left: this one leaves so in time, or
         // it can't in any plan.

@@ -1,4 +1,6 @@
 mod Fetches
 mod Sessions
 pub mod Classics
+pub mod Readings
+pub mod Seeing
 mod Endings

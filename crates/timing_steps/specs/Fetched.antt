@@ -1,9 +1,11 @@
 -- What the steps that fetch say to each other.
-use Rattle.std.specs.Prelude.{◌≡◌, ◌<◌, ℕ, ⊤, List, [], ◌∷◌, ◌++◌, All, Option}
+use Rattle.std.specs.Prelude.{◌≡◌, ◌<◌, ℕ, ⊤, List, [], ◌∷◌, ◌++◌, length, All, Option, Result, IfOk, IfErr}
 use Rattle.timing_outside.specs.Causes.{Rose}
 use Rattle.timing_outside.specs.declared.shelf.OpenFault.{OpenFault}
 use Rattle.timing_outside.specs.declared.shelf.OpenFault.TheVariants as why
 use Rattle.timing_report.specs.declared.status.Input.{Input}
+use Rattle.timing_report.specs.declared.status.Input.TheVariants.{Capture}
+use Rattle.timing_steps.specs.Answers.{AreTold, CaptureRose, OnReadFault}
 use Rattle.timing_steps.specs.declared.failure.Failure.{Failure}
 use Rattle.timing_steps.specs.declared.failure.Failure.TheVariants as failure
 
@@ -26,3 +28,16 @@ pub record Returning {S : Type 0} (name : S → List ℕ) (faults : S → ℕ) (
   pub done : List S
   pub whole : all ≡ done ++ ahead
   pub raised : All (λ s. 0 < faults s → Rose (before (name s)) (now (name s))) done
+
+-- of the captures of these names so many were read, and this holds of their texts; the sources of the others are ahead.
+-- Or one couldn't be read
+pub record Reading {S : Type 0} (name : S → List ℕ) (left : S → Option (List ℕ)) (faults : S → ℕ)
+    (texts : List ℕ → Option (List ℕ)) (before now : List ℕ → ℕ) (names : List (List ℕ))
+    (rest : List S) (outcome : Result (Unit {0}) Failure) (number : ℕ) (Found : List (List ℕ) → Type 0) : Type 0 where
+  pub done : List (List ℕ)
+  pub ahead : List (List ℕ)
+  pub whole : names ≡ done ++ ahead
+  pub fetched : AreFetched name left faults texts ahead rest
+  pub count : IfOk outcome (λ _. number ≡ length done)
+  pub told : IfOk outcome (λ _. (read : List (List ℕ)) → AreTold texts done read → Found read)
+  pub cause : IfErr outcome (λ e. OnReadFault e (λ i. (number : ℕ) × (i ≡ Capture number) × CaptureRose before now names number))

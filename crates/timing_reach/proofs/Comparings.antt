@@ -1,0 +1,139 @@
+-- Captures of two flows that are read one after the other.
+use Rattle.std.specs.Prelude.{IfOk, Result, Ok, Err, slice_index_or, ◌==◌}
+use Rattle.std.proofs.Common.{◌≡◌, ◌≢◌, ◌⊎◌, ◌<◌, ◌+◌, ◌^◌, ℕ, true, false, List, [], ◌∷◌, ◌++◌, length, Option, Some, refl, arith, ap, ◌∙◌, sym, subst, append-nil, length-append, inl, inr}
+use Rattle.std.proofs.Math.Seq.{get_or-append_seam}
+use Rattle.std.proofs.lemmas.Bool.{eq-eqb}
+use Rattle.std.proofs.lemmas.Bool.Decides.{eqb_tells}
+use Rattle.timing_base.specs.Captures.{Record}
+use Rattle.timing_base.specs.Media.{Media}
+use Rattle.timing_base.specs.declared.capture.FileNote.{FileNote}
+use Rattle.timing_base.specs.declared.packet.FlowPacket.{FlowPacket}
+use Rattle.path_skew.specs.Pair.{skew}
+use Rattle.path_skew.specs.Stands.{StandsFor}
+use Rattle.path_skew.specs.declared.skew.Skew.{Skew}
+use Rattle.pcap_reader.specs.Records.{AreRecords, Records}
+use Rattle.timing_steps.specs.declared.failure.Failure.{Failure}
+use Rattle.udp_rtp.specs.Flow.{flow}
+use Rattle.timing_reach.specs.Added.{Adds, taken_of}
+use Rattle.timing_reach.specs.Comparing.{AreCompared, ComparesNext, IsComparedIn}
+use Rattle.timing_reach.specs.Pairs.{PairsOn, taken-none}
+use Rattle.timing_reach.specs.Skewed.{first_of, last_of}
+use Rattle.timing_reach.specs.Taken.{TakesText}
+use Rattle.timing_reach.specs.declared.compare.Compared.{Compared}
+use Rattle.timing_reach.specs.declared.compare.Comparing.{Comparing}
+use Rattle.timing_reach.specs.declared.pairing.Pairing.{Pairing}
+
+eqb-other : (x y : ℕ) → x ≢ y → (x == y) ≡ false
+eqb-other x y h = by-case (eqb_tells x y)
+  where
+    by-case : ((x == y) ≡ true) × (x ≡ y) ⊎ ((x == y) ≡ false) × (x ≢ y) → (x == y) ≡ false
+    by-case (inl is) = absurd (h is.1)
+    by-case (inr is) = is.0
+
+-- one capture more, with its records and its note
+records-push : (texts : List (List ℕ)) (files : List (List Record)) (notes : List FileNote) (text : List ℕ) (items : List Record) (note : FileNote)
+    → AreRecords texts files notes → Records text (2 ^ 40) items note → AreRecords (texts ++ text ∷ []) (files ++ items ∷ []) (notes ++ note ∷ [])
+records-push [] [] [] text items note h r = (r, tt)
+records-push (t ∷ ts) (f ∷ fs) (n ∷ ns) text items note h r = (h.0, records-push ts fs ns text items note h.1 r)
+records-push [] (f ∷ fs) notes text items note h r = absurd h
+records-push [] [] (n ∷ ns) text items note h r = absurd h
+records-push (t ∷ ts) [] notes text items note h r = absurd h
+records-push (t ∷ ts) (f ∷ fs) [] text items note h r = absurd h
+
+files-length : (texts : List (List ℕ)) (files : List (List Record)) (notes : List FileNote) → AreRecords texts files notes → length files ≡ length notes
+files-length [] [] [] h = refl
+files-length (t ∷ ts) (f ∷ fs) (n ∷ ns) h = omega (arith, files-length ts fs ns h.1)
+files-length [] (f ∷ fs) notes h = absurd h
+files-length [] [] (n ∷ ns) h = absurd h
+files-length (t ∷ ts) [] notes h = absurd h
+files-length (t ∷ ts) (f ∷ fs) [] h = absurd h
+
+-- the first flow is of the first capture
+first-more : (files : List (List Record)) (items : List Record) (a : Media) → flow (first_of files) a ++ taken_of (length files == 0) a items ≡ flow (first_of (files ++ items ∷ [])) a
+first-more [] items a = refl
+first-more (f ∷ fs) items a =
+    ap (λ b. flow f a ++ taken_of b a items) (eqb-other (length (f ∷ fs)) 0 (omega arith)) ∙ append-nil (flow f a)
+
+-- and the second of the last
+last-more : (files : List (List Record)) (items : List Record) (b : Media) (count : ℕ) → length files < count
+    → taken_of (length files == count) b (last_of files) ++ taken_of (length files + 1 == count) b items ≡ taken_of (length (files ++ items ∷ []) == count) b (last_of (files ++ items ∷ []))
+last-more files items b count within =
+    let long : length (files ++ items ∷ []) ≡ length files + 1 = length-append files (items ∷ []) in
+    let last : last_of (files ++ items ∷ []) ≡ items =
+    ap (λ n. slice_index_or (files ++ items ∷ []) n []) (omega (arith, long)) ∙ get_or-append_seam files items [] [] in
+    ap (λ x. taken_of x b (last_of files) ++ taken_of (length files + 1 == count) b items) (eqb-other (length files) count (omega (arith, within)))
+    ∙ ap (λ n. taken_of (n == count) b items) (sym long) ∙ ap (taken_of (length (files ++ items ∷ []) == count) b) (sym last)
+
+-- no capture was read yet
+pub compared-none : (a b : Media) (count : ℕ) (c : Comparing) → c.notes.items ≡ [] → c.pairing.first ≡ a → c.pairing.second ≡ b → StandsFor c.pairing.skew [] [] → AreCompared [] a b count c
+compared-none a b count c none first second stands = record {
+  files = [];
+  records = subst (AreRecords [] []) (sym none) tt;
+  first = first;
+  second = second;
+  stands = subst (StandsFor c.pairing.skew []) (sym (taken-none (0 == count) b)) stands;
+}
+
+-- one capture more was read
+compared-more : (texts : List (List ℕ)) (text : List ℕ) (a b : Media) (count : ℕ) (old new : Comparing) → length old.notes.items < count → AreCompared texts a b count old → ComparesNext text count old new
+    → AreCompared (texts ++ text ∷ []) a b count new
+compared-more texts text a b count old new within h next =
+    let long : length h.files ≡ length old.notes.items = files-length texts h.files old.notes.items h.records in
+    let first : taken_of (length old.notes.items == 0) old.pairing.first next.items ≡ taken_of (length h.files == 0) a next.items =
+    ap (λ n. taken_of (n == 0) old.pairing.first next.items) (sym long) ∙ ap (λ (m : Media). taken_of (length h.files == 0) m next.items) h.first in
+    let second : taken_of (length old.notes.items + 1 == count) old.pairing.second next.items ≡ taken_of (length h.files + 1 == count) b next.items =
+    ap (λ n. taken_of (n + 1 == count) old.pairing.second next.items) (sym long) ∙ ap (λ (m : Media). taken_of (length h.files + 1 == count) m next.items) h.second in
+    record {
+      files = h.files ++ next.items ∷ [];
+      records = subst (AreRecords (texts ++ text ∷ []) (h.files ++ next.items ∷ [])) (sym next.notes) (records-push texts h.files old.notes.items text next.items next.note h.records next.records);
+      first = next.first ∙ h.first;
+      second = next.second ∙ h.second;
+      stands =
+          subst (λ f. StandsFor new.pairing.skew f (taken_of (length (h.files ++ next.items ∷ []) == count) b (last_of (h.files ++ next.items ∷ []))))
+          (ap (λ l. flow (first_of h.files) a ++ l) first ∙ first-more h.files next.items a)
+          (subst (StandsFor new.pairing.skew (flow (first_of h.files) a ++ taken_of (length old.notes.items == 0) old.pairing.first next.items))
+          (ap (λ l. taken_of (length h.files == count) b (last_of h.files) ++ l) second ∙ last-more h.files next.items b count (omega (arith, long, within)))
+          (next.adds (flow (first_of h.files) a) (taken_of (length h.files == count) b (last_of h.files)) h.stands));
+    }
+
+pub compared-next : (outcome : Result (Unit {0}) Failure) (left : Option (List ℕ)) (a b : Media) (count : ℕ) (old new : Comparing) → length old.notes.items < count
+    → IfOk outcome (λ _. (text : List ℕ) → left ≡ Some text → ComparesNext text count old new)
+    → IfOk outcome (λ _. (read : List (List ℕ)) (text : List ℕ) → left ≡ Some text → AreCompared read a b count old → AreCompared (read ++ text ∷ []) a b count new)
+compared-next (Ok u) left a b count old new within h = λ read text whole are. compared-more read text a b count old new within are (h text whole)
+compared-next (Err e) left a b count old new within h = tt
+
+-- all captures were read
+pub compared-all : (texts : List (List ℕ)) (a b : Media) (count : ℕ) (c : Comparing) (done : Compared) → AreCompared texts a b count c → length c.notes.items ≡ count → done.notes.items ≡ c.notes.items
+    → ((f g : List FlowPacket) → StandsFor c.pairing.skew f g → done.row ≡ skew f g) → IsComparedIn texts a b done
+compared-all texts a b count c done h all notes row =
+    let long : length h.files ≡ count = files-length texts h.files c.notes.items h.records ∙ all in
+    record {
+      files = h.files;
+      records = subst (AreRecords texts h.files) (sym notes) h.records;
+      row_is = row (flow (first_of h.files) a) (flow (last_of h.files) b)
+          (subst (λ x. StandsFor c.pairing.skew (flow (first_of h.files) a) (taken_of x b (last_of h.files))) (eq-eqb (length h.files) count long) h.stands);
+    }
+
+-- a capture's records were taken
+pub compares-next : (text : List ℕ) (count : ℕ) (old new : Comparing) (turned taken : Pairing) (note : FileNote) → turned.first ≡ old.pairing.first → turned.second ≡ old.pairing.second
+    → turned.takes_first ≡ (length old.notes.items == 0) → turned.takes_second ≡ (length old.notes.items + 1 == count) → turned.skew ≡ old.pairing.skew
+    → TakesText PairsOn text turned taken note → new.notes.items ≡ old.notes.items ++ note ∷ [] → new.pairing ≡ taken → ComparesNext text count old new
+compares-next text count old new turned taken note first second takes_first takes_second kept t notes is =
+    let items = t.items in
+    let one : taken_of turned.takes_first turned.first items ≡ taken_of (length old.notes.items == 0) old.pairing.first items =
+    ap (λ b. taken_of b turned.first items) takes_first ∙ ap (λ (m : Media). taken_of (length old.notes.items == 0) m items) first in
+    let two : taken_of turned.takes_second turned.second items ≡ taken_of (length old.notes.items + 1 == count) old.pairing.second items =
+    ap (λ b. taken_of b turned.second items) takes_second ∙ ap (λ (m : Media). taken_of (length old.notes.items + 1 == count) m items) second in
+    record {
+      items = items;
+      note = note;
+      records = t.records;
+      notes = notes;
+      first = ap (λ (p : Pairing). p.first) is ∙ t.taken.same.first ∙ first;
+      second = ap (λ (p : Pairing). p.second) is ∙ t.taken.same.second ∙ second;
+      adds =
+          let last = taken_of (length old.notes.items + 1 == count) old.pairing.second items in
+          subst (λ (s : Skew). Adds s new.pairing.skew (taken_of (length old.notes.items == 0) old.pairing.first items) last) kept
+          (subst (λ (p : Pairing). Adds turned.skew p.skew (taken_of (length old.notes.items == 0) old.pairing.first items) last) (sym is)
+          (subst (λ f. Adds turned.skew taken.skew f last) one (subst (Adds turned.skew taken.skew (taken_of turned.takes_first turned.first items)) two t.taken.adds)));
+    }

@@ -1,0 +1,18 @@
+mod Takings
+mod Openings
+mod Gauges
+mod Packets
+mod Judgings
+mod RunSizes
+pub mod SomeShape
+mod Seens
+mod Following
+pub mod Unique
+mod Listings
+mod Copies
+pub mod OneShape
+mod Leavings
+mod Shapings
+mod Pairings
+mod Comparings
+mod Skewing

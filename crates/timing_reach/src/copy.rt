@@ -1,0 +1,28 @@
+//! A flow that is written as a capture.
+
+ghost use Rattle.std.specs.Prelude.{◌≡◌, ◌≤◌, ◌++◌, IfOk, length};
+ghost use Rattle.timing_base.specs.Captures.{IsStamp};
+ghost use Rattle.capture_gen.specs.Heads.{file_head, record_head};
+
+use capture_gen::{file_head, record_head};
+use std::alloc::{AllocError as OutOfMemory, Global};
+
+/// A capture without records.
+pub fn begin(alloc: Global) -> Result<Vec<u8>, OutOfMemory>
+    ensures { IfOk result (λ bytes. bytes.items ≡ file_head) }
+{
+    Vec::from_slice(alloc, &file_head())
+}
+
+/// Adds the record of a frame with this stamp, in nanoseconds.
+#[inline]
+pub fn add_record(bytes: &mut Vec<u8>, at: u64, frame: &[u8]) -> Result<(), OutOfMemory>
+    requires stamp { IsStamp at }
+    requires short { length frame.now ≤ 262144 }
+    ensures { IfOk result (λ _. bytes.new.items
+        ≡ bytes.old.items ++ (record_head at (length frame.now) ++ frame.now)) }
+{
+    bytes.extend_from_slice(&record_head(at, frame.len() as u32))?;
+    bytes.extend_from_slice(frame)?;
+    Ok(())
+}

@@ -1,0 +1,59 @@
+//! What holds of the definitions of `shape` themselves.
+
+ghost use Rattle.std.specs.Prelude.{◌≡◌, ◌≤◌, ◌++◌, ◌∷◌, [], ℕ, List, Bool, true, false, codes};
+ghost use Rattle.timing_base.specs.Captures.{Record};
+ghost use Rattle.timing_base.specs.Judged.{JudgedRun};
+ghost use Rattle.timing_base.specs.Media.{IsMedia, Media};
+ghost use Rattle.timing_base.specs.declared.media.Kind.{Kind};
+ghost use Rattle.timing_base.specs.declared.media.Kind.TheVariants.{N};
+ghost use Rattle.capture_gen.specs.Heads.{file_head};
+ghost use Rattle.sender_params.specs.Worked.{at_once, hd_50};
+ghost use Rattle.timing_report.specs.declared.status.Status.TheVariants as status;
+ghost use Rattle.timing_steps.specs.Answers.{Answer};
+ghost use Rattle.timing_reach.specs.Shapes.{HasShape, shaped_capture};
+ghost use Rattle.timing_reach.specs.WorkedShapes.{five_records, last_nanosecond, run_of_stamps, two_departures};
+
+use flow_shaper::laws::burst_by_hand;
+
+/// A judged run of groups of 1 to 262,144 packets has one answer of `shape`.
+pub fn one_shape_answer()
+    ensures some { (list : Bool) (tai : ℕ) (kind : Kind) (m : Media) (items : List Record)
+        (run : JudgedRun) → IsMedia m → 1 ≤ run.n → run.n ≤ 262144
+        → (answer : Answer) × HasShape list tai kind m items run answer }
+    ensures once { (list : Bool) (tai : ℕ) (kind : Kind) (m : Media) (items : List Record) (run : JudgedRun)
+        (a b : Answer) → HasShape list tai kind m items run a → HasShape list tai kind m items run b
+        → a ≡ b }
+{}
+
+/// Of five packets at once the last one is delayed, at 50 frames per second with 20 packets per frame.
+#[tactic(auto, unfolding(timing_report::proofs::Numerals::numerals))]
+pub fn list_by_hand()
+    ensures { (items : List Record) (answer : Answer)
+        → HasShape true 0 N hd_50 items (run_of_stamps (at_once 5)) answer
+        → answer ≡ record {
+          text = codes "packet 4 delayed 909091 ns by bucket from 0\n"
+              ++ codes "delayed 1 of 5, greatest 909091 ns\n";
+          status = status.Pass;
+        } }
+{
+    burst_by_hand();
+}
+
+/// The same in the last nanosecond of a capture: no plan lets the last one leave in time.
+#[tactic(auto, unfolding(timing_report::proofs::Numerals::numerals))]
+pub fn late_by_hand()
+    ensures { (list : Bool) (items : List Record) (answer : Answer)
+        → HasShape list 0 N hd_50 items (run_of_stamps (last_nanosecond 5)) answer
+        → answer ≡ record { text = codes "not shaped: packet 4\n"; status = status.NotAllJudged } }
+{}
+
+/// A capture whose clock is a second behind: the packet before the judged ones keeps its stamp, each
+/// judged one leaves as planned, and of the two behind them the first no earlier than the last of them.
+pub fn capture_by_hand()
+    ensures { shaped_capture 1 1 two_departures five_records ≡ file_head
+        ++ (5 ∷ 0 ∷ 0 ∷ 0 ∷ 9 ∷ 0 ∷ 0 ∷ 0 ∷ 1 ∷ 0 ∷ 0 ∷ 0 ∷ 1 ∷ 0 ∷ 0 ∷ 0 ∷ 0xaa ∷ []
+        ++ (6 ∷ 0 ∷ 0 ∷ 0 ∷ 1 ∷ 0 ∷ 0 ∷ 0 ∷ 1 ∷ 0 ∷ 0 ∷ 0 ∷ 1 ∷ 0 ∷ 0 ∷ 0 ∷ 1 ∷ []
+        ++ (7 ∷ 0 ∷ 0 ∷ 0 ∷ 2 ∷ 0 ∷ 0 ∷ 0 ∷ 2 ∷ 0 ∷ 0 ∷ 0 ∷ 2 ∷ 0 ∷ 0 ∷ 0 ∷ 2 ∷ 3 ∷ []
+        ++ (7 ∷ 0 ∷ 0 ∷ 0 ∷ 2 ∷ 0 ∷ 0 ∷ 0 ∷ 1 ∷ 0 ∷ 0 ∷ 0 ∷ 1 ∷ 0 ∷ 0 ∷ 0 ∷ 4 ∷ []
+        ++ 9 ∷ 0 ∷ 0 ∷ 0 ∷ 0 ∷ 0 ∷ 0 ∷ 0 ∷ 1 ∷ 0 ∷ 0 ∷ 0 ∷ 1 ∷ 0 ∷ 0 ∷ 0 ∷ 5 ∷ [])))) }
+{}

@@ -1,0 +1,108 @@
+//! `skew`: how far two flows with the same packets lie apart.
+
+ghost use Rattle.std.specs.Prelude.{◌≡◌, ◌≤◌, ℕ, List, Some, slice_get};
+ghost use Rattle.timing_steps.specs.Answers.{Gives, ReadsCaptures, Yields, seen_of};
+ghost use Rattle.timing_steps.specs.Ran.{HasCause, Ran, output_of};
+ghost use Rattle.timing_reach.specs.Skewed.{FollowsSkew, HasSkew, ReadsPair, SkewInputRose};
+
+use crate::compare::compare;
+use crate::pair_words::skewed;
+use crate::words::no_such_media;
+use std::alloc::Global;
+use timing_base::{Media, SkewJob};
+use timing_outside::{Shelf, Sink};
+use timing_report::Status;
+use timing_steps::{Answer, Failure, conclude, fetch_session};
+
+/// The answer on the flows of these media.
+fn answer_pair<H: Shelf>(
+    alloc: Global,
+    job: &SkewJob,
+    shelf: &mut H,
+    first: &Media,
+    second: &Media,
+) -> Result<Answer, Failure>
+    ensures follows { Yields result (ReadsCaptures (seen_of H.text H.lacks H.faults shelf.old shelf.new) result job.now.captures (λ texts. Gives result (HasSkew job.now first.now second.now texts))) }
+    ensures cause { HasCause result (SkewInputRose job.now (seen_of H.text H.lacks H.faults shelf.old shelf.new)) }
+    ensures lacks { (n : List ℕ) → H.lacks shelf.old n → H.lacks shelf.new n }
+    ensures texts { (n : List ℕ) → H.text shelf.new n ≡ H.text shelf.old n }
+    ensures later { (n : List ℕ) → H.faults shelf.old n ≤ H.faults shelf.new n }
+{
+    let compared = compare(alloc, job, shelf, first, second)?;
+    Ok(skewed(alloc, job, &compared)?)
+}
+
+/// The answer with the second media of a session of these media.
+fn answer_second<H: Shelf>(
+    alloc: Global,
+    job: &SkewJob,
+    shelf: &mut H,
+    media: &[Media],
+    first: &Media,
+) -> Result<Answer, Failure>
+    ensures follows { Yields result (ReadsPair (seen_of H.text H.lacks H.faults shelf.old shelf.new) result job.now (Some first.now) (slice_get media.now job.now.pair)) }
+    ensures cause { HasCause result (SkewInputRose job.now (seen_of H.text H.lacks H.faults shelf.old shelf.new)) }
+    ensures lacks { (n : List ℕ) → H.lacks shelf.old n → H.lacks shelf.new n }
+    ensures texts { (n : List ℕ) → H.text shelf.new n ≡ H.text shelf.old n }
+    ensures later { (n : List ℕ) → H.faults shelf.old n ≤ H.faults shelf.new n }
+{
+    match media.get(job.pair as usize) {
+        Some(second) => answer_pair(alloc, job, shelf, first, second),
+        None => Ok(no_such_media(alloc)?),
+    }
+}
+
+/// The answer over a session of these media.
+fn answer_over<H: Shelf>(
+    alloc: Global,
+    job: &SkewJob,
+    shelf: &mut H,
+    media: &[Media],
+) -> Result<Answer, Failure>
+    ensures follows { Yields result (ReadsPair (seen_of H.text H.lacks H.faults shelf.old shelf.new) result job.now (slice_get media.now job.now.media) (slice_get media.now job.now.pair)) }
+    ensures cause { HasCause result (SkewInputRose job.now (seen_of H.text H.lacks H.faults shelf.old shelf.new)) }
+    ensures lacks { (n : List ℕ) → H.lacks shelf.old n → H.lacks shelf.new n }
+    ensures texts { (n : List ℕ) → H.text shelf.new n ≡ H.text shelf.old n }
+    ensures later { (n : List ℕ) → H.faults shelf.old n ≤ H.faults shelf.new n }
+{
+    match media.get(job.media as usize) {
+        Some(first) => answer_second(alloc, job, shelf, media, first),
+        None => Ok(no_such_media(alloc)?),
+    }
+}
+
+/// The answer of a job, or why there is none. Where the description hasn't one of the media, no capture
+/// is fetched. The captures are fetched in order and then read in order.
+pub fn answer_skew<H: Shelf>(alloc: Global, job: &SkewJob, shelf: &mut H) -> Result<Answer, Failure>
+    ensures follows { FollowsSkew job.now (seen_of H.text H.lacks H.faults shelf.old shelf.new) result }
+    ensures cause { HasCause result (SkewInputRose job.now (seen_of H.text H.lacks H.faults shelf.old shelf.new)) }
+    ensures lacks { (n : List ℕ) → H.lacks shelf.old n → H.lacks shelf.new n }
+    ensures texts { (n : List ℕ) → H.text shelf.new n ≡ H.text shelf.old n }
+    ensures later { (n : List ℕ) → H.faults shelf.old n ≤ H.faults shelf.new n }
+{
+    match fetch_session(alloc, shelf, job.sdp.as_str())? {
+        Ok(session) => answer_over(alloc, job, shelf, session.media.as_slice()),
+        Err(fault) => Ok(Answer::silent(alloc, Status::SdpRefused(fault))),
+    }
+}
+
+/// Prints on `out` how far the two flows of a job lie apart. On `err` it tells why there is no answer.
+pub fn skew_one<H: Shelf, K: Sink>(
+    alloc: Global,
+    job: &SkewJob,
+    shelf: &mut H,
+    out: &mut K,
+    err: &mut K,
+) -> Status
+    ensures ran { Ran (FollowsSkew job.now (seen_of H.text H.lacks H.faults shelf.old shelf.new))
+        (SkewInputRose job.now (seen_of H.text H.lacks H.faults shelf.old shelf.new))
+        (output_of K.written K.faults out.old out.new)
+        (output_of K.written K.faults err.old err.new)
+        result }
+    ensures lacks { (n : List ℕ) → H.lacks shelf.old n → H.lacks shelf.new n }
+    ensures texts { (n : List ℕ) → H.text shelf.new n ≡ H.text shelf.old n }
+    ensures later { (n : List ℕ) → H.faults shelf.old n ≤ H.faults shelf.new n }
+{
+    let outcome = answer_skew(alloc, job, shelf);
+    conclude(out, err, outcome)
+}

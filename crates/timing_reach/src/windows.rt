@@ -1,0 +1,90 @@
+//! What `window` prints.
+
+ghost use Rattle.std.specs.Prelude.{◌≡◌, ◌++◌, IfOk, string_bytes};
+ghost use Rattle.timing_report.specs.declared.status.Status.TheVariants as status;
+ghost use Rattle.timing_reach.specs.Windows.{window_line, windows_text};
+
+use offset_window::{Window, WindowEnd};
+use std::alloc::{AllocError as OutOfMemory, Global};
+use std::fmt;
+use timing_base::Kind;
+use timing_report::{Status, kind_name};
+use timing_steps::Answer;
+
+/// The offsets that would keep the buffer of a flow, for each sender type.
+#[derive(Clone, Copy, Debug, PartialEq, Eq)]
+pub struct Windows {
+    pub narrow: Window,
+    pub narrow_linear: Window,
+    pub wide: Window,
+}
+
+/// The packet that binds an end, as a line has it.
+#[derive(Clone, Copy, Debug)]
+struct BindingWord {
+    /// Counted from 0.
+    packet: Option<u64>,
+}
+
+impl fmt::Display for BindingWord {
+    ghost use Rattle.std.specs.Prelude.{Some};
+    ghost use Rattle.timing_reach.specs.Windows.{binding_text};
+
+    ghost output = { λ word. Some (binding_text word.packet) };
+
+    fn fmt<W: fmt::Write>(&self, f: &mut fmt::Formatter<W>) -> fmt::Result {
+        match self.packet {
+            None => Ok(()),
+            Some(packet) => write!(f, " at packet {packet}"),
+        }
+    }
+}
+
+/// An end of a window, as a line has it.
+#[derive(Clone, Copy, Debug)]
+struct EndWord {
+    end: WindowEnd,
+}
+
+impl fmt::Display for EndWord {
+    ghost use Rattle.std.specs.Prelude.{Some};
+    ghost use Rattle.timing_reach.specs.Windows.{end_text};
+
+    ghost output = { λ word. Some (end_text word.end) };
+
+    fn fmt<W: fmt::Write>(&self, f: &mut fmt::Formatter<W>) -> fmt::Result {
+        match self.end {
+            WindowEnd::Absent => write!(f, "none"),
+            WindowEnd::At { micros, binding } => {
+                let word = BindingWord { packet: binding };
+                write!(f, "{micros}{word}")
+            }
+        }
+    }
+}
+
+/// Adds the line of a sender type.
+fn add_line(text: &mut String, kind: Kind, window: Window) -> Result<(), OutOfMemory>
+    ensures { IfOk result (λ _. string_bytes text.new
+        ≡ string_bytes text.old ++ window_line kind window) }
+{
+    let name = kind_name(kind);
+    let lower = EndWord { end: window.lower };
+    let upper = EndWord { end: window.upper };
+    writeln!(text, "{name} lower {lower}, upper {upper}")
+}
+
+/// The lines of the three types, and status 0.
+pub fn windowed(alloc: Global, windows: &Windows) -> Result<Answer, OutOfMemory>
+    ensures { IfOk result (λ answer. answer
+        ≡ record { text = windows_text windows.now; status = status.Pass }) }
+{
+    let mut text = String::new(alloc);
+    add_line(&mut text, Kind::N, windows.narrow)?;
+    add_line(&mut text, Kind::NL, windows.narrow_linear)?;
+    add_line(&mut text, Kind::W, windows.wide)?;
+    Ok(Answer {
+        text: text.into_bytes(),
+        status: Status::Pass,
+    })
+}
