@@ -1,4 +1,5 @@
 mod Confirming
+mod Exact
 mod Finding
 mod ReadBack
 mod Reports

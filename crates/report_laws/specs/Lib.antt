@@ -1,2 +1,3 @@
 -- what is promised
+pub mod Exact
 pub mod ReadBack

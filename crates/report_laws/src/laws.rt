@@ -3,8 +3,8 @@
 
 ghost use Rattle.std.specs.Prelude.{◌≡◌, ◌≤◌, List, ℕ, All, Ok, length, true, map};
 ghost use Rattle.timing_base.specs.Captures.{Record};
-ghost use Rattle.timing_base.specs.Jobs.{CheckJob};
-ghost use Rattle.timing_base.specs.Media.{Media};
+ghost use Rattle.timing_base.specs.Jobs.{CheckJob, IsCheckJob};
+ghost use Rattle.timing_base.specs.Media.{IsMedia, Media};
 ghost use Rattle.timing_base.specs.declared.capture.FileNote.{FileNote};
 ghost use Rattle.pcap_reader.specs.Records.{AreRecords};
 ghost use Rattle.flow_bank.specs.Rows.{rows_over};
@@ -16,7 +16,18 @@ ghost use Rattle.timing_report.specs.declared.status.Status.TheVariants as statu
 ghost use Rattle.timing_steps.specs.Answers.{Answer};
 ghost use Rattle.timing_verify.specs.Asked.{FindsOf, HasReported, media_for};
 ghost use Rattle.timing_top.specs.Report.{HasReport, rows};
-ghost use Rattle.report_laws.specs.ReadBack.{IsReadable, reading_back};
+ghost use Rattle.report_laws.specs.Exact.{IsExactRow};
+ghost use Rattle.report_laws.specs.ReadBack.{AreBytes, IsReadable, reading_back};
+
+/// A sender type passes in a report exactly where no interval of judged packets has more than C_MAX, less
+/// the drain ticks in it, and at every instant the receiver buffer holds between nothing and VRX_FULL; each fail
+/// that is told names an interval that its numbers confirm.
+pub fn types_are_exact()
+    ensures { (job : CheckJob) (media : List Media) (texts : List (List ℕ)) (answer : Answer)
+        → IsCheckJob job → All IsMedia media → All AreBytes texts
+        → length texts ≡ length job.captures → (h : HasReport job media texts answer)
+        → All (IsExactRow job.joined job.tai media h.files) (rows job media h.files) }
+{}
 
 /// The numbers of the rows that are made of captures have 64 bits, whatever the captures are.
 pub fn rows_have_words()

@@ -76,5 +76,4 @@ code_small status.NotAllJudged = lit< tt
 code_small (status.ReadFault input) = lit< tt
 code_small status.WriteFault = lit< tt
 code_small status.OutOfMemory = lit< tt
-code_small status.NotBuilt = lit< tt
 code_small status.ReportRefused = lit< tt

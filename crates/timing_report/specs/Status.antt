@@ -5,7 +5,7 @@ use Rattle.sdp_reader.specs.Fault.{fault_text}
 use Rattle.timing_report.specs.declared.status.Input.{Input}
 use Rattle.timing_report.specs.declared.status.Input.TheVariants.{Sdp, Report, Capture}
 use Rattle.timing_report.specs.declared.status.Status.{Status}
-use Rattle.timing_report.specs.declared.status.Status.TheVariants.{Pass, Fail, Usage, SdpRefused, NotAllJudged, ReadFault, WriteFault, OutOfMemory, NotBuilt, ReportRefused}
+use Rattle.timing_report.specs.declared.status.Status.TheVariants.{Pass, Fail, Usage, SdpRefused, NotAllJudged, ReadFault, WriteFault, OutOfMemory, ReportRefused}
 
 -- what the process ends with
 abbrev pub code_of : Status → ℕ
@@ -17,7 +17,6 @@ code_of NotAllJudged = 4
 code_of (ReadFault input) = 5
 code_of WriteFault = 6
 code_of OutOfMemory = 7
-code_of NotBuilt = 8
 code_of ReportRefused = 9
 
 -- an input as the line names it; captures count from 1 there
@@ -36,5 +35,4 @@ error_line NotAllJudged = []
 error_line (ReadFault input) = codes "read fault: " ++ (input_name input ++ codes "\n")
 error_line WriteFault = codes "write fault\n"
 error_line OutOfMemory = codes "out of memory\n"
-error_line NotBuilt = codes "not built\n"
 error_line ReportRefused = codes "report refused\n"

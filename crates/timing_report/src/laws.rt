@@ -20,7 +20,7 @@ ghost use Rattle.timing_report.specs.Verdict.{judged_text, lines_below, type_tex
 ghost use Rattle.timing_report.specs.Worked.{check_of, fail, first_flow, narrow, plain, two_frames, video};
 ghost use Rattle.timing_report.specs.Status.{code_of, error_line};
 ghost use Rattle.timing_report.specs.declared.status.Input.TheVariants.{Sdp, Report, Capture};
-ghost use Rattle.timing_report.specs.declared.status.Status.TheVariants.{Pass, Fail, Usage, SdpRefused, NotAllJudged, ReadFault, WriteFault, OutOfMemory, NotBuilt, ReportRefused};
+ghost use Rattle.timing_report.specs.declared.status.Status.TheVariants.{Pass, Fail, Usage, SdpRefused, NotAllJudged, ReadFault, WriteFault, OutOfMemory, ReportRefused};
 ghost use Rattle.sdp_reader.specs.declared.fault.SdpCause.TheVariants as cause;
 
 /// The exit statuses.
@@ -33,7 +33,6 @@ pub fn codes_by_hand()
     ensures read_fault { code_of (ReadFault Sdp) ≡ 5 }
     ensures write_fault { code_of WriteFault ≡ 6 }
     ensures out_of_memory { code_of OutOfMemory ≡ 7 }
-    ensures not_built { code_of NotBuilt ≡ 8 }
     ensures report_refused { code_of ReportRefused ≡ 9 }
 {}
 
@@ -51,7 +50,6 @@ pub fn lines_by_hand()
     ensures last { error_line (ReadFault (Capture 15)) ≡ codes "read fault: capture 16\n" }
     ensures write_fault { error_line WriteFault ≡ codes "write fault\n" }
     ensures out_of_memory { error_line OutOfMemory ≡ codes "out of memory\n" }
-    ensures not_built { error_line NotBuilt ≡ codes "not built\n" }
     ensures report_refused { error_line ReportRefused ≡ codes "report refused\n" }
 {}
 

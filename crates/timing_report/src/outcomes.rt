@@ -79,13 +79,13 @@ pub fn status_of(session: &Session, notes: &[FileNote], rows: &[Row]) -> Status
     }
 }
 
-fn any_refused(notes: &[FileNote]) -> bool
+/// Whether a capture was refused for its bytes.
+pub fn any_refused(notes: &[FileNote]) -> bool
     ensures { result ≡ list_any is_refused notes.now }
 {
     notes.iter().any(is_refused)
 }
 
-/// Whether the capture was refused for its bytes.
 fn is_refused(note: &FileNote) -> bool
     ensures { result ≡ is_refused note.now }
 {

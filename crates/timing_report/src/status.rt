@@ -25,7 +25,9 @@ pub enum Input {
 pub enum Status {
     /// The report was printed, every flow was judged, no capture was refused, and each flow passes as
     /// the type that its description declares, or where it declares none, as some type. Of a
-    /// verification: every proof was confirmed.
+    /// verification: every proof was confirmed. Of a flow that is measured or shaped, and of two that are
+    /// compared: what was asked for was printed, and of two flows some number is matched and no capture
+    /// was refused.
     Pass,
     /// The same, but that some flow fails: as the type that its description declares, or where it
     /// declares none, as each type. Of a verification: some proof was not confirmed.
@@ -35,7 +37,10 @@ pub enum Status {
     /// The session description has a fault.
     SdpRefused(SdpFault),
     /// The report was printed, and some flow was not judged as one run, or a capture was refused for
-    /// its bytes. Of a verification: the flow of some proof was not judged.
+    /// its bytes. Of a verification: the flow of some proof was not judged. Of a flow that is measured or
+    /// shaped: the description hasn't its media, it was not judged as one run, or a packet can't leave in
+    /// time. Of two flows that are compared: the description hasn't one of the media, no number is matched,
+    /// or a capture was refused.
     NotAllJudged,
     /// This input couldn't be fetched, or a read of it failed.
     ReadFault(Input),
@@ -43,8 +48,6 @@ pub enum Status {
     WriteFault,
     /// Memory ran out.
     OutOfMemory,
-    /// A request that isn't built yet.
-    NotBuilt,
     /// The report that is verified isn't in its form.
     ReportRefused,
 }
@@ -63,7 +66,6 @@ impl Status {
             Status::ReadFault(_) => 5,
             Status::WriteFault => 6,
             Status::OutOfMemory => 7,
-            Status::NotBuilt => 8,
             Status::ReportRefused => 9,
         }
     }
@@ -84,7 +86,6 @@ impl Status {
             Status::ReadFault(Input::Capture(file)) => capture_line(*file),
             Status::WriteFault => line("write fault\n"),
             Status::OutOfMemory => line("out of memory\n"),
-            Status::NotBuilt => line("not built\n"),
             Status::ReportRefused => line("report refused\n"),
         }
     }

@@ -56,8 +56,9 @@ pub fn text_of(
     Ok(text)
 }
 
-/// Adds the lines of the captures.
-fn add_files(
+/// Adds the lines of captures of these names that end so, with the ends of the lines. `Err` is want of
+/// memory.
+pub fn add_files(
     text: &mut String,
     captures: &[FileName],
     notes: &[FileNote],

@@ -91,9 +91,9 @@ captured-failed i names told Defined e Rises are rises (inl h) = inr (input.Capt
 captured-failed i names told Defined e Rises are rises (inr h) = absurd (not-given (Defined (map classic told)) e (h.1 told are))
 
 -- what a session leads to
-some-session : (s : Result (List Media) SdpFault) (Next : Answer → List Media → Type 0) → ((media : List Media) → (answer : Answer) × Next answer media) → (answer : Answer) × OnSession s (Ok answer) (Next answer)
+some-session : (s : Result (List Media) SdpFault) (Next : Answer → List Media → Type 0) → ((media : List Media) → s ≡ Ok media → (answer : Answer) × Next answer media) → (answer : Answer) × OnSession s (Ok answer) (Next answer)
 some-session (Err fault) Next h = some-given (λ answer. answer ≡ silent (status.SdpRefused fault)) (silent (status.SdpRefused fault), refl)
-some-session (Ok media) Next h = h media
+some-session (Ok media) Next h = h media refl
 
 only-session : (s : Result (List Media) SdpFault) (Next : Answer → List Media → Type 0) (a b : Answer) → ((media : List Media) → Next a media → Next b media → a ≡ b) → OnSession s (Ok a) (Next a) → OnSession s (Ok b) (Next b) → a ≡ b
 only-session (Err fault) Next a b once h k = only-given (λ answer. answer ≡ silent (status.SdpRefused fault)) a b (λ x y p q. only-silent x y _ p q) h k
@@ -104,7 +104,7 @@ session-failed (Err fault) Next e Rises caused h = absurd (not-given (λ answer.
 session-failed (Ok media) Next e Rises caused h = caused media h
 
 -- a description that is read
-pub some-described : (i : Inputs) (name sdp : List ℕ) (Next : Answer → List Media → Type 0) → ¬ i.lacks name → i.texts name ≡ Some sdp → ((media : List Media) → (answer : Answer) × Next answer media)
+pub some-described : (i : Inputs) (name sdp : List ℕ) (Next : Answer → List Media → Type 0) → ¬ i.lacks name → i.texts name ≡ Some sdp → ((media : List Media) → session sdp ≡ Ok media → (answer : Answer) × Next answer media)
     → (answer : Answer) × ReadsSession i (Ok answer) name (Next answer)
 some-described i name sdp Next there told h =
     let all = some-session (session sdp) Next h in

@@ -21,7 +21,7 @@ use Rattle.timing_steps.specs.declared.failure.Failure.TheVariants as failure
 use Rattle.timing_top.specs.Asked.{CheckInputRose, FollowsCheck}
 use Rattle.flow_bank.specs.Found.{AreFound}
 use Rattle.timing_top.specs.Report.{HasReport, printed, rows}
-use Rattle.timing_top.proofs.Judgings.{on-map}
+use Rattle.timing_steps.proofs.Readings.{on-map}
 
 -- a description that was read leads on to the captures
 follows-session : (job : CheckJob) (i : Inputs) (outcome : Result Answer Failure) (media : List Media) → ¬ i.lacks job.sdp → ((text : List ℕ) → i.texts job.sdp ≡ Some text → session text ≡ Ok media)

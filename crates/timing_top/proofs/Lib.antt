@@ -1,9 +1,10 @@
+mod Begun
 mod Answering
 mod Asking
 mod Crewing
 mod Verifying
+mod Reaching
 mod Following
-mod Judgings
 mod Takings
 mod Reports
 mod SelfTests

@@ -29,7 +29,7 @@ some-verify job i [] there told = absurd told
 some-verify job i (sdp ∷ texts) there told =
     some-yielded (λ answer. ReadsSession i (Ok answer) job.sdp (λ media. ReadsMedia i (Ok answer) job (slice_get media job.media)))
     (some-described i job.sdp sdp (λ answer media. ReadsMedia i (Ok answer) job (slice_get media job.media)) (All-head (λ n. ¬ i.lacks n) job.sdp job.captures there) told.0
-    (λ media. some-media job i texts (slice_get media job.media) (All-tail (λ n. ¬ i.lacks n) job.sdp job.captures there) told.1))
+    (λ media e. some-media job i texts (slice_get media job.media) (All-tail (λ n. ¬ i.lacks n) job.sdp job.captures there) told.1))
 
 pub only-verify : (job : VerifyJob) (i : Inputs) (texts : List (List ℕ)) (a b : Answer) → AreTold i.texts (job.sdp ∷ job.captures) texts → FollowsVerify job i (Ok a) → FollowsVerify job i (Ok b) → a ≡ b
 only-verify job i [] a b told h k = absurd told

@@ -1,14 +1,19 @@
 -- What each request and its texts define, in the order in which its inputs are read.
-use Rattle.std.specs.Prelude.{◌≡◌, Bool, true, false, IsTrue, ℕ, List, [], ◌∷◌, Option, Some, None, Result}
+use Rattle.std.specs.Prelude.{◌≡◌, ⊤, All, Bool, true, false, IsTrue, ℕ, List, [], ◌∷◌, Option, Some, None, Result, Ok}
 use Rattle.timing_base.specs.Jobs.{CheckJob}
+use Rattle.timing_base.specs.Media.{IsMedia, Media}
 use Rattle.timing_base.specs.declared.job.Request.{Request}
 use Rattle.timing_base.specs.declared.job.Request.TheVariants as request
+use Rattle.sdp_reader.specs.Session.{session}
 use Rattle.timing_report.specs.declared.status.Input.{Input}
 use Rattle.timing_report.specs.declared.status.Input.TheVariants as input
 use Rattle.timing_report.specs.declared.status.Status.{Status}
 use Rattle.timing_report.specs.declared.status.Status.TheVariants as status
 use Rattle.timing_steps.specs.Answers.{Answer, CaptureRose, Gives, HasRisen, Inputs, ReadsCaptures, ReadsSession, Yields, silent}
 use Rattle.timing_steps.specs.declared.failure.Failure.{Failure}
+use Rattle.timing_reach.specs.Asked.{FlowInputRose, FollowsWindow}
+use Rattle.timing_reach.specs.Shaped.{FollowsShape}
+use Rattle.timing_reach.specs.Skewed.{FollowsSkew, SkewInputRose}
 use Rattle.timing_verify.specs.Asked.{FollowsReport, FollowsVerify, ReportInputRose, VerifyInputRose}
 use Rattle.timing_top.specs.Report.{HasReport}
 use Rattle.timing_top.specs.SelfTest.{HasSelfTest}
@@ -26,17 +31,16 @@ FollowsSelfTest frames outcome = Yields outcome (Gives outcome (HasSelfTest fram
 abbrev pub FollowsAtOnce : Status → Result Answer Failure → Type 0
 FollowsAtOnce ends outcome = Yields outcome (Gives outcome (λ answer. answer ≡ silent ends))
 
--- words that are no request, and a request; nothing that looks deeper into one flow is built. The number of workers is in
--- none of it
+-- words that are no request, and a request. The number of workers is in none of it
 abbrev pub Follows : Option Request → Inputs → Result Answer Failure → Type 0
 Follows None i outcome = FollowsAtOnce status.Usage outcome
 Follows (Some (request.Check job)) i outcome = FollowsCheck job i outcome
 Follows (Some (request.Verify job)) i outcome = FollowsVerify job i outcome
 Follows (Some (request.VerifyReport job)) i outcome = FollowsReport job i outcome
 Follows (Some (request.SelfTest job)) i outcome = FollowsSelfTest job.frames outcome
-Follows (Some (request.Window job)) i outcome = FollowsAtOnce status.NotBuilt outcome
-Follows (Some (request.Shape job)) i outcome = FollowsAtOnce status.NotBuilt outcome
-Follows (Some (request.Skew job)) i outcome = FollowsAtOnce status.NotBuilt outcome
+Follows (Some (request.Window job)) i outcome = FollowsWindow job i outcome
+Follows (Some (request.Shape job)) i outcome = FollowsShape job i outcome
+Follows (Some (request.Skew job)) i outcome = FollowsSkew job i outcome
 
 -- the count of the name of this input of `check` rose
 abbrev pub CheckInputRose : CheckJob → Inputs → Input → Type 0
@@ -49,6 +53,9 @@ abbrev pub InputRose : Option Request → Inputs → Input → Type 0
 InputRose (Some (request.Check job)) i input = CheckInputRose job i input
 InputRose (Some (request.Verify job)) i input = VerifyInputRose job i input
 InputRose (Some (request.VerifyReport job)) i input = ReportInputRose job i input
+InputRose (Some (request.Window job)) i input = FlowInputRose job i input
+InputRose (Some (request.Shape job)) i input = FlowInputRose job.flow i input
+InputRose (Some (request.Skew job)) i input = SkewInputRose job i input
 InputRose other i input = ⊥
 
 -- the names of a request's inputs, where it reads any
@@ -56,12 +63,21 @@ abbrev pub names_of : Option Request → List (List ℕ)
 names_of (Some (request.Check job)) = job.sdp ∷ job.captures
 names_of (Some (request.Verify job)) = job.sdp ∷ job.captures
 names_of (Some (request.VerifyReport job)) = job.sdp ∷ job.report ∷ job.captures
+names_of (Some (request.Window job)) = job.sdp ∷ job.capture ∷ []
+names_of (Some (request.Shape job)) = job.flow.sdp ∷ job.flow.capture ∷ []
+names_of (Some (request.Skew job)) = job.sdp ∷ job.captures
 names_of other = []
 
 -- whether a report is read back; what its text is a report of decides then which captures are read
 abbrev pub reads_report : Option Request → Bool
 reads_report (Some (request.VerifyReport job)) = true
 reads_report other = false
+
+-- where a flow is shaped, the media of its description are within the limits of a media, as those are that the reader of
+-- descriptions answers
+abbrev pub ShapesWithin : Option Request → (List ℕ → Option (List ℕ)) → Type 0
+ShapesWithin (Some (request.Shape job)) texts = (text : List ℕ) (media : List Media) → texts job.flow.sdp ≡ Some text → session text ≡ Ok media → All IsMedia media
+ShapesWithin other texts = ⊤
 
 -- what was seen of a shelf that tells by a test which names it lacks; the laws speak of such shelves
 abbrev pub seen : (texts : List ℕ → Option (List ℕ)) → (lacking : List ℕ → Bool) → (before now : List ℕ → ℕ) → Inputs

@@ -1,5 +1,5 @@
 -- What was found in captures, and how their judging goes on.
-use Rattle.std.specs.Prelude.{◌≡◌, ◌+◌, ◌^◌, ℕ, List, [], ◌∷◌, ◌++◌, length, map, Option, Result, IfOk, IfErr}
+use Rattle.std.specs.Prelude.{◌≡◌, ◌+◌, ◌^◌, ℕ, List, [], ◌∷◌, ◌++◌, length, map}
 use Rattle.timing_base.specs.Captures.{Record, joined, raised}
 use Rattle.timing_base.specs.Media.{Media}
 use Rattle.timing_base.specs.declared.capture.FileNote.{FileNote}
@@ -9,10 +9,6 @@ use Rattle.flow_bank.specs.Rows.{rows_of}
 use Rattle.flow_bank.specs.Stands.{StandsFor}
 use Rattle.flow_bank.specs.declared.bank.Bank.{Bank}
 use Rattle.flow_bank.specs.declared.records.Taken.{Taken}
-use Rattle.timing_report.specs.declared.status.Input.TheVariants.{Capture}
-use Rattle.timing_steps.specs.Answers.{AreTold, CaptureRose, OnReadFault}
-use Rattle.timing_steps.specs.Fetched.{AreFetched}
-use Rattle.timing_steps.specs.declared.failure.Failure.{Failure}
 
 -- a capture was taken: how it ends, how many records it has, and that the bank took them, numbered on
 pub record TakesCapture (text : List ℕ) (before : ℕ) (old new : Bank) (taken : Taken) : Type 0 where
@@ -43,16 +39,3 @@ pub record AreJoined (texts : List (List ℕ)) (media : List Media) (tai : ℕ) 
   pub records : AreRecords texts files notes
   pub count_is : count ≡ length (joined files)
   pub stands : StandsFor media 0 tai bank (joined files)
-
--- of the captures of these names so many were read, and this holds of their texts; the sources of the others are ahead.
--- Or one couldn't be read
-pub record Judging {S : Type 0} (name : S → List ℕ) (left : S → Option (List ℕ)) (faults : S → ℕ)
-    (texts : List ℕ → Option (List ℕ)) (before now : List ℕ → ℕ) (names : List (List ℕ))
-    (rest : List S) (outcome : Result (Unit {0}) Failure) (number : ℕ) (Found : List (List ℕ) → Type 0) : Type 0 where
-  pub done : List (List ℕ)
-  pub ahead : List (List ℕ)
-  pub whole : names ≡ done ++ ahead
-  pub fetched : AreFetched name left faults texts ahead rest
-  pub count : IfOk outcome (λ _. number ≡ length done)
-  pub told : IfOk outcome (λ _. (read : List (List ℕ)) → AreTold texts done read → Found read)
-  pub cause : IfErr outcome (λ e. OnReadFault e (λ i. (number : ℕ) × (i ≡ Capture number) × CaptureRose before now names number))

@@ -13,6 +13,7 @@ use std::sync::Wait;
 use std::thread::Threads;
 use timing_base::{Request, SelfTestJob};
 use timing_outside::{Gate, Shelf, Sink};
+use timing_reach::{answer_shape, answer_skew, answer_window};
 use timing_report::Status;
 use timing_steps::{Answer, Failure, conclude};
 use timing_verify::{answer_report, answer_verify};
@@ -50,8 +51,7 @@ pub fn self_test<R: Threads + Wait + Sync, K: Sink, G: Gate>(
     conclude(out, err, outcome)
 }
 
-/// The answer of a request, or why there is none. Built are `check`, `verify`, `verify-report` and
-/// `selftest`.
+/// The answer of a request, or why there is none.
 fn answer_request<R: Threads + Wait + Sync, H: Shelf, G: Gate>(
     rt: &R,
     alloc: Global,
@@ -70,7 +70,9 @@ fn answer_request<R: Threads + Wait + Sync, H: Shelf, G: Gate>(
         Request::Verify(job) => answer_verify(alloc, &job, shelf),
         Request::VerifyReport(job) => answer_report(alloc, &job, shelf),
         Request::SelfTest(job) => answer_frames(rt, alloc, &job, gate),
-        _ => Ok(Answer::silent(alloc, Status::NotBuilt)),
+        Request::Window(job) => answer_window(alloc, &job, shelf),
+        Request::Shape(job) => answer_shape(alloc, &job, shelf),
+        Request::Skew(job) => answer_skew(alloc, &job, shelf),
     }
 }
 
@@ -97,8 +99,8 @@ fn answer<R: Threads + Wait + Sync, H: Shelf, G: Gate>(
 
 /// Does what the words ask for, the program's name not among them, and answers how that ended.
 ///
-/// A report goes to `out`, whole or not at all, but where a write fails; `err` gets one line where there
-/// is none. Built are `check`, `verify`, `verify-report` and `selftest`.
+/// What is printed goes to `out`, whole or not at all, but where a write fails; `err` gets one line where
+/// there is nothing to print.
 ///
 /// What is printed doesn't depend on the number of workers, nor on how their threads take turns. With
 /// workers the call waits for its threads; it promises what it says if it returns.
@@ -112,7 +114,9 @@ pub fn run<R: Wait + Threads + Sync, H: Shelf, K: Sink, G: Gate>(
     gate: &G,
 ) -> Status
     // What the texts of the request define was printed with its status, or nothing was and the status
-    // says why: an input couldn't be read whose count rose, a write failed, or memory ran out.
+    // says why: an input couldn't be read whose count rose, a write failed, or memory ran out. That in the
+    // report of `check` a type passes exactly where bucket and buffer keep their limits, and that each fail
+    // is confirmed, is said of these definitions by `report_laws::laws::types_are_exact`.
     ensures ran { Ran
         (Follows (request (map string_bytes words.now)) (seen_of H.text H.lacks H.faults shelf.old shelf.new))
         (InputRose (request (map string_bytes words.now)) (seen_of H.text H.lacks H.faults shelf.old shelf.new))

@@ -11,7 +11,7 @@ ghost use Rattle.timing_report.specs.declared.status.Input.{Input as InputValue}
 ghost use Rattle.timing_steps.specs.Answers.{Answer, AreTold};
 ghost use Rattle.timing_steps.specs.declared.failure.Failure.{Failure};
 ghost use Rattle.timing_steps.specs.declared.failure.Failure.TheVariants as failure;
-ghost use Rattle.timing_top.specs.Asked.{Follows, InputRose, names_of, reads_report, seen};
+ghost use Rattle.timing_top.specs.Asked.{Follows, InputRose, ShapesWithin, names_of, reads_report, seen};
 ghost use Rattle.timing_top.specs.Report.{HasReport};
 ghost use Rattle.timing_top.specs.SelfTest.{HasSelfTest};
 
@@ -50,13 +50,15 @@ pub fn plain_media_by_hand()
     } ∷ []) }
 {}
 
-/// The texts of a request define one answer, where it reads no report back. Where they are told and none is lacking, there is one and
-/// there are not two, and what has none ran out of memory or names an input whose count rose.
+/// The texts of a request define one answer, where it reads no report back. Where they are told and none is
+/// lacking, there is one (of `shape` where the description's media are within their limits, as all are that the
+/// reader answers) and there are not two, and what has none ran out of memory or names an input whose count
+/// rose.
 pub fn one_answer()
     ensures some { (asked : Option Request) (texts : List ℕ → Option (List ℕ))
         (lacking : List ℕ → Bool) (before now : List ℕ → ℕ) (told : List (List ℕ))
         → reads_report asked ≡ false → All (λ name. lacking name ≡ false) (names_of asked)
-        → AreTold texts (names_of asked) told
+        → AreTold texts (names_of asked) told → ShapesWithin asked texts
         → (answer : Answer) × Follows asked (seen texts lacking before now) (Ok answer) }
     ensures once { (asked : Option Request) (texts : List ℕ → Option (List ℕ))
         (lacking : List ℕ → Bool) (before now : List ℕ → ℕ) (told : List (List ℕ)) (a b : Answer)

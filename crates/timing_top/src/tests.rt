@@ -16,6 +16,7 @@ mod descriptions;
 mod faults;
 mod joined;
 mod pcapng;
+mod reach;
 mod refused;
 mod self_tests;
 mod senders;

@@ -1,5 +1,5 @@
 -- What the checker says of sources, as what is found in the captures that they were fetched from.
-use Rattle.std.proofs.Common.{◌≡◌, ◌≤◌, ◌<◌, ℕ, zero, suc, Bool, List, [], ◌∷◌, length, Option, refl, arith, ◌∙◌, sym, subst}
+use Rattle.std.proofs.Common.{◌≡◌, ◌≤◌, ◌<◌, ℕ, zero, suc, Bool, List, [], ◌∷◌, Option, refl, arith, ◌∙◌, sym, subst}
 use Rattle.std.proofs.lemmas.List.Elements.{All-head, All-tail, All-weaker}
 use Rattle.std.specs.Prelude.{All, IfErr, IfOk, Result, Ok, Err}
 use Rattle.timing_base.specs.Captures.{Record, joined}
@@ -31,14 +31,6 @@ tell-texts name left faults texts [] (s ∷ ss) read f t = absurd f
 tell-texts name left faults texts (n ∷ ns) [] read f t = absurd f
 tell-texts name left faults texts (n ∷ ns) (s ∷ ss) [] f t = absurd t
 tell-texts name left faults texts (n ∷ ns) (s ∷ ss) (r ∷ rs) f t = (f.1 ∙ t.0, tell-texts name left faults texts ns ss rs f.3 t.1)
-
--- fetched sources are as many as their names
-pub fetched-length : {S : Type 0} (name : S → List ℕ) (left : S → Option (List ℕ)) (faults : S → ℕ) (texts : List ℕ → Option (List ℕ)) (names : List (List ℕ)) (sources : List S)
-    → AreFetched name left faults texts names sources → length sources ≡ length names
-fetched-length name left faults texts [] [] h = refl
-fetched-length name left faults texts [] (s ∷ ss) h = absurd h
-fetched-length name left faults texts (n ∷ ns) [] h = absurd h
-fetched-length name left faults texts (n ∷ ns) (s ∷ ss) h = omega (arith, fetched-length name left faults texts ns ss h.3)
 
 -- what the checker says of texts is what is found in them
 finds-said : (media : Media) (claim : ReportProof) (tai : ℕ) (texts : List (List ℕ)) (finding : Result Bool Unjudged)

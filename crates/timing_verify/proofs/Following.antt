@@ -15,7 +15,8 @@ use Rattle.timing_verify.specs.Asked.{FollowsReport, FollowsVerify, HasReported,
 use Rattle.timing_verify.specs.Findings.{Finds}
 use Rattle.timing_verify.specs.Verified.{verified}
 use Rattle.timing_steps.proofs.Classics.{told-classic}
-use Rattle.timing_verify.proofs.Seeing.{Sees, follows-session, media-seen, needed-seen, report-seen}
+use Rattle.timing_steps.proofs.Seeing.{Sees, follows-session, yields-on}
+use Rattle.timing_verify.proofs.Seeing.{media-seen, needed-seen, report-seen}
 
 -- a report that was read leads on to what follows for its fails
 pub follows-report : (i : Inputs) (outcome : Result Answer Failure) (name : List ℕ) (claims : List ReportProof) (next : List ReportProof → Type 0) → ¬ i.lacks name
@@ -35,11 +36,6 @@ matched o x P Q e h = subst (λ y. MatchOption y P Q) e h
 
 pub unmatched : {X : Type 0} (o : Option X) (P : Type 0) (Q : X → Type 0) → o ≡ None → MatchOption o P Q → P
 unmatched o P Q e h = subst (λ y. MatchOption y P Q) e h
-
--- the same of what follows for a later part of a run
-pub yields-on : (outcome : Result Answer Failure) (P Q : Type 0) → (P → Q) → Yields outcome P → Yields outcome Q
-yields-on outcome P Q h (inl memory) = inl memory
-yields-on outcome P Q h (inr p) = inr (h p)
 
 -- a description was read, and what follows for its media was seen later
 pub verify-session : (i j : Inputs) (job : VerifyJob) (outcome : Result Answer Failure) (asked : List ℕ) (all media : List Media) → Sees i j → asked ≡ job.sdp → all ≡ media → ¬ i.lacks asked

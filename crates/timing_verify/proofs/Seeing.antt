@@ -1,45 +1,16 @@
--- What a later part of a run saw of its shelf, as what the whole run saw.
-use Rattle.std.proofs.Common.{◌≡◌, ◌≤◌, ℕ, List, [], ◌∷◌, Option, Some, None, arith, ◌∙◌, sym, subst, inl, inr}
+-- What a later part of a run saw of the inputs of `verify` and `verify-report`, as what the whole run saw.
+use Rattle.std.proofs.Common.{◌≡◌, ℕ, List, Option, Some, None, ◌∙◌, inl, inr}
 use Rattle.std.proofs.lemmas.List.Elements.{All-weaker}
-use Rattle.std.specs.Prelude.{Result, Ok}
+use Rattle.std.specs.Prelude.{Result}
 use Rattle.timing_base.specs.Jobs.{ReportJob, VerifyJob}
 use Rattle.timing_base.specs.Media.{Media}
-use Rattle.timing_outside.specs.Causes.{Rose}
-use Rattle.sdp_reader.specs.Session.{session}
 use Rattle.timing_json.specs.declared.reading.ReportProof.{ReportProof}
-use Rattle.timing_steps.specs.Answers.{Answer, AreThere, AreTold, CaptureRose, Gives, HasRisen, Inputs, OnSession, ReadsCaptures, ReadsSession, Yields}
+use Rattle.timing_steps.specs.Answers.{Answer, AreThere, Gives, Inputs}
 use Rattle.timing_steps.specs.declared.failure.Failure.{Failure}
+use Rattle.timing_steps.proofs.Seeing.{Sees, capture-seen, captures-seen, risen-seen, there-seen}
 use Rattle.timing_verify.specs.Asked.{AreTexts, HasVerified, NeededRose, OnReport, ReadsMedia, ReadsNeeded, ReadsReport, needed}
 
--- the second is of a part of the run of the first
-pub record Sees (i j : Inputs) : Type 0 where
-  pub texts : (n : List ℕ) → j.texts n ≡ i.texts n
-  pub lacks : (n : List ℕ) → i.lacks n → j.lacks n
-  pub before : (n : List ℕ) → i.before n ≤ j.before n
-  pub now : (n : List ℕ) → j.now n ≤ i.now n
-
-rose-within : (a b c d : ℕ) → a ≤ b → c ≤ d → Rose b c → Rose a d
-rose-within a b c d h k r = omega (arith, h, k, r)
-
-pub risen-seen : (i j : Inputs) (name : List ℕ) → Sees i j → HasRisen j name → HasRisen i name
-risen-seen i j name s h = rose-within (i.before name) (j.before name) (j.now name) (i.now name) (s.before name) (s.now name) h
-
-pub capture-seen : (i j : Inputs) (names : List (List ℕ)) (number : ℕ) → Sees i j → CaptureRose j.before j.now names number → CaptureRose i.before i.now names number
-capture-seen i j names number s h = record { within = h.within; rose = risen-seen i j _ s h.rose }
-
-there-seen : (i j : Inputs) (names : List (List ℕ)) → Sees i j → AreThere j.lacks names → AreThere i.lacks names
-there-seen i j names s h = All-weaker (λ n. ¬ j.lacks n) (λ n. ¬ i.lacks n) (λ n there lacks. there (s.lacks n lacks)) names h
-
-told-seen : (i j : Inputs) (names texts : List (List ℕ)) → Sees i j → AreTold i.texts names texts → AreTold j.texts names texts
-told-seen i j [] [] s h = tt
-told-seen i j [] (t ∷ ts) s h = absurd h
-told-seen i j (n ∷ ns) [] s h = absurd h
-told-seen i j (n ∷ ns) (t ∷ ts) s h = (s.texts n ∙ h.0, told-seen i j ns ts s h.1)
-
-captures-seen : (i j : Inputs) (outcome : Result Answer Failure) (names : List (List ℕ)) (next : List (List ℕ) → Type 0) → Sees i j → ReadsCaptures j outcome names next → ReadsCaptures i outcome names next
-captures-seen i j outcome names next s (inl h) = inl (h.0, h.1, capture-seen i j names h.0 s h.2)
-captures-seen i j outcome names next s (inr h) = inr (there-seen i j names s h.0, λ texts told. h.1 texts (told-seen i j names texts s told))
-
+-- captures that were read in a part of the run, where the media is there
 pub media-seen : (i j : Inputs) (outcome : Result Answer Failure) (job : VerifyJob) (there : Option Media) → Sees i j → ReadsMedia j outcome job there → ReadsMedia i outcome job there
 media-seen i j outcome job None s h = h
 media-seen i j outcome job (Some media) s h = captures-seen i j outcome job.captures (λ texts. Gives outcome (HasVerified job media texts)) s h
@@ -68,19 +39,3 @@ report-seen i j outcome name next also s h (inr read) = inr (
   (λ lacks. read.0 (s.lacks name lacks)),
   λ text told. on-report text outcome next also h (read.1 text (s.texts name ∙ told)),
 )
-
--- a description that was read leads on to what follows for its media
-pub follows-session : (i : Inputs) (outcome : Result Answer Failure) (name : List ℕ) (media : List Media) (next : List Media → Type 0) → ¬ i.lacks name → ((text : List ℕ) → i.texts name ≡ Some text → session text ≡ Ok media)
-    → Yields outcome (next media) → Yields outcome (ReadsSession i outcome name next)
-follows-session i outcome name media next there told (inl memory) = inl memory
-follows-session i outcome name media next there told (inr h) = inr (inr (there, λ text t. subst (λ s. OnSession s outcome next) (sym (told text t)) h))
-
--- a part of a run that ends with it
-pub sees-rest : (texts also : List ℕ → Option (List ℕ)) (lacks later : List ℕ → Type 0) (before mid now : List ℕ → ℕ) → ((n : List ℕ) → also n ≡ texts n) → ((n : List ℕ) → lacks n → later n) → ((n : List ℕ) → before n ≤ mid n)
-    → Sees (record { texts = texts; lacks = lacks; before = before; now = now }) (record { texts = also; lacks = later; before = mid; now = now })
-sees-rest texts also lacks later before mid now same kept earlier = record {
-  texts = same;
-  lacks = kept;
-  before = earlier;
-  now = λ n. omega arith;
-}

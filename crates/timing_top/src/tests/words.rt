@@ -1,24 +1,10 @@
-//! Words that are no request, and those that aren't built.
+//! Words that are no request.
 
 use super::{ends, made, over};
 use std::test::Fail;
 use timing_report::Status;
 
 const USAGE: &str = "usage: check, verify, verify-report or selftest\n";
-
-#[test]
-fn words_that_are_not_built(rt: HostRuntime) -> Result<(), Fail> {
-    let wanted = (Status::NotBuilt, "", "not built\n");
-    let setting = over(rt.alloc(), made(&rt, 0, 0)?)?;
-    for line in [
-        "window --sdp p.sdp --media 1 a.pcap",
-        "shape --sdp p.sdp --media 1 --type N a.pcap",
-        "skew --sdp p.sdp --media 1 --pair 1 a.pcap",
-    ] {
-        ends(&rt, line, &setting, wanted)?;
-    }
-    Ok(())
-}
 
 #[test]
 fn no_capture(rt: HostRuntime) -> Result<(), Fail> {
@@ -38,6 +24,9 @@ fn out_of_range_words(rt: HostRuntime) -> Result<(), Fail> {
         "check --serial --tai 1001 --sdp p.sdp a.pcap",
         "selftest 1",
         "selftest 20001",
+        "window --sdp p.sdp --media 65 a.pcap",
+        "shape --sdp p.sdp --media 1 a.pcap",
+        "skew --sdp p.sdp --media 1 --pair 2 a.pcap b.pcap c.pcap",
         "verify --sdp p.sdp --media 0 --type N --model Bucket --from 0 --to 4 --count 5 --limit 4 a.pcap",
         "verify --sdp p.sdp --media 1 --type N --model Bucket --from -1 --to 4 --count 5 --limit 4 a.pcap",
         "verify --sdp p.sdp --media 1 --type N --model Empty --from 0 --to -1 --count 0 --limit 1 a.pcap",

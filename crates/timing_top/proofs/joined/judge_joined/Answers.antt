@@ -5,14 +5,14 @@ use Rattle.flow_bank.specs.Stands.{IsFed, StandsFor}
 use Rattle.pcapng_reader.specs.Classic.{classic_texts}
 use Rattle.pcapng_reader.specs.Sources.{faults_of, left_of, name_of}
 use Rattle.timing_top.specs.Found.{AreJoined}
-use Rattle.timing_top.proofs.Judgings.{fresh-tail, if_ok-at, if_ok-map, judging-all, judging-at, judging-next, judging-start, judging-stopped, none-left}
+use Rattle.timing_steps.proofs.Readings.{fresh-tail, if_ok-at, if_ok-map, none-left, reading-all, reading-at, reading-next, reading-start, reading-stopped}
 use Rattle.timing_top.proofs.Takings.{found-joined, joined-if_read, joined-none, rows-alone, rows-of_session}
 use Rattle.timing_top.proofs.joined.judge_joined.Goals as goal
 
 pub loop-source-init : goal.loop-source-init
 loop-source-init g c = record {
-  judging = λ names fetched.
-      judging-start (name_of g.H.Source.Source.name) (left_of g.H.Source.Source.left) (faults_of g.H.Source.Source.faults) (classic_texts (g.H.Shelf.text c.args.shelf.now)) (g.H.Shelf.faults c.args.shelf.now) names c.args.sources.items
+  reading = λ names fetched.
+      reading-start (name_of g.H.Source.Source.name) (left_of g.H.Source.Source.left) (faults_of g.H.Source.Source.faults) (classic_texts (g.H.Shelf.text c.args.shelf.now)) (g.H.Shelf.faults c.args.shelf.now) names c.args.sources.items
       c.into_iter-source-iterator.result.rest.items _ _ c.into_iter-source-iterator.ensures.into_iter_gives.0 (search rules) (joined-none c.args.media.now c.args.tai _ _ (search rules) c.in-Ok.ensures.stands) fetched;
   fresh = search rules;
   count = search rules;
@@ -26,12 +26,12 @@ loop-source-init g c = record {
 
 pub loop-source-preserved-in-Ok-outcome : goal.loop-source-preserved-in-Ok-outcome
 loop-source-preserved-in-Ok-outcome g c = record {
-  judging = λ names fetched.
-      judging-next (name_of g.H.Source.Source.name) (left_of g.H.Source.Source.left) (faults_of g.H.Source.Source.faults) (classic_texts (g.H.Shelf.text c.args.shelf.now)) (g.H.Shelf.faults c.args.shelf.now) (g.H.Shelf.faults c.loop-source.shelf) (g.H.Shelf.faults c.join_next-outcome.new.shelf)
+  reading = λ names fetched.
+      reading-next (name_of g.H.Source.Source.name) (left_of g.H.Source.Source.left) (faults_of g.H.Source.Source.faults) (classic_texts (g.H.Shelf.text c.args.shelf.now)) (g.H.Shelf.faults c.args.shelf.now) (g.H.Shelf.faults c.loop-source.shelf) (g.H.Shelf.faults c.join_next-outcome.new.shelf)
       names c.in-Some.source c.next.new.self.rest.items c.join_next-outcome.result _ _
       (λ read. AreJoined read c.args.media.now c.args.tai c.loop-source.joined.notes.items c.loop-source.joined.records c.loop-source.joined.bank)
       (λ read. AreJoined read c.args.media.now c.args.tai c.join_next-outcome.new.joined.notes.items c.join_next-outcome.new.joined.records c.join_next-outcome.new.joined.bank)
-      (judging-at _ _ _ _ _ _ names _ _ _ _ _ _ c.in-Some.ensures.steps.0 c.in-Ok-outcome.is (c.loop-source.invariant.judging names fetched))
+      (reading-at _ _ _ _ _ _ names _ _ _ _ _ _ c.in-Some.ensures.steps.0 c.in-Ok-outcome.is (c.loop-source.invariant.reading names fetched))
       c.loop-source.invariant.later
       (joined-if_read c.join_next-outcome.result ((left_of g.H.Source.Source.left) c.in-Some.source) c.args.media.now c.args.tai _ _ _ _ _ _ c.join_next-outcome.ensures.told)
       c.join_next-outcome.ensures.count c.join_next-outcome.ensures.cause;
@@ -50,10 +50,10 @@ loop-source-preserved-in-Ok-outcome g c = record {
 
 pub loop-source-preserved : goal.loop-source-preserved
 loop-source-preserved g c = record {
-  judging = λ names fetched.
-      judging-stopped (name_of g.H.Source.Source.name) (left_of g.H.Source.Source.left) (faults_of g.H.Source.Source.faults) (classic_texts (g.H.Shelf.text c.args.shelf.now)) (g.H.Shelf.faults c.args.shelf.now) (g.H.Shelf.faults c.loop-source.shelf) (g.H.Shelf.faults c.give_back.new.shelf)
+  reading = λ names fetched.
+      reading-stopped (name_of g.H.Source.Source.name) (left_of g.H.Source.Source.left) (faults_of g.H.Source.Source.faults) (classic_texts (g.H.Shelf.text c.args.shelf.now)) (g.H.Shelf.faults c.args.shelf.now) (g.H.Shelf.faults c.loop-source.shelf) (g.H.Shelf.faults c.give_back.new.shelf)
       names c.in-Some.source c.next.new.self.rest.items _ _ c.in-Err-outcome.failure
-      (judging-at _ _ _ _ _ _ names _ _ _ _ _ _ c.in-Some.ensures.steps.0 c.in-Err-outcome.is (c.loop-source.invariant.judging names fetched)) c.give_back.ensures.later;
+      (reading-at _ _ _ _ _ _ names _ _ _ _ _ _ c.in-Some.ensures.steps.0 c.in-Err-outcome.is (c.loop-source.invariant.reading names fetched)) c.give_back.ensures.later;
   fresh = fresh-tail (λ source. (faults_of g.H.Source.Source.faults) source ≡ 0) _ c.in-Some.source _ c.in-Some.ensures.steps.0 c.loop-source.invariant.fresh;
   count = search rules;
   before = search rules;
@@ -67,9 +67,9 @@ loop-source-preserved g c = record {
 pub returns-clause-told : goal.returns-clause-told
 returns-clause-told g c = λ names texts fetched told.
     found-joined texts c.args.media.now c.args.tai c.loop-source.joined.records c.loop-source.joined.notes.items c.loop-source.joined.bank c.finish.new.rows.items
-    (judging-all (name_of g.H.Source.Source.name) (left_of g.H.Source.Source.left) (faults_of g.H.Source.Source.faults) (classic_texts (g.H.Shelf.text c.args.shelf.now)) (g.H.Shelf.faults c.args.shelf.now) (g.H.Shelf.faults c.loop-source.shelf) names texts
+    (reading-all (name_of g.H.Source.Source.name) (left_of g.H.Source.Source.left) (faults_of g.H.Source.Source.faults) (classic_texts (g.H.Shelf.text c.args.shelf.now)) (g.H.Shelf.faults c.args.shelf.now) (g.H.Shelf.faults c.loop-source.shelf) names texts
     c.loop-source.source-iterator.rest.items _ (λ read. AreJoined read c.args.media.now c.args.tai c.loop-source.joined.notes.items c.loop-source.joined.records c.loop-source.joined.bank)
-    (judging-at _ _ _ _ _ _ names _ _ _ _ _ _ refl (search rules) (c.loop-source.invariant.judging names fetched)) (none-left _ (search rules)) told)
+    (reading-at _ _ _ _ _ _ names _ _ _ _ _ _ refl (search rules) (c.loop-source.invariant.reading names fetched)) (none-left _ (search rules)) told)
     (λ items stands. rows-alone c.args.tai c.args.media.now items c.new-rows.result.items c.finish.new.rows.items c.new-rows.ensures.items (c.in_ok-finish.ensures.rows c.args.media.now 0 c.args.tai items stands))
 
 pub returns-clause-of_session : goal.returns-clause-of_session

@@ -4,7 +4,7 @@ use Rattle.timing_top.proofs.Asking.{answer-failed, only-answer, some-answer}
 use Rattle.timing_top.proofs.laws.one_answer.Goals as goal
 
 pub returns-clause-some : goal.returns-clause-some
-returns-clause-some c = λ asked texts lacking before now told alone there are. some-answer asked (seen texts lacking before now) told alone (are-there lacking _ there) are
+returns-clause-some c = λ asked texts lacking before now told alone there are within. some-answer asked (seen texts lacking before now) told alone (are-there lacking _ there) are within
 
 pub returns-clause-once : goal.returns-clause-once
 returns-clause-once c = λ asked texts lacking before now told a b alone are h k. only-answer asked (seen texts lacking before now) told a b alone are h k

@@ -1,7 +1,8 @@
 use Rattle.std.proofs.Common.{arith}
 use Rattle.pcapng_reader.specs.Classic.{classic_texts}
 use Rattle.pcapng_reader.specs.Sources.{faults_of, left_of, name_of}
-use Rattle.timing_verify.proofs.Confirming.{fetched-length, find-cause, find-told, tell-texts}
+use Rattle.timing_steps.proofs.Readings.{fetched-length}
+use Rattle.timing_verify.proofs.Confirming.{find-cause, find-told, tell-texts}
 use Rattle.timing_verify.proofs.find.find.Goals as goal
 
 pub confirm-sources-requires-clause-few : goal.confirm-sources-requires-clause-few

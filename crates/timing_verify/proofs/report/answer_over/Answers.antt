@@ -1,6 +1,6 @@
 use Rattle.std.proofs.Common.{rules, ◌≡◌}
 use Rattle.timing_verify.proofs.Following.{follows-none, matched, report-read, unmatched}
-use Rattle.timing_verify.proofs.Seeing.{sees-rest}
+use Rattle.timing_steps.proofs.Seeing.{sees-rest}
 use Rattle.timing_verify.proofs.report.answer_over.Goals as goal
 
 pub returns-in-Some-clause-follows : goal.returns-in-Some-clause-follows

@@ -1,6 +1,6 @@
 use Rattle.std.proofs.Common.{rules, ◌≡◌, ◌∙◌}
 use Rattle.timing_verify.proofs.Following.{report-session}
-use Rattle.timing_verify.proofs.Seeing.{sees-rest}
+use Rattle.timing_steps.proofs.Seeing.{sees-rest}
 use Rattle.timing_verify.proofs.report.answer_report.Goals as goal
 
 pub returns-in-Ok-clause-follows : goal.returns-in-Ok-clause-follows

@@ -1,0 +1,136 @@
+-- The texts of the commands that look deeper into one flow, or two, define one answer.
+use Rattle.std.proofs.Common.{◌≡◌, ℕ, zero, suc, List, [], ◌∷◌, Option, Some, None, refl, subst, inl, inr}
+use Rattle.std.specs.Prelude.{All, Result, Ok, Err, map, slice_get}
+use Rattle.std.proofs.lemmas.List.Elements.{All-head, All-tail}
+use Rattle.timing_base.specs.Jobs.{FlowJob, SkewJob}
+use Rattle.timing_base.specs.Media.{Media}
+use Rattle.pcapng_reader.specs.Classic.{classic}
+use Rattle.sdp_reader.specs.Session.{session}
+use Rattle.timing_report.specs.declared.status.Input.{Input}
+use Rattle.timing_report.specs.declared.status.Input.TheVariants as input
+use Rattle.timing_steps.specs.Answers.{Answer, AreThere, AreTold, Gives, Inputs, ReadsSession, Yields}
+use Rattle.timing_steps.specs.declared.failure.Failure.{Failure}
+use Rattle.timing_reach.specs.Asked.{FlowInputRose, ReadsCapture, ReadsFlow, no_such_media}
+use Rattle.timing_reach.specs.Skewed.{FollowsSkew, HasSkew, ReadsPair, SkewInputRose}
+use Rattle.timing_reach.proofs.Unique.{once-skew, some-skew}
+use Rattle.timing_top.proofs.Answering.{Caused, captured-failed, described-failed, not-given, ok-not-err, only-captured, only-described, only-given, only-silent, only-yielded, same-err, same-some, some-captured, some-described, some-given, some-yielded, yielded-failed}
+
+-- one capture that is read
+some-capture : (i : Inputs) (name text : List ℕ) (Defined : List ℕ → Answer → Type 0) → ¬ i.lacks name → i.texts name ≡ Some text → (answer : Answer) × Defined (classic text) answer
+    → (answer : Answer) × ReadsCapture i (Ok answer) name (λ t. Gives (Ok answer) (Defined t))
+some-capture i name text Defined there told h =
+    (h.0, inr (there, λ t e. (h.0, refl, subst (λ x. Defined (classic x) h.0) (same-some text t (i.texts name) told e) h.1)))
+
+only-capture : (i : Inputs) (name text : List ℕ) (Defined : List ℕ → Answer → Type 0) (a b : Answer) → i.texts name ≡ Some text → ((x y : Answer) → Defined (classic text) x → Defined (classic text) y → x ≡ y)
+    → ReadsCapture i (Ok a) name (λ t. Gives (Ok a) (Defined t)) → ReadsCapture i (Ok b) name (λ t. Gives (Ok b) (Defined t)) → a ≡ b
+only-capture i name text Defined a b told once (inl h) k = absurd (ok-not-err a _ (Ok a) refl h.0)
+only-capture i name text Defined a b told once (inr h) (inl k) = absurd (ok-not-err b _ (Ok b) refl k.0)
+only-capture i name text Defined a b told once (inr h) (inr k) = only-given (Defined (classic text)) a b once (h.1 text told) (k.1 text told)
+
+capture-failed : (i : Inputs) (job : FlowJob) (text : List ℕ) (Defined : List ℕ → Answer → Type 0) (e : Failure) → i.texts job.capture ≡ Some text
+    → ReadsCapture i (Err e) job.capture (λ t. Gives (Err e) (Defined t)) → Caused e (FlowInputRose job i)
+capture-failed i job text Defined e told (inl h) = inr (input.Capture 0, same-err e _ (Err e) refl h.0, (refl, h.1))
+capture-failed i job text Defined e told (inr h) = absurd (not-given (Defined (classic text)) e (h.1 text told))
+
+-- the flow of a media
+some-flow : (job : FlowJob) (i : Inputs) (text : List ℕ) (Sound : Media → Type 0) (Defined : Media → List ℕ → Answer → Type 0) (m : Option Media) → ¬ i.lacks job.capture → i.texts job.capture ≡ Some text
+    → ((media : Media) → m ≡ Some media → Sound media) → ((media : Media) → Sound media → (answer : Answer) × Defined media (classic text) answer) → (answer : Answer) × ReadsFlow i (Ok answer) job Defined m
+some-flow job i text Sound Defined None there told sound h = some-given (λ answer. answer ≡ no_such_media) (no_such_media, refl)
+some-flow job i text Sound Defined (Some media) there told sound h = some-capture i job.capture text (Defined media) there told (h media (sound media refl))
+
+only-flow : (job : FlowJob) (i : Inputs) (text : List ℕ) (Defined : Media → List ℕ → Answer → Type 0) (m : Option Media) (a b : Answer) → i.texts job.capture ≡ Some text
+    → ((media : Media) (x y : Answer) → Defined media (classic text) x → Defined media (classic text) y → x ≡ y) → ReadsFlow i (Ok a) job Defined m → ReadsFlow i (Ok b) job Defined m → a ≡ b
+only-flow job i text Defined None a b told once h k = only-given (λ answer. answer ≡ no_such_media) a b (λ x y p q. only-silent x y _ p q) h k
+only-flow job i text Defined (Some media) a b told once h k = only-capture i job.capture text (Defined media) a b told (once media) h k
+
+flow-failed : (job : FlowJob) (i : Inputs) (text : List ℕ) (Defined : Media → List ℕ → Answer → Type 0) (m : Option Media) (e : Failure) → i.texts job.capture ≡ Some text
+    → ReadsFlow i (Err e) job Defined m → Caused e (FlowInputRose job i)
+flow-failed job i text Defined None e told h = absurd (not-given (λ answer. answer ≡ no_such_media) e h)
+flow-failed job i text Defined (Some media) e told h = capture-failed i job text (Defined media) e told h
+
+-- the description, and then the flow
+abbrev pub FollowsFlow : FlowJob → (Media → List ℕ → Answer → Type 0) → Inputs → Result Answer Failure → Type 0
+FollowsFlow job Defined i outcome = Yields outcome (ReadsSession i outcome job.sdp (λ media. ReadsFlow i outcome job Defined (slice_get media job.media)))
+
+-- of a list of which all are so
+all-there : (P : Media → Type 0) (xs : List Media) (n : ℕ) (x : Media) → All P xs → slice_get xs n ≡ Some x → P x
+all-there P [] zero x h e = absurd (none-there x e)
+  where
+    none-there : (y : Media) → slice_get [] zero ≡ Some y → ⊥
+    none-there y e = let o : None ≡ Some y = e in cc
+all-there P [] (suc n) x h e = absurd (none-there x e)
+  where
+    none-there : (y : Media) → slice_get [] (suc n) ≡ Some y → ⊥
+    none-there y e = let o : None ≡ Some y = e in cc
+all-there P (y ∷ ys) zero x h e = subst P (same-media y x e) (All-head P y ys h)
+  where
+    same-media : (y x : Media) → slice_get (y ∷ ys) zero ≡ Some x → y ≡ x
+    same-media y x e = let o : Some y ≡ Some x = e in cc
+all-there P (y ∷ ys) (suc n) x h e = all-there P ys n x (All-tail P y ys h) e
+
+pub some-reach : (job : FlowJob) (i : Inputs) (texts : List (List ℕ)) (Sound : Media → Type 0) (Defined : Media → List ℕ → Answer → Type 0) → AreThere i.lacks (job.sdp ∷ job.capture ∷ []) → AreTold i.texts (job.sdp ∷ job.capture ∷ []) texts
+    → ((text : List ℕ) (media : List Media) → i.texts job.sdp ≡ Some text → session text ≡ Ok media → All Sound media)
+    → ((media : Media) → Sound media → (text : List ℕ) → (answer : Answer) × Defined media text answer) → (answer : Answer) × FollowsFlow job Defined i (Ok answer)
+some-reach job i [] Sound Defined there told sound h = absurd told
+some-reach job i (sdp ∷ []) Sound Defined there told sound h = absurd told.1
+some-reach job i (sdp ∷ text ∷ texts) Sound Defined there told sound h =
+    some-yielded (λ answer. ReadsSession i (Ok answer) job.sdp (λ media. ReadsFlow i (Ok answer) job Defined (slice_get media job.media)))
+    (some-described i job.sdp sdp (λ answer media. ReadsFlow i (Ok answer) job Defined (slice_get media job.media)) (All-head (λ n. ¬ i.lacks n) job.sdp (job.capture ∷ []) there) told.0
+    (λ media e. some-flow job i text Sound Defined (slice_get media job.media)
+    (All-head (λ n. ¬ i.lacks n) job.capture [] (All-tail (λ n. ¬ i.lacks n) job.sdp (job.capture ∷ []) there)) told.1.0
+    (λ m at. all-there Sound media job.media m (sound sdp media told.0 e) at) (λ m is. h m is (classic text))))
+
+pub only-reach : (job : FlowJob) (i : Inputs) (texts : List (List ℕ)) (Defined : Media → List ℕ → Answer → Type 0) (a b : Answer) → AreTold i.texts (job.sdp ∷ job.capture ∷ []) texts
+    → ((media : Media) (text : List ℕ) (x y : Answer) → Defined media text x → Defined media text y → x ≡ y) → FollowsFlow job Defined i (Ok a) → FollowsFlow job Defined i (Ok b) → a ≡ b
+only-reach job i [] Defined a b told once h k = absurd told
+only-reach job i (sdp ∷ []) Defined a b told once h k = absurd told.1
+only-reach job i (sdp ∷ text ∷ texts) Defined a b told once h k =
+    only-yielded (λ answer. ReadsSession i (Ok answer) job.sdp (λ media. ReadsFlow i (Ok answer) job Defined (slice_get media job.media))) a b
+    (λ p q. only-described i job.sdp sdp (λ answer media. ReadsFlow i (Ok answer) job Defined (slice_get media job.media)) a b told.0
+    (λ media x y. only-flow job i text Defined (slice_get media job.media) a b told.1.0 (λ m. once m (classic text)) x y) p q) h k
+
+pub reach-failed : (job : FlowJob) (i : Inputs) (texts : List (List ℕ)) (Defined : Media → List ℕ → Answer → Type 0) (e : Failure) → AreTold i.texts (job.sdp ∷ job.capture ∷ []) texts
+    → FollowsFlow job Defined i (Err e) → Caused e (FlowInputRose job i)
+reach-failed job i [] Defined e told h = absurd told
+reach-failed job i (sdp ∷ []) Defined e told h = absurd told.1
+reach-failed job i (sdp ∷ text ∷ texts) Defined e told h =
+    yielded-failed (ReadsSession i (Err e) job.sdp (λ media. ReadsFlow i (Err e) job Defined (slice_get media job.media))) e (FlowInputRose job i)
+    (λ p. described-failed i job.sdp sdp (λ media. ReadsFlow i (Err e) job Defined (slice_get media job.media)) e (FlowInputRose job i) told.0 (λ r. r)
+    (λ media x. flow-failed job i text Defined (slice_get media job.media) e told.1.0 x) p) h
+
+-- two flows
+some-pair : (job : SkewJob) (i : Inputs) (texts : List (List ℕ)) (m n : Option Media) → AreThere i.lacks job.captures → AreTold i.texts job.captures texts → (answer : Answer) × ReadsPair i (Ok answer) job m n
+some-pair job i texts None n there told = some-given (λ answer. answer ≡ no_such_media) (no_such_media, refl)
+some-pair job i texts (Some m) None there told = some-given (λ answer. answer ≡ no_such_media) (no_such_media, refl)
+some-pair job i texts (Some m) (Some n) there told = some-captured i job.captures texts (HasSkew job m n) there told (some-skew job m n (map classic texts))
+
+only-pair : (job : SkewJob) (i : Inputs) (texts : List (List ℕ)) (m n : Option Media) (a b : Answer) → AreTold i.texts job.captures texts → ReadsPair i (Ok a) job m n → ReadsPair i (Ok b) job m n → a ≡ b
+only-pair job i texts None n a b told h k = only-given (λ answer. answer ≡ no_such_media) a b (λ x y p q. only-silent x y _ p q) h k
+only-pair job i texts (Some m) None a b told h k = only-given (λ answer. answer ≡ no_such_media) a b (λ x y p q. only-silent x y _ p q) h k
+only-pair job i texts (Some m) (Some n) a b told h k = only-captured i job.captures texts (HasSkew job m n) a b told (once-skew job m n (map classic texts)) h k
+
+pair-failed : (job : SkewJob) (i : Inputs) (texts : List (List ℕ)) (m n : Option Media) (e : Failure) → AreTold i.texts job.captures texts → ReadsPair i (Err e) job m n → Caused e (SkewInputRose job i)
+pair-failed job i texts None n e told h = absurd (not-given (λ answer. answer ≡ no_such_media) e h)
+pair-failed job i texts (Some m) None e told h = absurd (not-given (λ answer. answer ≡ no_such_media) e h)
+pair-failed job i texts (Some m) (Some n) e told h = captured-failed i job.captures texts (HasSkew job m n) e (SkewInputRose job i) told (λ number r. r) h
+
+pub some-skewed : (job : SkewJob) (i : Inputs) (texts : List (List ℕ)) → AreThere i.lacks (job.sdp ∷ job.captures) → AreTold i.texts (job.sdp ∷ job.captures) texts → (answer : Answer) × FollowsSkew job i (Ok answer)
+some-skewed job i [] there told = absurd told
+some-skewed job i (sdp ∷ texts) there told =
+    some-yielded (λ answer. ReadsSession i (Ok answer) job.sdp (λ media. ReadsPair i (Ok answer) job (slice_get media job.media) (slice_get media job.pair)))
+    (some-described i job.sdp sdp (λ answer media. ReadsPair i (Ok answer) job (slice_get media job.media) (slice_get media job.pair)) (All-head (λ n. ¬ i.lacks n) job.sdp job.captures there) told.0
+    (λ media e. some-pair job i texts (slice_get media job.media) (slice_get media job.pair) (All-tail (λ n. ¬ i.lacks n) job.sdp job.captures there) told.1))
+
+pub only-skewed : (job : SkewJob) (i : Inputs) (texts : List (List ℕ)) (a b : Answer) → AreTold i.texts (job.sdp ∷ job.captures) texts → FollowsSkew job i (Ok a) → FollowsSkew job i (Ok b) → a ≡ b
+only-skewed job i [] a b told h k = absurd told
+only-skewed job i (sdp ∷ texts) a b told h k =
+    only-yielded (λ answer. ReadsSession i (Ok answer) job.sdp (λ media. ReadsPair i (Ok answer) job (slice_get media job.media) (slice_get media job.pair))) a b
+    (λ p q. only-described i job.sdp sdp (λ answer media. ReadsPair i (Ok answer) job (slice_get media job.media) (slice_get media job.pair)) a b told.0
+    (λ media x y. only-pair job i texts (slice_get media job.media) (slice_get media job.pair) a b told.1 x y) p q) h k
+
+pub skewed-failed : (job : SkewJob) (i : Inputs) (texts : List (List ℕ)) (e : Failure) → AreTold i.texts (job.sdp ∷ job.captures) texts → FollowsSkew job i (Err e) → Caused e (SkewInputRose job i)
+skewed-failed job i [] e told h = absurd told
+skewed-failed job i (sdp ∷ texts) e told h =
+    yielded-failed (ReadsSession i (Err e) job.sdp (λ media. ReadsPair i (Err e) job (slice_get media job.media) (slice_get media job.pair))) e (SkewInputRose job i)
+    (λ p. described-failed i job.sdp sdp (λ media. ReadsPair i (Err e) job (slice_get media job.media) (slice_get media job.pair)) e (SkewInputRose job i) told.0 (λ r. r)
+    (λ media x. pair-failed job i texts (slice_get media job.media) (slice_get media job.pair) e told.1 x) p) h
