@@ -23,7 +23,7 @@ not_run=(
     'rt ci|an hour, and runs by itself'
 )
 # Tools that a machine may lack.
-tools='jq xargs parallel tcpdump editcap mergecap'
+tools='jq xargs parallel tcpdump editcap mergecap capinfos tshark'
 
 top=$(cd "$(dirname "$(readlink -f "$0")")/.." && pwd) || exit 2
 folder=$(mktemp -d) || exit 2
