@@ -1,5 +1,5 @@
 -- A judge is fed one packet, and answers its row.
-use Rattle.std.proofs.Common.{◌≡◌, ◌<◌, ◌+◌, ◌^◌, ℕ, List, [], ◌∷◌, ◌++◌, length, length-append, Some, Ok, Result, arith, ap, ◌∙◌, sym, subst}
+use Rattle.std.proofs.Common.{◌≡◌, ◌<◌, ◌+◌, ◌^◌, ℕ, List, [], ◌∷◌, ◌++◌, length, length-append, Some, Ok, Result, arith, ap, ◌∙◌, refl, sym, subst}
 use Rattle.std.proofs.Math.Logic.{∥∥₁_map}
 use Rattle.timing_base.specs.Captures.{IsStamp}
 use Rattle.timing_base.specs.Flows.{first_fault_below, packet}
@@ -12,10 +12,10 @@ use Rattle.timing_base.specs.declared.packet.Rtp.{Rtp}
 use Rattle.timing_base.specs.declared.row.Row.{Row}
 use Rattle.timing_base.specs.declared.row.Verdict.{Verdict}
 use Rattle.timing_base.proofs.FirstFaults.{fault-kept}
-use Rattle.fail_interval.specs.Flowing.{CanGoOn, StandsFor as FlowStandsFor, has_fault}
-use Rattle.fail_interval.specs.Goings.{GoesOn as WentOn}
+use Rattle.fail_interval.specs.Flowing.{CanGoOn, EndsBy, StandsFor as FlowStandsFor, Took, has_fault}
+use Rattle.fail_interval.specs.Goings.{GoesOn}
 use Rattle.fail_interval.specs.Row.{row, verdict_of}
-use Rattle.fail_interval.specs.Stands.{StandsFor}
+use Rattle.fail_interval.specs.Stands.{StandsFor, Takes}
 use Rattle.fail_interval.specs.States.{IsAt, IsFedTo, IsKnown, IsRefused}
 use Rattle.fail_interval.specs.declared.flow.Flow.{Flow}
 use Rattle.fail_interval.specs.declared.judge.FlowJudge.{FlowJudge}
@@ -39,13 +39,9 @@ flow-known fed at state flow e known few stamp =
     let of_flow : ∥ IsKnown fed (Going flow) ∥₁ = subst (λ s. ∥ IsKnown fed s ∥₁) e known in
     ∥∥₁_map of_flow (λ (packets, f). (packets, can_go_on flow fed at packets f few stamp))
 
--- a call of `feed` that took the packet
-abbrev pub GoesOn : Flow → Flow → ℕ → ℕ → Result Rtp PacketFault → Type 0
-GoesOn flow new rec at rtp = (packets : List FlowPacket) → CanGoOn flow packets at → FlowStandsFor new (packets ++ fed_packet rec at rtp ∷ [])
-
 -- it knows so of the flow with one packet more
 pub known-more : (fed rec at : ℕ) (rtp : Result Rtp PacketFault) (state : State) (flow new : Flow) → state ≡ Going flow → ∥ IsKnown fed state ∥₁ → fed < 2 ^ 41 → IsStamp at
-    → GoesOn flow new rec at rtp → ∥ IsKnown (fed + 1) (Going new) ∥₁
+    → Took flow new (fed_packet rec at rtp) → ∥ IsKnown (fed + 1) (Going new) ∥₁
 known-more fed rec at rtp state flow new e known few stamp goes =
     let of_flow : ∥ IsKnown fed (Going flow) ∥₁ = subst (λ s. ∥ IsKnown fed s ∥₁) e known in
     ∥∥₁_map of_flow (λ (packets, f). (
@@ -75,17 +71,31 @@ more m key tai rec at rtp judge state known packets stamp s is = record {
 at-flow : (m : Media) (tai at : ℕ) (state : State) (flow : Flow) (packets : List FlowPacket) → state ≡ Going flow → IsAt m tai packets state → (flow.media ≡ m) × (flow.tai ≡ tai) × FlowStandsFor flow packets
 at-flow m tai at state flow packets e is = subst (IsAt m tai packets) e is
 
+-- a call that took a packet of a judge that isn't spent
+took : {T E : Type 0} (value : T) (rec at : ℕ) (rtp : Result Rtp PacketFault) (judge : FlowJudge) (state : State) (known : ∥ IsKnown (judge.fed + 1) state ∥₁)
+    → (judge.state ≡ Spent → ⊥)
+    → ((m : Media) (key : FlowKey) (tai : ℕ) (packets : List FlowPacket) → StandsFor m key tai judge packets
+    → StandsFor m key tai (judge_by judge.key (judge.fed + 1) state known) (packets ++ fed_packet rec at rtp ∷ []))
+    → Takes {T = T} {E = E} judge (judge_by judge.key (judge.fed + 1) state known) (fed_packet rec at rtp) (Ok value)
+took value rec at rtp judge state known goes_on stands = record {
+  fed = refl;
+  stands = stands;
+  spends = tt;
+  stays = λ spent. absurd (goes_on spent);
+}
+
 -- the flow goes on
-pub going-more : (m : Media) (key : FlowKey) (tai rec at : ℕ) (rtp : Result Rtp PacketFault) (judge : FlowJudge) (flow new : Flow) (known : ∥ IsKnown (judge.fed + 1) (Going new) ∥₁) (packets : List FlowPacket)
+pub going-more : {T E : Type 0} (value : T) (rec at : ℕ) (rtp : Result Rtp PacketFault) (judge : FlowJudge) (flow new : Flow) (known : ∥ IsKnown (judge.fed + 1) (Going new) ∥₁)
     → judge.state ≡ Going flow → judge.fed < 2 ^ 41 → IsStamp at
     → new.media ≡ flow.media → new.tai ≡ flow.tai
-    → GoesOn flow new rec at rtp
-    → StandsFor m key tai judge packets
-    → StandsFor m key tai (judge_by judge.key (judge.fed + 1) (Going new) known) (packets ++ fed_packet rec at rtp ∷ [])
-going-more m key tai rec at rtp judge flow new known packets e few stamp media seconds goes s =
+    → Took flow new (fed_packet rec at rtp)
+    → Takes {T = T} {E = E} judge (judge_by judge.key (judge.fed + 1) (Going new) known) (fed_packet rec at rtp) (Ok value)
+going-more value rec at rtp judge flow new known e few stamp media seconds goes =
+    took value rec at rtp judge (Going new) known (λ spent. cc)
+    (λ m key tai packets s.
     let is = at-flow m tai at judge.state flow packets e s.state in
     let c : CanGoOn flow packets at = record { stands = is.2; stamped = s.stamped; stamp = stamp; few = omega (arith, s.fed, few) } in
-    more m key tai rec at rtp judge (Going new) known packets stamp s (media ∙ is.0, seconds ∙ is.1, goes packets c)
+    more m key tai rec at rtp judge (Going new) known packets stamp s (media ∙ is.0, seconds ∙ is.1, goes packets c))
 
 -- the same judge with a state that is the same
 pub same-state : (m : Media) (key : FlowKey) (tai : ℕ) (judge : FlowJudge) (state : State) (known : ∥ IsKnown judge.fed state ∥₁) (packets : List FlowPacket)
@@ -100,21 +110,21 @@ same-state m key tai judge state known packets e s = record {
 }
 
 -- what is known of a flow that went on
-pub went-known : (fed rec at : ℕ) (rtp : Rtp) (old new : State) → WentOn old new at rtp → ∥ IsKnown fed old ∥₁ → fed < 2 ^ 41 → IsStamp at → ∥ IsKnown (fed + 1) new ∥₁
+pub went-known : (fed rec at : ℕ) (rtp : Rtp) (old new : State) → GoesOn old new at rtp → ∥ IsKnown fed old ∥₁ → fed < 2 ^ 41 → IsStamp at → ∥ IsKnown (fed + 1) new ∥₁
 went-known fed rec at rtp old new went known few stamp =
     subst (λ s. ∥ IsKnown (fed + 1) s ∥₁) (sym went.becomes)
-    (known-more fed rec at (Ok rtp) old went.flow went.later went.is known few stamp (λ packets c. went.goes packets rec c))
+    (known-more fed rec at (Ok rtp) old went.flow went.later went.is known few stamp (went.goes rec))
 
 -- its judge stands for one packet more
 pub went-on : (m : Media) (key : FlowKey) (tai rec at : ℕ) (rtp : Rtp) (judge : FlowJudge) (new : State) (known : ∥ IsKnown (judge.fed + 1) new ∥₁) (packets : List FlowPacket)
-    → WentOn judge.state new at rtp → judge.fed < 2 ^ 41 → IsStamp at
+    → GoesOn judge.state new at rtp → judge.fed < 2 ^ 41 → IsStamp at
     → StandsFor m key tai judge packets
     → StandsFor m key tai (judge_by judge.key (judge.fed + 1) new known) (packets ++ fed_packet rec at (Ok rtp) ∷ [])
 went-on m key tai rec at rtp judge new known packets went few stamp s =
     let is = at-flow m tai at judge.state went.flow packets went.is s.state in
     let c : CanGoOn went.flow packets at = record { stands = is.2; stamped = s.stamped; stamp = stamp; few = omega (arith, s.fed, few) } in
     more m key tai rec at (Ok rtp) judge new known packets stamp s
-    (subst (IsAt m tai (packets ++ fed_packet rec at (Ok rtp) ∷ [])) (sym went.becomes) (went.media ∙ is.0, went.tai ∙ is.1, went.goes packets rec c))
+    (subst (IsAt m tai (packets ++ fed_packet rec at (Ok rtp) ∷ [])) (sym went.becomes) (went.media ∙ is.0, went.tai ∙ is.1, went.goes rec packets c))
 
 -- the first fault of a flow stays the first
 refused-more : (m : Media) (packets : List FlowPacket) (p : FlowPacket) (rec : ℕ) (fault : PacketFault) → IsRefused m packets rec fault → IsRefused m (packets ++ p ∷ []) rec fault
@@ -126,12 +136,13 @@ refused-more m packets p rec fault r = record {
 }
 
 -- the flow ends with a fault
-pub refused-now : (m : Media) (key : FlowKey) (tai rec at : ℕ) (rtp : Result Rtp PacketFault) (fault : PacketFault) (judge : FlowJudge) (flow : Flow) (state : State) (known : ∥ IsKnown (judge.fed + 1) state ∥₁) (packets : List FlowPacket)
+pub refused-now : {T E : Type 0} (value : T) (rec at : ℕ) (rtp : Result Rtp PacketFault) (fault : PacketFault) (judge : FlowJudge) (flow : Flow) (state : State) (known : ∥ IsKnown (judge.fed + 1) state ∥₁)
     → judge.state ≡ Going flow → state ≡ Refused rec fault → judge.fed < 2 ^ 41 → IsStamp at
-    → ((packets rest : List FlowPacket) → CanGoOn flow packets at → has_fault (packets ++ fed_packet rec at rtp ∷ rest) flow.media.pt (length packets) fault)
-    → StandsFor m key tai judge packets
-    → StandsFor m key tai (judge_by judge.key (judge.fed + 1) state known) (packets ++ fed_packet rec at rtp ∷ [])
-refused-now m key tai rec at rtp fault judge flow state known packets e ended few stamp ends s =
+    → EndsBy flow (fed_packet rec at rtp) fault
+    → Takes {T = T} {E = E} judge (judge_by judge.key (judge.fed + 1) state known) (fed_packet rec at rtp) (Ok value)
+refused-now value rec at rtp fault judge flow state known e ended few stamp ends =
+    took value rec at rtp judge state known (λ spent. cc)
+    (λ m key tai packets s.
     let is = at-flow m tai at judge.state flow packets e s.state in
     let c : CanGoOn flow packets at = record { stands = is.2; stamped = s.stamped; stamp = stamp; few = omega (arith, s.fed, few) } in
     let p = fed_packet rec at rtp in
@@ -141,17 +152,18 @@ refused-now m key tai rec at rtp fault judge flow state known packets e ended fe
           (λ rest. subst (λ (k : Media). has_fault (packets ++ p ∷ rest) k.pt (length packets) fault) is.0 (ends packets rest c));
       rec_is = shift (λ all n. (packet all (length packets)).rec ≡ rec) packets p (λ rest. ap (λ (q : FlowPacket). q.rec) (packet-here packets rest p));
     } in
-    more m key tai rec at rtp judge state known packets stamp s (subst (IsAt m tai (packets ++ p ∷ [])) (sym ended) refused)
+    more m key tai rec at rtp judge state known packets stamp s (subst (IsAt m tai (packets ++ p ∷ [])) (sym ended) refused))
 
 -- it ended before
-pub refused-before : (m : Media) (key : FlowKey) (tai rec at more_rec : ℕ) (rtp : Result Rtp PacketFault) (fault : PacketFault) (judge : FlowJudge) (known : ∥ IsKnown (judge.fed + 1) judge.state ∥₁) (packets : List FlowPacket)
+pub refused-before : {T E : Type 0} (value : T) (rec at more_rec : ℕ) (rtp : Result Rtp PacketFault) (fault : PacketFault) (judge : FlowJudge) (known : ∥ IsKnown (judge.fed + 1) judge.state ∥₁)
     → judge.state ≡ Refused more_rec fault → IsStamp at
-    → StandsFor m key tai judge packets
-    → StandsFor m key tai (judge_by judge.key (judge.fed + 1) judge.state known) (packets ++ fed_packet rec at rtp ∷ [])
-refused-before m key tai rec at more_rec rtp fault judge known packets e stamp s =
+    → Takes {T = T} {E = E} judge (judge_by judge.key (judge.fed + 1) judge.state known) (fed_packet rec at rtp) (Ok value)
+refused-before value rec at more_rec rtp fault judge known e stamp =
+    took value rec at rtp judge judge.state known (λ spent. cc)
+    (λ m key tai packets s.
     let p = fed_packet rec at rtp in
     let is : IsRefused m packets more_rec fault = subst (IsAt m tai packets) e s.state in
-    more m key tai rec at rtp judge judge.state known packets stamp s (subst (IsAt m tai (packets ++ p ∷ [])) (sym e) (refused-more m packets p more_rec fault is))
+    more m key tai rec at rtp judge judge.state known packets stamp s (subst (IsAt m tai (packets ++ p ∷ [])) (sym e) (refused-more m packets p more_rec fault is)))
 
 -- what is known where the flow ends
 pub stands-known : (fed : ℕ) (state : State) (flow : Flow) → state ≡ Going flow → ∥ IsKnown fed state ∥₁ → ∥ ((packets : List FlowPacket) × FlowStandsFor flow packets) ∥₁

@@ -78,3 +78,12 @@ pub record CanGoOn (flow : Flow) (packets : List FlowPacket) (at : ℕ) : Type 0
 -- packet i is the first that has a fault, which is this
 abbrev pub has_fault : List FlowPacket → ℕ → ℕ → PacketFault → Type 0
 has_fault packets pt i fault = first_fault_below packets pt (i + 1) ≡ Some record { index = i; fault = fault }
+
+-- the flow took this packet: whatever packets it was fed, it now was fed those and this one
+abbrev pub Took : (old new : Flow) → FlowPacket → Type 0
+Took old new next = (packets : List FlowPacket) → CanGoOn old packets next.at → StandsFor new (packets ++ next ∷ [])
+
+-- the flow ends with this packet, which has this fault
+abbrev pub EndsBy : Flow → FlowPacket → PacketFault → Type 0
+EndsBy flow next fault = (packets rest : List FlowPacket) → CanGoOn flow packets next.at
+    → has_fault (packets ++ next ∷ rest) flow.media.pt (length packets) fault

@@ -1,5 +1,5 @@
 -- What `Meters` say of the judged packets of a run.
-use Rattle.std.specs.Prelude.{◌≡◌, ◌≤◌, ℕ, ◌-◌, true, false, List, [], ◌∷◌, ◌++◌, length, slice_index}
+use Rattle.std.specs.Prelude.{◌≡◌, ◌≤◌, ◌<◌, ◌^◌, ℕ, ◌-◌, true, false, List, [], ◌∷◌, ◌++◌, length, slice_index}
 use Rattle.drain_bucket.specs.Stands.{StandsFor as BucketStandsFor}
 use Rattle.drain_bucket.specs.declared.bucket.Bucket.{Bucket}
 use Rattle.read_schedule.specs.Stands.{StandsBy}
@@ -9,6 +9,7 @@ use Rattle.timing_base.specs.declared.media.Kind.TheVariants.{N, NL, W}
 use Rattle.fail_interval.specs.Kinds.{StandsFor as KindStandsFor}
 use Rattle.fail_interval.specs.Lulls.{IsLull}
 use Rattle.fail_interval.specs.SoFar.{AreStamps}
+use Rattle.fail_interval.specs.declared.kind.KindMeter.{KindMeter}
 use Rattle.fail_interval.specs.declared.meters.Meters.{Meters}
 
 -- the last stamp, or 0
@@ -32,6 +33,13 @@ pub record AreFed (params : Params) (meters : Meters) (stamps : List ℕ) : Type
 pub record StandsFor (params : Params) (meters : Meters) (stamps : List ℕ) : Type 0 where
   pub fed : AreFed params meters stamps
   pub lull : IsLull params meters.bucket.origin meters.narrow meters.narrow_linear meters.wide meters.lull
+
+-- three buffers can take one packet more, which comes at this instant
+pub record AreWithin (narrow narrow_linear wide : KindMeter) (at : ℕ) : Type 0 where
+  pub in_time : at < 2 ^ 62
+  pub narrow_few : narrow.vrx.seen < 2 ^ 41
+  pub narrow_linear_few : narrow_linear.vrx.seen < 2 ^ 41
+  pub wide_few : wide.vrx.seen < 2 ^ 41
 
 -- a packet at this instant may be the next one
 pub record CanFollow (params : Params) (meters : Meters) (stamps : List ℕ) (at : ℕ) : Type 0 where

@@ -1,5 +1,5 @@
 -- What a `FlowJudge` says of the packets that it was fed. Packets count from 0.
-use Rattle.std.specs.Prelude.{◌≡◌, ℕ, List, length}
+use Rattle.std.specs.Prelude.{◌≡◌, ℕ, ◌+◌, List, [], ◌∷◌, ◌++◌, length, Result, IsErr, OnErr, OnOk}
 use Rattle.timing_base.specs.Flows.{AreStamped}
 use Rattle.timing_base.specs.Media.{Media}
 use Rattle.timing_base.specs.declared.key.FlowKey.{FlowKey}
@@ -23,3 +23,12 @@ pub record StandsFor (m : Media) (key : FlowKey) (tai : ℕ) (judge : FlowJudge)
   pub fed : count_fed judge ≡ length packets
   pub stamped : AreStamped packets
   pub state : IsAt m tai packets judge.state
+
+-- a call took this packet, the next of the flow: whatever packets the judge stood for, it now stands for those and
+-- this one; a refusal of memory makes it spent, and a spent judge answers so again
+pub record Takes {T E : Type 0} (old new : FlowJudge) (next : FlowPacket) (result : Result T E) : Type 0 where
+  pub fed : count_fed new ≡ count_fed old + 1
+  pub stands : (m : Media) (key : FlowKey) (tai : ℕ) (packets : List FlowPacket) → StandsFor m key tai old packets
+      → OnOk result (StandsFor m key tai new (packets ++ next ∷ []))
+  pub spends : OnErr result (IsSpent new)
+  pub stays : IsSpent old → IsErr result

@@ -73,7 +73,7 @@ pub struct Flow {
 }
 
 impl Flow {
-    ghost use Rattle.fail_interval.specs.Flowing.{CanGoOn, ComesNext, HasRoom, StandsFor, has_fault};
+    ghost use Rattle.fail_interval.specs.Flowing.{CanGoOn, ComesNext, EndsBy, HasRoom, StandsFor, Took};
     ghost use Rattle.fail_interval.specs.Flowing.{IsClosed, OpensAt, StartsAt};
 
     /// Before the first packet.
@@ -155,13 +155,10 @@ impl Flow {
         requires { ∥ ((packets : List FlowPacket) × CanGoOn self.old packets at) ∥₁ }
         ensures media { self.new.media ≡ self.old.media }
         ensures tai { self.new.tai ≡ self.old.tai }
-        ensures goes_on { (packets : List FlowPacket) → CanGoOn self.old packets at
-            → result ≡ Ok None
-            → StandsFor self.new (packets ++ record { rec = rec; at = at; rtp = rtp } ∷ []) }
-        ensures ends { (packets rest : List FlowPacket) (fault : _) → CanGoOn self.old packets at
-            → result ≡ Ok (Some fault)
-            → has_fault (packets ++ record { rec = rec; at = at; rtp = rtp } ∷ rest)
-            self.old.media.pt (length packets) fault }
+        ensures goes_on { result ≡ Ok None
+            → Took self.old self.new (record { rec = rec; at = at; rtp = rtp }) }
+        ensures ends { (fault : _) → result ≡ Ok (Some fault)
+            → EndsBy self.old (record { rec = rec; at = at; rtp = rtp }) fault }
     {
         match rtp {
             Ok(rtp) => self.feed_read(rec, at, rtp),
@@ -177,23 +174,19 @@ impl Flow {
         ensures media { self.new.media ≡ self.old.media }
         ensures tai { self.new.tai ≡ self.old.tai }
         ensures other { result ≡ Ok false → self.new ≡ self.old }
-        ensures goes_on { result ≡ Ok true → (packets : List FlowPacket) (rec : ℕ)
-            → CanGoOn self.old packets at
-            → StandsFor self.new (packets ++ record { rec = rec; at = at; rtp = Ok rtp } ∷ []) }
+        ensures goes_on { result ≡ Ok true
+            → (rec : ℕ) → Took self.old self.new (record { rec = rec; at = at; rtp = Ok rtp }) }
     {
-        if self.open.is_none() {
-            return Ok(false);
-        }
-        let Some(_) = self.grouper.feed_on(at, rtp) else {
-            return Ok(false);
-        };
         match &mut self.open {
             Some(open) => {
+                let Some(_) = self.grouper.feed_on(at, rtp) else {
+                    return Ok(false);
+                };
                 let came = at + self.tai * 1_000_000_000;
                 open.judge.feed(self.alloc, &self.media, came, rtp.marker)?;
                 Ok(true)
             }
-            None => unreachable!(),
+            None => Ok(false),
         }
     }
 
@@ -207,13 +200,10 @@ impl Flow {
         requires { ∥ ((packets : List FlowPacket) × CanGoOn self.old packets at) ∥₁ }
         ensures media { self.new.media ≡ self.old.media }
         ensures tai { self.new.tai ≡ self.old.tai }
-        ensures goes_on { (packets : List FlowPacket) → CanGoOn self.old packets at
-            → result ≡ Ok None
-            → StandsFor self.new (packets ++ record { rec = rec; at = at; rtp = Ok rtp } ∷ []) }
-        ensures ends { (packets rest : List FlowPacket) (fault : _) → CanGoOn self.old packets at
-            → result ≡ Ok (Some fault)
-            → has_fault (packets ++ record { rec = rec; at = at; rtp = Ok rtp } ∷ rest)
-            self.old.media.pt (length packets) fault }
+        ensures goes_on { result ≡ Ok None
+            → Took self.old self.new (record { rec = rec; at = at; rtp = Ok rtp }) }
+        ensures ends { (fault : _) → result ≡ Ok (Some fault)
+            → EndsBy self.old (record { rec = rec; at = at; rtp = Ok rtp }) fault }
     {
         let placed = match self.grouper.feed(at, rtp) {
             Ok(placed) => placed,

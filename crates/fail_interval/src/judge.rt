@@ -74,7 +74,7 @@ pub struct FlowJudge {
 }
 
 impl FlowJudge {
-    ghost use Rattle.fail_interval.specs.Stands.{IsSpent, StandsFor, count_fed};
+    ghost use Rattle.fail_interval.specs.Stands.{StandsFor, Takes, count_fed};
 
     /// The judge of the flow with this key, of packets of this media. `tai` seconds are added to the stamps of its
     /// judged packets, but not to those that a fault tells.
@@ -105,16 +105,7 @@ impl FlowJudge {
         requires reading { IsReading rtp }
         requires few { count_fed self.old < 2 ^ 41 }
 
-        ensures fed { count_fed self.new ≡ count_fed self.old + 1 }
-
-        // Whatever packets the judge stood for, it now stands for those and this one.
-        ensures stands { (media : MediaValue) (key : KeyValue) (tai : ℕ) (packets : List FlowPacket)
-            → StandsFor media key tai self.old packets
-            → OnOk result (StandsFor media key tai self.new
-            (packets ++ record { rec = rec; at = at; rtp = rtp } ∷ [])) }
-
-        ensures spends { OnErr result (IsSpent self.new) }
-        ensures stays { IsSpent self.old → IsErr result }
+        ensures { Takes self.old self.new (record { rec = rec; at = at; rtp = rtp }) result }
     {
         // Told apart here, so that the usual case goes on with the packet itself.
         match rtp {
@@ -129,16 +120,7 @@ impl FlowJudge {
         requires stamp { IsStamp at }
         requires few { count_fed self.old < 2 ^ 41 }
 
-        ensures fed { count_fed self.new ≡ count_fed self.old + 1 }
-
-        // Whatever packets the judge stood for, it now stands for those and this one.
-        ensures stands { (media : MediaValue) (key : KeyValue) (tai : ℕ) (packets : List FlowPacket)
-            → StandsFor media key tai self.old packets
-            → OnOk result (StandsFor media key tai self.new
-            (packets ++ record { rec = rec; at = at; rtp = Ok rtp } ∷ [])) }
-
-        ensures spends { OnErr result (IsSpent self.new) }
-        ensures stays { IsSpent self.old → IsErr result }
+        ensures { Takes self.old self.new (record { rec = rec; at = at; rtp = Ok rtp }) result }
     {
         match self.state.feed_on(at, rtp) {
             Ok(true) => {
@@ -169,16 +151,7 @@ impl FlowJudge {
         requires stamp { IsStamp at }
         requires few { count_fed self.old < 2 ^ 41 }
 
-        ensures fed { count_fed self.new ≡ count_fed self.old + 1 }
-
-        // Whatever packets the judge stood for, it now stands for those and this one.
-        ensures stands { (media : MediaValue) (key : KeyValue) (tai : ℕ) (packets : List FlowPacket)
-            → StandsFor media key tai self.old packets
-            → OnOk result (StandsFor media key tai self.new
-            (packets ++ record { rec = rec; at = at; rtp = Ok rtp } ∷ [])) }
-
-        ensures spends { OnErr result (IsSpent self.new) }
-        ensures stays { IsSpent self.old → IsErr result }
+        ensures { Takes self.old self.new (record { rec = rec; at = at; rtp = Ok rtp }) result }
     {
         self.fed += 1;
         let step = match &mut self.state {
@@ -209,16 +182,7 @@ impl FlowJudge {
         requires reading { IsReading (Err fault) }
         requires few { count_fed self.old < 2 ^ 41 }
 
-        ensures fed { count_fed self.new ≡ count_fed self.old + 1 }
-
-        // Whatever packets the judge stood for, it now stands for those and this one.
-        ensures stands { (media : MediaValue) (key : KeyValue) (tai : ℕ) (packets : List FlowPacket)
-            → StandsFor media key tai self.old packets
-            → OnOk result (StandsFor media key tai self.new
-            (packets ++ record { rec = rec; at = at; rtp = Err fault } ∷ [])) }
-
-        ensures spends { OnErr result (IsSpent self.new) }
-        ensures stays { IsSpent self.old → IsErr result }
+        ensures { Takes self.old self.new (record { rec = rec; at = at; rtp = Err fault }) result }
     {
         self.fed += 1;
         let step = match &mut self.state {

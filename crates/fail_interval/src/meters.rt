@@ -26,7 +26,7 @@ pub struct Meters {
 
 impl Meters {
     ghost use Rattle.fail_interval.specs.Lulls.{Holds, IsLull};
-    ghost use Rattle.fail_interval.specs.Meters.{AreFed, CanFollow, StandsFor, TakesNext};
+    ghost use Rattle.fail_interval.specs.Meters.{AreFed, AreWithin, CanFollow, StandsFor, TakesNext};
     ghost use Rattle.sender_params.specs.declared.params.Params.{Params as ParamsValue};
 
     /// The meters before the first packet, which comes at `origin` in nanoseconds of TAI.
@@ -80,10 +80,7 @@ impl Meters {
     #[inline(always)]
     fn pass(&mut self, at: u64)
         requires lull { Holds self.old.lull self.old.bucket.count at }
-        requires in_time { at < 2 ^ 62 }
-        requires narrow { self.old.narrow.vrx.seen < 2 ^ 41 }
-        requires narrow_linear { self.old.narrow_linear.vrx.seen < 2 ^ 41 }
-        requires wide { self.old.wide.vrx.seen < 2 ^ 41 }
+        requires within { AreWithin self.old.narrow self.old.narrow_linear self.old.wide at }
         ensures bucket { self.new.bucket ≡ self.old.bucket }
         ensures takes { (params : ParamsValue) → TakesNext params self.old self.new at }
     {
@@ -98,10 +95,7 @@ impl Meters {
     /// The same in no lull.
     #[inline(never)]
     fn tell(&mut self, params: &Params, at: u64)
-        requires in_time { at < 2 ^ 62 }
-        requires narrow { self.old.narrow.vrx.seen < 2 ^ 41 }
-        requires narrow_linear { self.old.narrow_linear.vrx.seen < 2 ^ 41 }
-        requires wide { self.old.wide.vrx.seen < 2 ^ 41 }
+        requires { AreWithin self.old.narrow self.old.narrow_linear self.old.wide at }
         ensures bucket { self.new.bucket ≡ self.old.bucket }
         ensures takes { TakesNext params.now self.old self.new at }
     {

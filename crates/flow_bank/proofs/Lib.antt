@@ -1,5 +1,4 @@
 mod Readings
 mod Judges
 mod Banks
-mod Takings
 mod HandWorked

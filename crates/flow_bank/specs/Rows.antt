@@ -3,7 +3,6 @@ use Rattle.std.specs.Prelude.{◌+◌, ℕ, Bool, if◌then◌else◌, List, [],
 use Rattle.timing_base.specs.Captures.{Record, joined as joined_records}
 use Rattle.timing_base.specs.Keys.{key_of}
 use Rattle.timing_base.specs.Media.{Media}
-use Rattle.timing_base.specs.declared.key.FlowKey.{FlowKey}
 use Rattle.timing_base.specs.declared.row.Row.{Row}
 use Rattle.udp_rtp.specs.Flow.{flow}
 use Rattle.fail_interval.specs.Row.{row}

@@ -1,6 +1,7 @@
 -- What a bank of judges says of the records that it was fed: each judge was fed the flow of its media. Media count
 -- from 0.
 use Rattle.std.specs.Prelude.{◌≡◌, ◌+◌, ℕ, ⊤, List, [], ◌∷◌, ◌++◌}
+use Rattle.std.proofs.Common.{subst, sym, append_assoc, append-nil}
 use Rattle.timing_base.specs.Captures.{Record}
 use Rattle.timing_base.specs.Media.{Media}
 use Rattle.timing_base.specs.Targets.{target_of}
@@ -30,6 +31,14 @@ StandsFor media file tai bank items = AreJudgesOf tai file 0 media bank.judges.i
 abbrev pub Feeds : (old new : Bank) → List Record → Type 0
 Feeds old new more = (media : List Media) (file tai : ℕ) (items : List Record) → StandsFor media file tai old items
     → StandsFor media file tai new (items ++ more)
+
+-- no record, and some records and then others
+pub feeds_none : (bank : Bank) → Feeds bank bank []
+feeds_none bank media file tai items h = subst (StandsFor media file tai bank) (sym (append-nil items)) h
+
+pub feeds_more : (old mid new : Bank) (a b : List Record) → Feeds old mid a → Feeds mid new b → Feeds old new (a ++ b)
+feeds_more old mid new a b first second media file tai items h =
+    subst (StandsFor media file tai new) (append_assoc items a b) (second media file tai (items ++ a) (first media file tai items h))
 
 -- the records that were taken
 abbrev pub records : Bank → ℕ

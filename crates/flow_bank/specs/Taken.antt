@@ -1,15 +1,11 @@
--- What the crate's own functions promise each other: what one record more does to a judge, and which records of a
--- reader were taken.
-use Rattle.std.specs.Prelude.{◌≡◌, ℕ, zero, suc, List, [], ◌∷◌, ◌++◌, length, map, Option, Some, None}
-use Rattle.timing_base.specs.Captures.{Record, raised}
+-- What the crate's own functions promise each other: what one record more does to a judge, and to all judges one after
+-- the other, and the rows that come of them.
+use Rattle.std.specs.Prelude.{◌≡◌, ℕ, zero, suc, List, [], ◌∷◌, ◌++◌}
+use Rattle.timing_base.specs.Captures.{Record}
 use Rattle.timing_base.specs.Media.{Media}
-use Rattle.timing_base.specs.declared.capture.FileNote.{FileNote}
-use Rattle.pcap_reader.specs.declared.reader.PcapReader.{PcapReader}
-use Rattle.pcap_reader.specs.Readers.{WillGive}
 use Rattle.timing_base.specs.declared.row.Row.{Row}
 use Rattle.flow_bank.specs.Rows.{rows_from, rows_of}
-use Rattle.flow_bank.specs.Stands.{AreJudgesOf, Feeds, IsJudgeOf}
-use Rattle.flow_bank.specs.declared.bank.Bank.{Bank}
+use Rattle.flow_bank.specs.Stands.{AreJudgesOf, IsJudgeOf}
 use Rattle.flow_bank.specs.declared.media_judge.MediaJudge.{MediaJudge}
 
 -- whatever records the judge was fed the flow of, it was now fed that of those and this one
@@ -30,22 +26,3 @@ pub record HasRows (tai file : ℕ) (media : List Media) (items : List Record) (
   pub rest : List Media
   pub stands : AreJudgesOf tai file number rest left items
   pub whole : rows ++ rows_from tai file number rest items ≡ before ++ rows_of tai file media items
-
--- a record was taken off what the reader was to give, and fed to the bank with its number raised; or there is no record
--- more
-abbrev pub TakesNext : {S : Type 0} → (S → Option (List ℕ)) → (before : ℕ) → (old new : Bank) → PcapReader S → Option FileNote
-    → List Record → FileNote → Type 0
-TakesNext left before old new reader None items end = (item : Record) × (later : List Record) × (items ≡ item ∷ later)
-    × WillGive left reader later end × Feeds old new (raised before item ∷ [])
-TakesNext left before old new reader (Some note) items end = (items ≡ []) × (note ≡ end) × (new ≡ old)
-
--- so many records were taken off what the reader was to give, and fed to the bank with their numbers raised; the others
--- are still to come
-pub record HasTaken {S : Type 0} (left : S → Option (List ℕ)) (before : ℕ) (old new : Bank) (reader : PcapReader S) (count : ℕ)
-    (items : List Record) (end : FileNote) : Type 0 where
-  pub taken : List Record
-  pub rest : List Record
-  pub whole : items ≡ taken ++ rest
-  pub given : WillGive left reader rest end
-  pub count_is : length taken ≡ count
-  pub fed : Feeds old new (map (raised before) taken)

@@ -7,6 +7,7 @@ ghost use Rattle.flow_bank.specs.Rows.{rows_of};
 ghost use Rattle.flow_bank.specs.Few.{HasTakenFew};
 
 use crate::media_judge::MediaJudge;
+use pcap_reader::Taker;
 use std::alloc::{AllocError as OutOfMemory, Global};
 use timing_base::{Media, Row};
 use udp_rtp::datagram;
@@ -70,5 +71,22 @@ impl Bank {
             rows.push(judge.finish())?;
         }
         Ok(())
+    }
+}
+
+impl Taker for Bank {
+    ghost use Rattle.flow_bank.specs.Stands.{Feeds, feeds_more, feeds_none, records};
+
+    ghost takes = { Feeds };
+
+    ghost given = { records };
+
+    ghost none = { feeds_none };
+
+    ghost more = { feeds_more };
+
+    #[inline(always)]
+    fn take(&mut self, number: u64, at: u64, frame: &[u8]) -> Result<(), OutOfMemory> {
+        Bank::take(self, number, at, frame)
     }
 }

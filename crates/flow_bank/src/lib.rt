@@ -8,10 +8,8 @@
 mod bank;
 pub mod laws;
 mod media_judge;
-mod records;
 
 pub use bank::Bank;
-pub use records::{Taken, take_records};
 
 #[cfg(test)]
 mod tests;

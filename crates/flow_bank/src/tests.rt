@@ -2,7 +2,7 @@ ghost use Rattle.std.specs.Prelude.{◌≡◌, ◌≤◌, ◌^◌, None, IfOk};
 ghost use Rattle.pcap_reader.specs.Readers.{end_note, frame_count, most_of};
 
 use super::*;
-use pcap_reader::PcapReader;
+use pcap_reader::{MOST, PcapReader, Taken, take_records};
 use std::alloc::{AllocError, Global};
 use std::test::Fail;
 use timing_base::worked::undeclared_to;
@@ -51,7 +51,7 @@ fn open(alloc: Global, text: &[u8], fails: &[u32]) -> Result<PcapReader<MemorySo
     ensures most { IfOk result (λ reader. most_of reader ≤ 2 ^ 40) }
 {
     let source = source_of(alloc, text, 100, fails)?;
-    match PcapReader::start(alloc, source, 1 << 40) {
+    match PcapReader::start(alloc, source, MOST) {
         Ok(reader) => Ok(reader),
         Err(_) => Err(OpenFault::OutOfMemory),
     }

@@ -1,8 +1,9 @@
 -- The rows of a run, from the receipts of its workers. Workers count from 0.
-use Rattle.std.specs.Prelude.{◌≡◌, ◌<◌, ◌==◌, ℕ, List, [], length, map, filter, slice_index_or, All, Option, None}
+use Rattle.std.specs.Prelude.{◌≡◌, ◌≤◌, ◌<◌, ◌==◌, ℕ, List, [], length, map, filter, slice_index_or, All, Option, None}
 use Rattle.std.specs.Option.{ForSome}
 use Rattle.std.specs.declared.alloc.Global.{Global}
 use Rattle.std.specs.declared.vec.Vec.{Vec}
+use Rattle.timing_base.specs.Keys.{keys_of}
 use Rattle.timing_base.specs.Routes.{route}
 use Rattle.timing_base.specs.declared.key.FlowKey.{FlowKey}
 use Rattle.timing_base.specs.declared.row.Row.{Row}
@@ -10,6 +11,7 @@ use Rattle.verdict_book.specs.Receipts.{IsOf, row_of}
 use Rattle.verdict_book.specs.declared.book.Book.{Book}
 use Rattle.verdict_book.specs.declared.book.Receipt.{Receipt}
 use Rattle.flow_crew.specs.Ends.{receipts_in}
+use Rattle.flow_crew.specs.declared.threads.Asked.{Asked}
 
 -- the key is that of one of so many media, in one of 16 files
 pub record IsKeyOf (media : ℕ) (key : FlowKey) : Type 0 where
@@ -30,3 +32,20 @@ AreQueued book row_for media workers keys queues = (worker : ℕ) → worker < l
 abbrev pub ArePosted : Book → (row_for : FlowKey → Row) → (media workers : ℕ) → List FlowKey → List (Option (Vec Receipt Global)) → Type 0
 ArePosted book row_for media workers keys posted = (worker : ℕ) → worker < length posted
     → ForSome (slice_index_or (map receipts_in posted) worker None) (IsQueue book row_for (filter (λ key. route key media workers == worker) keys))
+
+-- there are at most 64 media, 16 files and 16 workers, and each worker has receipts, if it has any, for its rows of some run
+pub record CanGather (book : Book) (media : ℕ) (asked : Asked) (posted : List (Option (Vec Receipt Global))) : Type 0 where
+  pub few_media : media ≤ 64
+  pub some_files : 1 ≤ asked.files
+  pub few_files : asked.files ≤ 16
+  pub some_workers : 1 ≤ asked.workers
+  pub few_workers : asked.workers ≤ 16
+  pub count : length posted ≡ asked.workers
+  pub row_for : FlowKey → Row
+  pub posted_are : ArePosted book row_for media asked.workers (keys_of asked.joined asked.files media) posted
+
+-- whatever rows the workers posted, these are the rows, in the order of their keys
+abbrev pub AreGathered : Book → (media : ℕ) → Asked → List (Option (Vec Receipt Global)) → List Row → Type 0
+AreGathered book media asked posted rows = (row_for : FlowKey → Row)
+    → ArePosted book row_for media asked.workers (keys_of asked.joined asked.files media) posted
+    → rows ≡ map row_for (keys_of asked.joined asked.files media)

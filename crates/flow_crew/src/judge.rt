@@ -3,9 +3,7 @@
 ghost use Rattle.std.specs.Prelude.{◌≡◌, ◌≤◌, if◌then◌else◌, ℕ, List, IfOk, IfSome, All, length, map};
 ghost use Rattle.timing_base.specs.Keys.{keys_of};
 ghost use Rattle.timing_base.specs.Targets.{HaveOwnTargets};
-ghost use Rattle.timing_base.specs.declared.key.FlowKey.{FlowKey as KeyValue};
-ghost use Rattle.timing_base.specs.declared.row.Row.{Row as RowValue};
-ghost use Rattle.flow_crew.specs.Gathering.{ArePosted};
+ghost use Rattle.flow_crew.specs.Gathering.{AreGathered, CanGather};
 ghost use Rattle.flow_bank.specs.Found.{AreFound};
 ghost use Rattle.flow_bank.specs.Rows.{rows_over};
 ghost use Rattle.flow_crew.specs.Judging.{AreBack, AreTexts, IsWhole, is_whole};
@@ -106,17 +104,8 @@ fn rows_on(
     book: &Book,
     posted: Vec<Option<Vec<Receipt>>>,
 ) -> Result<Vec<Row>, OutOfMemory>
-    requires few_media { media ≤ 64 }
-    requires few_files { asked.files ≤ 16 }
-    requires some_files { 1 ≤ asked.files }
-    requires some_workers { 1 ≤ asked.workers }
-    requires few_workers { asked.workers ≤ 16 }
-    requires count { length posted.items ≡ asked.workers }
-    requires posted { (row_for : KeyValue → RowValue) × ArePosted book.now row_for media asked.workers
-        (keys_of asked.joined asked.files media) posted.items }
-    ensures { IfOk result (λ rows. (row_for : KeyValue → RowValue)
-        → ArePosted book.now row_for media asked.workers (keys_of asked.joined asked.files media) posted.items
-        → rows.items ≡ map row_for (keys_of asked.joined asked.files media)) }
+    requires { CanGather book.now media asked posted.items }
+    ensures { IfOk result (λ rows. AreGathered book.now media asked posted.items rows.items) }
 {
     let keys = list_keys(alloc, file_count(asked), media)?;
     let queues = take_posted(alloc, posted)?;
@@ -133,18 +122,9 @@ fn rows_if_whole(
     notes: &[FileNote],
     posted: Vec<Option<Vec<Receipt>>>,
 ) -> Option<Vec<Row>>
-    requires few_media { media ≤ 64 }
-    requires few_files { asked.files ≤ 16 }
-    requires some_files { 1 ≤ asked.files }
-    requires some_workers { 1 ≤ asked.workers }
-    requires few_workers { asked.workers ≤ 16 }
-    requires count { length posted.items ≡ asked.workers }
-    requires posted { (row_for : KeyValue → RowValue) × ArePosted book.now row_for media asked.workers
-        (keys_of asked.joined asked.files media) posted.items }
+    requires { CanGather book.now media asked posted.items }
     ensures whole { IfSome result (λ rows. All IsWhole notes.now) }
-    ensures rows { IfSome result (λ rows. (row_for : KeyValue → RowValue)
-        → ArePosted book.now row_for media asked.workers (keys_of asked.joined asked.files media) posted.items
-        → rows.items ≡ map row_for (keys_of asked.joined asked.files media)) }
+    ensures rows { IfSome result (λ rows. AreGathered book.now media asked posted.items rows.items) }
 {
     if !notes.iter().all(|note| is_whole(*note)) {
         return None;

@@ -1,10 +1,10 @@
 -- What an intake sends by, and what each part of its work leaves. Lanes count from 0.
-use Rattle.std.specs.Prelude.{◌≡◌, ◌≤◌, ◌<◌, ◌+◌, ℕ, List, [], ◌∷◌, ◌++◌, length, map, slice_index_or, Option, Some, None}
+use Rattle.std.specs.Prelude.{◌≡◌, ◌≤◌, ◌<◌, ◌+◌, ◌^◌, ℕ, List, [], ◌∷◌, ◌++◌, length, map, slice_index_or, Option, Some, None}
 use Rattle.timing_base.specs.Captures.{Record}
 use Rattle.timing_base.specs.Keys.{key_of}
 use Rattle.timing_base.specs.Routes.{route}
 use Rattle.timing_base.specs.declared.capture.FileNote.{FileNote}
-use Rattle.pcap_reader.specs.Readers.{GivesNote, WillGive}
+use Rattle.pcap_reader.specs.Readers.{GivesNote, WillGive, end_note, frame_count, most_of}
 use Rattle.pcap_reader.specs.declared.reader.PcapReader.{PcapReader}
 use Rattle.ruled_intake.specs.Lanes.{packets, sent_of as sent_by}
 use Rattle.ruled_intake.specs.Packets.{Packet}
@@ -95,6 +95,17 @@ pub record SendsRest (old new : Outboxes) (lane : ℕ) : Type 0 where
 -- for each lane these packets were cut: the full batches were sent
 abbrev pub AreCut : (Packet → ℕ) → List Packet → Outboxes → Type 0
 AreCut lane ps o = (w : ℕ) → w < length o.lanes.now → HasCut 256 o.file lane w ps (sent_to o w) (open_for o w)
+
+-- an intake before the first record of a file: the reader has answered none, and nothing was sent or put
+pub record BeginsFile {S : Type 0} (r : Routing) (reader : PcapReader S) (o : Outboxes) : Type 0 where
+  pub routing : IsRouting r
+  pub lanes : r.lanes ≡ length o.lanes.now
+  pub are : AreOutboxes o
+  pub fresh : end_note reader ≡ None
+  pub first : frame_count reader ≡ 0
+  pub most : most_of reader ≤ 2 ^ 40
+  pub few : HaveAllFew 0 o
+  pub none : AreCut (route_of r) [] o
 
 -- whatever packets were cut, now those and these are
 abbrev pub Cuts : (Packet → ℕ) → (old new : Outboxes) → List Packet → Type 0

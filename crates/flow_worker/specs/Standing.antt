@@ -1,14 +1,17 @@
 -- What the judges of a worker stand for: for what it took, where files are judged each for itself, and where they are
 -- joined. Files and workers count from 0.
-use Rattle.std.specs.Prelude.{◌≡◌, ◌≤◌, ◌<◌, ◌+◌, ◌*◌, ◌^◌, ℕ, true, false, List, ◌++◌, ◌∷◌, [], IsTrue, length, min, Option, Some, None}
+use Rattle.std.specs.Prelude.{◌≡◌, ◌≤◌, ◌<◌, ◌+◌, ◌*◌, ◌^◌, ℕ, Bool, true, false, List, ◌++◌, ◌∷◌, [], IsTrue, length, map, min, Option, Some, None}
+use Rattle.timing_base.specs.Media.{Media}
 use Rattle.timing_base.specs.declared.key.FlowKey.{FlowKey}
 use Rattle.timing_base.specs.declared.packet.FlowPacket.{FlowPacket}
 use Rattle.ruled_intake.specs.Lanes.{IsWithin}
 use Rattle.ruled_intake.specs.Messages.{FileEnd}
 use Rattle.ruled_intake.specs.declared.message.Message.{Message}
+use Rattle.verdict_book.specs.Receipts.{row_of}
+use Rattle.verdict_book.specs.declared.book.Receipt.{Receipt}
 use Rattle.flow_worker.specs.Messages.{file_packets, has_end, records_told}
 use Rattle.flow_worker.specs.Opening.{Setting}
-use Rattle.flow_worker.specs.Posting.{has_ends, joined_packets, taken_packets, told_by}
+use Rattle.flow_worker.specs.Posting.{has_ends, joined_packets, own_keys, taken_packets, taken_row, told_by}
 use Rattle.flow_worker.specs.Judging.{AreFed, EachFrom, batched}
 use Rattle.flow_worker.specs.declared.apart_files.Apart.{Apart}
 use Rattle.flow_worker.specs.declared.apart_files.OneFile.{OneFile}
@@ -75,3 +78,33 @@ StandsFor s files worker taken (judging.Joined joined) = JoinedStandsFor s files
 -- with this message, what was taken is within the limits of a lane
 abbrev pub IsFew : List Message → Message → Type 0
 IsFew taken message = IsWithin (2 ^ 41) (taken ++ message ∷ [])
+
+-- whatever was taken by what stands so, this message is taken besides
+abbrev pub Takes : {X : Type 0} → (Setting → ℕ → ℕ → List Message → X → Type 0) → Message → (old new : X) → Type 0
+Takes Stands message old new = (s : Setting) (files worker : ℕ) (taken : List Message)
+    → Stands s files worker taken old → Stands s files worker (taken ++ message ∷ []) new
+
+-- it stands for something that was taken, and with this message that is within the limits of a lane
+abbrev pub MayTake : {X : Type 0} → (Setting → ℕ → ℕ → List Message → X → Type 0) → Message → X → Type 0
+MayTake Stands message x = (s : Setting) × (files : ℕ) × (worker : ℕ) × (taken : List Message)
+    × Stands s files worker taken x × IsFew taken message
+
+-- whether an end of each file is among what it stands for
+abbrev pub TellsEnds : {X : Type 0} → (Setting → ℕ → ℕ → List Message → X → Type 0) → X → Bool → Type 0
+TellsEnds Stands x ended = (s : Setting) (files worker : ℕ) (taken : List Message)
+    → Stands s files worker taken x → ended ≡ has_ends files taken
+
+-- the receipts have the rows of the worker's flows, by rising file and then media, where an end of each file was taken
+abbrev pub HasRows : {X : Type 0} → (Setting → ℕ → ℕ → List Message → X → Type 0) → X → List Receipt → Type 0
+HasRows Stands x receipts = (s : Setting) (files worker : ℕ) (taken : List Message)
+    → Stands s files worker taken x → IsTrue (has_ends files taken)
+    → map row_of receipts ≡ map (taken_row s files taken) (own_keys s files worker)
+
+-- the worker is one of at most 16, and the media, files and seconds of its run are within their limits
+pub record IsWorker (media : List Media) (files worker workers tai : ℕ) : Type 0 where
+  pub worker_is : worker < workers
+  pub few_workers : workers ≤ 16
+  pub few_media : length media ≤ 64
+  pub some_files : 1 ≤ files
+  pub few_files : files ≤ 16
+  pub few_seconds : tai ≤ 1000

@@ -1,12 +1,12 @@
 //! Files that are judged each for itself.
 
-ghost use Rattle.std.specs.Prelude.{◌≡◌, ◌≤◌, ◌<◌, ◌++◌, ◌∷◌, [], ℕ, List, All, false, IfOk, length, map};
+ghost use Rattle.std.specs.Prelude.{◌≡◌, ◌<◌, [], ℕ, List, All, false, IfOk, map};
 ghost use Rattle.std.specs.List.{list_all};
 ghost use Rattle.ruled_intake.specs.declared.message.Message.{Message as MessageValue};
 ghost use Rattle.verdict_book.specs.Receipts.{IsOf, row_of};
 ghost use Rattle.flow_worker.specs.Messages.{batch as batch_of, ending};
 ghost use Rattle.flow_worker.specs.Opening.{Setting};
-ghost use Rattle.flow_worker.specs.Posting.{has_ends, own_keys, taken_row};
+ghost use Rattle.flow_worker.specs.Posting.{own_keys, taken_row};
 
 use crate::judges::Judges;
 use ruled_intake::{Batch, FileEnd, Message};
@@ -30,7 +30,7 @@ pub struct Apart {
 }
 
 impl Apart {
-    ghost use Rattle.flow_worker.specs.Standing.{ApartStandsFor, IsFew};
+    ghost use Rattle.flow_worker.specs.Standing.{ApartStandsFor, IsWorker, MayTake, Takes, TellsEnds};
 
     /// So many files, of which nothing was taken yet. `Err` is want of memory.
     pub fn new(
@@ -41,11 +41,7 @@ impl Apart {
         workers: u32,
         tai: u64,
     ) -> Result<Apart, OutOfMemory>
-        requires few_files { files ≤ 16 }
-        requires few_media { length media.now ≤ 64 }
-        requires worker { worker < workers }
-        requires few_workers { workers ≤ 16 }
-        requires tai { tai ≤ 1000 }
+        requires limits { IsWorker media.now files worker workers tai }
         ensures stands { IfOk result (λ apart. ApartStandsFor (record { media = media.now; workers = workers; joined = false; tai = tai })
             files worker [] apart) }
     {
@@ -63,11 +59,8 @@ impl Apart {
     /// Takes a message. What is of a file that isn't there, or comes behind its file's first end, is
     /// passed over. `Err` is want of memory; what the judges were fed isn't known from then on.
     pub fn take(&mut self, message: Message) -> Result<(), OutOfMemory>
-        requires few { (s : Setting) × (files : ℕ) × (worker : ℕ) × (taken : List MessageValue)
-            × ApartStandsFor s files worker taken self.old × IsFew taken message }
-        ensures stands { IfOk result (λ _. (s : Setting) (files worker : ℕ) (taken : List MessageValue)
-            → ApartStandsFor s files worker taken self.old
-            → ApartStandsFor s files worker (taken ++ message ∷ []) self.new) }
+        requires few { MayTake ApartStandsFor message self.old }
+        ensures stands { IfOk result (λ _. Takes ApartStandsFor message self.old self.new) }
     {
         match message {
             Message::Batch(batch) => self.feed(&batch),
@@ -80,13 +73,8 @@ impl Apart {
 
     // Feeds a batch to the judges of its file.
     fn feed(&mut self, batch: &Batch) -> Result<(), OutOfMemory>
-        requires few { (s : Setting) × (files : ℕ) × (worker : ℕ) × (taken : List MessageValue)
-            × ApartStandsFor s files worker taken self.old
-            × IsFew taken (batch_of batch.now.file batch.now.packets) }
-        ensures stands { IfOk result (λ _. (s : Setting) (files worker : ℕ) (taken : List MessageValue)
-            → ApartStandsFor s files worker taken self.old
-            → ApartStandsFor s files worker (taken ++ batch_of batch.now.file batch.now.packets ∷ [])
-            self.new) }
+        requires few { MayTake ApartStandsFor (batch_of batch.now.file batch.now.packets) self.old }
+        ensures stands { IfOk result (λ _. Takes ApartStandsFor (batch_of batch.now.file batch.now.packets) self.old self.new) }
     {
         let file = batch.file as usize;
         if file >= self.files.len() || self.files[file].ended {
@@ -97,10 +85,7 @@ impl Apart {
 
     // Marks a file as ended.
     fn end(&mut self, end: &FileEnd)
-        ensures stands { (s : Setting) (files worker : ℕ) (taken : List MessageValue)
-            → ApartStandsFor s files worker taken self.old
-            → ApartStandsFor s files worker
-            (taken ++ ending end.now.file end.now.note end.now.records ∷ []) self.new }
+        ensures stands { Takes ApartStandsFor (ending end.now.file end.now.note end.now.records) self.old self.new }
     {
         let file = end.file as usize;
         if file < self.files.len() {
@@ -110,8 +95,7 @@ impl Apart {
 
     /// Whether an end of each file was taken.
     pub fn has_ended(&self) -> bool
-        ensures { (s : Setting) (files worker : ℕ) (taken : List MessageValue)
-            → ApartStandsFor s files worker taken self.now → result ≡ has_ends files taken }
+        ensures { TellsEnds ApartStandsFor self.now result }
     {
         all_ended(&self.files)
     }

@@ -1,7 +1,7 @@
 //! The intake of one file: it reads the file's records, and hands the packets of the session's media
 //! to the workers.
 
-ghost use Rattle.std.specs.Prelude.{◌≡◌, ◌≢◌, ◌≤◌, ◌<◌, ◌+◌, ◌*◌, ◌^◌, ◌∷◌, [], ℕ, List, None, Some, Bool, IfOk, MatchOption, MatchResult, OnErr, if◌then◌else◌, length};
+ghost use Rattle.std.specs.Prelude.{◌≡◌, ◌≤◌, ◌<◌, ◌+◌, ◌*◌, ◌^◌, ◌∷◌, [], ℕ, List, None, Some, Bool, IfOk, MatchOption, MatchResult, OnErr, if◌then◌else◌, length};
 ghost use Rattle.timing_base.specs.Captures.{IsStamp, Record};
 ghost use Rattle.timing_base.specs.declared.capture.FileNote.{FileNote as NoteValue};
 ghost use Rattle.timing_base.specs.declared.capture.FileNote.TheVariants as file_note;
@@ -11,19 +11,16 @@ ghost use Rattle.pcap_reader.specs.Readers.{WillGive, end_note, frame_count, mos
 ghost use Rattle.pcap_reader.specs.Records.{IsGiven, Records};
 ghost use Rattle.flow_worker.specs.Intakes.{AreOfFile, HasTold, HaveSentNothing, intake_setting};
 ghost use Rattle.flow_worker.specs.Opening.{session_packets};
-ghost use Rattle.flow_worker.specs.Sending.{AreCut, AreOutboxes, AreSame, Cuts, CutsNext, HasBegunFile, HasCutAll, HasLeftOff, HasSentFile, HaveAllFew, IsRouting, Stays, route_of};
+ghost use Rattle.flow_worker.specs.Sending.{AreOutboxes, AreSame, BeginsFile, Cuts, CutsNext, HasBegunFile, HasCutAll, HasLeftOff, HasSentFile, HaveAllFew, IsRouting, Stays, route_of};
 
 use crate::outboxes::Outboxes;
 use crate::routing::{Routing, dealt_file};
-use pcap_reader::{PcapReader, Step};
+use pcap_reader::{MOST, PcapReader, Step};
 use ruled_intake::{Halt, Lane, Raised, SendPass};
 use std::alloc::{AllocError as OutOfMemory, Global};
 use std::sync::Wait;
 use timing_base::{FileNote, Media};
 use timing_outside::{Gate, Source};
-
-/// The greatest length of a capture, in bytes.
-const MOST: u64 = 1 << 40;
 
 /// What an intake leaves.
 #[derive(Drop)]
@@ -129,14 +126,7 @@ fn take_records<R: Wait, S: Source>(
     routing: &Routing<'_>,
     outboxes: &mut Outboxes<'_>,
 ) -> Result<Taken, OutOfMemory>
-    requires routing { IsRouting routing.now }
-    requires lanes { routing.now.lanes ≡ length outboxes.old.lanes.now }
-    requires are { AreOutboxes outboxes.old }
-    requires fresh { end_note reader.old ≡ None }
-    requires first { frame_count reader.old ≡ 0 }
-    requires most { most_of reader.old ≤ 2 ^ 40 }
-    requires few { HaveAllFew 0 outboxes.old }
-    requires none { AreCut (route_of routing.now) [] outboxes.old }
+    requires begins { BeginsFile routing.now reader.old outboxes.old }
     ensures same { AreSame outboxes.old outboxes.new }
     ensures told { (items : List Record) (end : _) → WillGive S.left reader.old items end
         → MatchResult result
@@ -170,14 +160,7 @@ fn send_file<R: Wait, S: Source>(
     routing: &Routing<'_>,
     outboxes: &mut Outboxes<'_>,
 ) -> Result<FileNote, OutOfMemory>
-    requires routing { IsRouting routing.now }
-    requires lanes { routing.now.lanes ≡ length outboxes.old.lanes.now }
-    requires are { AreOutboxes outboxes.old }
-    requires fresh { end_note reader.old ≡ None }
-    requires first { frame_count reader.old ≡ 0 }
-    requires most { most_of reader.old ≤ 2 ^ 40 }
-    requires few { HaveAllFew 0 outboxes.old }
-    requires none { AreCut (route_of routing.now) [] outboxes.old }
+    requires begins { BeginsFile routing.now reader.old outboxes.old }
     ensures same { AreSame outboxes.old outboxes.new }
     ensures told { (items : List Record) (end : _) → WillGive S.left reader.old items end
         → MatchResult result (λ note. HasSentFile routing.now outboxes.new note items end)
@@ -223,14 +206,7 @@ fn take_file<'h, R: Wait, S: Source>(
     outboxes: Outboxes<'_>,
     halt: &'h Halt,
 ) -> (IntakeDone<S>, Option<Raised<'h>>)
-    requires routing { IsRouting routing.now }
-    requires lanes { routing.now.lanes ≡ length outboxes.lanes.now }
-    requires are { AreOutboxes outboxes }
-    requires fresh { end_note reader ≡ None }
-    requires first { frame_count reader ≡ 0 }
-    requires most { most_of reader ≤ 2 ^ 40 }
-    requires few { HaveAllFew 0 outboxes }
-    requires none { AreCut (route_of routing.now) [] outboxes }
+    requires begins { BeginsFile routing.now reader outboxes }
     ensures passes { AreOfFile outboxes.entry.file outboxes.entry.lanes.now result.0.passes.items }
     ensures told { (joined : Bool) (items : List Record) (end : _)
         → routing.now.file ≡ (if joined then 0 else outboxes.entry.file)

@@ -1,12 +1,11 @@
 //! Files that are joined: they are judged as one, in their order.
 
-ghost use Rattle.std.specs.Prelude.{◌≡◌, ◌≤◌, ◌<◌, ◌+◌, ◌^◌, ◌++◌, ◌∷◌, [], ℕ, List, All, false, true, IfNone, IfOk, IfSome, IsTrue, length, map};
+ghost use Rattle.std.specs.Prelude.{◌≡◌, ◌<◌, ◌+◌, ◌^◌, [], ℕ, List, All, false, true, IfNone, IfOk, IfSome, length};
 ghost use Rattle.ruled_intake.specs.declared.message.Message.{Message as MessageValue};
 ghost use Rattle.ruled_intake.specs.Lanes.{IsWithin};
-ghost use Rattle.verdict_book.specs.Receipts.{IsOf, row_of};
+ghost use Rattle.verdict_book.specs.Receipts.{IsOf};
 ghost use Rattle.flow_worker.specs.Messages.{batch as batch_of, ending, has_end};
 ghost use Rattle.flow_worker.specs.Opening.{Setting};
-ghost use Rattle.flow_worker.specs.Posting.{has_ends, own_keys, taken_row};
 
 use crate::judges::Judges;
 use ruled_intake::{Batch, FileEnd, Message};
@@ -37,7 +36,7 @@ pub struct Joined {
 }
 
 impl Joined {
-    ghost use Rattle.flow_worker.specs.Standing.{HasEnded, IsFew, JoinedIsAt, JoinedStandsFor};
+    ghost use Rattle.flow_worker.specs.Standing.{HasEnded, HasRows, IsWorker, JoinedIsAt, JoinedStandsFor, MayTake, Takes, TellsEnds};
 
     /// So many files, of which nothing was taken yet. `Err` is want of memory.
     pub fn new(
@@ -48,12 +47,7 @@ impl Joined {
         workers: u32,
         tai: u64,
     ) -> Result<Joined, OutOfMemory>
-        requires some_files { 1 ≤ files }
-        requires few_files { files ≤ 16 }
-        requires few_media { length media.now ≤ 64 }
-        requires worker { worker < workers }
-        requires few_workers { workers ≤ 16 }
-        requires tai { tai ≤ 1000 }
+        requires limits { IsWorker media.now files worker workers tai }
         ensures stands { IfOk result (λ joined. JoinedStandsFor (record { media = media.now; workers = workers; joined = true; tai = tai })
             files worker [] joined) }
     {
@@ -77,11 +71,8 @@ impl Joined {
     /// Takes a message. What is of a file that isn't there, or comes behind its file's first end, is
     /// passed over. `Err` is want of memory; what the judges were fed isn't known from then on.
     pub fn take(&mut self, message: Message) -> Result<(), OutOfMemory>
-        requires few { (s : Setting) × (files : ℕ) × (worker : ℕ) × (taken : List MessageValue)
-            × JoinedStandsFor s files worker taken self.old × IsFew taken message }
-        ensures stands { IfOk result (λ _. (s : Setting) (files worker : ℕ) (taken : List MessageValue)
-            → JoinedStandsFor s files worker taken self.old
-            → JoinedStandsFor s files worker (taken ++ message ∷ []) self.new) }
+        requires few { MayTake JoinedStandsFor message self.old }
+        ensures stands { IfOk result (λ _. Takes JoinedStandsFor message self.old self.new) }
     {
         match message {
             Message::Batch(batch) => self.feed(batch),
@@ -91,13 +82,8 @@ impl Joined {
 
     // Feeds a batch of the next file, and keeps one of a file behind it.
     fn feed(&mut self, batch: Batch) -> Result<(), OutOfMemory>
-        requires few { (s : Setting) × (files : ℕ) × (worker : ℕ) × (taken : List MessageValue)
-            × JoinedStandsFor s files worker taken self.old
-            × IsFew taken (batch_of batch.file batch.packets) }
-        ensures stands { IfOk result (λ _. (s : Setting) (files worker : ℕ) (taken : List MessageValue)
-            → JoinedStandsFor s files worker taken self.old
-            → JoinedStandsFor s files worker (taken ++ batch_of batch.file batch.packets ∷ [])
-            self.new) }
+        requires few { MayTake JoinedStandsFor (batch_of batch.file batch.packets) self.old }
+        ensures stands { IfOk result (λ _. Takes JoinedStandsFor (batch_of batch.file batch.packets) self.old self.new) }
     {
         let file = batch.file as usize;
         if file >= self.files.len() || self.files[file].end.is_some() {
@@ -112,13 +98,8 @@ impl Joined {
 
     // Notes the end of a file, and goes on behind each file that has ended.
     fn end(&mut self, end: FileEnd) -> Result<(), OutOfMemory>
-        requires few { (s : Setting) × (files : ℕ) × (worker : ℕ) × (taken : List MessageValue)
-            × JoinedStandsFor s files worker taken self.old
-            × IsFew taken (ending end.file end.note end.records) }
-        ensures stands { IfOk result (λ _. (s : Setting) (files worker : ℕ) (taken : List MessageValue)
-            → JoinedStandsFor s files worker taken self.old
-            → JoinedStandsFor s files worker
-            (taken ++ ending end.file end.note end.records ∷ []) self.new) }
+        requires few { MayTake JoinedStandsFor (ending end.file end.note end.records) self.old }
+        ensures stands { IfOk result (λ _. Takes JoinedStandsFor (ending end.file end.note end.records) self.old self.new) }
     {
         let file = end.file as usize;
         if file >= self.files.len() || self.files[file].end.is_some() {
@@ -184,8 +165,7 @@ impl Joined {
 
     /// Whether an end of each file was taken.
     pub fn has_ended(&self) -> bool
-        ensures { (s : Setting) (files worker : ℕ) (taken : List MessageValue)
-            → JoinedStandsFor s files worker taken self.now → result ≡ has_ends files taken }
+        ensures { TellsEnds JoinedStandsFor self.now result }
     {
         self.next >= self.files.len()
     }
@@ -199,10 +179,7 @@ impl Joined {
         book: &Book,
     ) -> Result<Vec<Receipt>, OutOfMemory>
         ensures posted { IfOk result (λ receipts. All (IsOf book.now) receipts.items) }
-        ensures rows { IfOk result (λ receipts.
-            (s : Setting) (files worker : ℕ) (taken : List MessageValue)
-            → JoinedStandsFor s files worker taken self → IsTrue (has_ends files taken)
-            → map row_of receipts.items ≡ map (taken_row s files taken) (own_keys s files worker)) }
+        ensures rows { IfOk result (λ receipts. HasRows JoinedStandsFor self receipts.items) }
     {
         let mut receipts = Vec::new(alloc);
         self.judges.post(rt, book, &mut receipts)?;

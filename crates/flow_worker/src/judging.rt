@@ -1,10 +1,7 @@
 //! All flows of a worker.
 
-ghost use Rattle.std.specs.Prelude.{◌≡◌, ◌≤◌, ◌<◌, ◌++◌, ◌∷◌, [], ℕ, List, All, IfOk, IsTrue, length, map};
-ghost use Rattle.ruled_intake.specs.declared.message.Message.{Message as MessageValue};
-ghost use Rattle.verdict_book.specs.Receipts.{IsOf, row_of};
-ghost use Rattle.flow_worker.specs.Opening.{Setting};
-ghost use Rattle.flow_worker.specs.Posting.{has_ends, own_keys, taken_row};
+ghost use Rattle.std.specs.Prelude.{◌<◌, [], All, IfOk};
+ghost use Rattle.verdict_book.specs.Receipts.{IsOf};
 
 use crate::apart_files::Apart;
 use crate::joined_files::Joined;
@@ -22,7 +19,7 @@ pub enum Judging {
 }
 
 impl Judging {
-    ghost use Rattle.flow_worker.specs.Standing.{IsFew, StandsFor};
+    ghost use Rattle.flow_worker.specs.Standing.{HasRows, IsWorker, MayTake, StandsFor, Takes, TellsEnds};
 
     /// The judges of a worker that has taken nothing yet. `Err` is want of memory.
     pub fn new(
@@ -34,12 +31,7 @@ impl Judging {
         files: u32,
         tai: u64,
     ) -> Result<Judging, OutOfMemory>
-        requires worker { worker < workers }
-        requires few_workers { workers ≤ 16 }
-        requires few_media { length media.now ≤ 64 }
-        requires some_files { 1 ≤ files }
-        requires few_files { files ≤ 16 }
-        requires tai { tai ≤ 1000 }
+        requires limits { IsWorker media.now files worker workers tai }
         ensures stands { IfOk result (λ judging. StandsFor
             (record { media = media.now; workers = workers; joined = joined; tai = tai })
             files worker [] judging) }
@@ -55,11 +47,8 @@ impl Judging {
 
     /// Takes a message. `Err` is want of memory; what the judges were fed isn't known from then on.
     pub fn take(&mut self, message: Message) -> Result<(), OutOfMemory>
-        requires few { (s : Setting) × (files : ℕ) × (worker : ℕ) × (taken : List MessageValue)
-            × StandsFor s files worker taken self.old × IsFew taken message }
-        ensures stands { IfOk result (λ _. (s : Setting) (files worker : ℕ) (taken : List MessageValue)
-            → StandsFor s files worker taken self.old
-            → StandsFor s files worker (taken ++ message ∷ []) self.new) }
+        requires few { MayTake StandsFor message self.old }
+        ensures stands { IfOk result (λ _. Takes StandsFor message self.old self.new) }
     {
         match self {
             Judging::Apart(files) => files.take(message),
@@ -69,8 +58,7 @@ impl Judging {
 
     /// Whether an end of each file was taken.
     pub fn has_ended(&self) -> bool
-        ensures { (s : Setting) (files worker : ℕ) (taken : List MessageValue)
-            → StandsFor s files worker taken self.now → result ≡ has_ends files taken }
+        ensures { TellsEnds StandsFor self.now result }
     {
         match self {
             Judging::Apart(files) => files.has_ended(),
@@ -87,10 +75,7 @@ impl Judging {
         book: &Book,
     ) -> Result<Vec<Receipt>, OutOfMemory>
         ensures posted { IfOk result (λ receipts. All (IsOf book.now) receipts.items) }
-        ensures rows { IfOk result (λ receipts.
-            (s : Setting) (files worker : ℕ) (taken : List MessageValue)
-            → StandsFor s files worker taken self → IsTrue (has_ends files taken)
-            → map row_of receipts.items ≡ map (taken_row s files taken) (own_keys s files worker)) }
+        ensures rows { IfOk result (λ receipts. HasRows StandsFor self receipts.items) }
     {
         match self {
             Judging::Apart(files) => files.post(rt, alloc, book),

@@ -4,7 +4,7 @@ ghost use Rattle.std.specs.Prelude.{◌≡◌, ◌≤◌, ◌<◌, ◌^◌, ℕ,
 ghost use Rattle.ruled_intake.specs.Lanes.{HasTaken, IsWithin, messages};
 ghost use Rattle.flow_worker.specs.Opening.{Setting};
 ghost use Rattle.flow_worker.specs.Posting.{has_ends};
-ghost use Rattle.flow_worker.specs.Standing.{StandsFor};
+ghost use Rattle.flow_worker.specs.Standing.{IsWorker, StandsFor};
 ghost use Rattle.flow_worker.specs.Works.{HasJudged, HasTakenNothing};
 
 use crate::judging::Judging;
@@ -90,12 +90,7 @@ fn judged<R: Wait, G: Gate>(
     halt: &Halt,
     gate: &G,
 ) -> Result<Vec<Receipt>, OutOfMemory>
-    requires worker { worker < workers }
-    requires few_workers { workers ≤ 16 }
-    requires few_media { length media.now ≤ 64 }
-    requires some_files { 1 ≤ files }
-    requires few_files { files ≤ 16 }
-    requires tai { tai ≤ 1000 }
+    requires limits { IsWorker media.now files worker workers tai }
     requires pass { HasTakenNothing lane.now pass.old }
     ensures lane { pass.new.lane ≡ lane.now }
     ensures senders { pass.new.senders ≡ pass.old.senders }

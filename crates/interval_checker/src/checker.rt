@@ -15,13 +15,10 @@ use crate::claim::Claim;
 use crate::fault::CheckFault;
 use crate::records::take_records;
 use crate::walk::Walk;
-use pcap_reader::PcapReader;
+use pcap_reader::{MOST, PcapReader};
 use std::alloc::Global;
 use timing_base::{FailProof, Kind, Media};
 use timing_outside::Source;
-
-/// The greatest length of a capture, in bytes.
-const MOST: u64 = 1 << 40;
 
 /// Checks a fail that is claimed of a sender type and a run of this media's flow, over sources whose
 /// captures are one capture. Runs count from 0, and a flow without a cut has run 0 alone; `tai`

@@ -2,7 +2,7 @@
 use Rattle.std.proofs.Common.{◌≡◌, ◌≤◌, ◌<◌, ◌+◌, ◌-◌, ℕ, Bool, true, false, Option, Some, None, ap, sym, subst, ◌∙◌, arith, inl, inr}
 use Rattle.std.proofs.lemmas.Bool.{cases_lt, false_from_ne_true}
 use Rattle.offset_window.specs.Moves.{IsLowerBy, IsUpperBy, MovesBy}
-use Rattle.offset_window.specs.Window.{BindsLower, BindsUpper, IsFirstBroken, IsGreatest, IsLeast, IsLowerEnd, IsUpperEnd, Serves}
+use Rattle.offset_window.specs.Window.{Binds, BindsLower, BindsUpper, IsFirstBroken, IsGreatest, IsLeast, IsLowerEnd, IsUpperEnd, Serves}
 use Rattle.offset_window.specs.declared.window.WindowEnd.{WindowEnd}
 use Rattle.offset_window.specs.declared.window.WindowEnd.TheVariants.{Absent, At}
 
@@ -34,19 +34,12 @@ first-same a b count x i same f = record {
   first = λ j low. sym (same x j (omega (arith, low, f.within))) ∙ f.first j low;
 }
 
-lower_binds-same : (a b : ℕ → ℕ → Bool) (count x : ℕ) (binding : Option ℕ)
+binds-same : (is_last goes_on : Type 0) (a b : ℕ → ℕ → Bool) (count beyond : ℕ) (binding : Option ℕ)
     → ((y j : ℕ) → j < count → a y j ≡ b y j)
-    → BindsLower a count x binding
-    → BindsLower b count x binding
-lower_binds-same a b count x None same h = h
-lower_binds-same a b count x (Some i) same h = (h.0, first-same a b count (x - 1) i same h.1)
-
-upper_binds-same : (a b : ℕ → ℕ → Bool) (count x : ℕ) (binding : Option ℕ)
-    → ((y j : ℕ) → j < count → a y j ≡ b y j)
-    → BindsUpper a count x binding
-    → BindsUpper b count x binding
-upper_binds-same a b count x None same h = h
-upper_binds-same a b count x (Some i) same h = (h.0, first-same a b count (x + 1) i same h.1)
+    → Binds is_last goes_on a count beyond binding
+    → Binds is_last goes_on b count beyond binding
+binds-same is_last goes_on a b count beyond None same h = h
+binds-same is_last goes_on a b count beyond (Some i) same h = (h.0, first-same a b count beyond i same h.1)
 
 pub lower-same : (a b : ℕ → ℕ → Bool) (count : ℕ) (end : WindowEnd)
     → ((y i : ℕ) → i < count → a y i ≡ b y i)
@@ -58,7 +51,7 @@ lower-same a b count (At x binding) same h = record {
   most = h.most;
   serves = serves-same a b count x same h.serves;
   least = λ y low serves. h.least y low (serves-same b a count y (λ z i few. sym (same z i few)) serves);
-  binds = lower_binds-same a b count x binding same h.binds;
+  binds = binds-same (x ≡ 0) (0 < x) a b count (x - 1) binding same h.binds;
 }
 
 pub upper-same : (a b : ℕ → ℕ → Bool) (count : ℕ) (end : WindowEnd)
@@ -71,7 +64,7 @@ upper-same a b count (At x binding) same h = record {
   most = h.most;
   serves = serves-same a b count x same h.serves;
   greatest = λ y high most serves. h.greatest y high most (serves-same b a count y (λ z i few. sym (same z i few)) serves);
-  binds = upper_binds-same a b count x binding same h.binds;
+  binds = binds-same (x ≡ 1000000) (x < 1000000) a b count (x + 1) binding same h.binds;
 }
 
 -- what serves all packets serves all but the last

@@ -4,7 +4,7 @@ use Rattle.std.proofs.lemmas.Bool.{cases_lt}
 use Rattle.timing_base.specs.Media.{Media}
 use Rattle.timing_base.specs.declared.media.Kind.{Kind}
 use Rattle.sender_params.specs.Reads.{anchor_of}
-use Rattle.offset_window.specs.Window.{BindsLower, BindsUpper, IsFirstBroken, IsGreatest, IsLeast, IsLowerEnd, IsUpperEnd, IsWindow, Serves, is_empty_with, is_over_with}
+use Rattle.offset_window.specs.Window.{Binds, BindsLower, BindsUpper, IsFirstBroken, IsGreatest, IsLeast, IsLowerEnd, IsUpperEnd, IsWindow, Serves, is_empty_with, is_over_with}
 use Rattle.offset_window.specs.declared.window.Window.{Window}
 use Rattle.offset_window.specs.declared.window.WindowEnd.{WindowEnd}
 use Rattle.offset_window.specs.declared.window.WindowEnd.TheVariants.{Absent, At}
@@ -144,17 +144,12 @@ first-once broken count x i j f g =
       ]
     ]
 
-lower_binds-once : (broken : ℕ → ℕ → Bool) (count x : ℕ) (a b : Option ℕ) → BindsLower broken count x a → BindsLower broken count x b → a ≡ b
-lower_binds-once broken count x None None f g = refl
-lower_binds-once broken count x None (Some j) f g = absurd (omega (arith, f, g.0))
-lower_binds-once broken count x (Some i) None f g = absurd (omega (arith, g, f.0))
-lower_binds-once broken count x (Some i) (Some j) f g = ap Some (first-once broken count (x - 1) i j f.1 g.1)
-
-upper_binds-once : (broken : ℕ → ℕ → Bool) (count x : ℕ) (a b : Option ℕ) → BindsUpper broken count x a → BindsUpper broken count x b → a ≡ b
-upper_binds-once broken count x None None f g = refl
-upper_binds-once broken count x None (Some j) f g = absurd (omega (arith, f, g.0))
-upper_binds-once broken count x (Some i) None f g = absurd (omega (arith, g, f.0))
-upper_binds-once broken count x (Some i) (Some j) f g = ap Some (first-once broken count (x + 1) i j f.1 g.1)
+binds-once : (is_last goes_on : Type 0) (broken : ℕ → ℕ → Bool) (count beyond : ℕ) (a b : Option ℕ) → (is_last → goes_on → ⊥)
+    → Binds is_last goes_on broken count beyond a → Binds is_last goes_on broken count beyond b → a ≡ b
+binds-once is_last goes_on broken count beyond None None apart f g = refl
+binds-once is_last goes_on broken count beyond None (Some j) apart f g = absurd (apart f g.0)
+binds-once is_last goes_on broken count beyond (Some i) None apart f g = absurd (apart g f.0)
+binds-once is_last goes_on broken count beyond (Some i) (Some j) apart f g = ap Some (first-once broken count beyond i j f.1 g.1)
 
 lower-once : (broken : ℕ → ℕ → Bool) (count : ℕ) (a b : WindowEnd) → IsLowerEnd broken count a → IsLowerEnd broken count b → a ≡ b
 lower-once broken count Absent Absent f g = refl
@@ -168,7 +163,7 @@ lower-once broken count (At x b) (At y c) f g =
         | inr equal ↦ omega (arith, rest, equal)
       ]
     ] in
-    let binding : b ≡ c = lower_binds-once broken count y b c (subst (λ z. BindsLower broken count z b) same f.binds) g.binds in
+    let binding : b ≡ c = binds-once (y ≡ 0) (0 < y) broken count (y - 1) b c (λ last on. omega (arith, last, on)) (subst (λ z. BindsLower broken count z b) same f.binds) g.binds in
     ap (λ z. At z b) same ∙ ap (At y) binding
 
 upper-once : (broken : ℕ → ℕ → Bool) (count : ℕ) (a b : WindowEnd) → IsUpperEnd broken count a → IsUpperEnd broken count b → a ≡ b
@@ -183,7 +178,7 @@ upper-once broken count (At x b) (At y c) f g =
         | inr equal ↦ omega (arith, rest, equal)
       ]
     ] in
-    let binding : b ≡ c = upper_binds-once broken count y b c (subst (λ z. BindsUpper broken count z b) same f.binds) g.binds in
+    let binding : b ≡ c = binds-once (y ≡ 1000000) (y < 1000000) broken count (y + 1) b c (λ last on. omega (arith, last, on)) (subst (λ z. BindsUpper broken count z b) same f.binds) g.binds in
     ap (λ z. At z b) same ∙ ap (At y) binding
 
 pub window-once : (m : Media) (n : ℕ) (stamps : List ℕ) (kind : Kind) (w other : Window)

@@ -48,16 +48,18 @@ pub record IsFirstBroken (broken : ℕ → ℕ → Bool) (count micros i : ℕ) 
   pub here : broken micros i ≡ true
   pub first : (j : ℕ) → j < i → broken micros j ≡ false
 
--- what keeps a lower end from being less: nothing where it is 0, else the first packet that is broken a microsecond below it
-abbrev pub BindsLower : (broken : ℕ → ℕ → Bool) → (count micros : ℕ) → Option ℕ → Type 0
-BindsLower broken count micros None = micros ≡ 0
-BindsLower broken count micros (Some i) = (0 < micros) × IsFirstBroken broken count (micros - 1) i
+-- what keeps an end from going on: nothing where it can't, else the first packet that is broken with the offset beyond it
+abbrev pub Binds : (is_last goes_on : Type 0) → (broken : ℕ → ℕ → Bool) → (count beyond : ℕ) → Option ℕ → Type 0
+Binds is_last goes_on broken count beyond None = is_last
+Binds is_last goes_on broken count beyond (Some i) = goes_on × IsFirstBroken broken count beyond i
 
--- what keeps an upper end from being greater: nothing where it is 1,000,000, else the first packet that is broken a
--- microsecond above it
+-- a lower end goes down to 0, by microseconds
+abbrev pub BindsLower : (broken : ℕ → ℕ → Bool) → (count micros : ℕ) → Option ℕ → Type 0
+BindsLower broken count micros binding = Binds (micros ≡ 0) (0 < micros) broken count (micros - 1) binding
+
+-- an upper end goes up to 1,000,000
 abbrev pub BindsUpper : (broken : ℕ → ℕ → Bool) → (count micros : ℕ) → Option ℕ → Type 0
-BindsUpper broken count micros None = micros ≡ 1000000
-BindsUpper broken count micros (Some i) = (micros < 1000000) × IsFirstBroken broken count (micros + 1) i
+BindsUpper broken count micros binding = Binds (micros ≡ 1000000) (micros < 1000000) broken count (micros + 1) binding
 
 -- the least offset that serves, and what binds it
 pub record IsLeast (broken : ℕ → ℕ → Bool) (count micros : ℕ) (binding : Option ℕ) : Type 0 where

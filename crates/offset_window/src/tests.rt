@@ -96,39 +96,45 @@ fn free(micros: u32) -> WindowEnd {
     }
 }
 
-#[test]
-fn window_plain(rt: HostRuntime) -> Result<(), Fail> {
+// The windows of these packets, at 50 with 20 packets per frame, are these: of N, of NL and of W.
+fn try_windows(
+    rt: &impl Abort,
+    alloc: Global,
+    sent: &Sent,
+    windows: [(WindowEnd, WindowEnd); 3],
+) -> Result<(), AllocError> {
     let params = Params::of(&plain(), 20);
-    let stamps = PLAIN.stamps(rt.alloc())?;
-    let rows = [
-        (Kind::N, bound(764, 0), bound(8444, 8)),
-        (Kind::NL, bound(764, 0), bound(8004, 19)),
-        (Kind::W, bound(764, 0), free(1_000_000)),
-    ];
-    for (kind, lower, upper) in rows {
-        let window = window(&rt, &params, kind, stamps.as_slice());
+    let stamps = sent.stamps(alloc)?;
+    for (kind, (lower, upper)) in KINDS.into_iter().zip(windows) {
+        let window = window(rt, &params, kind, stamps.as_slice());
         assert_eq!(rt; window, Window { lower, upper });
     }
     Ok(())
 }
 
 #[test]
+fn window_plain(rt: HostRuntime) -> Result<(), Fail> {
+    let windows = [
+        (bound(764, 0), bound(8444, 8)),
+        (bound(764, 0), bound(8004, 19)),
+        (bound(764, 0), free(1_000_000)),
+    ];
+    try_windows(&rt, rt.alloc(), &PLAIN, windows)?;
+    Ok(())
+}
+
+#[test]
 fn window_linear(rt: HostRuntime) -> Result<(), Fail> {
-    let params = Params::of(&plain(), 20);
     let sent = Sent {
         step: 1_000_000,
         ..PLAIN
     };
-    let stamps = sent.stamps(rt.alloc())?;
-    let rows = [
-        (Kind::N, bound(1524, 19), bound(8764, 8)),
-        (Kind::NL, bound(764, 0), bound(8764, 8)),
-        (Kind::W, bound(764, 0), free(1_000_000)),
+    let windows = [
+        (bound(1524, 19), bound(8764, 8)),
+        (bound(764, 0), bound(8764, 8)),
+        (bound(764, 0), free(1_000_000)),
     ];
-    for (kind, lower, upper) in rows {
-        let window = window(&rt, &params, kind, stamps.as_slice());
-        assert_eq!(rt; window, Window { lower, upper });
-    }
+    try_windows(&rt, rt.alloc(), &sent, windows)?;
     Ok(())
 }
 

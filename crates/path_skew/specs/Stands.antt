@@ -1,5 +1,5 @@
 -- What a `Skew` says of the packets that it was given.
-use Rattle.std.specs.Prelude.{◌≡◌, ℕ, true, false, List, length, count_by}
+use Rattle.std.specs.Prelude.{◌≡◌, ℕ, ◌+◌, true, false, List, length, count_by, Result, IsErr, OnErr, OnOk}
 use Rattle.std.specs.Option.{option_map}
 use Rattle.timing_base.specs.declared.packet.FlowPacket.{FlowPacket}
 use Rattle.path_skew.specs.Pair.{packet_with, opening, repeated, is_unread, skews}
@@ -42,3 +42,12 @@ count_first s = count_given s.first
 
 abbrev pub count_second : Skew → ℕ
 count_second s = count_given s.second
+
+-- a packet of the flow with this count was given, and none of the other; a refusal of memory leaves the counts and makes
+-- the two flows spent, and spent ones answer so again
+pub record Gives {T E : Type 0} (old new : Skew) (count count_other : Skew → ℕ) (result : Result T E) : Type 0 where
+  pub given : OnOk result (count new ≡ count old + 1)
+  pub kept : OnErr result (count new ≡ count old)
+  pub other : count_other new ≡ count_other old
+  pub spends : OnErr result (IsSpent new)
+  pub stays : IsSpent old → IsErr result

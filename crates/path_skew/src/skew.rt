@@ -30,7 +30,7 @@ pub struct Skew {
 }
 
 impl Skew {
-    ghost use Rattle.path_skew.specs.Stands.{IsSpent, StandsFor, count_first, count_second};
+    ghost use Rattle.path_skew.specs.Stands.{Gives, IsSpent, StandsFor, count_first, count_second};
 
     /// No packet of either flow.
     pub fn new(alloc: Global) -> Skew
@@ -66,11 +66,7 @@ impl Skew {
             → OnOk result (StandsFor self.new
             (first ++ record { rec = rec; at = at; rtp = rtp } ∷ []) second) }
 
-        ensures given { OnOk result (count_first self.new ≡ count_first self.old + 1) }
-        ensures kept { OnErr result (count_first self.new ≡ count_first self.old) }
-        ensures other { count_second self.new ≡ count_second self.old }
-        ensures spends { OnErr result (IsSpent self.new) }
-        ensures stays { IsSpent self.old → IsErr result }
+        ensures gives { Gives self.old self.new count_first count_second result }
     {
         if self.spent {
             return Err(OutOfMemory);
@@ -116,11 +112,7 @@ impl Skew {
             → OnOk result (StandsFor self.new first
             (second ++ record { rec = rec; at = at; rtp = rtp } ∷ [])) }
 
-        ensures given { OnOk result (count_second self.new ≡ count_second self.old + 1) }
-        ensures kept { OnErr result (count_second self.new ≡ count_second self.old) }
-        ensures other { count_first self.new ≡ count_first self.old }
-        ensures spends { OnErr result (IsSpent self.new) }
-        ensures stays { IsSpent self.old → IsErr result }
+        ensures gives { Gives self.old self.new count_second count_first result }
     {
         if self.spent {
             return Err(OutOfMemory);

@@ -29,6 +29,15 @@ fn read(number: u32) -> Result<Rtp, PacketFault> {
     })
 }
 
+// A skew, and the records of its packets.
+fn extreme(skew: i64, first_rec: u64, second_rec: u64) -> Option<Extreme> {
+    Some(Extreme {
+        skew,
+        first_rec,
+        second_rec,
+    })
+}
+
 impl Pair {
     fn new(alloc: Global) -> Pair {
         Pair {
@@ -106,16 +115,8 @@ fn skew_pair(rt: HostRuntime) -> Result<(), Fail> {
         second_only: 0,
         repeated: 0,
         unread: 0,
-        least: Some(Extreme {
-            skew: 150,
-            first_rec: 1,
-            second_rec: 1,
-        }),
-        greatest: Some(Extreme {
-            skew: 900,
-            first_rec: 5,
-            second_rec: 5,
-        }),
+        least: extreme(150, 1, 1),
+        greatest: extreme(900, 5, 5),
     };
     assert_eq!(rt; pair.finish(), row);
     Ok(())
@@ -136,16 +137,8 @@ fn skew_swapped(rt: HostRuntime) -> Result<(), Fail> {
         second_only: 1,
         repeated: 0,
         unread: 0,
-        least: Some(Extreme {
-            skew: -900,
-            first_rec: 5,
-            second_rec: 5,
-        }),
-        greatest: Some(Extreme {
-            skew: -150,
-            first_rec: 1,
-            second_rec: 1,
-        }),
+        least: extreme(-900, 5, 5),
+        greatest: extreme(-150, 1, 1),
     };
     assert_eq!(rt; pair.finish(), row);
     Ok(())
@@ -169,16 +162,8 @@ fn unread_and_repeated(rt: HostRuntime) -> Result<(), Fail> {
         second_only: 0,
         repeated: 2,
         unread: 3,
-        least: Some(Extreme {
-            skew: -30,
-            first_rec: 12,
-            second_rec: 4,
-        }),
-        greatest: Some(Extreme {
-            skew: 40,
-            first_rec: 2,
-            second_rec: 9,
-        }),
+        least: extreme(-30, 12, 4),
+        greatest: extreme(40, 2, 9),
     };
     assert_eq!(rt; pair.finish(), row);
     Ok(())
@@ -238,16 +223,8 @@ fn matched(matched: u64) -> SkewRow {
         second_only: 0,
         repeated: 200_000 - 2 * matched.min(100_000),
         unread: 0,
-        least: Some(Extreme {
-            skew: 3,
-            first_rec: 1,
-            second_rec: 1,
-        }),
-        greatest: Some(Extreme {
-            skew: 5,
-            first_rec: 50_001,
-            second_rec: 50_001,
-        }),
+        least: extreme(3, 1, 1),
+        greatest: extreme(5, 50_001, 50_001),
     }
 }
 

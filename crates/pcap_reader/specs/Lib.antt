@@ -3,8 +3,10 @@ pub mod Header
 pub mod Readers
 pub mod Records
 pub mod Stages
+pub mod Taken
 pub mod Windows
 -- captures that are worked by hand
 pub mod Examples
 -- these only serve proofs
 pub mod Finding
+pub mod Heads

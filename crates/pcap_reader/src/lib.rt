@@ -16,10 +16,14 @@
 pub mod laws;
 mod layout;
 mod reader;
+mod records;
 mod stage;
+mod taker;
 mod window;
 
-pub use reader::{PcapReader, Step};
+pub use reader::{MOST, PcapReader, Step};
+pub use records::{Taken, take_records};
+pub use taker::Taker;
 
 #[cfg(test)]
 mod tests;

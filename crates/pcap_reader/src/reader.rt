@@ -14,6 +14,9 @@ use std::alloc::Global;
 use timing_base::{FileNote, PcapFault};
 use timing_outside::Source;
 
+/// The greatest length of a capture that is read, in bytes.
+pub const MOST: u64 = 1 << 40;
+
 /// What a reader comes to next.
 #[derive(Clone, Copy, Debug)]
 pub enum Step<'a> {

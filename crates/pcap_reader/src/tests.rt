@@ -8,8 +8,6 @@ use timing_base::{FileNote, PcapFault};
 use timing_examples::source_of;
 use timing_outside::{MemorySource, OpenFault};
 
-const MOST: u64 = 1 << 40;
-
 const SECOND: u64 = 1_000_000_000;
 
 const PIECES: [u32; 4] = [1, 7, 100, 65_536];

@@ -1,6 +1,5 @@
 //! The part of a capture that is held in the buffer.
 
-ghost use Rattle.timing_base.specs.Captures.{IsStamp};
 ghost use Rattle.std.specs.Option.{ForSome};
 ghost use Rattle.pcap_reader.specs.Stages.{is_begun, stage_note};
 ghost use Rattle.pcap_reader.specs.Records.{IsGiven};
@@ -52,7 +51,8 @@ impl Window {
     ghost use Rattle.std.specs.Io.KnownBytes.{Keeps, IsAtEnd, prepend_known};
     ghost use Rattle.timing_outside.specs.Causes.{HasCause};
     ghost use Rattle.pcap_reader.specs.Windows.{held_bytes, last_bytes, taken_length, SameRecord, Takes, front_note};
-    ghost use Rattle.pcap_reader.specs.Records.{stamp, captured, OnReadFault};
+    ghost use Rattle.pcap_reader.specs.Heads.{IsHead};
+    ghost use Rattle.pcap_reader.specs.Records.{OnReadFault};
     ghost use Rattle.timing_base.specs.declared.capture.FileNote.TheVariants as file_note;
 
     /// A window at the start of a capture.
@@ -146,13 +146,7 @@ impl Window {
     #[inline(always)]
     pub fn front(&self, layout: Layout) -> Option<Head>
         ensures held { IfSome result (λ h. 16 + h.captured ≤ length (held_bytes self.now)) }
-        ensures stamp { IfSome result (λ h. h.at ≡ stamp layout (held_bytes self.now)) }
-        ensures captured { IfSome result (λ h. h.captured ≡ captured layout (held_bytes self.now)) }
-        ensures below { IfSome result (λ h. IsStamp h.at) }
-        ensures few { IfSome result (λ h. h.captured ≤ 262144) }
-        ensures most { IfSome result (λ h. self.now.place + 16 + h.captured ≤ self.now.most) }
-        ensures whole { IfSome result (λ h. (long : ℕ) → 16 + h.captured ≤ long
-            → front_note layout self.now long ≡ None) }
+        ensures head { IfSome result (IsHead layout self.now) }
     {
         // Each is compiled for itself.
         match layout.order {
@@ -171,13 +165,7 @@ impl Window {
     #[inline(always)]
     fn front_in(&self, layout: Layout) -> Option<Head>
         ensures held { IfSome result (λ h. 16 + h.captured ≤ length (held_bytes self.now)) }
-        ensures stamp { IfSome result (λ h. h.at ≡ stamp layout (held_bytes self.now)) }
-        ensures captured { IfSome result (λ h. h.captured ≡ captured layout (held_bytes self.now)) }
-        ensures below { IfSome result (λ h. IsStamp h.at) }
-        ensures few { IfSome result (λ h. h.captured ≤ 262144) }
-        ensures most { IfSome result (λ h. self.now.place + 16 + h.captured ≤ self.now.most) }
-        ensures whole { IfSome result (λ h. (long : ℕ) → 16 + h.captured ≤ long
-            → front_note layout self.now long ≡ None) }
+        ensures head { IfSome result (IsHead layout self.now) }
     {
         let bytes = self.peek();
         if bytes.len() < 16 {
@@ -204,13 +192,7 @@ impl Window {
     /// fraction, the captured length, the greatest length of a capture.
     pub fn head(&self, layout: Layout) -> Result<Head, FileNote>
         requires { 16 ≤ length (held_bytes self.now) }
-        ensures stamp { IfOk result (λ h. h.at ≡ stamp layout (held_bytes self.now)) }
-        ensures captured { IfOk result (λ h. h.captured ≡ captured layout (held_bytes self.now)) }
-        ensures below { IfOk result (λ h. IsStamp h.at) }
-        ensures few { IfOk result (λ h. h.captured ≤ 262144) }
-        ensures most { IfOk result (λ h. self.now.place + 16 + h.captured ≤ self.now.most) }
-        ensures whole { IfOk result (λ h. (long : ℕ) → 16 + h.captured ≤ long
-            → front_note layout self.now long ≡ None) }
+        ensures head { IfOk result (IsHead layout self.now) }
         ensures cut { IfOk result (λ h. (long : ℕ) → long < 16 + h.captured
             → front_note layout self.now long ≡ Some (file_note.Cut self.now.place)) }
         ensures faulty { IfErr result (λ e. (long : ℕ) → front_note layout self.now long ≡ Some e) }

@@ -5,6 +5,7 @@ use Rattle.std.proofs.lemmas.Bool.{cases_lt}
 use Rattle.std.proofs.lemmas.List.{drop-append-le, take-append-le, length-take, drop-take, take-take, length-take-le, nil_from_length, take_all}
 use Rattle.std.specs.Prelude.{◌==◌, if◌then◌else◌, slice_get, Option}
 use Rattle.capture_gen.specs.Heads.{record_head}
+use Rattle.pcapng_reader.specs.declared.block.Interface.{Interface}
 use Rattle.pcapng_reader.specs.declared.block.Order.{Order}
 use Rattle.pcapng_reader.specs.declared.block.Kind.{Kind}
 use Rattle.pcapng_reader.specs.declared.block.Kind.TheVariants as kind
@@ -22,7 +23,7 @@ use Rattle.pcapng_reader.specs.declared.converter.Converter.{Converter}
 use Rattle.pcapng_reader.specs.declared.window.Window.{Window}
 use Rattle.pcapng_reader.specs.Classic.{number, Section, Given, broken, gives, options, padded, interface_by, body_from, add_interface, content, is_length}
 use Rattle.pcapng_reader.specs.Converting.{found_by, found_with, found_interface, fate_by, fate_given, content_given, options_text, after, head_text}
-use Rattle.pcapng_reader.specs.Texts.{text_by, section_of, ahead, text_of, work, HasRoom, Steps, Waits, IsHead}
+use Rattle.pcapng_reader.specs.Texts.{text_by, section_of, ahead, whole, text_of, work, HasRoom, Steps, Waits, IsHead, AtBlock}
 use Rattle.pcapng_reader.specs.Windows.{kept_bytes, held_bytes}
 use Rattle.pcapng_reader.proofs.Numbers.{number-front, number-take}
 use Rattle.pcapng_reader.proofs.Blocks.{head-short, head-passes, after-short, after-passes}
@@ -30,7 +31,7 @@ use Rattle.pcapng_reader.proofs.Options.{option_at, behind, then_found, options-
 use Rattle.pcapng_reader.proofs.Packets.{packet-content, block-data}
 use Rattle.std.specs.Option.{option_map}
 use Rattle.std.specs.Io.KnownBytes.{Consumes, Keeps}
-use Rattle.pcapng_reader.specs.Stages.{is_due}
+use Rattle.pcapng_reader.specs.Stages.{is_due, rank}
 use Rattle.pcapng_reader.proofs.Texts.{text-options, text-passing, text-due}
 
 -- nothing is ahead but what is held, where the source has ended
@@ -58,6 +59,12 @@ pub head-cut : (c : Converter) (o : Order) (k : Kind) (total : ℕ) → IsHead o
     → (left : List ℕ) → c.budget ≡ 0 → text_of c left ≡ 0 ∷ []
 head-cut c o k total is e m left z =
     is left ∙ ap (head_text o k total (section_of c)) (ahead_end (held_bytes c.window) c.budget left z) ∙ head-short o k total (section_of c) (held_bytes c.window) e m
+
+-- a block of which more is wanted than is held
+pub block-waits : (old new : Converter) (answer : Step) (o : Order) (k : Kind) (total : ℕ) → Waits old new answer → AtBlock o k total old
+    → length (held_bytes old.window) ≤ 262172 → length (held_bytes old.window) < total → Steps old new answer
+block-waits old new answer o k total waits at few short =
+    steps-waits old new answer waits (omega (arith, few, ap length at.given)) (omega (arith, ap rank at.stage_is)) (head-cut old o k total at.head at.total_is short)
 
 -- the first bytes of a block are let go
 pub steps-entered : (old new : Converter) (o : Order) (k : Kind) (total n rest : ℕ) (x : List ℕ → Given) → IsHead o k total old → is_length k total ≡ true
@@ -164,6 +171,30 @@ option-cut st s kept h left far n b f e m z =
     text-at_option st s kept (h ++ take n left) far b f e
     ∙ ap (λ a. after b a (add_interface s (found_by b.order f (options b.order (take b.left (h ++ take n left)))))) (ahead_end h n left z)
     ∙ after-short b h _ m
+
+-- an option of which more is wanted than is held
+pub option-waits : (old new : Converter) (answer : Step) (b : Body) (f : Found) → Waits old new answer → old.stage ≡ stage.Options b f → kept_bytes old.window ≡ []
+    → length (held_bytes old.window) ≤ 262172 → length (held_bytes old.window) < b.left + 4 → Steps old new answer
+option-waits old new answer b f waits at given few short =
+    steps-waits old new answer waits (omega (arith, few, ap length given)) (omega (arith, ap rank at))
+    (λ left z. option-cut old.stage (section_of old) (kept_bytes old.window) (held_bytes old.window) left (whole old left) old.budget b f at short z)
+
+-- the bytes of an option with what pads them, as they are counted
+pub option-count : (count left rounded size n : ℕ) → count ≡ min left (4 + rounded) → rounded ≡ padded size → size ≡ n → count ≡ min left (4 + padded n)
+option-count count left rounded size n is round same = is ∙ ap (λ x. min left (4 + x)) (round ∙ ap padded same)
+
+-- the value of an option, as it is cut out of what is looked at
+pub option-value : (size n : ℕ) (seen h : List ℕ) → size ≡ n → seen ≡ h → take ((4 + size) - 4) (drop 4 seen) ≡ take n (drop 4 h)
+option-value size n seen h same is =
+    let bare : (4 + size) - 4 ≡ n = omega (arith, same) in
+    ap (λ k. take k (drop 4 seen)) bare ∙ ap (λ x. take n (drop 4 x)) is
+
+-- the fate of a packet, by what was looked at
+pub fate-is : (items : List Interface) (o : Order) (total place : ℕ) (found : Option Interface) (f g : Fate) (seen again h : List ℕ)
+    → found ≡ slice_get items place → place ≡ number o 4 8 seen → seen ≡ h → f ≡ fate_by found o total again → again ≡ h → f ≡ g
+    → fate_by (slice_get items (number o 4 8 h)) o total h ≡ g
+fate-is items o total place found f g seen again h found_is place_is seen_is f_is again_is is =
+    sym (f_is ∙ ap (λ x. fate_by x o total again) (found_is ∙ ap (slice_get items) (place_is ∙ ap (number o 4 8) seen_is)) ∙ ap (fate_by (slice_get items (number o 4 8 h)) o total) again_is) ∙ is
 
 -- numbers in the options that are left
 number-left : (o : Order) (n p left : ℕ) (h r : List ℕ) → p + n ≤ left → p + n ≤ length h → number o n p (take left (h ++ r)) ≡ number o n p h

@@ -11,7 +11,7 @@ use Rattle.pcapng_reader.specs.declared.step.Step.{Step}
 use Rattle.pcapng_reader.specs.declared.step.Step.TheVariants as step
 use Rattle.pcapng_reader.specs.declared.step.Gift.{Gift}
 use Rattle.pcapng_reader.specs.declared.step.Gift.TheVariants as gift
-use Rattle.pcapng_reader.specs.Classic.{Section, begins_section, no_section, blocks}
+use Rattle.pcapng_reader.specs.Classic.{Section, begins_section, no_section, blocks, is_length}
 use Rattle.pcapng_reader.specs.Converting.{content_given, options_text, after, head_text}
 use Rattle.pcapng_reader.specs.Described.{list_of}
 use Rattle.pcapng_reader.specs.Stages.{is_due, rank}
@@ -79,6 +79,13 @@ Waits old new step.Over = ⊥
 abbrev pub IsHead : Order → Kind → (total : ℕ) → Converter → Type 0
 IsHead order kind total c =
     (left : List ℕ) → text_of c left ≡ head_text order kind total (section_of c) (ahead c left)
+
+-- a block of this order, kind and total length begins, and nothing is kept
+pub record AtBlock (order : Order) (kind : Kind) (total : ℕ) (c : Converter) : Type 0 where
+  pub head : IsHead order kind total c
+  pub total_is : is_length kind total ≡ true
+  pub stage_is : c.stage ≡ stage.Block
+  pub given : kept_bytes c.window ≡ []
 
 -- bytes of the text are put behind those before `at`, as far as there are any to be given
 pub record Pours (at : ℕ) (before now : List ℕ) (old new : Converter) (count : ℕ) : Type 0 where

@@ -6,7 +6,7 @@ ghost use Rattle.std.specs.Io.KnownBytes.{Keeps, ReadConsumes};
 ghost use Rattle.capture_gen.specs.Heads.{file_head};
 ghost use Rattle.timing_outside.specs.Causes.{HasCause};
 ghost use Rattle.std.specs.Option.{option_map};
-ghost use Rattle.pcapng_reader.specs.Classic.{classic, number, kind_of, is_length, padded, blocks, go_on};
+ghost use Rattle.pcapng_reader.specs.Classic.{classic, number, kind_of, padded, blocks, go_on};
 ghost use Rattle.pcapng_reader.specs.Converting.{fate_by, content_given, options_text, after, IsFate};
 ghost use Rattle.pcapng_reader.specs.Stages.{is_start, is_due, rank};
 ghost use Rattle.pcapng_reader.specs.Windows.{kept_bytes, held_bytes};
@@ -79,7 +79,7 @@ pub struct Converter {
 }
 
 impl Converter {
-    ghost use Rattle.pcapng_reader.specs.Texts.{section_of, ahead, text_of, work, HasRoom, Steps, Waits, IsHead, Pours, Gives};
+    ghost use Rattle.pcapng_reader.specs.Texts.{section_of, ahead, text_of, work, HasRoom, Steps, Waits, IsHead, AtBlock, Pours, Gives};
 
     /// A converter at the start of a file.
     pub fn new(alloc: Global) -> Result<Converter, AllocError>
@@ -176,10 +176,7 @@ impl Converter {
 
     /// Looks at the head of a section.
     fn section(&mut self, order: Order, total: u32) -> Step
-        requires head { IsHead order kind.Section total self.old }
-        requires total { is_length kind.Section total ≡ true }
-        requires stage { self.old.stage ≡ stage.Block }
-        requires given { kept_bytes self.old.window ≡ [] }
+        requires block { AtBlock order kind.Section total self.old }
         ensures { Steps self.old self.new result }
     {
         if self.window.len() < 16 {
@@ -192,10 +189,7 @@ impl Converter {
 
     /// Looks at the head of an interface's description.
     fn interface(&mut self, order: Order, total: u32) -> Step
-        requires head { IsHead order kind.Interface total self.old }
-        requires total { is_length kind.Interface total ≡ true }
-        requires stage { self.old.stage ≡ stage.Block }
-        requires given { kept_bytes self.old.window ≡ [] }
+        requires block { AtBlock order kind.Interface total self.old }
         ensures { Steps self.old self.new result }
     {
         if self.window.len() < 16 {
@@ -218,10 +212,7 @@ impl Converter {
 
     /// Keeps the record of a packet, once its data are held.
     fn record(&mut self, order: Order, total: u32, at: u64, len: u32) -> Step
-        requires head { IsHead order kind.Packet total self.old }
-        requires total { is_length kind.Packet total ≡ true }
-        requires stage { self.old.stage ≡ stage.Block }
-        requires given { kept_bytes self.old.window ≡ [] }
+        requires block { AtBlock order kind.Packet total self.old }
         requires held { 28 ≤ length (held_bytes self.old.window) }
         requires fate { fate_by (slice_get (list_of self.old.interfaces)
             (number order 4 8 (held_bytes self.old.window))) order total
@@ -245,10 +236,7 @@ impl Converter {
 
     /// Looks at the head of a packet.
     fn packet(&mut self, order: Order, total: u32) -> Step
-        requires head { IsHead order kind.Packet total self.old }
-        requires total { is_length kind.Packet total ≡ true }
-        requires stage { self.old.stage ≡ stage.Block }
-        requires given { kept_bytes self.old.window ≡ [] }
+        requires block { AtBlock order kind.Packet total self.old }
         ensures { Steps self.old self.new result }
     {
         if self.window.len() < 28 {
@@ -271,11 +259,8 @@ impl Converter {
 
     /// Looks at the head of a block that is passed over.
     fn other(&mut self, order: Order, total: u32) -> Step
-        requires head { IsHead order kind.Other total self.old }
-        requires total { is_length kind.Other total ≡ true }
-        requires stage { self.old.stage ≡ stage.Block }
+        requires block { AtBlock order kind.Other total self.old }
         requires held { 12 ≤ length (held_bytes self.old.window) }
-        requires given { kept_bytes self.old.window ≡ [] }
         ensures { Steps self.old self.new result }
     {
         self.enter(order, total, 8, Content::Nothing);

@@ -1,5 +1,6 @@
 -- From the parts of a grid to the reads of the video.
-use Rattle.std.proofs.Common.{◌≡◌, ◌≤◌, ◌<◌, ◌-◌, ◌↔◌, ℕ, ℤ, Bool, true, false, cond, nat_lt, not, ap, sym, ◌∙◌, arith, inl, inr}
+use Rattle.std.proofs.Common.{◌≡◌, ◌≤◌, ◌<◌, ◌+◌, ◌-◌, ◌^◌, ◌↔◌, ℕ, ℤ, Bool, true, false, cond, nat_lt, not, ap, subst, sym, ◌∙◌, arith, inl, inr}
+use Rattle.std.proofs.Math.Nat.{mul-le-mul_right}
 use Rattle.std.proofs.lemmas.Bool.{cases_lt, false_from_ne_true}
 use Rattle.std.proofs.lemmas.Bool.Decides.{nat_tests}
 use Rattle.std.proofs.lemmas.Int.{ints}
@@ -8,8 +9,9 @@ use Rattle.fraction128.proofs.Order.{at_most-false, at_most-true, fraction_cases
 use Rattle.timing_base.specs.Media.{Media}
 use Rattle.sender_params.specs.Reads.{AreDue, read_of}
 use Rattle.read_schedule.specs.declared.grid.Grid.{Grid}
-use Rattle.read_schedule.specs.Parts.{IsGridOf, parts_at, parts_of}
-use Rattle.read_schedule.specs.Stands.{is_on_time}
+use Rattle.read_schedule.specs.Parts.{AreAhead, ArePast, IsGridOf, parts_at, parts_of}
+use Rattle.read_schedule.specs.Stands.{MovesTo, StandsBy, is_on_time}
+use Rattle.read_schedule.specs.declared.schedule.Schedule.{Schedule}
 
 -- what isn't due is ahead
 pub ahead_of : (m : Media) (n : ℕ) (anchor : ℤ) (gapped : Bool) (g : Grid) (x t : ℕ)
@@ -25,12 +27,28 @@ ahead_of m n anchor gapped g x t is h =
 -- the reads that are due, by the grid
 pub are_due : (m : Media) (n : ℕ) (anchor : ℤ) (gapped : Bool) (g : Grid) (t count : ℕ)
     → IsGridOf m n anchor gapped g
-    → ((x : ℕ) → x < count → parts_at g x ≤ parts_of g t)
-    → ((x : ℕ) → count ≤ x → parts_of g t < parts_at g x)
+    → ArePast g count (t + 2 ^ 49)
+    → AreAhead g count (t + 2 ^ 49)
     → AreDue m n anchor gapped (whole t) count
 are_due m n anchor gapped g t count is due ahead = record {
   due = λ x h. (is.before x t).1 (due x h);
   ahead = λ x h. ahead_of m n anchor gapped g x t is (ahead x h);
+}
+
+-- what passed by an instant is past at a later one
+pub past-later : (m : Media) (n : ℕ) (anchor : ℤ) (gapped : Bool) (s : Schedule) (before at : ℕ)
+    → before ≤ at → StandsBy m n anchor gapped s before → ArePast s.grid s.passed (at + 2 ^ 49)
+past-later m n anchor gapped s before at order stood = λ x few.
+    let order_parts : parts_of s.grid before ≤ parts_of s.grid at = mul-le-mul_right s.grid.den (omega (arith, order)) in
+    omega (arith, order_parts, (stood.grid.before x before).0 (stood.passed x few))
+
+-- so the schedule stands by the later one, where what passes meanwhile is past there
+pub stands-later : (old new : Schedule) (at : ℕ) → new.grid ≡ old.grid
+    → (ArePast old.grid old.passed (at + 2 ^ 49) → ArePast old.grid new.passed (at + 2 ^ 49))
+    → MovesTo old new at
+stands-later old new at same past = λ m n anchor gapped before order stood. record {
+  grid = subst (λ g. IsGridOf m n anchor gapped g) (sym same) stood.grid;
+  passed = λ x few. (stood.grid.before x at).1 (past (past-later m n anchor gapped old before at order stood) x few);
 }
 
 -- whether a read is before t, by the grid

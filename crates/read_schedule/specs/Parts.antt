@@ -1,6 +1,6 @@
 -- The reads of one schedule in parts of a nanosecond, from 2^49 ns before 0 on, so that none is below 0. Read x is the
 -- read x % n of group x / n.
-use Rattle.std.specs.Prelude.{◌≤◌, ◌+◌, ◌*◌, ◌/◌, ◌%◌, ◌^◌, ◌↔◌, ℕ, ℤ, Bool, Some}
+use Rattle.std.specs.Prelude.{◌≤◌, ◌<◌, ◌+◌, ◌*◌, ◌/◌, ◌%◌, ◌^◌, ◌↔◌, ℕ, ℤ, Bool, Some}
 use Rattle.fraction128.specs.Fractions.{AtMost, whole}
 use Rattle.timing_base.specs.Media.{Media}
 use Rattle.sender_params.specs.Reads.{read_of}
@@ -13,6 +13,13 @@ parts_at g x = g.start + (x / g.n) * g.group + (x % g.n) * g.step
 -- where the whole nanosecond t is
 abbrev pub parts_of : Grid → ℕ → ℕ
 parts_of g t = (t + 2 ^ 49) * g.den
+
+-- so many reads are past at t, which stands at t * den parts; and the others are ahead of it
+abbrev pub ArePast : Grid → (passed t : ℕ) → Type 0
+ArePast g passed t = (x : ℕ) → x < passed → parts_at g x ≤ t * g.den
+
+abbrev pub AreAhead : Grid → (passed t : ℕ) → Type 0
+AreAhead g passed t = (x : ℕ) → passed ≤ x → t * g.den < parts_at g x
 
 -- the reads are those of this schedule of the video, with n packets in each group: they stand to each whole nanosecond
 -- as its reads do

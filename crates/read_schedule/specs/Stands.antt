@@ -35,3 +35,9 @@ pub record IsNextAfter (m : Media) (n : ℕ) (anchor : ℤ) (gapped : Bool) (at 
 pub record StandsBy (m : Media) (n : ℕ) (anchor : ℤ) (gapped : Bool) (s : Schedule) (at : ℕ) : Type 0 where
   pub grid : IsGridOf m n anchor gapped s.grid
   pub passed : (x : ℕ) → x < s.passed → AtMost (read_of m n anchor gapped x) (whole at)
+
+-- whatever reads a schedule was of, and whatever stamp no later it stood by, it now stands by this one
+abbrev pub MovesTo : (old new : Schedule) → (at : ℕ) → Type 0
+MovesTo old new at = (m : Media) (n : ℕ) (anchor : ℤ) (gapped : Bool) (before : ℕ)
+    → before ≤ at → StandsBy m n anchor gapped old before
+    → StandsBy m n anchor gapped new at

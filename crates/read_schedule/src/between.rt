@@ -23,7 +23,9 @@ impl Between {
     ghost use Rattle.read_schedule.specs.Between.{Holds, IsFrom, IsUpTo};
 
     /// No instants.
-    pub fn nothing() -> Between {
+    pub fn nothing() -> Between
+        ensures { (at : ℕ) → Holds result at → ⊥ }
+    {
         Between {
             from: 0,
             wide: 0,

@@ -1,7 +1,7 @@
 //! The reads that are due, carried along stamps that never fall.
 
 ghost use Rattle.std.specs.Prelude.{◌≡◌, ◌≤◌, ◌<◌, ◌+◌, ◌-◌, ◌*◌, ◌/◌, ◌%◌, ◌^◌, ◌↔◌, ℕ, IsTrue, false};
-ghost use Rattle.read_schedule.specs.Parts.{parts_at};
+ghost use Rattle.read_schedule.specs.Parts.{AreAhead, ArePast, parts_at};
 
 use crate::between::Between;
 use crate::grid::{BEFORE, Grid};
@@ -88,7 +88,7 @@ impl Schedule {
     ghost use Rattle.std.specs.Prelude.{ℤ, pos, negsuc, ◌≤ℤ◌, Bool};
     ghost use Rattle.timing_base.specs.Media.{Media};
     ghost use Rattle.read_schedule.specs.Between.{IsFrom, IsUpTo};
-    ghost use Rattle.read_schedule.specs.Stands.{IsDueAt, IsNextAfter, StandsBy, left_of};
+    ghost use Rattle.read_schedule.specs.Stands.{IsDueAt, IsNextAfter, MovesTo, StandsBy, left_of};
 
     /// The reads of a sender, gapped or linear, where read 0 is of group `n0`. None is due yet.
     pub fn new(params: &Params, gapped: bool, n0: i128) -> Schedule
@@ -110,9 +110,7 @@ impl Schedule {
         ensures due { (m : Media) (n : ℕ) (anchor : ℤ) (gapped : Bool) (before : ℕ)
             → before ≤ at → StandsBy m n anchor gapped self.old before
             → IsDueAt m n anchor gapped at result }
-        ensures stands { (m : Media) (n : ℕ) (anchor : ℤ) (gapped : Bool) (before : ℕ)
-            → before ≤ at → StandsBy m n anchor gapped self.old before
-            → StandsBy m n anchor gapped self.new at }
+        ensures stands { MovesTo self.old self.new at }
     {
         let t = at + BEFORE;
         self.catch_up(t);
@@ -134,9 +132,7 @@ impl Schedule {
         ensures next { (m : Media) (n : ℕ) (anchor : ℤ) (gapped : Bool) (before : ℕ)
             → before ≤ at → StandsBy m n anchor gapped self.old before
             → IsNextAfter m n anchor gapped at result }
-        ensures stands { (m : Media) (n : ℕ) (anchor : ℤ) (gapped : Bool) (before : ℕ)
-            → before ≤ at → StandsBy m n anchor gapped self.old before
-            → StandsBy m n anchor gapped self.new at }
+        ensures stands { MovesTo self.old self.new at }
     {
         self.catch_up(at + BEFORE);
         NextRead {
@@ -286,8 +282,7 @@ impl Schedule {
     fn seek(&mut self, t: u64)
         requires in_time { t < 2 ^ 63 }
         ensures grid { self.new.grid ≡ self.old.grid }
-        ensures due { (x : ℕ) → x < self.new.passed
-            → parts_at self.old.grid x ≤ t * self.old.grid.den }
+        ensures due { ArePast self.old.grid self.new.passed t }
     {
         let passed = self.grid.count(t);
         self.passed = passed;
@@ -321,11 +316,9 @@ impl Schedule {
     fn race(&mut self, t: u64)
         requires in_time { t < 2 ^ 63 }
         ensures grid { self.new.grid ≡ self.old.grid }
-        ensures due { ((x : ℕ) → x < self.old.passed
-            → parts_at self.old.grid x ≤ t * self.old.grid.den)
-            → (x : ℕ) → x < self.new.passed → parts_at self.old.grid x ≤ t * self.old.grid.den }
-        ensures ahead { (x : ℕ) → self.new.passed ≤ x
-            → t * self.old.grid.den < parts_at self.old.grid x }
+        ensures due { ArePast self.old.grid self.old.passed t
+            → ArePast self.old.grid self.new.passed t }
+        ensures ahead { AreAhead self.old.grid self.new.passed t }
     {
         self.hurry(t);
         while t >= self.next.at {
@@ -338,11 +331,9 @@ impl Schedule {
     fn catch_up(&mut self, t: u64)
         requires in_time { t < 2 ^ 63 }
         ensures grid { self.new.grid ≡ self.old.grid }
-        ensures due { ((x : ℕ) → x < self.old.passed
-            → parts_at self.old.grid x ≤ t * self.old.grid.den)
-            → (x : ℕ) → x < self.new.passed → parts_at self.old.grid x ≤ t * self.old.grid.den }
-        ensures ahead { (x : ℕ) → self.new.passed ≤ x
-            → t * self.old.grid.den < parts_at self.old.grid x }
+        ensures due { ArePast self.old.grid self.old.passed t
+            → ArePast self.old.grid self.new.passed t }
+        ensures ahead { AreAhead self.old.grid self.new.passed t }
     {
         if t < self.next.at {
             return;

@@ -10,3 +10,4 @@ pub mod Complete
 pub mod Sessions
 pub mod First
 pub mod Targets
+pub mod Within

@@ -1,9 +1,9 @@
 //! What holds of the definition itself, and the definition on texts worked by hand. Each function is
 //! a theorem: it does nothing, and its clauses are proved.
 
-ghost use Rattle.std.specs.Prelude.{◌≡◌, ◌<◌, ◌≤◌, ℕ, List, [], ◌∷◌, ◌++◌, map, length, replicate, Some, None, Ok, Err, codes, true, false};
+ghost use Rattle.std.specs.Prelude.{◌≡◌, ◌<◌, ◌≤◌, ℕ, List, [], ◌∷◌, ◌++◌, All, map, length, replicate, Some, None, Ok, Err, codes, true, false};
 ghost use Rattle.std.specs.Fmt.{decimal};
-ghost use Rattle.timing_base.specs.Media.{Media};
+ghost use Rattle.timing_base.specs.Media.{IsMedia, Media};
 ghost use Rattle.timing_base.specs.Targets.{HaveOwnTargets};
 ghost use Rattle.sdp_reader.specs.Bytes.{before, after, number};
 ghost use Rattle.sdp_reader.specs.Examples.{line, fault, item, causes, part, lost_part, raw_0, one_part, one_media};
@@ -39,6 +39,12 @@ pub fn each_part_has_a_media()
 pub fn targets_are_own()
     ensures { (bytes : List ℕ) (media : List Media) → session bytes ≡ Ok media
         → HaveOwnTargets media }
+{}
+
+/// Each media of a session is within the limits of its quantities.
+pub fn media_are_within()
+    ensures { (bytes : List ℕ) (media : List Media) → session bytes ≡ Ok media
+        → All IsMedia media }
 {}
 
 /// A text of more than 1,048,576 bytes is too large, whatever it holds.

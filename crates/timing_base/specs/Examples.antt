@@ -1,6 +1,10 @@
--- Small flows for examples that are worked by hand. The payload type is 96, and the source is 7.
-use Rattle.std.specs.Prelude.{ℕ, Bool, true, false, List, [], ◌∷◌, Ok, Err}
+-- Small flows for examples that are worked by hand, with payload type 96 and source 7, and a plain video.
+use Rattle.std.specs.Prelude.{ℕ, Bool, true, false, List, [], ◌∷◌, Option, Some, None, Ok, Err}
 use Rattle.timing_base.specs.Captures.{Record}
+use Rattle.timing_base.specs.Judged.{RunOutcome, whole_frames}
+use Rattle.timing_base.specs.Media.{Media}
+use Rattle.timing_base.specs.declared.media.Kind.{Kind}
+use Rattle.timing_base.specs.declared.media.Kind.TheVariants.{N}
 use Rattle.timing_base.specs.declared.packet.FlowPacket.{FlowPacket}
 use Rattle.timing_base.specs.declared.packet.PacketFault.{PacketFault}
 
@@ -32,3 +36,28 @@ two_groups =
 -- three packets, the first alone marked; 8 and 65,544 have equal low halves
 abbrev pub equal_low_halves : List FlowPacket
 equal_low_halves = sent 1 10 6 100 true ∷ sent 2 20 7 101 false ∷ sent 3 30 65544 101 false ∷ []
+
+-- what is judged of groups of two, so many, with a head and a tail of one packet
+abbrev pub judged_twos : (groups : ℕ) (stamps : List ℕ) → RunOutcome
+judged_twos groups stamps = whole_frames record { n = 2; groups = groups; head = 1; tail = 1; stamps = stamps }
+
+-- a video of 1080 lines to 239.0.0.1:50000, at p frames per second
+abbrev pub video : (interlaced : Bool) (p : ℕ) (declared : Option Kind) (cmax : Option ℕ) → Media
+video interlaced p declared cmax = record {
+  line = 5;
+  address = 4009754625;
+  port = 50000;
+  pt = 96;
+  width = 1920;
+  height = 1080;
+  interlaced = interlaced;
+  p = p;
+  q = 1;
+  declared = declared;
+  troff = None;
+  cmax = cmax;
+}
+
+-- the media of the plain description: progressive, at 50 frames per second, declared narrow
+abbrev pub plain_media : Media
+plain_media = video false 50 (Some N) None

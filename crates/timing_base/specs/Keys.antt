@@ -1,5 +1,5 @@
 -- The flows of a run. Files and media count from 0; files that are joined are one, the first.
-use Rattle.std.specs.Prelude.{ℕ, zero, suc, Bool, false, ◌+◌, if◌then◌else◌, List, [], ◌∷◌, ◌++◌, length, slice_index_or, None}
+use Rattle.std.specs.Prelude.{ℕ, zero, suc, Bool, false, ◌+◌, if◌then◌else◌, List, [], ◌∷◌, ◌++◌, slice_index_or, None}
 use Rattle.timing_base.specs.Media.{Media}
 use Rattle.timing_base.specs.declared.key.FlowKey.{FlowKey}
 

@@ -30,7 +30,7 @@ impl Model for CheckJob {
 
     ghost view = { λ job. record { sdp = job.sdp; captures = job.captures; workers = job.workers; tai = job.tai; json = job.json; joined = job.joined } };
 
-    ghost invariant = { λ job. IsCheckJob (record { sdp = job.sdp; captures = job.captures; workers = job.workers; tai = job.tai; json = job.json; joined = job.joined }) };
+    ghost invariant = { λ job. IsCheckJob (view job) };
 }
 
 /// Confirm one fail from the capture alone.
@@ -55,7 +55,7 @@ impl Model for VerifyJob {
 
     ghost view = { λ job. record { sdp = job.sdp; media = job.media; kind = job.kind; proof = job.proof; tai = job.tai; captures = job.captures; joined = job.joined } };
 
-    ghost invariant = { λ job. IsVerifyJob (record { sdp = job.sdp; media = job.media; kind = job.kind; proof = job.proof; tai = job.tai; captures = job.captures; joined = job.joined }) };
+    ghost invariant = { λ job. IsVerifyJob (view job) };
 }
 
 /// Confirm each fail of a JSON report from the captures alone.
@@ -77,7 +77,7 @@ impl Model for ReportJob {
 
     ghost view = { λ job. record { sdp = job.sdp; report = job.report; tai = job.tai; captures = job.captures; joined = job.joined } };
 
-    ghost invariant = { λ job. IsReportJob (record { sdp = job.sdp; report = job.report; tai = job.tai; captures = job.captures; joined = job.joined }) };
+    ghost invariant = { λ job. IsReportJob (view job) };
 }
 
 /// Run the analyser over captures that it makes itself.
@@ -96,7 +96,7 @@ impl Model for SelfTestJob {
 
     ghost view = { λ job. record { frames = job.frames; workers = job.workers } };
 
-    ghost invariant = { λ job. IsSelfTestJob (record { frames = job.frames; workers = job.workers }) };
+    ghost invariant = { λ job. IsSelfTestJob (view job) };
 
     ghost inverse = { λ job. record { frames = job.frames; workers = job.workers } };
 }
@@ -119,7 +119,7 @@ impl Model for FlowJob {
 
     ghost view = { λ job. record { sdp = job.sdp; media = job.media; tai = job.tai; capture = job.capture } };
 
-    ghost invariant = { λ job. IsFlowJob (record { sdp = job.sdp; media = job.media; tai = job.tai; capture = job.capture }) };
+    ghost invariant = { λ job. IsFlowJob (view job) };
 }
 
 /// Delay the packets of a flow until they keep a sender type's limits.
@@ -158,7 +158,7 @@ impl Model for SkewJob {
 
     ghost view = { λ job. record { sdp = job.sdp; media = job.media; pair = job.pair; captures = job.captures } };
 
-    ghost invariant = { λ job. IsSkewJob (record { sdp = job.sdp; media = job.media; pair = job.pair; captures = job.captures }) };
+    ghost invariant = { λ job. IsSkewJob (view job) };
 }
 
 /// What a command line asks for.

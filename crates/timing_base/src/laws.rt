@@ -10,7 +10,7 @@ ghost use Rattle.timing_base.specs.Captures.{joined};
 ghost use Rattle.timing_base.specs.Name.{is_file_name};
 ghost use Rattle.timing_base.specs.Routes.{route};
 ghost use Rattle.timing_base.specs.Targets.{address_text};
-ghost use Rattle.timing_base.specs.Examples.{captured, sent, sent_by, sent_as, unread, two_groups, equal_low_halves};
+ghost use Rattle.timing_base.specs.Examples.{captured, judged_twos, sent, sent_by, sent_as, unread, two_groups, equal_low_halves};
 
 use crate::packet::PacketFault;
 
@@ -125,13 +125,8 @@ pub fn first_of_two_by_hand()
 /// Worked by hand: flows of one run, with head and tail, and with no whole group.
 pub fn runs_by_hand()
     ensures absent { judged [] 96 0 ≡ absent }
-    ensures one_run { judged two_groups 96 1 ≡ in_one_run (whole_frames record {
-      n = 2;
-      groups = 2;
-      head = 1;
-      tail = 1;
-      stamps = 1000000020 ∷ 1000000030 ∷ 1000000040 ∷ 1000000050 ∷ [];
-    }) }
+    ensures one_run { judged two_groups 96 1 ≡ in_one_run
+        (judged_twos 2 (1000000020 ∷ 1000000030 ∷ 1000000040 ∷ 1000000050 ∷ [])) }
     ensures long_head { judged (sent 1 5 6 0 false ∷ sent 2 6 7 0 true
         ∷ sent 3 7 8 1 true ∷ []) 96 0
         ≡ in_one_run (whole_frames record {
@@ -158,13 +153,7 @@ pub fn cut_flows_by_hand()
           rec = 1;
           number = 6;
           expected = None;
-          outcome = whole_frames record {
-            n = 2;
-            groups = 2;
-            head = 1;
-            tail = 1;
-            stamps = 20 ∷ 30 ∷ 40 ∷ 50 ∷ [];
-          };
+          outcome = judged_twos 2 (20 ∷ 30 ∷ 40 ∷ 50 ∷ []);
         }
         ∷ record { rec = 7; number = 13; expected = Some 12; outcome = no_whole_frame 1 }
         ∷ []) }
@@ -179,25 +168,13 @@ pub fn second_run_by_hand()
           rec = 1;
           number = 6;
           expected = None;
-          outcome = whole_frames record {
-            n = 2;
-            groups = 2;
-            head = 1;
-            tail = 1;
-            stamps = 1000000020 ∷ 1000000030 ∷ 1000000040 ∷ 1000000050 ∷ [];
-          };
+          outcome = judged_twos 2 (1000000020 ∷ 1000000030 ∷ 1000000040 ∷ 1000000050 ∷ []);
         }
         ∷ record {
           rec = 7;
           number = 20;
           expected = Some 12;
-          outcome = whole_frames record {
-            n = 2;
-            groups = 1;
-            head = 1;
-            tail = 1;
-            stamps = 1000000080 ∷ 1000000090 ∷ [];
-          };
+          outcome = judged_twos 1 (1000000080 ∷ 1000000090 ∷ []);
         }
         ∷ []) }
 {}

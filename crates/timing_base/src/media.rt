@@ -66,20 +66,7 @@ impl Model for Media {
       cmax = m.cmax;
     } };
 
-    ghost invariant = { λ m. IsMedia (record {
-      line = m.line;
-      address = m.address;
-      port = m.port;
-      pt = m.pt;
-      width = m.width;
-      height = m.height;
-      interlaced = m.interlaced;
-      p = m.p;
-      q = m.q;
-      declared = m.declared;
-      troff = m.troff;
-      cmax = m.cmax;
-    }) };
+    ghost invariant = { λ m. IsMedia (view m) };
 
     ghost inverse = { λ m. record {
       line = m.line;

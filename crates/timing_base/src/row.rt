@@ -59,17 +59,7 @@ impl Model for Judged {
       kinds = judged.kinds;
     } };
 
-    ghost invariant = { λ judged. IsJudged (record {
-      n = judged.n;
-      frames = judged.frames;
-      packets = judged.packets;
-      head = judged.head;
-      tail = judged.tail;
-      bucket_peak = judged.bucket_peak;
-      gapped_peak = judged.gapped_peak;
-      linear_peak = judged.linear_peak;
-      kinds = judged.kinds;
-    }) };
+    ghost invariant = { λ judged. IsJudged (view judged) };
 
     ghost inverse = { λ judged. record {
       n = judged.n;

@@ -1,3 +1,5 @@
+pub mod Back
+pub mod Decided
 pub mod Floatless
 pub mod Fitting
 pub mod Flows

@@ -1,7 +1,7 @@
 //! The JSON of reports tried by hand. Each function is a theorem: it does nothing, and its clauses
 //! are proved.
 
-ghost use Rattle.std.specs.Prelude.{◌≡◌, ◌≤◌, ◌++◌, ◌∷◌, [], List, All, IsUtf8, length, Some, None, true, codes};
+ghost use Rattle.std.specs.Prelude.{◌≡◌, ◌≤◌, ◌++◌, ◌∷◌, [], List, All, IsUtf8, length, None, true, codes};
 ghost use Rattle.serde_json.specs.Written.{compact_text};
 ghost use Rattle.timing_base.specs.Jobs.{CheckJob, IsCheckJob};
 ghost use Rattle.timing_base.specs.Media.{Media, IsMedia, IsSession};
@@ -12,13 +12,13 @@ ghost use Rattle.timing_base.specs.declared.fail.Broken.TheVariants as model;
 ghost use Rattle.timing_base.specs.declared.media.Kind.TheVariants as kind;
 ghost use Rattle.timing_base.specs.declared.packet.PacketFault.TheVariants as packet;
 ghost use Rattle.timing_base.specs.declared.row.KindVerdict.TheVariants as kind_verdict;
-ghost use Rattle.timing_base.specs.declared.row.RunVerdict.TheVariants as run_verdict;
 ghost use Rattle.timing_base.specs.declared.row.Unjudged.TheVariants as unjudged;
 ghost use Rattle.timing_base.specs.declared.row.Verdict.TheVariants as verdict;
 ghost use Rattle.timing_report.specs.Outcomes.{AreRowsOf};
 ghost use Rattle.timing_json.specs.Fails.{FitsVerdict, fails_of};
 ghost use Rattle.timing_json.specs.Reading.{IsReport};
-ghost use Rattle.timing_report.specs.Worked.{check_of, fail, first_flow, plain, two_frames, video};
+ghost use Rattle.timing_report.specs.Worked.{check_of, fail, first_flow, narrow, two_frames, two_runs};
+ghost use Rattle.timing_base.specs.Examples.{plain_media as plain, video};
 ghost use Rattle.timing_json.specs.Json.{file_data, flow_data, json_text, object_of, type_data, unjudged_members};
 
 /// The entry of a type that fails in JSON.
@@ -64,31 +64,8 @@ pub fn names_by_hand()
 /// its runs.
 #[tactic(auto, unfolding(crate::proofs::Numerals::json_texts))]
 pub fn runs_json_by_hand()
-    ensures { compact_text (flow_data (video true 25 None None) (first_flow (verdict.Runs (
-        record {
-          rec = 1;
-          number = 2;
-          expected = None;
-          verdict = run_verdict.Judged (
-              record {
-                n = 10;
-                frames = 2;
-                packets = 20;
-                head = 1;
-                tail = 3;
-                bucket_peak = 1;
-                gapped_peak = 0;
-                linear_peak = 1;
-                kinds = kind_verdict.Pass ∷ kind_verdict.Pass
-                    ∷ kind_verdict.Pass ∷ [];
-              });
-        }
-        ∷ record {
-          rec = 25;
-          number = 27;
-          expected = Some 26;
-          verdict = run_verdict.NoWholeFrame 9;
-        } ∷ []))))
+    ensures { compact_text (flow_data (video true 25 None None) (first_flow
+        (two_runs (record narrow { n = 10; packets = 20; tail = 3; gapped_peak = 0 }) 25)))
         ≡ codes "{\"file\":1,\"media\":1,\"runs\":[{\"class\":\"narrow\",\"declared\":\"none\","
         ++ (codes "\"frames\":2,\"head\":1,\"interlaced\":true,\"n\":10,\"number\":2,"
         ++ (codes "\"packets\":20,\"record\":1,\"tail\":3,\"types\":["

@@ -4,11 +4,11 @@ ghost use Rattle.std.specs.Prelude.{◌≡◌, ◌++◌, IfOk, map, codes, strin
 ghost use Rattle.serde_json.specs.View.{view, items_of};
 ghost use Rattle.serde_json.specs.Written.{compact_text, comma_if, items_text, has_float};
 ghost use Rattle.timing_base.specs.declared.row.Unjudged.TheVariants.{Refused, Gap};
-ghost use Rattle.timing_json.specs.Members.{members};
+ghost use Rattle.timing_json.specs.Members.{Puts};
 ghost use Rattle.std.specs.Fmt.{decimal};
 ghost use Rattle.timing_report.specs.Outcomes.{AreOfSession};
 ghost use Rattle.timing_report.specs.Status.{code_of};
-ghost use Rattle.timing_json.specs.Json.{with_members, list_of, proof_data, outcome_members, bucket_members, buffer_members, type_data, types_data, interlaced_members, judged_numbers, judged_words, judged_members, no_whole_frame_members, unjudged_members, run_verdict_members, expected_members, run_members, run_data, verdict_members, key_members, flow_data, row_data, file_data, files_data, json_text};
+ghost use Rattle.timing_json.specs.Json.{list_of, proof_data, outcome_members, bucket_members, buffer_members, type_data, types_data, interlaced_members, judged_numbers, judged_words, judged_members, no_whole_frame_members, unjudged_members, run_verdict_members, expected_members, run_members, run_data, verdict_members, key_members, flow_data, row_data, file_data, files_data, json_text};
 
 use crate::object::Object;
 use sender_params::Params;
@@ -38,8 +38,7 @@ fn proof_value(alloc: Global, proof: &FailProof) -> Result<Value, OutOfMemory>
 
 /// Whether a type passes, and what shows that it fails.
 fn put_outcome(object: &mut Object, alloc: Global, verdict: KindVerdict) -> Result<(), OutOfMemory>
-    ensures { IfOk result (λ _. members object.new
-        ≡ with_members (outcome_members verdict) (members object.old)) }
+    ensures { IfOk result (λ _. Puts (outcome_members verdict) object.old object.new) }
 {
     match verdict {
         KindVerdict::Pass => object.put_flag("pass", true),
@@ -58,8 +57,7 @@ fn put_bucket(
     kind: Kind,
 ) -> Result<(), OutOfMemory>
     requires { params.now.n ≡ judged.now.n }
-    ensures { IfOk result (λ _. members object.new
-        ≡ with_members (bucket_members params.now.media judged.now kind) (members object.old)) }
+    ensures { IfOk result (λ _. Puts (bucket_members params.now.media judged.now kind) object.old object.new) }
 {
     object.put_count("bucket_limit", params.c_max(kind))?;
     object.put_count("bucket_peak", judged.bucket_peak)
@@ -73,8 +71,7 @@ fn put_buffer(
     kind: Kind,
 ) -> Result<(), OutOfMemory>
     requires { params.now.n ≡ judged.now.n }
-    ensures { IfOk result (λ _. members object.new
-        ≡ with_members (buffer_members params.now.media judged.now kind) (members object.old)) }
+    ensures { IfOk result (λ _. Puts (buffer_members params.now.media judged.now kind) object.old object.new) }
 {
     object.put_count("buffer_limit", params.vrx_full(kind))?;
     object.put_count("buffer_peak", buffer_peak(judged, kind))
@@ -112,8 +109,7 @@ fn types_value(alloc: Global, params: &Params, judged: &Judged) -> Result<Value,
 
 /// The numbers of a judged run.
 fn put_judged_numbers(object: &mut Object, judged: &Judged) -> Result<(), OutOfMemory>
-    ensures { IfOk result (λ _. members object.new
-        ≡ with_members (judged_numbers judged.now) (members object.old)) }
+    ensures { IfOk result (λ _. Puts (judged_numbers judged.now) object.old object.new) }
 {
     object.put_count("frames", judged.frames)?;
     object.put_count("head", judged.head)?;
@@ -129,8 +125,7 @@ fn put_judged_words(
     media: &Media,
     judged: &Judged,
 ) -> Result<(), OutOfMemory>
-    ensures { IfOk result (λ _. members object.new
-        ≡ with_members (judged_words media.now judged.now) (members object.old)) }
+    ensures { IfOk result (λ _. Puts (judged_words media.now judged.now) object.old object.new) }
 {
     object.put_text("class", class_name(first_passing(judged)))?;
     object.put_text("declared", declared_name(media.declared))?;
@@ -142,8 +137,7 @@ fn put_judged_words(
 
 /// Of an interlaced media alone.
 fn put_interlaced(object: &mut Object, interlaced: bool) -> Result<(), OutOfMemory>
-    ensures { IfOk result (λ _. members object.new
-        ≡ with_members (interlaced_members interlaced) (members object.old)) }
+    ensures { IfOk result (λ _. Puts (interlaced_members interlaced) object.old object.new) }
 {
     if interlaced {
         object.put_flag("interlaced", true)
@@ -159,8 +153,7 @@ fn put_judged(
     media: &Media,
     judged: &Judged,
 ) -> Result<(), OutOfMemory>
-    ensures { IfOk result (λ _. members object.new
-        ≡ with_members (judged_members media.now judged.now) (members object.old)) }
+    ensures { IfOk result (λ _. Puts (judged_members media.now judged.now) object.old object.new) }
 {
     put_judged_numbers(object, judged)?;
     put_judged_words(object, alloc, media, judged)
@@ -168,8 +161,7 @@ fn put_judged(
 
 /// A run without a whole group.
 fn put_no_whole_frame(object: &mut Object, head: u64) -> Result<(), OutOfMemory>
-    ensures { IfOk result (λ _. members object.new
-        ≡ with_members (no_whole_frame_members head) (members object.old)) }
+    ensures { IfOk result (λ _. Puts (no_whole_frame_members head) object.old object.new) }
 {
     object.put_count("head", head)?;
     object.put_text("verdict", "no whole frame")
@@ -177,8 +169,7 @@ fn put_no_whole_frame(object: &mut Object, head: u64) -> Result<(), OutOfMemory>
 
 /// A flow without a verdict.
 fn put_unjudged(object: &mut Object, alloc: Global, unjudged: Unjudged) -> Result<(), OutOfMemory>
-    ensures { IfOk result (λ _. members object.new
-        ≡ with_members (unjudged_members unjudged) (members object.old)) }
+    ensures { IfOk result (λ _. Puts (unjudged_members unjudged) object.old object.new) }
 {
     match unjudged {
         Unjudged::Absent => object.put_text("verdict", "absent"),
@@ -194,8 +185,7 @@ fn put_refused(
     rec: u64,
     fault: PacketFault,
 ) -> Result<(), OutOfMemory>
-    ensures { IfOk result (λ _. members object.new
-        ≡ with_members (unjudged_members (Refused rec fault)) (members object.old)) }
+    ensures { IfOk result (λ _. Puts (unjudged_members (Refused rec fault)) object.old object.new) }
 {
     let fault = PacketFaultText { fault };
     let fault = format!(in alloc; "{fault}")?;
@@ -205,8 +195,7 @@ fn put_refused(
 }
 
 fn put_gap(object: &mut Object, rec: u64, expected: u32, got: u32) -> Result<(), OutOfMemory>
-    ensures { IfOk result (λ _. members object.new
-        ≡ with_members (unjudged_members (Gap rec expected got)) (members object.old)) }
+    ensures { IfOk result (λ _. Puts (unjudged_members (Gap rec expected got)) object.old object.new) }
 {
     object.put_count("expected", u64::from(expected))?;
     object.put_count("got", u64::from(got))?;
@@ -221,8 +210,7 @@ fn put_run_verdict(
     media: &Media,
     verdict: &RunVerdict,
 ) -> Result<(), OutOfMemory>
-    ensures { IfOk result (λ _. members object.new
-        ≡ with_members (run_verdict_members media.now verdict.now) (members object.old)) }
+    ensures { IfOk result (λ _. Puts (run_verdict_members media.now verdict.now) object.old object.new) }
 {
     match verdict {
         RunVerdict::NoWholeFrame { head } => put_no_whole_frame(object, *head),
@@ -232,8 +220,7 @@ fn put_run_verdict(
 
 /// The number that would have gone on from the run before, after the first run.
 fn put_expected(object: &mut Object, expected: Option<u32>) -> Result<(), OutOfMemory>
-    ensures { IfOk result (λ _. members object.new
-        ≡ with_members (expected_members expected) (members object.old)) }
+    ensures { IfOk result (λ _. Puts (expected_members expected) object.old object.new) }
 {
     match expected {
         None => Ok(()),
@@ -243,8 +230,7 @@ fn put_expected(object: &mut Object, expected: Option<u32>) -> Result<(), OutOfM
 
 /// The first record and number of a run.
 fn put_run(object: &mut Object, run: &Run) -> Result<(), OutOfMemory>
-    ensures { IfOk result (λ _. members object.new
-        ≡ with_members (run_members run.now) (members object.old)) }
+    ensures { IfOk result (λ _. Puts (run_members run.now) object.old object.new) }
 {
     object.put_count("number", u64::from(run.number))?;
     object.put_count("record", run.rec)?;
@@ -279,8 +265,7 @@ fn put_verdict(
     media: &Media,
     verdict: &Verdict,
 ) -> Result<(), OutOfMemory>
-    ensures { IfOk result (λ _. members object.new
-        ≡ with_members (verdict_members media.now verdict.now) (members object.old)) }
+    ensures { IfOk result (λ _. Puts (verdict_members media.now verdict.now) object.old object.new) }
 {
     match verdict {
         Verdict::Unjudged(unjudged) => put_unjudged(object, alloc, *unjudged),
@@ -299,8 +284,7 @@ fn put_key(
     media: &Media,
     key: FlowKey,
 ) -> Result<(), OutOfMemory>
-    ensures { IfOk result (λ _. members object.new
-        ≡ with_members (key_members media.now key) (members object.old)) }
+    ensures { IfOk result (λ _. Puts (key_members media.now key) object.old object.new) }
 {
     let target = media.target();
     let target = format!(in alloc; "{target}")?;

@@ -5,6 +5,7 @@ pub mod Files
 pub mod MemoryShelves
 pub mod MemorySinks
 pub mod MemorySources
+pub mod Shelves
 pub mod SteadyShelves
 pub mod Texts
 pub mod Written

@@ -1,6 +1,7 @@
 //! What texts are fetched from by their names.
 ghost use Rattle.std.specs.Prelude.{◌≡◌, ◌≤◌, ◌<◌, List, ℕ, Option, IfOk, IsErrOf};
 ghost use Rattle.timing_outside.specs.Causes.{Rose};
+ghost use Rattle.timing_outside.specs.Shelves.{StaysAs};
 
 use crate::source::Source;
 use std::alloc::AllocError as OutOfMemory;
@@ -50,9 +51,7 @@ pub trait Shelf {
         ensures whole { IfOk result (λ s. Self.Source.left s ≡ text self.old name.now) }
         ensures fresh { IfOk result (λ s. Self.Source.faults s ≡ 0) }
         ensures missing { lacks self.old name.now → IsErrOf result OpenFault.Failed }
-        ensures lacks { (n : List ℕ) → lacks self.old n → lacks self.new n }
-        ensures texts { (n : List ℕ) → text self.new n ≡ text self.old n }
-        ensures later { (n : List ℕ) → faults self.old n ≤ faults self.new n }
+        ensures stays { StaysAs text lacks faults self.old self.new }
         ensures failed { IsErrOf result OpenFault.Failed
             → Rose (faults self.old name.now) (faults self.new name.now) };
 
@@ -62,7 +61,5 @@ pub trait Shelf {
         ensures raised { 0 < Self.Source.faults source
             → Rose (faults self.old (Self.Source.name source))
             (faults self.new (Self.Source.name source)) }
-        ensures lacks { (n : List ℕ) → lacks self.old n → lacks self.new n }
-        ensures texts { (n : List ℕ) → text self.new n ≡ text self.old n }
-        ensures later { (n : List ℕ) → faults self.old n ≤ faults self.new n };
+        ensures stays { StaysAs text lacks faults self.old self.new };
 }

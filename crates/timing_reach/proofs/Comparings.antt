@@ -1,6 +1,6 @@
 -- Captures of two flows that are read one after the other.
 use Rattle.std.specs.Prelude.{IfOk, Result, Ok, Err, slice_index_or, ◌==◌}
-use Rattle.std.proofs.Common.{◌≡◌, ◌≢◌, ◌⊎◌, ◌<◌, ◌+◌, ◌^◌, ℕ, true, false, List, [], ◌∷◌, ◌++◌, length, Option, Some, refl, arith, ap, ◌∙◌, sym, subst, append-nil, length-append, inl, inr}
+use Rattle.std.proofs.Common.{◌≡◌, ◌≢◌, ◌⊎◌, ◌<◌, ◌+◌, ℕ, true, false, List, [], ◌∷◌, ◌++◌, length, Option, Some, refl, arith, ap, ◌∙◌, sym, subst, append-nil, length-append, inl, inr}
 use Rattle.std.proofs.Math.Seq.{get_or-append_seam}
 use Rattle.std.proofs.lemmas.Bool.{eq-eqb}
 use Rattle.std.proofs.lemmas.Bool.Decides.{eqb_tells}
@@ -11,7 +11,8 @@ use Rattle.timing_base.specs.declared.packet.FlowPacket.{FlowPacket}
 use Rattle.path_skew.specs.Pair.{skew}
 use Rattle.path_skew.specs.Stands.{StandsFor}
 use Rattle.path_skew.specs.declared.skew.Skew.{Skew}
-use Rattle.pcap_reader.specs.Records.{AreRecords, Records}
+use Rattle.pcap_reader.specs.Records.{AreRecords}
+use Rattle.pcap_reader.proofs.Captures.{files-length, records-push}
 use Rattle.timing_steps.specs.declared.failure.Failure.{Failure}
 use Rattle.udp_rtp.specs.Flow.{flow}
 use Rattle.timing_reach.specs.Added.{Adds, taken_of}
@@ -29,24 +30,6 @@ eqb-other x y h = by-case (eqb_tells x y)
     by-case : ((x == y) ≡ true) × (x ≡ y) ⊎ ((x == y) ≡ false) × (x ≢ y) → (x == y) ≡ false
     by-case (inl is) = absurd (h is.1)
     by-case (inr is) = is.0
-
--- one capture more, with its records and its note
-records-push : (texts : List (List ℕ)) (files : List (List Record)) (notes : List FileNote) (text : List ℕ) (items : List Record) (note : FileNote)
-    → AreRecords texts files notes → Records text (2 ^ 40) items note → AreRecords (texts ++ text ∷ []) (files ++ items ∷ []) (notes ++ note ∷ [])
-records-push [] [] [] text items note h r = (r, tt)
-records-push (t ∷ ts) (f ∷ fs) (n ∷ ns) text items note h r = (h.0, records-push ts fs ns text items note h.1 r)
-records-push [] (f ∷ fs) notes text items note h r = absurd h
-records-push [] [] (n ∷ ns) text items note h r = absurd h
-records-push (t ∷ ts) [] notes text items note h r = absurd h
-records-push (t ∷ ts) (f ∷ fs) [] text items note h r = absurd h
-
-files-length : (texts : List (List ℕ)) (files : List (List Record)) (notes : List FileNote) → AreRecords texts files notes → length files ≡ length notes
-files-length [] [] [] h = refl
-files-length (t ∷ ts) (f ∷ fs) (n ∷ ns) h = omega (arith, files-length ts fs ns h.1)
-files-length [] (f ∷ fs) notes h = absurd h
-files-length [] [] (n ∷ ns) h = absurd h
-files-length (t ∷ ts) [] notes h = absurd h
-files-length (t ∷ ts) (f ∷ fs) [] h = absurd h
 
 -- the first flow is of the first capture
 first-more : (files : List (List Record)) (items : List Record) (a : Media) → flow (first_of files) a ++ taken_of (length files == 0) a items ≡ flow (first_of (files ++ items ∷ [])) a

@@ -14,6 +14,7 @@ use Rattle.fail_interval.specs.Row.{judged_values, verdict_of}
 use Rattle.fail_interval.specs.Stands.{StandsFor}
 use Rattle.pcap_reader.specs.Header.{header}
 use Rattle.pcap_reader.specs.Records.{Records}
+use Rattle.pcap_reader.specs.Taken.{TakesFew}
 use Rattle.pcap_reader.proofs.Lists.{only_by}
 use Rattle.sender_params.specs.Reads.{anchor_of}
 use Rattle.udp_rtp.specs.Flow.{flow, flow_packet}
@@ -23,7 +24,7 @@ use Rattle.timing_reach.specs.Asked.{HasWindow, OnFlow, OnRun, not_judged}
 use Rattle.timing_reach.specs.Gauging.{GaugesOn, IsGauged, gauged}
 use Rattle.timing_reach.specs.Opening.{IsOpening}
 use Rattle.timing_reach.specs.Readings.{IsJudging, IsSeen, IsSeenIn, JudgesOn}
-use Rattle.timing_reach.specs.Taken.{TakesFew, TakesText}
+use Rattle.timing_reach.specs.Taken.{TakesText}
 use Rattle.timing_reach.specs.Windows.{AreWindowsOf, HasLines, windows_text}
 use Rattle.timing_reach.specs.declared.gauge.Gauge.{Gauge}
 use Rattle.timing_reach.specs.declared.judging.Judging.{Judging}

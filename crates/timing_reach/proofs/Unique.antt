@@ -1,17 +1,16 @@
 -- Each text has one answer, and not two.
-use Rattle.std.proofs.Common.{◌≡◌, ◌^◌, ℕ, List, [], ◌∷◌, refl, ap, ◌∙◌, sym, subst}
+use Rattle.std.proofs.Common.{◌≡◌, ◌^◌, ℕ, List, refl, ap, ◌∙◌, sym, subst}
 use Rattle.timing_base.specs.Captures.{Record}
 use Rattle.timing_base.specs.Judged.{FlowVerdict, JudgedRun, absent, gap, in_one_run, in_runs, judged, no_whole_frame, refused, whole_frames}
 use Rattle.timing_base.specs.Jobs.{SkewJob}
 use Rattle.timing_base.specs.Media.{Media}
-use Rattle.timing_base.specs.declared.capture.FileNote.{FileNote}
 use Rattle.timing_base.specs.declared.media.Kind.TheVariants.{N, NL, W}
 use Rattle.fail_interval.specs.Row.{verdict_of}
 use Rattle.offset_window.proofs.Unique.{window-once, window-some}
 use Rattle.offset_window.specs.declared.window.Window.{Window}
 use Rattle.path_skew.specs.Pair.{skew}
 use Rattle.pcap_reader.specs.Header.{header}
-use Rattle.pcap_reader.specs.Records.{AreRecords}
+use Rattle.pcap_reader.proofs.Captures.{only-records, some-records}
 use Rattle.pcap_reader.proofs.Lists.{only_by, some_by}
 use Rattle.udp_rtp.specs.Flow.{flow}
 use Rattle.timing_report.specs.declared.status.Status.TheVariants as status
@@ -74,29 +73,6 @@ pub once-flow : (tai : ℕ) (m : Media) (next : List Record → JudgedRun → An
 once-flow tai m next text a b once h k =
     let same : h.items ≡ k.items = (only_by (header text) (2 ^ 40) text h.items k.items h.note k.note h.records k.records).0 in
     once-on m (next k.items) (judged (flow k.items m) m.pt tai) a b (once k.items) (subst (λ (l : List Record). OnRun m (next l) (judged (flow l m) m.pt tai) a) same h.on_run) k.on_run
-
--- captures have their records, and no others
-some-records : (texts : List (List ℕ)) → (files : List (List Record)) × (notes : List FileNote) × AreRecords texts files notes
-some-records [] = ([], [], tt)
-some-records (text ∷ texts) =
-    let first = some_by (header text) (2 ^ 40) text in
-    let others = some-records texts in
-    (first.0 ∷ others.0, first.1 ∷ others.1, (first.2, others.2))
-
-only-records : (texts : List (List ℕ)) (fs gs : List (List Record)) (ns ms : List FileNote) → AreRecords texts fs ns → AreRecords texts gs ms → (fs ≡ gs) × (ns ≡ ms)
-only-records [] [] [] [] [] h k = (refl, refl)
-only-records (t ∷ ts) (f ∷ fs) (g ∷ gs) (n ∷ ns) (m ∷ ms) h k =
-    let first = only_by (header t) (2 ^ 40) t f g n m h.0 k.0 in
-    let others = only-records ts fs gs ns ms h.1 k.1 in
-    (ap (λ x. x ∷ fs) first.0 ∙ ap (λ l. g ∷ l) others.0, ap (λ x. x ∷ ns) first.1 ∙ ap (λ l. m ∷ l) others.1)
-only-records [] (f ∷ fs) gs ns ms h k = absurd h
-only-records [] [] gs (n ∷ ns) ms h k = absurd h
-only-records [] [] (g ∷ gs) [] ms h k = absurd k
-only-records [] [] [] [] (m ∷ ms) h k = absurd k
-only-records (t ∷ ts) [] gs ns ms h k = absurd h
-only-records (t ∷ ts) (f ∷ fs) gs [] ms h k = absurd h
-only-records (t ∷ ts) (f ∷ fs) [] (n ∷ ns) ms h k = absurd k
-only-records (t ∷ ts) (f ∷ fs) (g ∷ gs) (n ∷ ns) [] h k = absurd k
 
 -- of two flows
 pub some-skew : (job : SkewJob) (a b : Media) (texts : List (List ℕ)) → (answer : Answer) × HasSkew job a b texts answer

@@ -1,33 +1,9 @@
 -- Which records of a capture were taken. `takes` says of what took them that by these records and no others the first
 -- became the second.
-use Rattle.std.specs.Prelude.{◌≡◌, ◌≤◌, ◌^◌, ℕ, List, [], ◌∷◌, ◌++◌, length, Option, Some, None}
+use Rattle.std.specs.Prelude.{◌^◌, ℕ, List}
 use Rattle.timing_base.specs.Captures.{Record}
 use Rattle.timing_base.specs.declared.capture.FileNote.{FileNote}
-use Rattle.pcap_reader.specs.declared.reader.PcapReader.{PcapReader}
-use Rattle.pcap_reader.specs.Readers.{WillGive}
 use Rattle.pcap_reader.specs.Records.{Records}
-
--- some records were taken, at most so many
-pub record TakesFew {T : Type 0} (takes : T → T → List Record → Type 0) (most : ℕ) (old new : T) : Type 0 where
-  pub items : List Record
-  pub few : length items ≤ most
-  pub taken : takes old new items
-
--- a record was taken off what the reader was to give; or there is no record more
-abbrev pub TakesNext : {S T : Type 0} → (left : S → Option (List ℕ)) → (takes : T → T → List Record → Type 0) → (old new : T)
-    → PcapReader S → Option FileNote → List Record → FileNote → Type 0
-TakesNext left takes old new reader None items end = (item : Record) × (later : List Record) × (items ≡ item ∷ later)
-    × WillGive left reader later end × takes old new (item ∷ [])
-TakesNext left takes old new reader (Some note) items end = (items ≡ []) × (note ≡ end)
-
--- some records were taken off what the reader was to give; the others are still to come
-pub record HasTaken {S T : Type 0} (left : S → Option (List ℕ)) (takes : T → T → List Record → Type 0) (old new : T) (reader : PcapReader S)
-    (items : List Record) (end : FileNote) : Type 0 where
-  pub taken : List Record
-  pub rest : List Record
-  pub whole : items ≡ taken ++ rest
-  pub given : WillGive left reader rest end
-  pub fed : takes old new taken
 
 -- the records of the capture of this text were taken, and end so
 pub record TakesText {T : Type 0} (takes : T → T → List Record → Type 0) (text : List ℕ) (old new : T) (note : FileNote) : Type 0 where

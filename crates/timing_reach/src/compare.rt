@@ -2,6 +2,7 @@
 
 ghost use Rattle.std.specs.Prelude.{◌≡◌, ◌≤◌, ◌<◌, ◌+◌, ◌*◌, ◌^◌, ℕ, List, All, Option, Some, IfOk, IfErr, length};
 ghost use Rattle.timing_outside.specs.Causes.{Rose};
+ghost use Rattle.timing_outside.specs.Shelves.{StaysAs};
 ghost use Rattle.pcapng_reader.specs.Classic.{classic_texts};
 ghost use Rattle.pcapng_reader.specs.Sources.{faults_of, left_of, name_of};
 ghost use Rattle.timing_steps.specs.Answers.{AreThere, AreTold, CaptureRose, OnReadFault};
@@ -57,9 +58,7 @@ fn read_next<H: Shelf>(
         (i ≡ Input.Capture (length comparing.old.notes.items))
         × Rose (H.faults shelf.old (name_of H.Source.name source))
         (H.faults shelf.new (name_of H.Source.name source)))) }
-    ensures lacks { (n : List ℕ) → H.lacks shelf.old n → H.lacks shelf.new n }
-    ensures texts { (n : List ℕ) → H.text shelf.new n ≡ H.text shelf.old n }
-    ensures later { (n : List ℕ) → H.faults shelf.old n ≤ H.faults shelf.new n }
+    ensures stays { StaysAs H.text H.lacks H.faults shelf.old shelf.new }
 {
     let number = comparing.notes.len();
     comparing.pairing.turn(number, count);
@@ -90,9 +89,7 @@ fn read_each<H: Shelf>(
         texts names sources.items
         → IfErr result (λ e. OnReadFault e (λ i. (number : ℕ) × (i ≡ Input.Capture number)
         × CaptureRose (H.faults shelf.old) (H.faults shelf.new) names number)) }
-    ensures lacks { (n : List ℕ) → H.lacks shelf.old n → H.lacks shelf.new n }
-    ensures texts { (n : List ℕ) → H.text shelf.new n ≡ H.text shelf.old n }
-    ensures later { (n : List ℕ) → H.faults shelf.old n ≤ H.faults shelf.new n }
+    ensures stays { StaysAs H.text H.lacks H.faults shelf.old shelf.new }
 {
     let count = sources.len();
     let mut comparing = Comparing {
@@ -132,9 +129,7 @@ pub fn compare<H: Shelf>(
     ensures cause { IfErr result (λ e. OnReadFault e (λ i. (number : ℕ) × (i ≡ Input.Capture number)
         × CaptureRose (H.faults shelf.old) (H.faults shelf.new) job.now.captures number)) }
     ensures there { IfOk result (λ _. AreThere (H.lacks shelf.old) job.now.captures) }
-    ensures lacks { (n : List ℕ) → H.lacks shelf.old n → H.lacks shelf.new n }
-    ensures texts { (n : List ℕ) → H.text shelf.new n ≡ H.text shelf.old n }
-    ensures later { (n : List ℕ) → H.faults shelf.old n ≤ H.faults shelf.new n }
+    ensures stays { StaysAs H.text H.lacks H.faults shelf.old shelf.new }
 {
     let sources = fetch_captures(alloc, shelf, job.captures.as_slice())?;
     read_each(alloc, shelf, sources, first, second)

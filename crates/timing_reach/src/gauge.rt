@@ -8,14 +8,15 @@ ghost use Rattle.pcap_reader.specs.Records.{Records};
 ghost use Rattle.pcapng_reader.specs.Classic.{classic_texts};
 ghost use Rattle.sender_params.specs.Reads.{anchor_of};
 ghost use Rattle.timing_outside.specs.Causes.{Rose};
+ghost use Rattle.timing_outside.specs.Shelves.{StaysAs};
 ghost use Rattle.timing_steps.specs.Answers.{OnReadFault};
 ghost use Rattle.timing_reach.specs.Windows.{AreWindowsOf};
 ghost use Rattle.udp_rtp.specs.Flow.{flow};
 
 use crate::captures::take_capture;
 use crate::meters::Meters;
-use crate::taker::Taker;
 use crate::windows::Windows;
+use pcap_reader::Taker;
 use sender_params::Params;
 use std::alloc::{AllocError as OutOfMemory, Global};
 use timing_base::{FlowJob, Judged, Media};
@@ -157,9 +158,7 @@ pub fn measure_flow<H: Shelf>(
     ensures cause { IfErr result (λ e. OnReadFault e (λ i. (i ≡ Input.Capture 0)
         × Rose (H.faults shelf.old job.now.capture) (H.faults shelf.new job.now.capture))) }
     ensures there { IfOk result (λ _. ¬ H.lacks shelf.old job.now.capture) }
-    ensures lacks { (n : List ℕ) → H.lacks shelf.old n → H.lacks shelf.new n }
-    ensures texts { (n : List ℕ) → H.text shelf.new n ≡ H.text shelf.old n }
-    ensures later { (n : List ℕ) → H.faults shelf.old n ≤ H.faults shelf.new n }
+    ensures stays { StaysAs H.text H.lacks H.faults shelf.old shelf.new }
 {
     let mut gauge = Gauge::new(media, judged, first, job.tai);
     take_capture(alloc, shelf, job.capture.as_str(), &mut gauge)?;

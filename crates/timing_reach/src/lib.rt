@@ -23,7 +23,6 @@ mod shape;
 mod shape_words;
 mod shaping;
 mod skew;
-mod taker;
 mod window;
 mod windows;
 mod words;

@@ -7,8 +7,8 @@ ghost use Rattle.timing_base.specs.Captures.{IsStamp};
 ghost use Rattle.path_skew.specs.Stands.{count_first, count_second};
 ghost use Rattle.timing_reach.specs.Added.{Adds, taken_of};
 
-use crate::taker::Taker;
 use path_skew::{Skew, SkewRow};
+use pcap_reader::Taker;
 use std::alloc::{AllocError as OutOfMemory, Global};
 use timing_base::{FlowPacket, Media};
 use udp_rtp::packet_of;

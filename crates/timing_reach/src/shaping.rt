@@ -1,12 +1,13 @@
 //! The second reading of a flow that is shaped: its judged packets leave as planned, and what is printed
 //! of them is made.
 
-ghost use Rattle.std.specs.Prelude.{◌≡◌, ◌≤◌, ◌<◌, ◌+◌, ◌-◌, ◌*◌, ◌^◌, ◌∷◌, [], ℕ, List, None, Some, IfOk, IfErr, length, slice_index};
+ghost use Rattle.std.specs.Prelude.{◌≡◌, ◌≤◌, ◌<◌, ◌+◌, ◌-◌, ◌*◌, ◌^◌, [], ℕ, List, None, Some, IfOk, IfErr, length};
 ghost use Rattle.timing_base.specs.Captures.{IsStamp, Record};
 ghost use Rattle.timing_base.specs.Judged.{JudgedRun};
 ghost use Rattle.pcap_reader.specs.Records.{Records};
 ghost use Rattle.pcapng_reader.specs.Classic.{classic_texts};
 ghost use Rattle.timing_outside.specs.Causes.{Rose};
+ghost use Rattle.timing_outside.specs.Shelves.{StaysAs};
 ghost use Rattle.timing_steps.specs.Answers.{OnReadFault};
 ghost use Rattle.timing_steps.specs.Ran.{IsAnswered};
 ghost use Rattle.timing_reach.specs.Leaving.{HasGiven, IsPartOf, Part};
@@ -17,8 +18,8 @@ use crate::copy::{add_record, begin};
 use crate::delays::Delays;
 use crate::leaver::{Leaver, Turn};
 use crate::shape_words::not_shaped;
-use crate::taker::Taker;
 use flow_shaper::{Departure, Late};
+use pcap_reader::Taker;
 use std::alloc::{AllocError as OutOfMemory, Global};
 use timing_base::FlowJob;
 use timing_outside::Shelf;
@@ -209,9 +210,7 @@ pub fn shape_flow<H: Shelf>(
     ensures answers { IfOk result (λ answer. IsAnswered answer.status) }
     ensures cause { IfErr result (λ e. OnReadFault e (λ i. (i ≡ Input.Capture 0)
         × Rose (H.faults shelf.old job.now.capture) (H.faults shelf.new job.now.capture))) }
-    ensures lacks { (n : List ℕ) → H.lacks shelf.old n → H.lacks shelf.new n }
-    ensures texts { (n : List ℕ) → H.text shelf.new n ≡ H.text shelf.old n }
-    ensures later { (n : List ℕ) → H.faults shelf.old n ≤ H.faults shelf.new n }
+    ensures stays { StaysAs H.text H.lacks H.faults shelf.old shelf.new }
 {
     let packets = leaver.due;
     let mut shaping = Shaping::new(alloc, leaver, list)?;

@@ -1,6 +1,7 @@
 //! `skew`: how far two flows with the same packets lie apart.
 
-ghost use Rattle.std.specs.Prelude.{◌≡◌, ◌≤◌, ℕ, List, Some, slice_get};
+ghost use Rattle.std.specs.Prelude.{Some, slice_get};
+ghost use Rattle.timing_outside.specs.Shelves.{StaysAs};
 ghost use Rattle.timing_steps.specs.Answers.{Gives, ReadsCaptures, Yields, seen_of};
 ghost use Rattle.timing_steps.specs.Ran.{HasCause, Ran, output_of};
 ghost use Rattle.timing_reach.specs.Skewed.{FollowsSkew, HasSkew, ReadsPair, SkewInputRose};
@@ -24,9 +25,7 @@ fn answer_pair<H: Shelf>(
 ) -> Result<Answer, Failure>
     ensures follows { Yields result (ReadsCaptures (seen_of H.text H.lacks H.faults shelf.old shelf.new) result job.now.captures (λ texts. Gives result (HasSkew job.now first.now second.now texts))) }
     ensures cause { HasCause result (SkewInputRose job.now (seen_of H.text H.lacks H.faults shelf.old shelf.new)) }
-    ensures lacks { (n : List ℕ) → H.lacks shelf.old n → H.lacks shelf.new n }
-    ensures texts { (n : List ℕ) → H.text shelf.new n ≡ H.text shelf.old n }
-    ensures later { (n : List ℕ) → H.faults shelf.old n ≤ H.faults shelf.new n }
+    ensures stays { StaysAs H.text H.lacks H.faults shelf.old shelf.new }
 {
     let compared = compare(alloc, job, shelf, first, second)?;
     Ok(skewed(alloc, job, &compared)?)
@@ -42,9 +41,7 @@ fn answer_second<H: Shelf>(
 ) -> Result<Answer, Failure>
     ensures follows { Yields result (ReadsPair (seen_of H.text H.lacks H.faults shelf.old shelf.new) result job.now (Some first.now) (slice_get media.now job.now.pair)) }
     ensures cause { HasCause result (SkewInputRose job.now (seen_of H.text H.lacks H.faults shelf.old shelf.new)) }
-    ensures lacks { (n : List ℕ) → H.lacks shelf.old n → H.lacks shelf.new n }
-    ensures texts { (n : List ℕ) → H.text shelf.new n ≡ H.text shelf.old n }
-    ensures later { (n : List ℕ) → H.faults shelf.old n ≤ H.faults shelf.new n }
+    ensures stays { StaysAs H.text H.lacks H.faults shelf.old shelf.new }
 {
     match media.get(job.pair as usize) {
         Some(second) => answer_pair(alloc, job, shelf, first, second),
@@ -61,9 +58,7 @@ fn answer_over<H: Shelf>(
 ) -> Result<Answer, Failure>
     ensures follows { Yields result (ReadsPair (seen_of H.text H.lacks H.faults shelf.old shelf.new) result job.now (slice_get media.now job.now.media) (slice_get media.now job.now.pair)) }
     ensures cause { HasCause result (SkewInputRose job.now (seen_of H.text H.lacks H.faults shelf.old shelf.new)) }
-    ensures lacks { (n : List ℕ) → H.lacks shelf.old n → H.lacks shelf.new n }
-    ensures texts { (n : List ℕ) → H.text shelf.new n ≡ H.text shelf.old n }
-    ensures later { (n : List ℕ) → H.faults shelf.old n ≤ H.faults shelf.new n }
+    ensures stays { StaysAs H.text H.lacks H.faults shelf.old shelf.new }
 {
     match media.get(job.media as usize) {
         Some(first) => answer_second(alloc, job, shelf, media, first),
@@ -76,9 +71,7 @@ fn answer_over<H: Shelf>(
 pub fn answer_skew<H: Shelf>(alloc: Global, job: &SkewJob, shelf: &mut H) -> Result<Answer, Failure>
     ensures follows { FollowsSkew job.now (seen_of H.text H.lacks H.faults shelf.old shelf.new) result }
     ensures cause { HasCause result (SkewInputRose job.now (seen_of H.text H.lacks H.faults shelf.old shelf.new)) }
-    ensures lacks { (n : List ℕ) → H.lacks shelf.old n → H.lacks shelf.new n }
-    ensures texts { (n : List ℕ) → H.text shelf.new n ≡ H.text shelf.old n }
-    ensures later { (n : List ℕ) → H.faults shelf.old n ≤ H.faults shelf.new n }
+    ensures stays { StaysAs H.text H.lacks H.faults shelf.old shelf.new }
 {
     match fetch_session(alloc, shelf, job.sdp.as_str())? {
         Ok(session) => answer_over(alloc, job, shelf, session.media.as_slice()),
@@ -99,9 +92,7 @@ pub fn skew_one<H: Shelf, K: Sink>(
         (output_of K.written K.faults out.old out.new)
         (output_of K.written K.faults err.old err.new)
         result }
-    ensures lacks { (n : List ℕ) → H.lacks shelf.old n → H.lacks shelf.new n }
-    ensures texts { (n : List ℕ) → H.text shelf.new n ≡ H.text shelf.old n }
-    ensures later { (n : List ℕ) → H.faults shelf.old n ≤ H.faults shelf.new n }
+    ensures stays { StaysAs H.text H.lacks H.faults shelf.old shelf.new }
 {
     let outcome = answer_skew(alloc, job, shelf);
     conclude(out, err, outcome)

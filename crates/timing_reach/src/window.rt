@@ -4,6 +4,7 @@ ghost use Rattle.std.specs.Prelude.{◌≡◌, ◌≤◌, ◌^◌, ℕ, List, So
 ghost use Rattle.timing_base.specs.Verdicts.{Judged as JudgedValue};
 ghost use Rattle.timing_base.specs.declared.row.Verdict.TheVariants as verdict;
 ghost use Rattle.timing_outside.specs.Causes.{Rose};
+ghost use Rattle.timing_outside.specs.Shelves.{StaysAs};
 ghost use Rattle.pcapng_reader.specs.Classic.{classic_texts};
 ghost use Rattle.timing_steps.specs.Answers.{Gives, OnReadFault, Yields, seen_of};
 ghost use Rattle.timing_steps.specs.Ran.{HasCause, IsAnswered, Ran, output_of};
@@ -38,9 +39,7 @@ fn answer_seen<H: Shelf>(
     ensures answers { IfOk result (λ answer. IsAnswered answer.status) }
     ensures cause { IfErr result (λ e. OnReadFault e (λ i. (i ≡ Input.Capture 0)
         × Rose (H.faults shelf.old job.now.capture) (H.faults shelf.new job.now.capture))) }
-    ensures lacks { (n : List ℕ) → H.lacks shelf.old n → H.lacks shelf.new n }
-    ensures texts { (n : List ℕ) → H.text shelf.new n ≡ H.text shelf.old n }
-    ensures later { (n : List ℕ) → H.faults shelf.old n ≤ H.faults shelf.new n }
+    ensures stays { StaysAs H.text H.lacks H.faults shelf.old shelf.new }
 {
     match &seen.verdict {
         Verdict::Judged(judged) => {
@@ -60,9 +59,7 @@ fn answer_on<H: Shelf>(
 ) -> Result<Answer, Failure>
     ensures follows { Yields result (ReadsCapture (seen_of H.text H.lacks H.faults shelf.old shelf.new) result job.now.capture (λ text. Gives result (HasWindow job.now.tai media.now text))) }
     ensures cause { HasCause result (FlowInputRose job.now (seen_of H.text H.lacks H.faults shelf.old shelf.new)) }
-    ensures lacks { (n : List ℕ) → H.lacks shelf.old n → H.lacks shelf.new n }
-    ensures texts { (n : List ℕ) → H.text shelf.new n ≡ H.text shelf.old n }
-    ensures later { (n : List ℕ) → H.faults shelf.old n ≤ H.faults shelf.new n }
+    ensures stays { StaysAs H.text H.lacks H.faults shelf.old shelf.new }
 {
     let seen = judge_flow(alloc, job, shelf, media)?;
     answer_seen(alloc, job, shelf, media, &seen)
@@ -77,9 +74,7 @@ fn answer_over<H: Shelf>(
 ) -> Result<Answer, Failure>
     ensures follows { Yields result (ReadsFlow (seen_of H.text H.lacks H.faults shelf.old shelf.new) result job.now (HasWindow job.now.tai) (slice_get media.now job.now.media)) }
     ensures cause { HasCause result (FlowInputRose job.now (seen_of H.text H.lacks H.faults shelf.old shelf.new)) }
-    ensures lacks { (n : List ℕ) → H.lacks shelf.old n → H.lacks shelf.new n }
-    ensures texts { (n : List ℕ) → H.text shelf.new n ≡ H.text shelf.old n }
-    ensures later { (n : List ℕ) → H.faults shelf.old n ≤ H.faults shelf.new n }
+    ensures stays { StaysAs H.text H.lacks H.faults shelf.old shelf.new }
 {
     match media.get(job.media as usize) {
         Some(media) => answer_on(alloc, job, shelf, media),
@@ -97,9 +92,7 @@ pub fn answer_window<H: Shelf>(
 ) -> Result<Answer, Failure>
     ensures follows { FollowsWindow job.now (seen_of H.text H.lacks H.faults shelf.old shelf.new) result }
     ensures cause { HasCause result (FlowInputRose job.now (seen_of H.text H.lacks H.faults shelf.old shelf.new)) }
-    ensures lacks { (n : List ℕ) → H.lacks shelf.old n → H.lacks shelf.new n }
-    ensures texts { (n : List ℕ) → H.text shelf.new n ≡ H.text shelf.old n }
-    ensures later { (n : List ℕ) → H.faults shelf.old n ≤ H.faults shelf.new n }
+    ensures stays { StaysAs H.text H.lacks H.faults shelf.old shelf.new }
 {
     match fetch_session(alloc, shelf, job.sdp.as_str())? {
         Ok(session) => answer_over(alloc, job, shelf, session.media.as_slice()),
@@ -121,9 +114,7 @@ pub fn window_one<H: Shelf, K: Sink>(
         (output_of K.written K.faults out.old out.new)
         (output_of K.written K.faults err.old err.new)
         result }
-    ensures lacks { (n : List ℕ) → H.lacks shelf.old n → H.lacks shelf.new n }
-    ensures texts { (n : List ℕ) → H.text shelf.new n ≡ H.text shelf.old n }
-    ensures later { (n : List ℕ) → H.faults shelf.old n ≤ H.faults shelf.new n }
+    ensures stays { StaysAs H.text H.lacks H.faults shelf.old shelf.new }
 {
     let outcome = answer_window(alloc, job, shelf);
     conclude(out, err, outcome)

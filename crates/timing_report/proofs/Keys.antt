@@ -7,7 +7,7 @@ use Rattle.timing_base.specs.Jobs.{CheckJob, IsCheckJob}
 use Rattle.timing_base.specs.Media.{Media}
 use Rattle.timing_base.specs.declared.key.FlowKey.{FlowKey}
 use Rattle.timing_base.specs.declared.row.Row.{Row}
-use Rattle.timing_report.specs.Outcomes.{AreRowsOf, flows_of}
+use Rattle.timing_report.specs.Outcomes.{AreRowsOf}
 use Rattle.timing_base.specs.Keys.{keys_of, keys_of_file, keys_of_files}
 
 -- a flow of so many captures and media

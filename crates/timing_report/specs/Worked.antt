@@ -1,37 +1,14 @@
--- Values for examples that are worked by hand: a video of 1080 progressive lines at 50 Hz with 20 packets per frame, sent to
--- 239.0.0.1:50000 and declared narrow, and what is judged of two frames of it.
-use Rattle.std.specs.Prelude.{ℕ, Bool, false, List, [], ◌∷◌, Option, Some, None, codes}
+-- Values for examples that are worked by hand: what is judged of two frames of the plain media, with 20 packets per frame.
+use Rattle.std.specs.Prelude.{ℕ, ◌+◌, false, List, [], ◌∷◌, Some, None, codes}
 use Rattle.timing_base.specs.Jobs.{CheckJob}
-use Rattle.timing_base.specs.Media.{Media}
 use Rattle.timing_base.specs.Verdicts.{Judged}
 use Rattle.timing_base.specs.declared.fail.Broken.{Broken}
-use Rattle.timing_base.specs.declared.media.Kind.{Kind}
-use Rattle.timing_base.specs.declared.media.Kind.TheVariants.{N}
 use Rattle.timing_base.specs.declared.row.KindVerdict.{KindVerdict}
 use Rattle.timing_base.specs.declared.row.KindVerdict.TheVariants.{Pass, Fail}
 use Rattle.timing_base.specs.declared.row.Row.{Row}
+use Rattle.timing_base.specs.declared.row.RunVerdict.TheVariants as run_verdict
 use Rattle.timing_base.specs.declared.row.Verdict.{Verdict}
-
--- the video, with another height, rate, or declaration
-abbrev pub video : (interlaced : Bool) (p : ℕ) (declared : Option Kind) (cmax : Option ℕ) → Media
-video interlaced p declared cmax = record {
-  line = 5;
-  address = 4009754625;
-  port = 50000;
-  pt = 96;
-  width = 1920;
-  height = 1080;
-  interlaced = interlaced;
-  p = p;
-  q = 1;
-  declared = declared;
-  troff = None;
-  cmax = cmax;
-}
-
--- the video
-abbrev pub plain : Media
-plain = video false 50 (Some N) None
+use Rattle.timing_base.specs.declared.row.Verdict.TheVariants.{Runs}
 
 -- two frames, with these peaks of the bucket and of the buffer, and these verdicts
 abbrev pub two_frames : (bucket gapped linear : ℕ) → (n nl w : KindVerdict) → Judged
@@ -54,6 +31,12 @@ fail model from to count limit = Fail record { model = model; from = from; to = 
 -- each packet alone in the bucket and in the buffer
 abbrev pub narrow : Judged
 narrow = two_frames 1 1 1 Pass Pass Pass
+
+-- a run from record 1 that is judged so, and one after a lost packet, from this record on, without a whole frame
+abbrev pub two_runs : Judged → ℕ → Verdict
+two_runs judged rec = Runs (
+    record { rec = 1; number = 2; expected = None; verdict = run_verdict.Judged judged }
+    ∷ record { rec = rec; number = rec + 2; expected = Some (rec + 1); verdict = run_verdict.NoWholeFrame 9 } ∷ [])
 
 -- the flow of the first media of the first capture
 abbrev pub first_flow : Verdict → Row

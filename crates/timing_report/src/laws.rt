@@ -8,7 +8,6 @@ ghost use Rattle.timing_base.specs.declared.fail.Broken.TheVariants as model;
 ghost use Rattle.timing_base.specs.declared.media.Kind.TheVariants as kind;
 ghost use Rattle.timing_base.specs.declared.packet.PacketFault.TheVariants as packet;
 ghost use Rattle.timing_base.specs.declared.row.KindVerdict.TheVariants as kind_verdict;
-ghost use Rattle.timing_base.specs.declared.row.RunVerdict.TheVariants as run_verdict;
 ghost use Rattle.timing_base.specs.declared.row.Unjudged.TheVariants as unjudged;
 ghost use Rattle.timing_base.specs.declared.row.Verdict.TheVariants as verdict;
 ghost use Rattle.timing_base.specs.Jobs.{CheckJob, IsCheckJob};
@@ -17,7 +16,8 @@ ghost use Rattle.timing_base.specs.declared.row.Row.{Row};
 ghost use Rattle.timing_report.specs.Outcomes.{AreOfSession, AreRowsOf, status_of};
 ghost use Rattle.timing_report.specs.Text.{file_text, report_text, text_of_lines};
 ghost use Rattle.timing_report.specs.Verdict.{judged_text, lines_below, type_text, unjudged_text};
-ghost use Rattle.timing_report.specs.Worked.{check_of, fail, first_flow, narrow, plain, two_frames, video};
+ghost use Rattle.timing_report.specs.Worked.{check_of, fail, first_flow, narrow, two_frames, two_runs};
+ghost use Rattle.timing_base.specs.Examples.{plain_media as plain, video};
 ghost use Rattle.timing_report.specs.Status.{code_of, error_line};
 ghost use Rattle.timing_report.specs.declared.status.Input.TheVariants.{Sdp, Report, Capture};
 ghost use Rattle.timing_report.specs.declared.status.Status.TheVariants.{Pass, Fail, Usage, SdpRefused, NotAllJudged, ReadFault, WriteFault, OutOfMemory, ReportRefused};
@@ -172,18 +172,7 @@ pub fn judged_by_hand()
         ≡ codes "judged: 20 per frame, 2 frames, 40 packets, head 1, tail 0, "
         ++ codes "class narrow, declared NL" }
     ensures fields { judged_text (video true 25 (Some kind.N) None)
-        (record {
-          n = 10;
-          frames = 4;
-          packets = 40;
-          head = 1;
-          tail = 0;
-          bucket_peak = 1;
-          gapped_peak = 1;
-          linear_peak = 1;
-          kinds = kind_verdict.Pass ∷ kind_verdict.Pass
-              ∷ kind_verdict.Pass ∷ [];
-        })
+        (record narrow { n = 10; frames = 4 })
         ≡ codes "judged: 10 per field, 4 fields, 40 packets, head 1, tail 0, "
         ++ codes "class narrow, declared N" }
 {}
@@ -191,31 +180,8 @@ pub fn judged_by_hand()
 /// A flow in two runs: the lines below its own. Runs count from 1 there.
 #[tactic(auto, unfolding(crate::proofs::Numerals::numerals))]
 pub fn two_runs_by_hand()
-    ensures { text_of_lines (lines_below plain (verdict.Runs (
-        record {
-          rec = 1;
-          number = 2;
-          expected = None;
-          verdict = run_verdict.Judged (
-              record {
-                n = 20;
-                frames = 1;
-                packets = 20;
-                head = 1;
-                tail = 10;
-                bucket_peak = 1;
-                gapped_peak = 1;
-                linear_peak = 1;
-                kinds = kind_verdict.Pass ∷ kind_verdict.Pass
-                    ∷ kind_verdict.Pass ∷ [];
-              });
-        }
-        ∷ record {
-          rec = 32;
-          number = 34;
-          expected = Some 33;
-          verdict = run_verdict.NoWholeFrame 9;
-        } ∷ [])))
+    ensures { text_of_lines (lines_below plain
+        (two_runs (record narrow { frames = 1; packets = 20; tail = 10 }) 32))
         ≡ codes "  run 1 from record 1 number 2: judged: 20 per frame, 1 frames, 20 packets, "
         ++ (codes "head 1, tail 10, class narrow, declared N\n"
         ++ (codes "    N pass, bucket 1 of 4, buffer 1 of 8\n"

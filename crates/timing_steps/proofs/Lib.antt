@@ -4,3 +4,4 @@ pub mod Classics
 pub mod Readings
 pub mod Seeing
 mod Endings
+mod Takings

@@ -4,8 +4,9 @@ use Rattle.std.proofs.lemmas.List.Elements.{All-weaker}
 use Rattle.std.specs.Prelude.{Result, Ok}
 use Rattle.timing_base.specs.Media.{Media}
 use Rattle.timing_outside.specs.Causes.{Rose}
+use Rattle.timing_outside.specs.Shelves.{StaysAs}
 use Rattle.sdp_reader.specs.Session.{session}
-use Rattle.timing_steps.specs.Answers.{Answer, AreThere, AreTold, CaptureRose, HasRisen, Inputs, OnSession, ReadsCaptures, ReadsSession, Yields}
+use Rattle.timing_steps.specs.Answers.{Answer, AreThere, AreTold, CaptureRose, HasRisen, Inputs, OnSession, ReadsCaptures, ReadsSession, Yields, seen_of}
 use Rattle.timing_steps.specs.declared.failure.Failure.{Failure}
 
 -- the second is of a part of the run of the first
@@ -15,10 +16,22 @@ pub record Sees (i j : Inputs) : Type 0 where
   pub before : (n : List ℕ) → i.before n ≤ j.before n
   pub now : (n : List ℕ) → j.now n ≤ i.now n
 
+-- one call, and then another
+pub stays-then : {H : Type 0} (text : H → List ℕ → Option (List ℕ)) (Lacks : H → List ℕ → Type 0) (faults : H → List ℕ → ℕ) (old mid new : H) → StaysAs text Lacks faults old mid → StaysAs text Lacks faults mid new
+    → StaysAs text Lacks faults old new
+stays-then text Lacks faults old mid new h k = record {
+  lacks = λ n lacks. k.lacks n (h.lacks n lacks);
+  texts = λ n. k.texts n ∙ h.texts n;
+  later = λ n. later-still _ _ _ (h.later n) (k.later n);
+}
+  where
+    later-still : (a b c : ℕ) → a ≤ b → b ≤ c → a ≤ c
+    later-still a b c h k = omega (arith, h, k)
+
 -- a part of a run that ends with it
-pub sees-rest : (texts also : List ℕ → Option (List ℕ)) (lacks later : List ℕ → Type 0) (before mid now : List ℕ → ℕ) → ((n : List ℕ) → also n ≡ texts n) → ((n : List ℕ) → lacks n → later n) → ((n : List ℕ) → before n ≤ mid n)
-    → Sees (record { texts = texts; lacks = lacks; before = before; now = now }) (record { texts = also; lacks = later; before = mid; now = now })
-sees-rest texts also lacks later before mid now same kept earlier = record { texts = same; lacks = kept; before = earlier; now = λ n. omega arith }
+pub sees-rest : {H : Type 0} (text : H → List ℕ → Option (List ℕ)) (Lacks : H → List ℕ → Type 0) (faults : H → List ℕ → ℕ) (old mid new : H) → StaysAs text Lacks faults old mid
+    → Sees (seen_of text Lacks faults old new) (seen_of text Lacks faults mid new)
+sees-rest text Lacks faults old mid new h = record { texts = h.texts; lacks = h.lacks; before = h.later; now = λ n. omega arith }
 
 -- a count that rose in a part of a run rose in the run
 pub rose-within : (a b c d : ℕ) → a ≤ b → c ≤ d → Rose b c → Rose a d

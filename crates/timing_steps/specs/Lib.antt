@@ -3,3 +3,4 @@ pub mod Answers
 pub mod Ran
 -- these only serve proofs
 pub mod Fetched
+pub mod Taken

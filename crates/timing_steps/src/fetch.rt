@@ -4,6 +4,7 @@ ghost use Rattle.std.specs.Prelude.{◌≡◌, ◌≤◌, ◌<◌, ℕ, List, Al
 ghost use Rattle.timing_base.specs.Targets.{HaveOwnTargets};
 ghost use Rattle.sdp_reader.specs.Session.{session};
 ghost use Rattle.timing_outside.specs.Causes.{Rose};
+ghost use Rattle.timing_outside.specs.Shelves.{StaysAs};
 ghost use Rattle.pcapng_reader.specs.Classic.{classic_texts};
 ghost use Rattle.pcapng_reader.specs.Sources.{faults_of, left_of, name_of};
 ghost use Rattle.timing_steps.specs.Answers.{AreThere, CaptureRose, OnReadFault};
@@ -33,9 +34,7 @@ pub fn fetch_session<H: Shelf>(
     ensures cause { IfErr result (λ e. OnReadFault e (λ i. (i ≡ Input.Sdp)
         × Rose (H.faults shelf.old name.now) (H.faults shelf.new name.now))) }
     ensures there { IfOk result (λ _. ¬ H.lacks shelf.old name.now) }
-    ensures lacks { (n : List ℕ) → H.lacks shelf.old n → H.lacks shelf.new n }
-    ensures texts { (n : List ℕ) → H.text shelf.new n ≡ H.text shelf.old n }
-    ensures later { (n : List ℕ) → H.faults shelf.old n ≤ H.faults shelf.new n }
+    ensures stays { StaysAs H.text H.lacks H.faults shelf.old shelf.new }
 {
     let bytes = match fetch_front(alloc, shelf, name, SDP_MOST) {
         Ok(bytes) => bytes,
@@ -59,9 +58,7 @@ pub fn fetch_classic<H: Shelf>(
         ≡ classic_texts (H.text shelf.old) name.now) }
     ensures fresh { IfOk result (λ s. faults_of H.Source.faults s ≡ 0) }
     ensures missing { H.lacks shelf.old name.now → IsErrOf result OpenFault.Failed }
-    ensures lacks { (n : List ℕ) → H.lacks shelf.old n → H.lacks shelf.new n }
-    ensures texts { (n : List ℕ) → H.text shelf.new n ≡ H.text shelf.old n }
-    ensures later { (n : List ℕ) → H.faults shelf.old n ≤ H.faults shelf.new n }
+    ensures stays { StaysAs H.text H.lacks H.faults shelf.old shelf.new }
     ensures failed { IsErrOf result OpenFault.Failed
         → Rose (H.faults shelf.old name.now) (H.faults shelf.new name.now) }
 {
@@ -81,9 +78,7 @@ pub fn give_back<H: Shelf>(shelf: &mut H, source: Classic<H::Source>)
     ensures raised { 0 < faults_of H.Source.faults source
         → Rose (H.faults shelf.old (name_of H.Source.name source))
         (H.faults shelf.new (name_of H.Source.name source)) }
-    ensures lacks { (n : List ℕ) → H.lacks shelf.old n → H.lacks shelf.new n }
-    ensures texts { (n : List ℕ) → H.text shelf.new n ≡ H.text shelf.old n }
-    ensures later { (n : List ℕ) → H.faults shelf.old n ≤ H.faults shelf.new n }
+    ensures stays { StaysAs H.text H.lacks H.faults shelf.old shelf.new }
 {
     shelf.give_back(source.into_inner());
 }
@@ -103,9 +98,7 @@ fn fetch_each<H: Shelf>(
     ensures cause { IfErr result (λ e. OnReadFault e (λ i. (number : ℕ) × (i ≡ Input.Capture number)
         × CaptureRose (H.faults shelf.old) (H.faults shelf.new) names.now number)) }
     ensures there { IfOk result (λ _. AreThere (H.lacks shelf.old) names.now) }
-    ensures lacks { (n : List ℕ) → H.lacks shelf.old n → H.lacks shelf.new n }
-    ensures texts { (n : List ℕ) → H.text shelf.new n ≡ H.text shelf.old n }
-    ensures later { (n : List ℕ) → H.faults shelf.old n ≤ H.faults shelf.new n }
+    ensures stays { StaysAs H.text H.lacks H.faults shelf.old shelf.new }
 {
     for number in 0..names.len() {
         let source = match fetch_classic(alloc, shelf, names[number].as_str()) {
@@ -128,9 +121,7 @@ pub fn give_back_all<H: Shelf>(shelf: &mut H, sources: Vec<Classic<H::Source>>)
     ensures raised { All (λ source. 0 < faults_of H.Source.faults source
         → Rose (H.faults shelf.old (name_of H.Source.name source))
         (H.faults shelf.new (name_of H.Source.name source))) sources.items }
-    ensures lacks { (n : List ℕ) → H.lacks shelf.old n → H.lacks shelf.new n }
-    ensures texts { (n : List ℕ) → H.text shelf.new n ≡ H.text shelf.old n }
-    ensures later { (n : List ℕ) → H.faults shelf.old n ≤ H.faults shelf.new n }
+    ensures stays { StaysAs H.text H.lacks H.faults shelf.old shelf.new }
 {
     for source in sources {
         give_back(shelf, source);
@@ -150,9 +141,7 @@ pub fn fetch_captures<H: Shelf>(
     ensures cause { IfErr result (λ e. OnReadFault e (λ i. (number : ℕ) × (i ≡ Input.Capture number)
         × CaptureRose (H.faults shelf.old) (H.faults shelf.new) names.now number)) }
     ensures there { IfOk result (λ _. AreThere (H.lacks shelf.old) names.now) }
-    ensures lacks { (n : List ℕ) → H.lacks shelf.old n → H.lacks shelf.new n }
-    ensures texts { (n : List ℕ) → H.text shelf.new n ≡ H.text shelf.old n }
-    ensures later { (n : List ℕ) → H.faults shelf.old n ≤ H.faults shelf.new n }
+    ensures stays { StaysAs H.text H.lacks H.faults shelf.old shelf.new }
 {
     let mut sources = Vec::new(alloc);
     match fetch_each(alloc, shelf, names, &mut sources) {

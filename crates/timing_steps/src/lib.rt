@@ -9,10 +9,12 @@ mod failure;
 mod fetch;
 pub mod laws;
 mod print;
+mod take;
 mod text;
 
 pub use answer::Answer;
 pub use failure::Failure;
 pub use fetch::{fetch_captures, fetch_classic, fetch_session, give_back, give_back_all};
 pub use print::conclude;
+pub use take::take_source;
 pub use text::fetch_front;

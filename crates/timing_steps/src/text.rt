@@ -3,6 +3,7 @@
 ghost use Rattle.std.specs.Prelude.{◌≡◌, ◌≤◌, ◌<◌, ◌++◌, ℕ, List, Some, IfOk, IsErrOf, length, take, vec_len};
 ghost use Rattle.std.specs.Io.KnownBytes.{Consumes, IsAtEnd};
 ghost use Rattle.timing_outside.specs.Causes.{Rose};
+ghost use Rattle.timing_outside.specs.Shelves.{StaysAs};
 
 use std::alloc::{AllocError as OutOfMemory, AllocFailed, Global};
 use timing_outside::{OpenFault, Shelf, Source};
@@ -74,9 +75,7 @@ pub fn fetch_front<H: Shelf>(
     ensures text { IfOk result (λ v. (t : List ℕ) → H.text shelf.old name.now ≡ Some t → v.items ≡ take most t) }
     ensures failed { IsErrOf result OpenFault.Failed → Rose (H.faults shelf.old name.now) (H.faults shelf.new name.now) }
     ensures there { IfOk result (λ _. ¬ H.lacks shelf.old name.now) }
-    ensures lacks { (n : List ℕ) → H.lacks shelf.old n → H.lacks shelf.new n }
-    ensures texts { (n : List ℕ) → H.text shelf.new n ≡ H.text shelf.old n }
-    ensures later { (n : List ℕ) → H.faults shelf.old n ≤ H.faults shelf.new n }
+    ensures stays { StaysAs H.text H.lacks H.faults shelf.old shelf.new }
 {
     let mut source = shelf.fetch(name)?;
     let text = read_front(alloc, &mut source, most);

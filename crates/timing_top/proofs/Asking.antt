@@ -1,9 +1,9 @@
 -- The texts of a request define one answer.
-use Rattle.std.proofs.Common.{◌≡◌, ◌⊎◌, ℕ, Bool, true, false, List, [], ◌∷◌, Option, Some, None, refl, subst}
-use Rattle.std.specs.Prelude.{⊤, All, Result, Ok, Err, map}
-use Rattle.std.proofs.lemmas.List.Elements.{All-cons, All-head, All-nil, All-tail}
+use Rattle.std.proofs.Common.{◌≡◌, ◌⊎◌, ℕ, List, [], ◌∷◌, Option, Some, None, refl}
+use Rattle.std.specs.Prelude.{Result, Ok, Err, map}
+use Rattle.std.proofs.lemmas.List.Elements.{All-head, All-tail}
 use Rattle.timing_base.specs.Jobs.{CheckJob}
-use Rattle.timing_base.specs.Media.{IsMedia, Media}
+use Rattle.timing_base.specs.Media.{Media}
 use Rattle.timing_base.specs.declared.job.Request.{Request}
 use Rattle.timing_base.specs.declared.job.Request.TheVariants as request
 use Rattle.timing_report.specs.declared.status.Input.{Input}
@@ -13,7 +13,7 @@ use Rattle.pcapng_reader.specs.Classic.{classic}
 use Rattle.timing_steps.specs.Answers.{Answer, AreThere, AreTold, Gives, Inputs, ReadsCaptures, ReadsSession, silent}
 use Rattle.timing_steps.specs.declared.failure.Failure.{Failure}
 use Rattle.timing_steps.specs.declared.failure.Failure.TheVariants as failure
-use Rattle.timing_top.specs.Asked.{CheckInputRose, Follows, FollowsAtOnce, FollowsCheck, FollowsSelfTest, InputRose, ShapesWithin, names_of, reads_report}
+use Rattle.timing_top.specs.Asked.{CheckInputRose, Follows, FollowsAtOnce, FollowsCheck, FollowsSelfTest, InputRose, names_of}
 use Rattle.timing_top.specs.Report.{HasReport}
 use Rattle.timing_top.specs.SelfTest.{HasSelfTest}
 use Rattle.timing_top.proofs.Answering.{Caused, captured-failed, described-failed, not-given, only-captured, only-described, only-given, only-silent, only-yielded, some-captured, some-described, some-given, some-yielded, yielded-failed}
@@ -23,6 +23,7 @@ use Rattle.timing_reach.proofs.SomeShape.{once-shape-in, some-shape-in}
 use Rattle.timing_reach.proofs.Unique.{once-window, some-window}
 use Rattle.timing_top.proofs.Reaching.{only-reach, only-skewed, reach-failed, skewed-failed, some-reach, some-skewed}
 use Rattle.timing_top.proofs.Reports.{only-report, some-report}
+use Rattle.timing_top.proofs.Reported.{only-reread, reread-failed, some-reread}
 use Rattle.timing_top.proofs.SelfTests.{only-self_test, some-self_test}
 use Rattle.timing_top.proofs.Verifying.{only-verify, some-verify, verify-failed}
 
@@ -71,47 +72,37 @@ only-at_once ends a b h k =
 at_once-failed : (ends : Status) (e : Failure) (Rises : Input → Type 0) → FollowsAtOnce ends (Err e) → Caused e Rises
 at_once-failed ends e Rises h = yielded-failed (Gives (Err e) (λ x. x ≡ silent ends)) e Rises (λ p. absurd (not-given (λ x. x ≡ silent ends) e p)) h
 
--- of a test that holds
-abbrev Holds : Bool → Type 0
-Holds true = ⊤
-Holds false = ⊥
-
--- of a window nothing is asked of the media
-all-media : (media : List Media) → All (λ m. ⊤) media
-all-media [] = All-nil (λ m. ⊤)
-all-media (m ∷ ms) = All-cons (λ m. ⊤) m ms tt (all-media ms)
-
 -- there is one answer
-pub some-answer : (asked : Option Request) (i : Inputs) (texts : List (List ℕ)) → reads_report asked ≡ false → AreThere i.lacks (names_of asked) → AreTold i.texts (names_of asked) texts → ShapesWithin asked i.texts → (answer : Answer) × Follows asked i (Ok answer)
-some-answer None i texts alone there told within = some-at_once status.Usage
-some-answer (Some (request.Check job)) i texts alone there told within = some-check job i texts there told
-some-answer (Some (request.Verify job)) i texts alone there told within = some-verify job i texts there told
-some-answer (Some (request.VerifyReport job)) i texts alone there told within = absurd (subst Holds alone tt)
-some-answer (Some (request.SelfTest job)) i texts alone there told within = some-self job.frames
-some-answer (Some (request.Window job)) i texts alone there told within = some-reach job i texts (λ m. ⊤) (HasWindow job.tai) there told (λ text media t e. all-media media) (λ m is text. some-window job.tai m text)
-some-answer (Some (request.Shape job)) i texts alone there told within = some-reach job.flow i texts IsMedia (HasShapeIn job) there told within (λ m is text. some-shape-in job m text is)
-some-answer (Some (request.Skew job)) i texts alone there told within = some-skewed job i texts there told
+pub some-answer : (asked : Option Request) (i : Inputs) (texts : List (List ℕ)) → AreThere i.lacks (names_of asked) → AreTold i.texts (names_of asked) texts → (answer : Answer) × Follows asked i (Ok answer)
+some-answer None i texts there told = some-at_once status.Usage
+some-answer (Some (request.Check job)) i texts there told = some-check job i texts there told
+some-answer (Some (request.Verify job)) i texts there told = some-verify job i texts there told
+some-answer (Some (request.VerifyReport job)) i texts there told = some-reread job i texts there told
+some-answer (Some (request.SelfTest job)) i texts there told = some-self job.frames
+some-answer (Some (request.Window job)) i texts there told = some-reach job i texts (HasWindow job.tai) there told (λ m is text. some-window job.tai m text)
+some-answer (Some (request.Shape job)) i texts there told = some-reach job.flow i texts (HasShapeIn job) there told (λ m is text. some-shape-in job m text is)
+some-answer (Some (request.Skew job)) i texts there told = some-skewed job i texts there told
 
 -- there are not two
-pub only-answer : (asked : Option Request) (i : Inputs) (texts : List (List ℕ)) (a b : Answer) → reads_report asked ≡ false → AreTold i.texts (names_of asked) texts → Follows asked i (Ok a) → Follows asked i (Ok b) → a ≡ b
-only-answer None i texts a b alone told h k = only-at_once status.Usage a b h k
-only-answer (Some (request.Check job)) i texts a b alone told h k = only-check job i texts a b told h k
-only-answer (Some (request.Verify job)) i texts a b alone told h k = only-verify job i texts a b told h k
-only-answer (Some (request.VerifyReport job)) i texts a b alone told h k = absurd (subst Holds alone tt)
-only-answer (Some (request.SelfTest job)) i texts a b alone told h k = only-self job.frames a b h k
-only-answer (Some (request.Window job)) i texts a b alone told h k = only-reach job i texts (HasWindow job.tai) a b told (λ m text. once-window job.tai m text) h k
-only-answer (Some (request.Shape job)) i texts a b alone told h k = only-reach job.flow i texts (HasShapeIn job) a b told (once-shape-in job) h k
-only-answer (Some (request.Skew job)) i texts a b alone told h k = only-skewed job i texts a b told h k
+pub only-answer : (asked : Option Request) (i : Inputs) (texts : List (List ℕ)) (a b : Answer) → AreTold i.texts (names_of asked) texts → Follows asked i (Ok a) → Follows asked i (Ok b) → a ≡ b
+only-answer None i texts a b told h k = only-at_once status.Usage a b h k
+only-answer (Some (request.Check job)) i texts a b told h k = only-check job i texts a b told h k
+only-answer (Some (request.Verify job)) i texts a b told h k = only-verify job i texts a b told h k
+only-answer (Some (request.VerifyReport job)) i texts a b told h k = only-reread job i texts a b told h k
+only-answer (Some (request.SelfTest job)) i texts a b told h k = only-self job.frames a b h k
+only-answer (Some (request.Window job)) i texts a b told h k = only-reach job i texts (HasWindow job.tai) a b told (λ m text. once-window job.tai m text) h k
+only-answer (Some (request.Shape job)) i texts a b told h k = only-reach job.flow i texts (HasShapeIn job) a b told (once-shape-in job) h k
+only-answer (Some (request.Skew job)) i texts a b told h k = only-skewed job i texts a b told h k
 
 -- what has none has a cause
-pub answer-failed : (asked : Option Request) (i : Inputs) (texts : List (List ℕ)) (e : Failure) → reads_report asked ≡ false → AreTold i.texts (names_of asked) texts → Follows asked i (Err e)
+pub answer-failed : (asked : Option Request) (i : Inputs) (texts : List (List ℕ)) (e : Failure) → AreTold i.texts (names_of asked) texts → Follows asked i (Err e)
     → (e ≡ failure.OutOfMemory) ⊎ ((input : Input) × (e ≡ failure.ReadFault input) × InputRose asked i input)
-answer-failed None i texts e alone told h = at_once-failed status.Usage e (InputRose None i) h
-answer-failed (Some (request.Check job)) i texts e alone told h = check-failed job i texts e told h
-answer-failed (Some (request.Verify job)) i texts e alone told h = verify-failed job i texts e told h
-answer-failed (Some (request.VerifyReport job)) i texts e alone told h = absurd (subst Holds alone tt)
-answer-failed (Some (request.SelfTest job)) i texts e alone told h =
+answer-failed None i texts e told h = at_once-failed status.Usage e (InputRose None i) h
+answer-failed (Some (request.Check job)) i texts e told h = check-failed job i texts e told h
+answer-failed (Some (request.Verify job)) i texts e told h = verify-failed job i texts e told h
+answer-failed (Some (request.VerifyReport job)) i texts e told h = reread-failed job i texts e told h
+answer-failed (Some (request.SelfTest job)) i texts e told h =
     self-failed job.frames e (InputRose (Some (request.SelfTest job)) i) h
-answer-failed (Some (request.Window job)) i texts e alone told h = reach-failed job i texts (HasWindow job.tai) e told h
-answer-failed (Some (request.Shape job)) i texts e alone told h = reach-failed job.flow i texts (HasShapeIn job) e told h
-answer-failed (Some (request.Skew job)) i texts e alone told h = skewed-failed job i texts e told h
+answer-failed (Some (request.Window job)) i texts e told h = reach-failed job i texts (HasWindow job.tai) e told h
+answer-failed (Some (request.Shape job)) i texts e told h = reach-failed job.flow i texts (HasShapeIn job) e told h
+answer-failed (Some (request.Skew job)) i texts e told h = skewed-failed job i texts e told h

@@ -6,5 +6,6 @@ mod Verifying
 mod Reaching
 mod Following
 mod Takings
+mod Reported
 mod Reports
 mod SelfTests

@@ -3,9 +3,9 @@ use Rattle.std.proofs.Common.{◌≡◌, ℕ, zero, suc, List, [], ◌∷◌, Op
 use Rattle.std.specs.Prelude.{All, Result, Ok, Err, map, slice_get}
 use Rattle.std.proofs.lemmas.List.Elements.{All-head, All-tail}
 use Rattle.timing_base.specs.Jobs.{FlowJob, SkewJob}
-use Rattle.timing_base.specs.Media.{Media}
+use Rattle.timing_base.specs.Media.{IsMedia, Media}
 use Rattle.pcapng_reader.specs.Classic.{classic}
-use Rattle.sdp_reader.specs.Session.{session}
+use Rattle.sdp_reader.proofs.Within.{session-within}
 use Rattle.timing_report.specs.declared.status.Input.{Input}
 use Rattle.timing_report.specs.declared.status.Input.TheVariants as input
 use Rattle.timing_steps.specs.Answers.{Answer, AreThere, AreTold, Gives, Inputs, ReadsSession, Yields}
@@ -33,10 +33,10 @@ capture-failed i job text Defined e told (inl h) = inr (input.Capture 0, same-er
 capture-failed i job text Defined e told (inr h) = absurd (not-given (Defined (classic text)) e (h.1 text told))
 
 -- the flow of a media
-some-flow : (job : FlowJob) (i : Inputs) (text : List ℕ) (Sound : Media → Type 0) (Defined : Media → List ℕ → Answer → Type 0) (m : Option Media) → ¬ i.lacks job.capture → i.texts job.capture ≡ Some text
-    → ((media : Media) → m ≡ Some media → Sound media) → ((media : Media) → Sound media → (answer : Answer) × Defined media (classic text) answer) → (answer : Answer) × ReadsFlow i (Ok answer) job Defined m
-some-flow job i text Sound Defined None there told sound h = some-given (λ answer. answer ≡ no_such_media) (no_such_media, refl)
-some-flow job i text Sound Defined (Some media) there told sound h = some-capture i job.capture text (Defined media) there told (h media (sound media refl))
+some-flow : (job : FlowJob) (i : Inputs) (text : List ℕ) (Defined : Media → List ℕ → Answer → Type 0) (m : Option Media) → ¬ i.lacks job.capture → i.texts job.capture ≡ Some text
+    → ((media : Media) → m ≡ Some media → IsMedia media) → ((media : Media) → IsMedia media → (answer : Answer) × Defined media (classic text) answer) → (answer : Answer) × ReadsFlow i (Ok answer) job Defined m
+some-flow job i text Defined None there told is h = some-given (λ answer. answer ≡ no_such_media) (no_such_media, refl)
+some-flow job i text Defined (Some media) there told is h = some-capture i job.capture text (Defined media) there told (h media (is media refl))
 
 only-flow : (job : FlowJob) (i : Inputs) (text : List ℕ) (Defined : Media → List ℕ → Answer → Type 0) (m : Option Media) (a b : Answer) → i.texts job.capture ≡ Some text
     → ((media : Media) (x y : Answer) → Defined media (classic text) x → Defined media (classic text) y → x ≡ y) → ReadsFlow i (Ok a) job Defined m → ReadsFlow i (Ok b) job Defined m → a ≡ b
@@ -68,17 +68,16 @@ all-there P (y ∷ ys) zero x h e = subst P (same-media y x e) (All-head P y ys 
     same-media y x e = let o : Some y ≡ Some x = e in cc
 all-there P (y ∷ ys) (suc n) x h e = all-there P ys n x (All-tail P y ys h) e
 
-pub some-reach : (job : FlowJob) (i : Inputs) (texts : List (List ℕ)) (Sound : Media → Type 0) (Defined : Media → List ℕ → Answer → Type 0) → AreThere i.lacks (job.sdp ∷ job.capture ∷ []) → AreTold i.texts (job.sdp ∷ job.capture ∷ []) texts
-    → ((text : List ℕ) (media : List Media) → i.texts job.sdp ≡ Some text → session text ≡ Ok media → All Sound media)
-    → ((media : Media) → Sound media → (text : List ℕ) → (answer : Answer) × Defined media text answer) → (answer : Answer) × FollowsFlow job Defined i (Ok answer)
-some-reach job i [] Sound Defined there told sound h = absurd told
-some-reach job i (sdp ∷ []) Sound Defined there told sound h = absurd told.1
-some-reach job i (sdp ∷ text ∷ texts) Sound Defined there told sound h =
+pub some-reach : (job : FlowJob) (i : Inputs) (texts : List (List ℕ)) (Defined : Media → List ℕ → Answer → Type 0) → AreThere i.lacks (job.sdp ∷ job.capture ∷ []) → AreTold i.texts (job.sdp ∷ job.capture ∷ []) texts
+    → ((media : Media) → IsMedia media → (text : List ℕ) → (answer : Answer) × Defined media text answer) → (answer : Answer) × FollowsFlow job Defined i (Ok answer)
+some-reach job i [] Defined there told h = absurd told
+some-reach job i (sdp ∷ []) Defined there told h = absurd told.1
+some-reach job i (sdp ∷ text ∷ texts) Defined there told h =
     some-yielded (λ answer. ReadsSession i (Ok answer) job.sdp (λ media. ReadsFlow i (Ok answer) job Defined (slice_get media job.media)))
     (some-described i job.sdp sdp (λ answer media. ReadsFlow i (Ok answer) job Defined (slice_get media job.media)) (All-head (λ n. ¬ i.lacks n) job.sdp (job.capture ∷ []) there) told.0
-    (λ media e. some-flow job i text Sound Defined (slice_get media job.media)
+    (λ media e. some-flow job i text Defined (slice_get media job.media)
     (All-head (λ n. ¬ i.lacks n) job.capture [] (All-tail (λ n. ¬ i.lacks n) job.sdp (job.capture ∷ []) there)) told.1.0
-    (λ m at. all-there Sound media job.media m (sound sdp media told.0 e) at) (λ m is. h m is (classic text))))
+    (λ m at. all-there IsMedia media job.media m (session-within sdp media e) at) (λ m is. h m is (classic text))))
 
 pub only-reach : (job : FlowJob) (i : Inputs) (texts : List (List ℕ)) (Defined : Media → List ℕ → Answer → Type 0) (a b : Answer) → AreTold i.texts (job.sdp ∷ job.capture ∷ []) texts
     → ((media : Media) (text : List ℕ) (x y : Answer) → Defined media text x → Defined media text y → x ≡ y) → FollowsFlow job Defined i (Ok a) → FollowsFlow job Defined i (Ok b) → a ≡ b

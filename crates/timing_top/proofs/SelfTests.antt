@@ -1,30 +1,33 @@
 -- What `selftest` prints: there is one text, and what its steps say of it.
-use Rattle.std.proofs.Common.{◌≡◌, ◌^◌, ℕ, zero, suc, Bool, true, false, nat_le, if◌then◌else◌, List, [], ◌∷◌, ◌++◌, length, take, Some, None, refl, arith, ap, ◌∙◌, sym}
+use Rattle.std.proofs.Common.{◌≡◌, ◌^◌, ℕ, zero, suc, Bool, true, false, nat_le, if◌then◌else◌, List, [], ◌∷◌, ◌++◌, length, take, Some, Option, codes, refl, arith, ap, ◌∙◌, sym, subst}
+use Rattle.std.specs.Option.{option_map}
 use Rattle.std.specs.Prelude.{◌&&◌, ◌==◌, Result, Ok, Err}
 use Rattle.timing_base.specs.Captures.{Record}
+use Rattle.timing_base.specs.Examples.{plain_media}
 use Rattle.timing_base.specs.Media.{Media}
 use Rattle.timing_base.specs.declared.capture.FileNote.{FileNote}
-use Rattle.timing_base.specs.declared.media.Kind.TheVariants.{N}
 use Rattle.timing_base.specs.declared.row.Row.{Row}
 use Rattle.timing_outside.specs.Causes.{Rose}
 use Rattle.sdp_reader.specs.Session.{session}
 use Rattle.sdp_reader.specs.declared.fault.SdpFault.{SdpFault}
-use Rattle.pcapng_reader.specs.Classic.{begins_section, blocks, classic, no_section, number as number_at}
+use Rattle.pcapng_reader.specs.Classic.{begins_section, blocks, classic, classic_texts, no_section, number as number_at}
 use Rattle.pcapng_reader.specs.declared.block.Order.TheVariants.{Big}
 use Rattle.pcap_reader.specs.Header.{header}
 use Rattle.pcap_reader.specs.Records.{AreRecords, Records}
 use Rattle.pcap_reader.proofs.Lists.{only_by, some_by}
-use Rattle.flow_bank.specs.Rows.{rows_of, rows_of_files}
+use Rattle.flow_bank.specs.Rows.{rows_of, rows_of_files, rows_over}
 use Rattle.capture_gen.specs.Capture.{capture}
 use Rattle.capture_gen.specs.Heads.{file_head}
 use Rattle.capture_gen.specs.Sdp.{sdp_text}
 use Rattle.timing_report.specs.declared.status.Input.{Input}
 use Rattle.timing_report.specs.declared.status.Status.TheVariants as status
-use Rattle.timing_steps.specs.Answers.{Answer, OnReadFault}
+use Rattle.timing_steps.specs.Answers.{Answer, AreTold, OnReadFault}
+use Rattle.timing_steps.specs.Fetched.{AreFetched}
 use Rattle.timing_steps.specs.declared.failure.Failure.{Failure}
 use Rattle.timing_steps.specs.declared.failure.Failure.TheVariants as failure
 use Rattle.flow_bank.specs.Found.{AreFound}
 use Rattle.timing_top.specs.SelfTest.{HasLine, HasLines, HasSelfTest, flaw_line}
+use Rattle.timing_top.proofs.Following.{fetched-same}
 
 -- a made capture is its own classic text
 and-false : (a b : Bool) → b ≡ false → (a && b) ≡ false
@@ -40,23 +43,7 @@ unfolding classic
 classic-capture number frames flaw =
     ap (λ b. if b then file_head ++ blocks no_section (take (2 ^ 41) (capture number frames flaw)) else capture number frames flaw) (not-section number frames flaw)
 
--- the media of the plain description
-abbrev pub plain_media : Media
-plain_media = record {
-  line = 5;
-  address = 0xef000001;
-  port = 50000;
-  pt = 96;
-  width = 1920;
-  height = 1080;
-  interlaced = false;
-  p = 50;
-  q = 1;
-  declared = Some N;
-  troff = None;
-  cmax = None;
-}
-
+-- the description is that of the plain media
 pub session-plain : session sdp_text ≡ Ok (plain_media ∷ [])
 session-plain = refl
 
@@ -158,6 +145,27 @@ no-fault fault h = let plain : session sdp_text ≡ Ok (plain_media ∷ []) = se
 -- its one media
 pub session-is : (media : List Media) → session sdp_text ≡ Ok media → media ≡ plain_media ∷ []
 session-is media h = let plain : session sdp_text ≡ Ok (plain_media ∷ []) = session-plain in cc
+
+-- what was found in a made capture, by what a shelf told before and after each of two steps
+pub found-made : {S : Type 0} (name : S → List ℕ) (left : S → Option (List ℕ)) (faults : S → ℕ) (frames flaw : ℕ) (bytes mid last : List ℕ → List ℕ) (asked : List ℕ) (sources : List S)
+    (media listed : List Media) (notes : List FileNote) (found : List Row)
+    → bytes (codes "made.pcap") ≡ capture frames frames flaw
+    → asked ≡ codes "made.pcap"
+    → ((n : List ℕ) → Some (mid n) ≡ Some (bytes n))
+    → ((n : List ℕ) → Some (last n) ≡ Some (mid n))
+    → AreFetched name left faults (classic_texts (λ n. Some (mid n))) (asked ∷ []) sources
+    → session sdp_text ≡ Ok media
+    → listed ≡ media
+    → ((names texts : List (List ℕ)) → AreFetched name left faults (classic_texts (λ n. Some (last n))) names sources → AreTold (classic_texts (λ n. Some (last n))) names texts
+    → AreFound texts (rows_over false 0 listed) notes found)
+    → AreFound (capture frames frames flaw ∷ []) (rows_of_files 0 0 (plain_media ∷ [])) notes found
+found-made name left faults frames flaw bytes mid last asked sources media listed notes found made named early late fetched plain same told =
+    let whole : Some (last asked) ≡ Some (capture frames frames flaw) = late asked ∙ early asked ∙ ap (λ n. Some (bytes n)) named ∙ ap Some made in
+    let text : classic_texts (λ n. Some (last n)) asked ≡ Some (capture frames frames flaw) = ap (option_map classic) whole ∙ ap Some (classic-capture frames frames flaw) in
+    subst (λ (m : List Media). AreFound (capture frames frames flaw ∷ []) (rows_over false 0 m) notes found) (same ∙ session-is media plain)
+    (told (asked ∷ []) (capture frames frames flaw ∷ [])
+    (fetched-same name left faults (classic_texts (λ n. Some (mid n))) (classic_texts (λ n. Some (last n))) (asked ∷ []) sources (λ n. ap (option_map classic) (late n)) fetched)
+    (text, tt))
 
 -- the line of what was found
 pub has-line : (frames flaw : ℕ) (line : List ℕ) (notes : List FileNote) (found : List Row)

@@ -11,30 +11,23 @@ use Rattle.timing_base.specs.declared.capture.FileNote.{FileNote}
 use Rattle.timing_base.specs.declared.row.Row.{Row}
 use Rattle.pcap_reader.specs.Header.{header}
 use Rattle.pcap_reader.specs.Records.{Records}
+use Rattle.pcap_reader.specs.declared.records.Taken.{Taken}
+use Rattle.pcap_reader.specs.Taken.{TakesFew}
+use Rattle.pcap_reader.proofs.Captures.{files-length, map-raised, records-push}
 use Rattle.pcap_reader.proofs.Lists.{some_by}
 use Rattle.flow_bank.specs.Rows.{rows_from, rows_of, rows_of_files}
-use Rattle.flow_bank.specs.Stands.{Feeds, StandsFor}
+use Rattle.flow_bank.specs.Stands.{Feeds, IsFed, StandsFor}
 use Rattle.flow_bank.specs.declared.bank.Bank.{Bank}
-use Rattle.flow_bank.specs.declared.records.Taken.{Taken}
 use Rattle.timing_report.specs.Outcomes.{AreOfSession}
 use Rattle.pcap_reader.specs.Records.{AreRecords}
 use Rattle.flow_bank.specs.Found.{AreFound}
-use Rattle.timing_top.specs.Found.{AreJoined, FindsNext, JoinsNext, TakesCapture}
+use Rattle.timing_steps.specs.Taken.{TakesText}
+use Rattle.timing_top.specs.Found.{AreJoined, FindsNext, JoinsNext}
 use Rattle.timing_top.specs.Report.{rows}
 
--- what was told of the records of a text is told of the text, as each text has its records
-pub takes-capture : (text : List ℕ) (before : ℕ) (old new : Bank) (taken : Taken)
-    → ((items : List Record) (end : FileNote) → Records text (2 ^ 40) items end → (taken.note ≡ end) × (taken.records ≡ length items) × Feeds old new (map (raised before) items))
-    → TakesCapture text before old new taken
-takes-capture text before old new taken told =
-    let all = some_by (header text) (2 ^ 40) text in
-    let is = told all.0 all.1 all.2 in
-    record {
-      items = all.0;
-      records = subst (Records text (2 ^ 40) all.0) (sym is.0) all.2;
-      count = is.1;
-      stands = is.2;
-    }
+-- of few records or many, the bank was fed those and no others
+pub fed-few : (most : ℕ) (old new : Bank) → TakesFew Feeds most old new → IsFed old new
+fed-few most old new t = (t.items, t.taken)
 
 -- media with these numbers are below a count
 rows-within : (tai file number count : ℕ) (media : List Media) (items : List Record) → number + length media ≤ count → All (λ (row : Row). row.key.media < count) (rows_from tai file number media items)
@@ -47,15 +40,9 @@ pub rows-of_session : (tai file : ℕ) (media : List Media) (items : List Record
 rows-of_session tai file media items old new e h =
     subst (AreOfSession media) (sym e) (All-append (λ (row : Row). row.key.media < length media) old (rows_of tai file media items) h (rows-within tai file 0 (length media) media items (omega arith)))
 
-map-raised : (items : List Record) → map (raised 0) items ≡ items
-map-raised [] = refl
-map-raised (r ∷ rs) =
-    let same : 0 + r.number ≡ r.number = omega arith in
-    ap (λ n. record { number = n; stamp = r.stamp; bytes = r.bytes } ∷ map (raised 0) rs) same ∙ ap (λ l. r ∷ l) (map-raised rs)
-
 -- a capture that was taken into a fresh bank has these rows, and its note
 pub finds-next : (text : List ℕ) (media : List Media) (tai file : ℕ) (old new : Bank) (taken : Taken) (old_notes new_notes : List FileNote) (old_rows new_rows : List Row)
-    → TakesCapture text 0 old new taken → StandsFor media file tai old [] → new_notes ≡ old_notes ++ taken.note ∷ []
+    → TakesText Feeds text 0 old new taken → StandsFor media file tai old [] → new_notes ≡ old_notes ++ taken.note ∷ []
     → ((items : List Record) → StandsFor media file tai new items → new_rows ≡ old_rows ++ rows_of tai file media items)
     → FindsNext text media tai file old_notes new_notes old_rows new_rows
 finds-next text media tai file old new taken old_notes new_notes old_rows new_rows t fresh notes rows = record {
@@ -63,7 +50,7 @@ finds-next text media tai file old new taken old_notes new_notes old_rows new_ro
   note = taken.note;
   records = t.records;
   notes = notes;
-  rows = rows t.items (subst (StandsFor media file tai new) (map-raised t.items) (t.stands media file tai [] fresh));
+  rows = rows t.items (subst (StandsFor media file tai new) (map-raised t.items) (t.fed media file tai [] fresh));
 }
 
 rows-push : (tai first : ℕ) (media : List Media) (files : List (List Record)) (items : List Record)
@@ -76,23 +63,6 @@ rows-push tai first media (x ∷ xs) items =
     ap (λ l. rows_of tai first media x ++ l) (rows-push tai (first + 1) media xs items)
     ∙ sym (append_assoc (rows_of tai first media x) (rows_of_files tai (first + 1) media xs) (rows_of tai ((first + 1) + length xs) media items))
     ∙ ap (λ f. (rows_of tai first media x ++ rows_of_files tai (first + 1) media xs) ++ rows_of tai f media items) (sym same)
-
-records-push : (texts : List (List ℕ)) (files : List (List Record)) (notes : List FileNote) (text : List ℕ) (items : List Record) (note : FileNote)
-    → AreRecords texts files notes → Records text (2 ^ 40) items note → AreRecords (texts ++ text ∷ []) (files ++ items ∷ []) (notes ++ note ∷ [])
-records-push [] [] [] text items note h r = (r, tt)
-records-push (t ∷ ts) (f ∷ fs) (n ∷ ns) text items note h r = (h.0, records-push ts fs ns text items note h.1 r)
-records-push [] (f ∷ fs) notes text items note h r = absurd h
-records-push [] [] (n ∷ ns) text items note h r = absurd h
-records-push (t ∷ ts) [] notes text items note h r = absurd h
-records-push (t ∷ ts) (f ∷ fs) [] text items note h r = absurd h
-
-files-length : (texts : List (List ℕ)) (files : List (List Record)) (notes : List FileNote) → AreRecords texts files notes → length files ≡ length notes
-files-length [] [] [] h = refl
-files-length (t ∷ ts) (f ∷ fs) (n ∷ ns) h = omega (arith, files-length ts fs ns h.1)
-files-length [] (f ∷ fs) notes h = absurd h
-files-length [] [] (n ∷ ns) h = absurd h
-files-length (t ∷ ts) [] notes h = absurd h
-files-length (t ∷ ts) (f ∷ fs) [] h = absurd h
 
 -- nothing was judged yet
 pub found-none : (media : List Media) (tai : ℕ) (notes : List FileNote) (found : List Row) → notes ≡ [] → found ≡ [] → AreFound [] (rows_of_files tai 0 media) notes found
@@ -145,7 +115,7 @@ joined-more texts text media tai before after old new old_notes new_notes done n
           let long : length (joined (done.files ++ next.takes.items ∷ [])) ≡ length (joined done.files) + length next.takes.items =
           ap length more ∙ length-append (joined done.files) (map (raised before) next.takes.items) ∙ ap (λ n. length (joined done.files) + n) (length-map next.takes.items (raised before)) in
           omega (arith, long, next.count, next.takes.count, done.count_is);
-      stands = subst (StandsFor media 0 tai new) (sym more) (next.takes.stands media 0 tai (joined done.files) done.stands);
+      stands = subst (StandsFor media 0 tai new) (sym more) (next.takes.fed media 0 tai (joined done.files) done.stands);
     }
 
 -- the rows of captures that were taken as one

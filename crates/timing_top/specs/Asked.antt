@@ -1,10 +1,8 @@
 -- What each request and its texts define, in the order in which its inputs are read.
-use Rattle.std.specs.Prelude.{◌≡◌, ⊤, All, Bool, true, false, IsTrue, ℕ, List, [], ◌∷◌, Option, Some, None, Result, Ok}
+use Rattle.std.specs.Prelude.{◌≡◌, Bool, IsTrue, ℕ, List, [], ◌∷◌, Option, Some, None, Result}
 use Rattle.timing_base.specs.Jobs.{CheckJob}
-use Rattle.timing_base.specs.Media.{IsMedia, Media}
 use Rattle.timing_base.specs.declared.job.Request.{Request}
 use Rattle.timing_base.specs.declared.job.Request.TheVariants as request
-use Rattle.sdp_reader.specs.Session.{session}
 use Rattle.timing_report.specs.declared.status.Input.{Input}
 use Rattle.timing_report.specs.declared.status.Input.TheVariants as input
 use Rattle.timing_report.specs.declared.status.Status.{Status}
@@ -67,17 +65,6 @@ names_of (Some (request.Window job)) = job.sdp ∷ job.capture ∷ []
 names_of (Some (request.Shape job)) = job.flow.sdp ∷ job.flow.capture ∷ []
 names_of (Some (request.Skew job)) = job.sdp ∷ job.captures
 names_of other = []
-
--- whether a report is read back; what its text is a report of decides then which captures are read
-abbrev pub reads_report : Option Request → Bool
-reads_report (Some (request.VerifyReport job)) = true
-reads_report other = false
-
--- where a flow is shaped, the media of its description are within the limits of a media, as those are that the reader of
--- descriptions answers
-abbrev pub ShapesWithin : Option Request → (List ℕ → Option (List ℕ)) → Type 0
-ShapesWithin (Some (request.Shape job)) texts = (text : List ℕ) (media : List Media) → texts job.flow.sdp ≡ Some text → session text ≡ Ok media → All IsMedia media
-ShapesWithin other texts = ⊤
 
 -- what was seen of a shelf that tells by a test which names it lacks; the laws speak of such shelves
 abbrev pub seen : (texts : List ℕ → Option (List ℕ)) → (lacking : List ℕ → Bool) → (before now : List ℕ → ℕ) → Inputs

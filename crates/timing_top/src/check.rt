@@ -1,20 +1,24 @@
 //! `check`: the report of a job, on one thread or with workers.
 
-ghost use Rattle.std.specs.Prelude.{◌≡◌, ◌≤◌, ℕ, List, IfErr, IfOk, string_bytes};
+ghost use Rattle.std.specs.Prelude.{◌≡◌, ◌≤◌, Err, IfErr, IfOk, Ok, string_bytes};
+ghost use Rattle.timing_outside.specs.Shelves.{StaysAs};
 ghost use Rattle.timing_report.specs.Outcomes.{AreOfSession, status_of};
-ghost use Rattle.timing_steps.specs.Answers.{seen_of};
+ghost use Rattle.pcapng_reader.specs.Sources.{faults_of, left_of, name_of};
+ghost use Rattle.timing_steps.specs.Answers.{OnReadFault, seen_of};
 ghost use Rattle.timing_steps.specs.Ran.{HasCause, IsAnswered, Ran, output_of};
 ghost use Rattle.timing_top.specs.Asked.{CheckInputRose, FollowsCheck};
+ghost use Rattle.timing_top.specs.Found.{IsOpened};
 ghost use Rattle.timing_top.specs.Report.{printed};
 
 use crate::captures::Found;
 use crate::judging::{judge_alone, judge_any};
+use pcapng_reader::Classic;
 use std::alloc::{AllocError as OutOfMemory, Global};
 use std::sync::Wait;
 use std::thread::Threads;
 use timing_base::{CheckJob, Session};
 use timing_json::json_of;
-use timing_outside::{Gate, Shelf, Sink};
+use timing_outside::{Gate, Shelf, Sink, Source};
 use timing_report::{Status, status_of, text_of};
 use timing_steps::{Answer, Failure, conclude, fetch_captures, fetch_session};
 
@@ -57,6 +61,40 @@ fn report_on(
     })
 }
 
+/// What the judging of a job begins with.
+#[derive(Drop)]
+struct Opened<S: Source> {
+    session: Session,
+    /// One for each capture.
+    sources: Vec<Classic<S>>,
+}
+
+/// Reads the description of a job and fetches its captures. A description that is refused has its answer.
+fn open<H: Shelf>(
+    alloc: Global,
+    job: &CheckJob,
+    shelf: &mut H,
+) -> Result<Result<Opened<H::Source>, Answer>, Failure>
+    ensures opened { IfOk result (λ read. IfOk read (λ opened.
+        IsOpened (name_of H.Source.name) (left_of H.Source.left) (faults_of H.Source.faults) job.now
+        (seen_of H.text H.lacks H.faults shelf.old shelf.new) opened.session opened.sources.items)) }
+    ensures refused { IfOk result (λ read. IfErr read (λ answer.
+        FollowsCheck job.now (seen_of H.text H.lacks H.faults shelf.old shelf.new) (Ok answer)
+        × IsAnswered answer.status)) }
+    ensures failed { IfErr result (λ e.
+        FollowsCheck job.now (seen_of H.text H.lacks H.faults shelf.old shelf.new) (Err e)
+        × OnReadFault e (CheckInputRose job.now (seen_of H.text H.lacks H.faults shelf.old shelf.new))) }
+    ensures stays { StaysAs H.text H.lacks H.faults shelf.old shelf.new }
+{
+    match fetch_session(alloc, shelf, job.sdp.as_str())? {
+        Ok(session) => {
+            let sources = fetch_captures(alloc, shelf, job.captures.as_slice())?;
+            Ok(Ok(Opened { session, sources }))
+        }
+        Err(fault) => Ok(Err(Answer::silent(alloc, Status::SdpRefused(fault)))),
+    }
+}
+
 /// The answer of a job on one thread, or why there is none.
 pub fn answer_check<H: Shelf>(
     alloc: Global,
@@ -65,21 +103,16 @@ pub fn answer_check<H: Shelf>(
 ) -> Result<Answer, Failure>
     ensures follows { FollowsCheck job.now (seen_of H.text H.lacks H.faults shelf.old shelf.new) result }
     ensures cause { HasCause result (CheckInputRose job.now (seen_of H.text H.lacks H.faults shelf.old shelf.new)) }
-    ensures lacks { (n : List ℕ) → H.lacks shelf.old n → H.lacks shelf.new n }
-    ensures texts { (n : List ℕ) → H.text shelf.new n ≡ H.text shelf.old n }
-    ensures later { (n : List ℕ) → H.faults shelf.old n ≤ H.faults shelf.new n }
+    ensures stays { StaysAs H.text H.lacks H.faults shelf.old shelf.new }
 {
-    let session = match fetch_session(alloc, shelf, job.sdp.as_str())? {
-        Ok(session) => session,
-        Err(fault) => return Ok(Answer::silent(alloc, Status::SdpRefused(fault))),
-    };
-    let sources = fetch_captures(alloc, shelf, job.captures.as_slice())?;
-    let media = session.media.as_slice();
-    let found = match judge_alone(alloc, shelf, sources, media, job.joined, job.tai) {
-        Ok(found) => found,
-        Err(failure) => return Err(failure),
-    };
-    report_on(alloc, job, &session, &found)
+    match open(alloc, job, shelf)? {
+        Ok(Opened { session, sources }) => {
+            let media = session.media.as_slice();
+            let found = judge_alone(alloc, shelf, sources, media, job.joined, job.tai)?;
+            report_on(alloc, job, &session, &found)
+        }
+        Err(answer) => Ok(answer),
+    }
 }
 
 /// The answer of a job with its workers, or on this thread where it has none, or why there is none.
@@ -92,31 +125,17 @@ pub fn answer_many<R: Threads + Wait + Sync, H: Shelf, G: Gate>(
 ) -> Result<Answer, Failure>
     ensures follows { FollowsCheck job.now (seen_of H.text H.lacks H.faults shelf.old shelf.new) result }
     ensures cause { HasCause result (CheckInputRose job.now (seen_of H.text H.lacks H.faults shelf.old shelf.new)) }
-    ensures lacks { (n : List ℕ) → H.lacks shelf.old n → H.lacks shelf.new n }
-    ensures texts { (n : List ℕ) → H.text shelf.new n ≡ H.text shelf.old n }
-    ensures later { (n : List ℕ) → H.faults shelf.old n ≤ H.faults shelf.new n }
+    ensures stays { StaysAs H.text H.lacks H.faults shelf.old shelf.new }
 {
-    let session = match fetch_session(alloc, shelf, job.sdp.as_str())? {
-        Ok(session) => session,
-        Err(fault) => return Ok(Answer::silent(alloc, Status::SdpRefused(fault))),
-    };
-    let sources = fetch_captures(alloc, shelf, job.captures.as_slice())?;
-    let media = session.media.as_slice();
-    let found = match judge_any(
-        rt,
-        alloc,
-        shelf,
-        sources,
-        media,
-        job.joined,
-        job.tai,
-        job.workers,
-        gate,
-    ) {
-        Ok(found) => found,
-        Err(failure) => return Err(failure),
-    };
-    report_on(alloc, job, &session, &found)
+    match open(alloc, job, shelf)? {
+        Ok(Opened { session, sources }) => {
+            let media = session.media.as_slice();
+            let (joined, tai, workers) = (job.joined, job.tai, job.workers);
+            let found = judge_any(rt, alloc, shelf, sources, media, joined, tai, workers, gate)?;
+            report_on(alloc, job, &session, &found)
+        }
+        Err(answer) => Ok(answer),
+    }
 }
 
 /// Judges the captures of a job on one thread, whatever its number of workers says, and prints the
@@ -134,9 +153,7 @@ pub fn check_one<H: Shelf, K: Sink>(
         (output_of K.written K.faults out.old out.new)
         (output_of K.written K.faults err.old err.new)
         result }
-    ensures lacks { (n : List ℕ) → H.lacks shelf.old n → H.lacks shelf.new n }
-    ensures texts { (n : List ℕ) → H.text shelf.new n ≡ H.text shelf.old n }
-    ensures later { (n : List ℕ) → H.faults shelf.old n ≤ H.faults shelf.new n }
+    ensures stays { StaysAs H.text H.lacks H.faults shelf.old shelf.new }
 {
     let outcome = answer_check(alloc, job, shelf);
     conclude(out, err, outcome)
@@ -160,9 +177,7 @@ pub fn check_many<R: Threads + Wait + Sync, H: Shelf, K: Sink, G: Gate>(
         (output_of K.written K.faults out.old out.new)
         (output_of K.written K.faults err.old err.new)
         result }
-    ensures lacks { (n : List ℕ) → H.lacks shelf.old n → H.lacks shelf.new n }
-    ensures texts { (n : List ℕ) → H.text shelf.new n ≡ H.text shelf.old n }
-    ensures later { (n : List ℕ) → H.faults shelf.old n ≤ H.faults shelf.new n }
+    ensures stays { StaysAs H.text H.lacks H.faults shelf.old shelf.new }
 {
     let outcome = answer_many(rt, alloc, job, shelf, gate);
     conclude(out, err, outcome)

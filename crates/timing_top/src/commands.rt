@@ -1,6 +1,7 @@
 //! From the words of a command line to what is printed and the status.
 
-ghost use Rattle.std.specs.Prelude.{◌≡◌, ◌≤◌, ◌==◌, ℕ, List, Some, map, string_bytes};
+ghost use Rattle.std.specs.Prelude.{Some, map, string_bytes};
+ghost use Rattle.timing_outside.specs.Shelves.{StaysAs};
 ghost use Rattle.timing_steps.specs.Answers.{seen_of};
 ghost use Rattle.timing_steps.specs.Ran.{HasCause, Ran, output_of};
 ghost use Rattle.timing_words.specs.Request.{request};
@@ -61,9 +62,7 @@ fn answer_request<R: Threads + Wait + Sync, H: Shelf, G: Gate>(
 ) -> Result<Answer, Failure>
     ensures follows { Follows (Some request) (seen_of H.text H.lacks H.faults shelf.old shelf.new) result }
     ensures cause { HasCause result (InputRose (Some request) (seen_of H.text H.lacks H.faults shelf.old shelf.new)) }
-    ensures lacks { (n : List ℕ) → H.lacks shelf.old n → H.lacks shelf.new n }
-    ensures texts { (n : List ℕ) → H.text shelf.new n ≡ H.text shelf.old n }
-    ensures later { (n : List ℕ) → H.faults shelf.old n ≤ H.faults shelf.new n }
+    ensures stays { StaysAs H.text H.lacks H.faults shelf.old shelf.new }
 {
     match request {
         Request::Check(job) => answer_many(rt, alloc, &job, shelf, gate),
@@ -86,9 +85,7 @@ fn answer<R: Threads + Wait + Sync, H: Shelf, G: Gate>(
 ) -> Result<Answer, Failure>
     ensures follows { Follows (request (map string_bytes words.now)) (seen_of H.text H.lacks H.faults shelf.old shelf.new) result }
     ensures cause { HasCause result (InputRose (request (map string_bytes words.now)) (seen_of H.text H.lacks H.faults shelf.old shelf.new)) }
-    ensures lacks { (n : List ℕ) → H.lacks shelf.old n → H.lacks shelf.new n }
-    ensures texts { (n : List ℕ) → H.text shelf.new n ≡ H.text shelf.old n }
-    ensures later { (n : List ℕ) → H.faults shelf.old n ≤ H.faults shelf.new n }
+    ensures stays { StaysAs H.text H.lacks H.faults shelf.old shelf.new }
 {
     match read_words(alloc, words) {
         Ok(request) => answer_request(rt, alloc, request, shelf, gate),
@@ -123,9 +120,7 @@ pub fn run<R: Wait + Threads + Sync, H: Shelf, K: Sink, G: Gate>(
         (output_of K.written K.faults out.old out.new)
         (output_of K.written K.faults err.old err.new)
         result }
-    ensures lacks { (n : List ℕ) → H.lacks shelf.old n → H.lacks shelf.new n }
-    ensures texts { (n : List ℕ) → H.text shelf.new n ≡ H.text shelf.old n }
-    ensures later { (n : List ℕ) → H.faults shelf.old n ≤ H.faults shelf.new n }
+    ensures stays { StaysAs H.text H.lacks H.faults shelf.old shelf.new }
 {
     let outcome = answer(rt, alloc, words, shelf, gate);
     conclude(out, err, outcome)

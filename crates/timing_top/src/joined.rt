@@ -3,24 +3,21 @@
 ghost use Rattle.std.specs.Prelude.{◌≡◌, ◌≤◌, ◌<◌, ◌+◌, ◌*◌, ◌^◌, ℕ, List, Some, IfOk, IfErr, length, All};
 ghost use Rattle.timing_base.specs.Captures.{joined};
 ghost use Rattle.timing_outside.specs.Causes.{Rose};
-ghost use Rattle.timing_report.specs.Outcomes.{AreOfSession};
-ghost use Rattle.pcapng_reader.specs.Classic.{classic_texts};
+ghost use Rattle.timing_outside.specs.Shelves.{StaysAs};
 ghost use Rattle.pcapng_reader.specs.Sources.{faults_of, left_of, name_of};
-ghost use Rattle.timing_steps.specs.Answers.{AreTold, CaptureRose, OnReadFault};
-ghost use Rattle.timing_steps.specs.Fetched.{AreFetched};
+ghost use Rattle.timing_steps.specs.Answers.{OnReadFault, seen_of};
 ghost use Rattle.flow_bank.specs.Rows.{rows_of};
 ghost use Rattle.flow_bank.specs.Stands.{IsFed, records};
-ghost use Rattle.flow_bank.specs.Found.{AreFound};
-ghost use Rattle.timing_top.specs.Found.{JoinsNext};
+ghost use Rattle.timing_top.specs.Found.{IsJudged, JoinsNext};
 
-use crate::captures::{Found, take_capture};
+use crate::captures::Found;
 use flow_bank::Bank;
 use pcapng_reader::Classic;
 use std::alloc::Global;
 use timing_base::{FileNote, Media};
 use timing_outside::{Shelf, Source};
 use timing_report::Input;
-use timing_steps::{Failure, give_back, give_back_all};
+use timing_steps::{Failure, give_back, give_back_all, take_source};
 
 /// Captures that are one capture, as far as they were taken.
 #[derive(Drop)]
@@ -56,13 +53,11 @@ fn join_next<H: Shelf>(
         (i ≡ Input.Capture (length joined.old.notes.items))
         × Rose (H.faults shelf.old (name_of H.Source.name source))
         (H.faults shelf.new (name_of H.Source.name source)))) }
-    ensures lacks { (n : List ℕ) → H.lacks shelf.old n → H.lacks shelf.new n }
-    ensures texts { (n : List ℕ) → H.text shelf.new n ≡ H.text shelf.old n }
-    ensures later { (n : List ℕ) → H.faults shelf.old n ≤ H.faults shelf.new n }
+    ensures stays { StaysAs H.text H.lacks H.faults shelf.old shelf.new }
 {
     let number = joined.notes.len() as u32;
     let before = joined.records;
-    let taken = take_capture(alloc, shelf, source, number, before, &mut joined.bank)?;
+    let taken = take_source(alloc, shelf, source, number, before, &mut joined.bank)?;
     joined.notes.push(taken.note)?;
     joined.records += taken.records;
     Ok(())
@@ -82,22 +77,9 @@ pub fn judge_joined<H: Shelf>(
     requires fresh { All (λ source. faults_of H.Source.faults source ≡ 0) sources.items }
     requires few_media { length media.now ≤ 64 }
     requires tai { tai ≤ 1000 }
-    ensures told { IfOk result (λ found. (names texts : List (List ℕ))
-        → AreFetched (name_of H.Source.name) (left_of H.Source.left) (faults_of H.Source.faults)
-        (classic_texts (H.text shelf.old)) names sources.items
-        → AreTold (classic_texts (H.text shelf.old)) names texts
-        → AreFound texts (λ files. rows_of tai 0 media.now (joined files))
-        found.notes.items found.rows.items) }
-    ensures count { IfOk result (λ found. length found.notes.items ≡ length sources.items) }
-    ensures of_session { IfOk result (λ found. AreOfSession media.now found.rows.items) }
-    ensures cause { (names : List (List ℕ))
-        → AreFetched (name_of H.Source.name) (left_of H.Source.left) (faults_of H.Source.faults)
-        (classic_texts (H.text shelf.old)) names sources.items
-        → IfErr result (λ e. OnReadFault e (λ i. (number : ℕ) × (i ≡ Input.Capture number)
-        × CaptureRose (H.faults shelf.old) (H.faults shelf.new) names number)) }
-    ensures lacks { (n : List ℕ) → H.lacks shelf.old n → H.lacks shelf.new n }
-    ensures texts { (n : List ℕ) → H.text shelf.new n ≡ H.text shelf.old n }
-    ensures later { (n : List ℕ) → H.faults shelf.old n ≤ H.faults shelf.new n }
+    ensures judged { IsJudged (name_of H.Source.name) (left_of H.Source.left) (faults_of H.Source.faults)
+        (seen_of H.text H.lacks H.faults shelf.old shelf.new) sources.items (λ files. rows_of tai 0 media.now (joined files)) media.now result }
+    ensures stays { StaysAs H.text H.lacks H.faults shelf.old shelf.new }
 {
     let bank = match Bank::new(alloc, media, 0, tai) {
         Ok(bank) => bank,

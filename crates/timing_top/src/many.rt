@@ -1,16 +1,14 @@
 //! The captures of a job, judged by intakes and workers beside each other.
 
-ghost use Rattle.std.specs.Prelude.{◌≡◌, ◌≤◌, ◌<◌, ℕ, List, IfErr, IfOk, IfSome, All, length, slice_index_or};
+ghost use Rattle.std.specs.Prelude.{◌≡◌, ◌≤◌, ◌<◌, IfSome, All, length, slice_index_or};
 ghost use Rattle.timing_base.specs.Targets.{HaveOwnTargets};
 ghost use Rattle.timing_base.specs.declared.capture.FileNote.TheVariants as file_note;
 ghost use Rattle.timing_base.specs.declared.capture.PcapFault.TheVariants as fault;
-ghost use Rattle.flow_bank.specs.Found.{AreFound};
+ghost use Rattle.timing_outside.specs.Shelves.{StaysAs};
 ghost use Rattle.flow_bank.specs.Rows.{rows_over};
-ghost use Rattle.timing_report.specs.Outcomes.{AreOfSession};
-ghost use Rattle.pcapng_reader.specs.Classic.{classic_texts};
 ghost use Rattle.pcapng_reader.specs.Sources.{faults_of, left_of, name_of};
-ghost use Rattle.timing_steps.specs.Answers.{AreTold, CaptureRose, OnReadFault};
-ghost use Rattle.timing_steps.specs.Fetched.{AreFetched};
+ghost use Rattle.timing_steps.specs.Answers.{seen_of};
+ghost use Rattle.timing_top.specs.Found.{IsJudged};
 
 use crate::captures::Found;
 use flow_crew::{Judged, judge_files};
@@ -60,21 +58,9 @@ pub fn judge_many<R: Threads + Wait + Sync, H: Shelf, G: Gate>(
     requires tai { tai ≤ 1000 }
     requires some_workers { 1 ≤ workers }
     requires few_workers { workers ≤ 16 }
-    ensures told { IfOk result (λ found. (names texts : List (List ℕ))
-        → AreFetched (name_of H.Source.name) (left_of H.Source.left) (faults_of H.Source.faults)
-        (classic_texts (H.text shelf.old)) names sources.items
-        → AreTold (classic_texts (H.text shelf.old)) names texts
-        → AreFound texts (rows_over joined tai media.now) found.notes.items found.rows.items) }
-    ensures count { IfOk result (λ found. length found.notes.items ≡ length sources.items) }
-    ensures of_session { IfOk result (λ found. AreOfSession media.now found.rows.items) }
-    ensures cause { (names : List (List ℕ))
-        → AreFetched (name_of H.Source.name) (left_of H.Source.left) (faults_of H.Source.faults)
-        (classic_texts (H.text shelf.old)) names sources.items
-        → IfErr result (λ e. OnReadFault e (λ i. (number : ℕ) × (i ≡ Input.Capture number)
-        × CaptureRose (H.faults shelf.old) (H.faults shelf.new) names number)) }
-    ensures lacks { (n : List ℕ) → H.lacks shelf.old n → H.lacks shelf.new n }
-    ensures texts { (n : List ℕ) → H.text shelf.new n ≡ H.text shelf.old n }
-    ensures later { (n : List ℕ) → H.faults shelf.old n ≤ H.faults shelf.new n }
+    ensures judged { IsJudged (name_of H.Source.name) (left_of H.Source.left) (faults_of H.Source.faults)
+        (seen_of H.text H.lacks H.faults shelf.old shelf.new) sources.items (rows_over joined tai media.now) media.now result }
+    ensures stays { StaysAs H.text H.lacks H.faults shelf.old shelf.new }
 {
     let Judged {
         sources,

@@ -15,15 +15,17 @@ mod captures;
 mod descriptions;
 mod faults;
 mod joined;
+mod pairs;
 mod pcapng;
-mod reach;
 mod refused;
 mod self_tests;
 mod senders;
 mod several;
+mod shapes;
 mod threads;
 mod variants;
 mod verify;
+mod windows;
 mod words;
 
 // How a check is run: on one thread, and with so many workers.

@@ -9,6 +9,7 @@ use Rattle.timing_base.specs.declared.capture.FileNote.{FileNote}
 use Rattle.timing_base.specs.declared.row.Unjudged.{Unjudged}
 use Rattle.timing_outside.specs.Causes.{Rose}
 use Rattle.pcap_reader.specs.Records.{AreRecords}
+use Rattle.pcap_reader.proofs.Captures.{some-records}
 use Rattle.udp_rtp.specs.Flow.{flow}
 use Rattle.interval_checker.specs.Checked.{IfChecked, IfReadFault, Says}
 use Rattle.interval_checker.specs.Sources.{AreBack, RoseAt, TellTexts}
@@ -20,7 +21,6 @@ use Rattle.timing_steps.specs.Fetched.{AreFetched}
 use Rattle.timing_steps.specs.declared.failure.Failure.{Failure}
 use Rattle.timing_verify.specs.Findings.{Finds}
 use Rattle.timing_verify.specs.Found.{FailedAmong, finding_of}
-use Rattle.timing_verify.proofs.Unique.{some-records}
 
 -- fetched sources tell what their names tell
 pub tell-texts : {S : Type 0} (name : S → List ℕ) (left : S → Option (List ℕ)) (faults : S → ℕ) (texts : List ℕ → Option (List ℕ)) (names : List (List ℕ)) (sources : List S) (read : List (List ℕ))

@@ -1,3 +1,4 @@
+pub mod Answered
 mod Confirming
 mod Following
 mod Needing

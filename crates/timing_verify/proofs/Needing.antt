@@ -69,7 +69,7 @@ checked-seen texts also lacks later job media checked same kept h = record {
 }
 
 -- of all claims, as of all that were checked
-unmapped : (P : ReportProof → Type 0) (checked : List Checked) → All P (map (λ c. c.claim) checked) → All (λ (c : Checked). P c.claim) checked
+pub unmapped : (P : ReportProof → Type 0) (checked : List Checked) → All P (map (λ c. c.claim) checked) → All (λ (c : Checked). P c.claim) checked
 unmapped P [] h = All-nil (λ (c : Checked). P c.claim)
 unmapped P (c ∷ cs) h = All-cons (λ (x : Checked). P x.claim) c cs (All-head P c.claim (map (λ x. x.claim) cs) h) (unmapped P cs (All-tail P c.claim (map (λ x. x.claim) cs) h))
 

@@ -1,5 +1,5 @@
 -- Captures say one thing of a claim, and the texts of a job have one answer.
-use Rattle.std.proofs.Common.{◌≡◌, ◌+◌, ◌≤◌, ◌<◌, ◌^◌, ◌⊎◌, ℕ, zero, suc, Bool, true, false, List, [], ◌∷◌, length, Option, Some, None, refl, arith, ap, ◌∙◌, sym, subst, inl, inr, if◌then◌else◌}
+use Rattle.std.proofs.Common.{◌≡◌, ◌+◌, ◌≤◌, ◌<◌, ◌⊎◌, ℕ, zero, suc, Bool, true, false, List, [], ◌∷◌, length, Option, Some, None, refl, arith, ap, ◌∙◌, sym, subst, inl, inr, if◌then◌else◌}
 use Rattle.std.proofs.lemmas.Bool.{cases_lt}
 use Rattle.std.proofs.lemmas.List.Elements.{All-cons, All-head, All-map, All-nil, All-tail}
 use Rattle.std.specs.List.{list_all, list_any}
@@ -8,7 +8,6 @@ use Rattle.timing_base.specs.Captures.{Record, joined}
 use Rattle.timing_base.specs.Jobs.{ReportJob, VerifyJob}
 use Rattle.timing_base.specs.Judged.{FlowVerdict, JudgedRun, RunOutcome, absent, refused, gap, in_one_run, in_runs, no_whole_frame, whole_frames, judged}
 use Rattle.timing_base.specs.Media.{Media}
-use Rattle.timing_base.specs.declared.capture.FileNote.{FileNote}
 use Rattle.timing_base.specs.declared.fail.Broken.{Broken}
 use Rattle.timing_base.specs.declared.fail.Broken.TheVariants.{Bucket, Over, Empty}
 use Rattle.timing_base.specs.declared.fail.FailProof.{FailProof}
@@ -18,9 +17,7 @@ use Rattle.timing_base.specs.declared.row.Unjudged.TheVariants.{Absent, NoWholeF
 use Rattle.sender_params.specs.Keeps.{BreaksLimit, Confirms, arrived_by_read, held_at}
 use Rattle.sender_params.specs.Limits.{c_max_of, gapped_of, vrx_full_of}
 use Rattle.sender_params.specs.Ticks.{load_of}
-use Rattle.pcap_reader.specs.Header.{header}
-use Rattle.pcap_reader.specs.Records.{AreRecords}
-use Rattle.pcap_reader.proofs.Lists.{only_by, some_by}
+use Rattle.pcap_reader.proofs.Captures.{only-records, some-records}
 use Rattle.udp_rtp.specs.Flow.{flow}
 use Rattle.interval_checker.specs.Checked.{Says, SaysAt, SaysJudged, SaysOutcome}
 use Rattle.timing_json.specs.declared.reading.ReportProof.{ReportProof}
@@ -30,28 +27,6 @@ use Rattle.timing_verify.specs.Asked.{AreChecked, FindsOf, HasReported, HasVerif
 use Rattle.timing_verify.specs.Findings.{Finds}
 use Rattle.timing_verify.specs.Verified.{is_confirmed, is_unjudged, reported, verified}
 use Rattle.timing_verify.specs.declared.checked.Checked.{Checked}
-
--- the records of captures, and how they end
-pub some-records : (texts : List (List ℕ)) → (files : List (List Record)) × (notes : List FileNote) × AreRecords texts files notes
-some-records [] = ([], [], tt)
-some-records (text ∷ texts) =
-    let first = some_by (header text) (2 ^ 40) text in
-    let others = some-records texts in
-    (first.0 ∷ others.0, first.1 ∷ others.1, (first.2, others.2))
-
-only-records : (texts : List (List ℕ)) (fs gs : List (List Record)) (ns ms : List FileNote) → AreRecords texts fs ns → AreRecords texts gs ms → fs ≡ gs
-only-records [] [] [] [] [] h k = refl
-only-records (t ∷ ts) (f ∷ fs) (g ∷ gs) (n ∷ ns) (m ∷ ms) h k =
-    let first = only_by (header t) (2 ^ 40) t f g n m h.0 k.0 in
-    ap (λ x. x ∷ fs) first.0 ∙ ap (λ l. g ∷ l) (only-records ts fs gs ns ms h.1 k.1)
-only-records [] (f ∷ fs) gs ns ms h k = absurd h
-only-records [] [] gs (n ∷ ns) ms h k = absurd h
-only-records [] [] (g ∷ gs) [] ms h k = absurd k
-only-records [] [] [] [] (m ∷ ms) h k = absurd k
-only-records (t ∷ ts) [] gs ns ms h k = absurd h
-only-records (t ∷ ts) (f ∷ fs) gs [] ms h k = absurd h
-only-records (t ∷ ts) (f ∷ fs) [] (n ∷ ns) ms h k = absurd k
-only-records (t ∷ ts) (f ∷ fs) (g ∷ gs) (n ∷ ns) [] h k = absurd k
 
 -- numbers are equal or aren't, and one is below the other or isn't
 eq-decided : (a b : ℕ) → (a ≡ b) ⊎ (a ≡ b → ⊥)
@@ -163,7 +138,7 @@ some-finding media claim tai texts =
 pub only-finding : (media : Media) (claim : ReportProof) (tai : ℕ) (texts : List (List ℕ)) (a b : Result Bool Unjudged) → Finds media claim tai texts a → Finds media claim tai texts b → a ≡ b
 only-finding media claim tai texts a b h k =
     only-said media claim.kind claim.proof claim.run (judged (flow (joined k.files) media) media.pt tai) a b
-    (subst (λ (files : List (List Record)). Says media claim.kind claim.proof claim.run (judged (flow (joined files) media) media.pt tai) a) (only-records texts h.files k.files h.notes k.notes h.records k.records) h.says)
+    (subst (λ (files : List (List Record)). Says media claim.kind claim.proof claim.run (judged (flow (joined files) media) media.pt tai) a) (only-records texts h.files k.files h.notes k.notes h.records k.records).0 h.says)
     k.says
 
 -- `verify`

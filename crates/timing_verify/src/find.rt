@@ -1,6 +1,7 @@
 //! One claim, checked over captures that are fetched for it.
 
 ghost use Rattle.std.specs.Prelude.{◌≡◌, ◌≤◌, ℕ, List, IfOk, IfErr, length};
+ghost use Rattle.timing_outside.specs.Shelves.{StaysAs};
 ghost use Rattle.pcapng_reader.specs.Classic.{classic_texts};
 ghost use Rattle.timing_steps.specs.Answers.{AreThere, AreTold};
 ghost use Rattle.timing_verify.specs.Findings.{Finds};
@@ -46,9 +47,7 @@ pub fn find<H: Shelf>(
         → Finds media.now claim.now tai texts finding) }
     ensures cause { IfErr result (FailedAmong (H.faults shelf.old) (H.faults shelf.new) names.now) }
     ensures there { IfOk result (λ _. AreThere (H.lacks shelf.old) names.now) }
-    ensures lacks { (n : List ℕ) → H.lacks shelf.old n → H.lacks shelf.new n }
-    ensures texts { (n : List ℕ) → H.text shelf.new n ≡ H.text shelf.old n }
-    ensures later { (n : List ℕ) → H.faults shelf.old n ≤ H.faults shelf.new n }
+    ensures stays { StaysAs H.text H.lacks H.faults shelf.old shelf.new }
 {
     let sources = fetch_captures(alloc, shelf, names)?;
     let (kind, run) = (claim.kind, claim.run);

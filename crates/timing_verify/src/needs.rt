@@ -1,11 +1,12 @@
 //! The captures that the fails of a report need.
 
-ghost use Rattle.std.specs.Prelude.{◌≡◌, ◌≤◌, ◌<◌, ℕ, List, All, IfOk, IfErr, false, map, length, option_map};
+ghost use Rattle.std.specs.Prelude.{◌≡◌, ◌<◌, ℕ, List, All, IfOk, IfErr, false, map, length, option_map};
+ghost use Rattle.timing_outside.specs.Shelves.{StaysAs};
 ghost use Rattle.pcapng_reader.specs.Classic.{classic_texts};
-ghost use Rattle.timing_steps.specs.Answers.{AreThere, OnReadFault, seen_of};
-ghost use Rattle.timing_verify.specs.Asked.{AreTexts, FindsOf, NeededRose, captures_of, file_count, media_for, needed};
+ghost use Rattle.timing_steps.specs.Answers.{OnReadFault, seen_of};
+ghost use Rattle.timing_verify.specs.Asked.{FindsOf, NeededRose, captures_of, file_count, media_for, needed};
 ghost use Rattle.timing_verify.specs.Findings.{Finds};
-ghost use Rattle.timing_verify.specs.Found.{FailedNeeded, IsChecked, numbered};
+ghost use Rattle.timing_verify.specs.Found.{FailedNeeded, IsChecked, Tells, numbered};
 
 use crate::checked::{Checked, Finding};
 use crate::find::find;
@@ -54,17 +55,9 @@ fn find_alone<H: Shelf>(
 ) -> Result<Finding, Failure>
     requires apart { job.now.joined ≡ false }
     requires within { claim.now.key.file < length job.now.captures }
-    ensures told { IfOk result (λ finding. (text : List ℕ → List ℕ)
-        → AreTexts (classic_texts (H.text shelf.old)) text (captures_of job.now claim.now.key)
-        → Finds media.now claim.now job.now.tai (map text (captures_of job.now claim.now.key))
-        finding) }
-    ensures cause { IfErr result (FailedNeeded (H.faults shelf.old) (H.faults shelf.new) job.now
-        (captures_of job.now claim.now.key)) }
-    ensures there { IfOk result (λ _. AreThere (H.lacks shelf.old)
-        (captures_of job.now claim.now.key)) }
-    ensures lacks { (n : List ℕ) → H.lacks shelf.old n → H.lacks shelf.new n }
-    ensures texts { (n : List ℕ) → H.text shelf.new n ≡ H.text shelf.old n }
-    ensures later { (n : List ℕ) → H.faults shelf.old n ≤ H.faults shelf.new n }
+    ensures tells { Tells (seen_of H.text H.lacks H.faults shelf.old shelf.new) job.now (captures_of job.now claim.now.key)
+        (λ text. Finds media.now claim.now job.now.tai (map text (captures_of job.now claim.now.key))) result }
+    ensures stays { StaysAs H.text H.lacks H.faults shelf.old shelf.new }
 {
     let file = claim.key.file as usize;
     let names = &job.captures.as_slice()[file..file + 1];
@@ -83,17 +76,9 @@ fn find_of<H: Shelf>(
     claim: &ReportProof,
 ) -> Result<Finding, Failure>
     requires within { claim.now.key.file < file_count job.now }
-    ensures told { IfOk result (λ finding. (text : List ℕ → List ℕ)
-        → AreTexts (classic_texts (H.text shelf.old)) text (captures_of job.now claim.now.key)
-        → Finds media.now claim.now job.now.tai (map text (captures_of job.now claim.now.key))
-        finding) }
-    ensures cause { IfErr result (FailedNeeded (H.faults shelf.old) (H.faults shelf.new) job.now
-        (captures_of job.now claim.now.key)) }
-    ensures there { IfOk result (λ _. AreThere (H.lacks shelf.old)
-        (captures_of job.now claim.now.key)) }
-    ensures lacks { (n : List ℕ) → H.lacks shelf.old n → H.lacks shelf.new n }
-    ensures texts { (n : List ℕ) → H.text shelf.new n ≡ H.text shelf.old n }
-    ensures later { (n : List ℕ) → H.faults shelf.old n ≤ H.faults shelf.new n }
+    ensures tells { Tells (seen_of H.text H.lacks H.faults shelf.old shelf.new) job.now (captures_of job.now claim.now.key)
+        (λ text. Finds media.now claim.now job.now.tai (map text (captures_of job.now claim.now.key))) result }
+    ensures stays { StaysAs H.text H.lacks H.faults shelf.old shelf.new }
 {
     if !job.joined {
         return find_alone(alloc, job, shelf, media, claim);
@@ -110,16 +95,9 @@ fn find_needed<H: Shelf>(
     media: &[Media],
     claim: &ReportProof,
 ) -> Result<Finding, Failure>
-    ensures told { IfOk result (λ finding. (text : List ℕ → List ℕ)
-        → AreTexts (classic_texts (H.text shelf.old)) text (needed job.now media.now claim.now)
-        → FindsOf (media_for job.now media.now claim.now.key) job.now claim.now text finding) }
-    ensures cause { IfErr result (FailedNeeded (H.faults shelf.old) (H.faults shelf.new) job.now
-        (needed job.now media.now claim.now)) }
-    ensures there { IfOk result (λ _. AreThere (H.lacks shelf.old)
-        (needed job.now media.now claim.now)) }
-    ensures lacks { (n : List ℕ) → H.lacks shelf.old n → H.lacks shelf.new n }
-    ensures texts { (n : List ℕ) → H.text shelf.new n ≡ H.text shelf.old n }
-    ensures later { (n : List ℕ) → H.faults shelf.old n ≤ H.faults shelf.new n }
+    ensures tells { Tells (seen_of H.text H.lacks H.faults shelf.old shelf.new) job.now (needed job.now media.now claim.now)
+        (FindsOf (media_for job.now media.now claim.now.key) job.now claim.now) result }
+    ensures stays { StaysAs H.text H.lacks H.faults shelf.old shelf.new }
 {
     match media_for(job, media, claim.key) {
         Some(media) => find_of(alloc, job, shelf, media, claim),
@@ -139,9 +117,7 @@ fn check_claim<H: Shelf>(
     ensures claim { IfOk result (λ checked. checked.claim ≡ claim.now) }
     ensures cause { IfErr result (FailedNeeded (H.faults shelf.old) (H.faults shelf.new) job.now
         (needed job.now media.now claim.now)) }
-    ensures lacks { (n : List ℕ) → H.lacks shelf.old n → H.lacks shelf.new n }
-    ensures texts { (n : List ℕ) → H.text shelf.new n ≡ H.text shelf.old n }
-    ensures later { (n : List ℕ) → H.faults shelf.old n ≤ H.faults shelf.new n }
+    ensures stays { StaysAs H.text H.lacks H.faults shelf.old shelf.new }
 {
     let finding = find_needed(alloc, job, shelf, media, claim)?;
     Ok(Checked {
@@ -163,9 +139,7 @@ pub fn check_each<H: Shelf>(
     ensures claims { IfOk result (λ checked. map (λ c. c.claim) checked.items ≡ claims.now) }
     ensures cause { IfErr result (λ e. OnReadFault e (λ i. (number : ℕ) × (i ≡ Input.Capture number)
         × NeededRose (seen_of H.text H.lacks H.faults shelf.old shelf.new) job.now media.now claims.now number)) }
-    ensures lacks { (n : List ℕ) → H.lacks shelf.old n → H.lacks shelf.new n }
-    ensures texts { (n : List ℕ) → H.text shelf.new n ≡ H.text shelf.old n }
-    ensures later { (n : List ℕ) → H.faults shelf.old n ≤ H.faults shelf.new n }
+    ensures stays { StaysAs H.text H.lacks H.faults shelf.old shelf.new }
 {
     let mut checked = Vec::new(alloc);
     for claim in claims {

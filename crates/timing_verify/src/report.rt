@@ -1,9 +1,10 @@
 //! `verify-report`: each fail that a JSON report tells, checked from the captures alone.
 
-ghost use Rattle.std.specs.Prelude.{◌≡◌, ◌≤◌, ℕ, List, Some, IfOk, IfErr, MatchOption};
+ghost use Rattle.std.specs.Prelude.{◌≡◌, ℕ, List, Some, IfOk, IfErr, MatchOption};
 ghost use Rattle.timing_json.specs.Reading.{IsReport};
 ghost use Rattle.timing_json.specs.declared.reading.ReportProof.{ReportProof as Claim};
 ghost use Rattle.timing_outside.specs.Causes.{Rose};
+ghost use Rattle.timing_outside.specs.Shelves.{StaysAs};
 ghost use Rattle.timing_steps.specs.Answers.{Gives, OnReadFault, Yields, seen_of};
 ghost use Rattle.timing_steps.specs.Ran.{HasCause, Ran, output_of};
 ghost use Rattle.timing_verify.specs.Asked.{FollowsReport, HasReported, ReadsNeeded, ReadsReport, ReportInputRose};
@@ -32,9 +33,7 @@ fn fetch_report<H: Shelf>(
     ensures cause { IfErr result (λ e. OnReadFault e (λ i. (i ≡ Input.Report)
         × Rose (H.faults shelf.old name.now) (H.faults shelf.new name.now))) }
     ensures there { IfOk result (λ _. ¬ H.lacks shelf.old name.now) }
-    ensures lacks { (n : List ℕ) → H.lacks shelf.old n → H.lacks shelf.new n }
-    ensures texts { (n : List ℕ) → H.text shelf.new n ≡ H.text shelf.old n }
-    ensures later { (n : List ℕ) → H.faults shelf.old n ≤ H.faults shelf.new n }
+    ensures stays { StaysAs H.text H.lacks H.faults shelf.old shelf.new }
 {
     let bytes = match fetch_front(alloc, shelf, name, REPORT_MOST) {
         Ok(bytes) => bytes,
@@ -58,9 +57,7 @@ fn answer_on<H: Shelf>(
     ensures follows { Yields result (ReadsNeeded (seen_of H.text H.lacks H.faults shelf.old shelf.new) result job.now media.now claims.now
         (λ text. Gives result (HasReported job.now media.now claims.now text))) }
     ensures cause { HasCause result (ReportInputRose job.now (seen_of H.text H.lacks H.faults shelf.old shelf.new)) }
-    ensures lacks { (n : List ℕ) → H.lacks shelf.old n → H.lacks shelf.new n }
-    ensures texts { (n : List ℕ) → H.text shelf.new n ≡ H.text shelf.old n }
-    ensures later { (n : List ℕ) → H.faults shelf.old n ≤ H.faults shelf.new n }
+    ensures stays { StaysAs H.text H.lacks H.faults shelf.old shelf.new }
 {
     let checked = check_each(alloc, job, shelf, media, claims)?;
     Ok(reported(alloc, &checked)?)
@@ -76,9 +73,7 @@ fn answer_over<H: Shelf>(
     ensures follows { Yields result (ReadsReport (seen_of H.text H.lacks H.faults shelf.old shelf.new) result job.now.report (λ claims. ReadsNeeded (seen_of H.text H.lacks H.faults shelf.old shelf.new) result job.now media.now claims
         (λ text. Gives result (HasReported job.now media.now claims text)))) }
     ensures cause { HasCause result (ReportInputRose job.now (seen_of H.text H.lacks H.faults shelf.old shelf.new)) }
-    ensures lacks { (n : List ℕ) → H.lacks shelf.old n → H.lacks shelf.new n }
-    ensures texts { (n : List ℕ) → H.text shelf.new n ≡ H.text shelf.old n }
-    ensures later { (n : List ℕ) → H.faults shelf.old n ≤ H.faults shelf.new n }
+    ensures stays { StaysAs H.text H.lacks H.faults shelf.old shelf.new }
 {
     match fetch_report(alloc, shelf, job.report.as_str())? {
         Some(claims) => answer_on(alloc, job, shelf, media, &claims),
@@ -95,9 +90,7 @@ pub fn answer_report<H: Shelf>(
 ) -> Result<Answer, Failure>
     ensures follows { FollowsReport job.now (seen_of H.text H.lacks H.faults shelf.old shelf.new) result }
     ensures cause { HasCause result (ReportInputRose job.now (seen_of H.text H.lacks H.faults shelf.old shelf.new)) }
-    ensures lacks { (n : List ℕ) → H.lacks shelf.old n → H.lacks shelf.new n }
-    ensures texts { (n : List ℕ) → H.text shelf.new n ≡ H.text shelf.old n }
-    ensures later { (n : List ℕ) → H.faults shelf.old n ≤ H.faults shelf.new n }
+    ensures stays { StaysAs H.text H.lacks H.faults shelf.old shelf.new }
 {
     match fetch_session(alloc, shelf, job.sdp.as_str())? {
         Ok(session) => answer_over(alloc, job, shelf, session.media.as_slice()),
@@ -119,9 +112,7 @@ pub fn verify_all<H: Shelf, K: Sink>(
         (output_of K.written K.faults out.old out.new)
         (output_of K.written K.faults err.old err.new)
         result }
-    ensures lacks { (n : List ℕ) → H.lacks shelf.old n → H.lacks shelf.new n }
-    ensures texts { (n : List ℕ) → H.text shelf.new n ≡ H.text shelf.old n }
-    ensures later { (n : List ℕ) → H.faults shelf.old n ≤ H.faults shelf.new n }
+    ensures stays { StaysAs H.text H.lacks H.faults shelf.old shelf.new }
 {
     let outcome = answer_report(alloc, job, shelf);
     conclude(out, err, outcome)

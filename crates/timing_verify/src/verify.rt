@@ -1,6 +1,7 @@
 //! `verify`: one fail, checked from the captures alone.
 
-ghost use Rattle.std.specs.Prelude.{◌≡◌, ◌≤◌, ℕ, List, slice_get};
+ghost use Rattle.std.specs.Prelude.{◌≡◌, slice_get};
+ghost use Rattle.timing_outside.specs.Shelves.{StaysAs};
 ghost use Rattle.timing_steps.specs.Answers.{Gives, ReadsCaptures, Yields, seen_of};
 ghost use Rattle.timing_steps.specs.Ran.{HasCause, Ran, output_of};
 ghost use Rattle.timing_verify.specs.Asked.{FollowsVerify, HasVerified, ReadsMedia, VerifyInputRose, claim_of};
@@ -38,9 +39,7 @@ fn answer_on<H: Shelf>(
 ) -> Result<Answer, Failure>
     ensures follows { Yields result (ReadsCaptures (seen_of H.text H.lacks H.faults shelf.old shelf.new) result job.now.captures (λ texts. Gives result (HasVerified job.now media.now texts))) }
     ensures cause { HasCause result (VerifyInputRose job.now (seen_of H.text H.lacks H.faults shelf.old shelf.new)) }
-    ensures lacks { (n : List ℕ) → H.lacks shelf.old n → H.lacks shelf.new n }
-    ensures texts { (n : List ℕ) → H.text shelf.new n ≡ H.text shelf.old n }
-    ensures later { (n : List ℕ) → H.faults shelf.old n ≤ H.faults shelf.new n }
+    ensures stays { StaysAs H.text H.lacks H.faults shelf.old shelf.new }
 {
     let claim = claim_of(job);
     let names = job.captures.as_slice();
@@ -57,9 +56,7 @@ fn answer_over<H: Shelf>(
 ) -> Result<Answer, Failure>
     ensures follows { Yields result (ReadsMedia (seen_of H.text H.lacks H.faults shelf.old shelf.new) result job.now (slice_get media.now job.now.media)) }
     ensures cause { HasCause result (VerifyInputRose job.now (seen_of H.text H.lacks H.faults shelf.old shelf.new)) }
-    ensures lacks { (n : List ℕ) → H.lacks shelf.old n → H.lacks shelf.new n }
-    ensures texts { (n : List ℕ) → H.text shelf.new n ≡ H.text shelf.old n }
-    ensures later { (n : List ℕ) → H.faults shelf.old n ≤ H.faults shelf.new n }
+    ensures stays { StaysAs H.text H.lacks H.faults shelf.old shelf.new }
 {
     match media.get(job.media as usize) {
         Some(media) => answer_on(alloc, job, shelf, media),
@@ -76,9 +73,7 @@ pub fn answer_verify<H: Shelf>(
 ) -> Result<Answer, Failure>
     ensures follows { FollowsVerify job.now (seen_of H.text H.lacks H.faults shelf.old shelf.new) result }
     ensures cause { HasCause result (VerifyInputRose job.now (seen_of H.text H.lacks H.faults shelf.old shelf.new)) }
-    ensures lacks { (n : List ℕ) → H.lacks shelf.old n → H.lacks shelf.new n }
-    ensures texts { (n : List ℕ) → H.text shelf.new n ≡ H.text shelf.old n }
-    ensures later { (n : List ℕ) → H.faults shelf.old n ≤ H.faults shelf.new n }
+    ensures stays { StaysAs H.text H.lacks H.faults shelf.old shelf.new }
 {
     match fetch_session(alloc, shelf, job.sdp.as_str())? {
         Ok(session) => answer_over(alloc, job, shelf, session.media.as_slice()),
@@ -100,9 +95,7 @@ pub fn verify_one<H: Shelf, K: Sink>(
         (output_of K.written K.faults out.old out.new)
         (output_of K.written K.faults err.old err.new)
         result }
-    ensures lacks { (n : List ℕ) → H.lacks shelf.old n → H.lacks shelf.new n }
-    ensures texts { (n : List ℕ) → H.text shelf.new n ≡ H.text shelf.old n }
-    ensures later { (n : List ℕ) → H.faults shelf.old n ≤ H.faults shelf.new n }
+    ensures stays { StaysAs H.text H.lacks H.faults shelf.old shelf.new }
 {
     let outcome = answer_verify(alloc, job, shelf);
     conclude(out, err, outcome)

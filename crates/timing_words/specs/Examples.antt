@@ -1,6 +1,9 @@
 -- Lines for examples that are worked by hand.
-use Rattle.std.specs.Prelude.{ℕ, ◌==◌, if◌then◌else◌, List, [], ◌∷◌, codes}
-use Rattle.timing_words.specs.Line.{Text}
+use Rattle.std.specs.Prelude.{ℕ, ◌≡◌, ◌==◌, if◌then◌else◌, List, [], ◌∷◌, Some, None, codes, false}
+use Rattle.timing_base.specs.Jobs.{CheckJob, FlowJob}
+use Rattle.timing_base.specs.declared.job.Request.{Request}
+use Rattle.timing_words.specs.Line.{Part, Text, cut}
+use Rattle.timing_words.specs.Request.{check_sorts, request}
 
 -- a byte more of the first word
 abbrev pub longer : ℕ → List Text → List Text
@@ -12,6 +15,41 @@ abbrev pub words : Text → List Text
 words [] = [] ∷ []
 words (b ∷ bs) = if b == 32 then [] ∷ words bs else longer b (words bs)
 
--- sixteen names
+-- the line of sixteen names
+abbrev pub sixteen_names : Text
+sixteen_names = codes "a b c d e f g h i j k l m n o p"
+
+-- the sixteen names
 abbrev pub sixteen : List Text
-sixteen = words (codes "a b c d e f g h i j k l m n o p")
+sixteen = words sixteen_names
+
+-- the words of a line after `check` are cut into these parts
+abbrev pub IsCut : Text → List Part → Type 0
+IsCut text parts = cut check_sorts (words text) None ≡ Some parts
+
+-- they cannot be cut
+abbrev pub IsUncut : Text → Type 0
+IsUncut text = cut check_sorts (words text) None ≡ None
+
+-- the words of a whole line are this request
+abbrev pub Asks : Text → Request → Type 0
+Asks text asked = request (words text) ≡ Some asked
+
+-- they are no request
+abbrev pub IsRefused : Text → Type 0
+IsRefused text = request (words text) ≡ None
+
+-- what `check --sdp p c` asks for
+abbrev pub plain_check : CheckJob
+plain_check = record {
+  sdp = codes "p";
+  captures = codes "c" ∷ [];
+  workers = 4;
+  tai = 0;
+  json = false;
+  joined = false;
+}
+
+-- the flow of media 2 of the capture c, as p describes it, with these seconds of TAI
+abbrev pub second_flow : ℕ → FlowJob
+second_flow seconds = record { sdp = codes "p"; media = 1; tai = seconds; capture = codes "c" }

@@ -1,6 +1,6 @@
 //! The jobs of the commands, by what stands in their words.
 
-ghost use Rattle.std.specs.Prelude.{◌≡◌, IfErr, IfOk, None, Some, ◌≤◌, length};
+ghost use Rattle.std.specs.Prelude.{◌≡◌, IfErr, IfOk, None, Some, ◌<◌, ◌≤◌, length};
 ghost use Rattle.clap.specs.Words.{found_of};
 ghost use Rattle.timing_words.specs.Answers.{Gives};
 ghost use Rattle.timing_words.specs.Clap.{found_stands};
@@ -27,6 +27,20 @@ fn given<'a>(matches: &ArgMatches<'a>, name: &str) -> Result<&'a str, WordFault>
         (found_stands (found_of matches.now)).value name.now ≡ None) }
 {
     matches.get_str(name).ok_or(WordFault::Usage)
+}
+
+fn given_file(alloc: Global, matches: &ArgMatches<'_>, name: &str) -> Result<FileName, WordFault>
+    ensures { Gives (words.given name.now (found_stands (found_of matches.now)) words.file_name) result }
+{
+    file_name(alloc, given(matches, name)?)
+}
+
+fn given_media(matches: &ArgMatches<'_>, name: &str) -> Result<u32, WordFault>
+    ensures gives { Gives (words.given name.now (found_stands (found_of matches.now)) words.media)
+        result }
+    ensures few { IfOk result (λ n. n < 64) }
+{
+    media(given(matches, name)?)
 }
 
 fn captures(
@@ -60,7 +74,7 @@ fn sole_name<'a>(matches: &ArgMatches<'a>) -> Result<&'a str, WordFault>
 pub(crate) fn check_job(alloc: Global, matches: &ArgMatches<'_>) -> Result<CheckJob, WordFault>
     ensures { Gives (words.check_asked (found_stands (found_of matches.now))) result }
 {
-    let sdp = file_name(alloc, given(matches, "sdp")?)?;
+    let sdp = given_file(alloc, matches, "sdp")?;
     let serial = matches.contains_id("serial");
     let workers = check_workers(matches.get_str("workers"), serial)?;
     let tai = tai(matches.get_str("tai"))?;
@@ -90,8 +104,8 @@ fn fail_proof(matches: &ArgMatches<'_>) -> Result<FailProof, WordFault>
 pub(crate) fn verify_job(alloc: Global, matches: &ArgMatches<'_>) -> Result<VerifyJob, WordFault>
     ensures { Gives (words.verify_asked (found_stands (found_of matches.now))) result }
 {
-    let sdp = file_name(alloc, given(matches, "sdp")?)?;
-    let media = media(given(matches, "media")?)?;
+    let sdp = given_file(alloc, matches, "sdp")?;
+    let media = given_media(matches, "media")?;
     let kind = kind_named(given(matches, "type")?)?;
     let proof = fail_proof(matches)?;
     let tai = tai(matches.get_str("tai"))?;
@@ -112,8 +126,8 @@ pub(crate) fn verify_job(alloc: Global, matches: &ArgMatches<'_>) -> Result<Veri
 pub(crate) fn report_job(alloc: Global, matches: &ArgMatches<'_>) -> Result<ReportJob, WordFault>
     ensures { Gives (words.report_asked (found_stands (found_of matches.now))) result }
 {
-    let sdp = file_name(alloc, given(matches, "sdp")?)?;
-    let report = file_name(alloc, given(matches, "report")?)?;
+    let sdp = given_file(alloc, matches, "sdp")?;
+    let report = given_file(alloc, matches, "report")?;
     let tai = tai(matches.get_str("tai"))?;
     let captures = captures(alloc, matches, 16)?;
     Ok(ReportJob {
@@ -136,8 +150,8 @@ pub(crate) fn self_test_job(matches: &ArgMatches<'_>) -> Result<SelfTestJob, Wor
 pub(crate) fn flow_job(alloc: Global, matches: &ArgMatches<'_>) -> Result<FlowJob, WordFault>
     ensures { Gives (words.flow_asked (found_stands (found_of matches.now))) result }
 {
-    let sdp = file_name(alloc, given(matches, "sdp")?)?;
-    let media = media(given(matches, "media")?)?;
+    let sdp = given_file(alloc, matches, "sdp")?;
+    let media = given_media(matches, "media")?;
     let tai = tai(matches.get_str("tai"))?;
     let capture = file_name(alloc, sole_name(matches)?)?;
     Ok(FlowJob {
@@ -163,9 +177,9 @@ pub(crate) fn shape_job(alloc: Global, matches: &ArgMatches<'_>) -> Result<Shape
 pub(crate) fn skew_job(alloc: Global, matches: &ArgMatches<'_>) -> Result<SkewJob, WordFault>
     ensures { Gives (words.skew_asked (found_stands (found_of matches.now))) result }
 {
-    let sdp = file_name(alloc, given(matches, "sdp")?)?;
-    let first = media(given(matches, "media")?)?;
-    let second = media(given(matches, "pair")?)?;
+    let sdp = given_file(alloc, matches, "sdp")?;
+    let first = given_media(matches, "media")?;
+    let second = given_media(matches, "pair")?;
     let captures = captures(alloc, matches, 2)?;
     Ok(SkewJob {
         sdp,

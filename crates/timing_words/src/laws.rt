@@ -5,41 +5,36 @@ ghost use Rattle.std.specs.Prelude.{◌≡◌, [], ◌∷◌, ◌++◌, Some, No
 ghost use Rattle.timing_base.specs.declared.fail.Broken.TheVariants as broken;
 ghost use Rattle.timing_base.specs.declared.job.Request.TheVariants as asks;
 ghost use Rattle.timing_base.specs.declared.media.Kind.TheVariants as kind;
-ghost use Rattle.timing_words.specs.Examples.{sixteen, words};
-ghost use Rattle.timing_words.specs.Line.{cut, flag, line, name, option};
+ghost use Rattle.timing_words.specs.Examples.{Asks, IsCut, IsRefused, IsUncut, plain_check, second_flow};
+ghost use Rattle.timing_words.specs.Examples.{sixteen, sixteen_names, words};
+ghost use Rattle.timing_words.specs.Line.{flag, line, name, option};
 ghost use Rattle.timing_words.specs.Request.{check_sorts, check_workers, count, file_name, file_names};
 ghost use Rattle.timing_words.specs.Request.{kind_named, media, model_named, number, request, tai, test_workers};
 
 /// Lines that are cut into their parts.
 pub fn lines_by_hand()
-    ensures apart { cut check_sorts (words (codes "--sdp a b")) None
-        ≡ Some (option (codes "sdp") (codes "a") ∷ name (codes "b") ∷ []) }
-    ensures attached { cut check_sorts (words (codes "b --sdp=a=c")) None
-        ≡ Some (name (codes "b") ∷ option (codes "sdp") (codes "a=c") ∷ []) }
-    ensures attached_hyphened { cut check_sorts (words (codes "--sdp=-a")) None
-        ≡ Some (option (codes "sdp") (codes "-a") ∷ []) }
-    ensures empty { cut check_sorts (words (codes "--sdp=")) None
-        ≡ Some (option (codes "sdp") [] ∷ []) }
-    ensures hyphen { cut check_sorts (words (codes "--sdp - -")) None
-        ≡ Some (option (codes "sdp") (codes "-") ∷ name (codes "-") ∷ []) }
-    ensures dashes { cut check_sorts (words (codes "-- --sdp --")) None
-        ≡ Some (name (codes "--sdp") ∷ name (codes "--") ∷ []) }
-    ensures flags { cut check_sorts (words (codes "--serial --json")) None
-        ≡ Some (flag (codes "serial") ∷ flag (codes "json") ∷ []) }
+    ensures apart { IsCut (codes "--sdp a b") (option (codes "sdp") (codes "a") ∷ name (codes "b") ∷ []) }
+    ensures attached { IsCut (codes "b --sdp=a=c")
+        (name (codes "b") ∷ option (codes "sdp") (codes "a=c") ∷ []) }
+    ensures attached_hyphened { IsCut (codes "--sdp=-a") (option (codes "sdp") (codes "-a") ∷ []) }
+    ensures empty { IsCut (codes "--sdp=") (option (codes "sdp") [] ∷ []) }
+    ensures hyphen { IsCut (codes "--sdp - -") (option (codes "sdp") (codes "-") ∷ name (codes "-") ∷ []) }
+    ensures dashes { IsCut (codes "-- --sdp --") (name (codes "--sdp") ∷ name (codes "--") ∷ []) }
+    ensures flags { IsCut (codes "--serial --json") (flag (codes "serial") ∷ flag (codes "json") ∷ []) }
 {}
 
 /// Lines that cannot be cut.
 pub fn no_lines_by_hand()
-    ensures value_missing { cut check_sorts (words (codes "--sdp")) None ≡ None }
-    ensures value_hyphened { cut check_sorts (words (codes "--sdp -a")) None ≡ None }
-    ensures value_dashes { cut check_sorts (words (codes "--sdp -- a")) None ≡ None }
-    ensures flag_valued { cut check_sorts (words (codes "--json=x")) None ≡ None }
-    ensures flag_empty { cut check_sorts (words (codes "--json=")) None ≡ None }
-    ensures unknown { cut check_sorts (words (codes "--help")) None ≡ None }
-    ensures prefix { cut check_sorts (words (codes "--ser")) None ≡ None }
-    ensures longer { cut check_sorts (words (codes "--sdps=a")) None ≡ None }
-    ensures short { cut check_sorts (words (codes "-h")) None ≡ None }
-    ensures nameless { cut check_sorts (words (codes "--=a")) None ≡ None }
+    ensures value_missing { IsUncut (codes "--sdp") }
+    ensures value_hyphened { IsUncut (codes "--sdp -a") }
+    ensures value_dashes { IsUncut (codes "--sdp -- a") }
+    ensures flag_valued { IsUncut (codes "--json=x") }
+    ensures flag_empty { IsUncut (codes "--json=") }
+    ensures unknown { IsUncut (codes "--help") }
+    ensures prefix { IsUncut (codes "--ser") }
+    ensures longer { IsUncut (codes "--sdps=a") }
+    ensures short { IsUncut (codes "-h") }
+    ensures nameless { IsUncut (codes "--=a") }
 {}
 
 /// An option or a flag may stand once, and a name any number of times.
@@ -113,55 +108,33 @@ pub fn names_by_hand()
 
 /// Lines of `check`, and what they ask for.
 pub fn checks_by_hand()
-    ensures plain { request (words (codes "check --sdp p c")) ≡ Some (asks.Check (record {
-      sdp = codes "p";
-      captures = codes "c" ∷ [];
-      workers = 4;
-      tai = 0;
-      json = false;
-      joined = false;
-    })) }
-    ensures full { request (words (codes "check d --joined --tai=37 --sdp=p --workers 2 --json c"))
-        ≡ Some (asks.Check (record {
-          sdp = codes "p";
+    ensures plain { Asks (codes "check --sdp p c") (asks.Check plain_check) }
+    ensures full { Asks (codes "check d --joined --tai=37 --sdp=p --workers 2 --json c")
+        (asks.Check (record plain_check {
           captures = codes "d" ∷ codes "c" ∷ [];
           workers = 2;
           tai = 37;
           json = true;
           joined = true;
         })) }
-    ensures serial { request (words (codes "check --serial --sdp p --json -- -c"))
-        ≡ Some (asks.Check (record {
-          sdp = codes "p";
-          captures = codes "-c" ∷ [];
-          workers = 0;
-          tai = 0;
-          json = true;
-          joined = false;
-        })) }
-    ensures sixteen_captures { request (words (codes "check --sdp p") ++ sixteen)
-        ≡ Some (asks.Check (record {
-          sdp = codes "p";
-          captures = sixteen;
-          workers = 4;
-          tai = 0;
-          json = false;
-          joined = false;
-        })) }
-    ensures seventeen_captures { request (words (codes "check --sdp p q") ++ sixteen) ≡ None }
-    ensures no_capture { request (words (codes "check --sdp p")) ≡ None }
-    ensures no_sdp { request (words (codes "check c")) ≡ None }
-    ensures twice { request (words (codes "check --sdp p --serial --serial c")) ≡ None }
-    ensures both { request (words (codes "check --sdp p --serial --workers=2 c")) ≡ None }
-    ensures over { request (words (codes "check --sdp p --tai 1001 c")) ≡ None }
-    ensures media { request (words (codes "check --sdp p --media 1 c")) ≡ None }
+    ensures serial { Asks (codes "check --serial --sdp p --json -- -c")
+        (asks.Check (record plain_check { captures = codes "-c" ∷ []; workers = 0; json = true })) }
+    ensures sixteen_captures { Asks (codes "check --sdp p " ++ sixteen_names)
+        (asks.Check (record plain_check { captures = sixteen })) }
+    ensures seventeen_captures { IsRefused (codes "check --sdp p q " ++ sixteen_names) }
+    ensures no_capture { IsRefused (codes "check --sdp p") }
+    ensures no_sdp { IsRefused (codes "check c") }
+    ensures twice { IsRefused (codes "check --sdp p --serial --serial c") }
+    ensures both { IsRefused (codes "check --sdp p --serial --workers=2 c") }
+    ensures over { IsRefused (codes "check --sdp p --tai 1001 c") }
+    ensures media { IsRefused (codes "check --sdp p --media 1 c") }
 {}
 
 /// Lines of `verify`.
 pub fn verifies_by_hand()
-    ensures plain { request (words (codes "verify --sdp p --media 64 --type NL --model Over")
-        ++ words (codes "--from 1 --to 2 --count 3 --limit 4 c"))
-        ≡ Some (asks.Verify (record {
+    ensures plain { Asks
+        (codes "verify --sdp p --media 64 --type NL --model Over --from 1 --to 2 --count 3 --limit 4 c")
+        (asks.Verify (record {
           sdp = codes "p";
           media = 63;
           kind = kind.NL;
@@ -170,9 +143,9 @@ pub fn verifies_by_hand()
           captures = codes "c" ∷ [];
           joined = false;
         })) }
-    ensures joined { request (words (codes "verify --joined --tai=9 --limit=4 --count=3 --to=2")
-        ++ words (codes "--from=1 --model=Empty --type=W --media=1 --sdp=p") ++ sixteen)
-        ≡ Some (asks.Verify (record {
+    ensures joined { Asks (codes "verify --joined --tai=9 --limit=4 --count=3 --to=2 --from=1 "
+        ++ codes "--model=Empty --type=W --media=1 --sdp=p " ++ sixteen_names)
+        (asks.Verify (record {
           sdp = codes "p";
           media = 0;
           kind = kind.W;
@@ -181,112 +154,96 @@ pub fn verifies_by_hand()
           captures = sixteen;
           joined = true;
         })) }
-    ensures joined_over { request (words (codes "verify --joined --sdp=p --media=1 --type=N")
-        ++ words (codes "--model=Over --from=1 --to=2 --count=3 --limit=4 q") ++ sixteen) ≡ None }
-    ensures two_captures { request (words (codes "verify --sdp=p --media=1 --type=N")
-        ++ words (codes "--model=Over --from=1 --to=2 --count=3 --limit=4 c d")) ≡ None }
-    ensures no_capture { request (words (codes "verify --sdp=p --media=1 --type=N")
-        ++ words (codes "--model=Over --from=1 --to=2 --count=3 --limit=4")) ≡ None }
-    ensures no_sdp { request (words (codes "verify --media=1 --type=N")
-        ++ words (codes "--model=Over --from=1 --to=2 --count=3 --limit=4 c")) ≡ None }
-    ensures no_media { request (words (codes "verify --sdp=p --type=N")
-        ++ words (codes "--model=Over --from=1 --to=2 --count=3 --limit=4 c")) ≡ None }
-    ensures no_type { request (words (codes "verify --sdp=p --media=1")
-        ++ words (codes "--model=Over --from=1 --to=2 --count=3 --limit=4 c")) ≡ None }
-    ensures no_model { request (words (codes "verify --sdp=p --media=1 --type=N")
-        ++ words (codes "--from=1 --to=2 --count=3 --limit=4 c")) ≡ None }
-    ensures no_from { request (words (codes "verify --sdp=p --media=1 --type=N")
-        ++ words (codes "--model=Over --to=2 --count=3 --limit=4 c")) ≡ None }
-    ensures no_to { request (words (codes "verify --sdp=p --media=1 --type=N")
-        ++ words (codes "--model=Over --from=1 --count=3 --limit=4 c")) ≡ None }
-    ensures no_count { request (words (codes "verify --sdp=p --media=1 --type=N")
-        ++ words (codes "--model=Over --from=1 --to=2 --limit=4 c")) ≡ None }
-    ensures no_limit { request (words (codes "verify --sdp=p --media=1 --type=N")
-        ++ words (codes "--model=Over --from=1 --to=2 --count=3 c")) ≡ None }
+    ensures joined_over { IsRefused (codes "verify --joined --sdp=p --media=1 --type=N --model=Over "
+        ++ codes "--from=1 --to=2 --count=3 --limit=4 q " ++ sixteen_names) }
+    ensures two_captures { IsRefused
+        (codes "verify --sdp=p --media=1 --type=N --model=Over --from=1 --to=2 --count=3 --limit=4 c d") }
+    ensures no_capture { IsRefused
+        (codes "verify --sdp=p --media=1 --type=N --model=Over --from=1 --to=2 --count=3 --limit=4") }
+    ensures no_sdp { IsRefused
+        (codes "verify --media=1 --type=N --model=Over --from=1 --to=2 --count=3 --limit=4 c") }
+    ensures no_media { IsRefused
+        (codes "verify --sdp=p --type=N --model=Over --from=1 --to=2 --count=3 --limit=4 c") }
+    ensures no_type { IsRefused
+        (codes "verify --sdp=p --media=1 --model=Over --from=1 --to=2 --count=3 --limit=4 c") }
+    ensures no_model { IsRefused
+        (codes "verify --sdp=p --media=1 --type=N --from=1 --to=2 --count=3 --limit=4 c") }
+    ensures no_from { IsRefused
+        (codes "verify --sdp=p --media=1 --type=N --model=Over --to=2 --count=3 --limit=4 c") }
+    ensures no_to { IsRefused
+        (codes "verify --sdp=p --media=1 --type=N --model=Over --from=1 --count=3 --limit=4 c") }
+    ensures no_count { IsRefused
+        (codes "verify --sdp=p --media=1 --type=N --model=Over --from=1 --to=2 --limit=4 c") }
+    ensures no_limit { IsRefused
+        (codes "verify --sdp=p --media=1 --type=N --model=Over --from=1 --to=2 --count=3 c") }
 {}
 
 /// Lines of `verify-report` and of `selftest`.
 pub fn reports_and_tests_by_hand()
-    ensures report { request (words (codes "verify-report --report r --sdp p c d"))
-        ≡ Some (asks.VerifyReport (record {
+    ensures report { Asks (codes "verify-report --report r --sdp p c d")
+        (asks.VerifyReport (record {
           sdp = codes "p";
           report = codes "r";
           tai = 0;
           captures = codes "c" ∷ codes "d" ∷ [];
           joined = false;
         })) }
-    ensures joined { request (words (codes "verify-report --sdp=p --report=r --tai=1 --joined c"))
-        ≡ Some (asks.VerifyReport (record {
+    ensures joined { Asks (codes "verify-report --sdp=p --report=r --tai=1 --joined c")
+        (asks.VerifyReport (record {
           sdp = codes "p";
           report = codes "r";
           tai = 1;
           captures = codes "c" ∷ [];
           joined = true;
         })) }
-    ensures seventeen_captures { request (words (codes "verify-report --sdp p --report r q")
-        ++ sixteen) ≡ None }
-    ensures no_report { request (words (codes "verify-report --sdp p c")) ≡ None }
-    ensures no_sdp { request (words (codes "verify-report --report r c")) ≡ None }
-    ensures no_capture { request (words (codes "verify-report --sdp p --report r")) ≡ None }
-    ensures test { request (words (codes "selftest 2"))
-        ≡ Some (asks.SelfTest (record { frames = 2; workers = 0 })) }
-    ensures most_frames { request (words (codes "selftest --workers 16 20000"))
-        ≡ Some (asks.SelfTest (record { frames = 20000; workers = 16 })) }
-    ensures one_frame { request (words (codes "selftest 1")) ≡ None }
-    ensures frames_over { request (words (codes "selftest 20001")) ≡ None }
-    ensures two_names { request (words (codes "selftest 2 3")) ≡ None }
-    ensures no_frames { request (words (codes "selftest")) ≡ None }
-    ensures serial { request (words (codes "selftest --serial 2")) ≡ None }
+    ensures seventeen_captures { IsRefused (codes "verify-report --sdp p --report r q " ++ sixteen_names) }
+    ensures no_report { IsRefused (codes "verify-report --sdp p c") }
+    ensures no_sdp { IsRefused (codes "verify-report --report r c") }
+    ensures no_capture { IsRefused (codes "verify-report --sdp p --report r") }
+    ensures test { Asks (codes "selftest 2") (asks.SelfTest (record { frames = 2; workers = 0 })) }
+    ensures most_frames { Asks (codes "selftest --workers 16 20000")
+        (asks.SelfTest (record { frames = 20000; workers = 16 })) }
+    ensures one_frame { IsRefused (codes "selftest 1") }
+    ensures frames_over { IsRefused (codes "selftest 20001") }
+    ensures two_names { IsRefused (codes "selftest 2 3") }
+    ensures no_frames { IsRefused (codes "selftest") }
+    ensures serial { IsRefused (codes "selftest --serial 2") }
 {}
 
 /// Lines of `window`, `shape` and `skew`.
 pub fn flows_by_hand()
-    ensures window { request (words (codes "window --media=2 --sdp=p --tai=5 c"))
-        ≡ Some (asks.Window (record { sdp = codes "p"; media = 1; tai = 5; capture = codes "c" })) }
-    ensures window_no_sdp { request (words (codes "window --media 2 c")) ≡ None }
-    ensures window_no_media { request (words (codes "window --sdp p c")) ≡ None }
-    ensures window_no_capture { request (words (codes "window --sdp p --media 2")) ≡ None }
-    ensures window_two_captures { request (words (codes "window --sdp p --media 2 c d")) ≡ None }
-    ensures shape { request (words (codes "shape --sdp p --media 2 --type N --list c"))
-        ≡ Some (asks.Shape (record {
-          flow = record { sdp = codes "p"; media = 1; tai = 0; capture = codes "c" };
-          kind = kind.N;
-          list = true;
-        })) }
-    ensures shape_unlisted { request (words (codes "shape --type=W --tai=5 --sdp=p --media=2 c"))
-        ≡ Some (asks.Shape (record {
-          flow = record { sdp = codes "p"; media = 1; tai = 5; capture = codes "c" };
-          kind = kind.W;
-          list = false;
-        })) }
-    ensures shape_no_type { request (words (codes "shape --sdp p --media 2 c")) ≡ None }
-    ensures skew { request (words (codes "skew --sdp p --media 2 --pair 64 c d"))
-        ≡ Some (asks.Skew (record {
+    ensures window { Asks (codes "window --media=2 --sdp=p --tai=5 c") (asks.Window (second_flow 5)) }
+    ensures window_no_sdp { IsRefused (codes "window --media 2 c") }
+    ensures window_no_media { IsRefused (codes "window --sdp p c") }
+    ensures window_no_capture { IsRefused (codes "window --sdp p --media 2") }
+    ensures window_two_captures { IsRefused (codes "window --sdp p --media 2 c d") }
+    ensures shape { Asks (codes "shape --sdp p --media 2 --type N --list c")
+        (asks.Shape (record { flow = second_flow 0; kind = kind.N; list = true })) }
+    ensures shape_unlisted { Asks (codes "shape --type=W --tai=5 --sdp=p --media=2 c")
+        (asks.Shape (record { flow = second_flow 5; kind = kind.W; list = false })) }
+    ensures shape_no_type { IsRefused (codes "shape --sdp p --media 2 c") }
+    ensures skew { Asks (codes "skew --sdp p --media 2 --pair 64 c d")
+        (asks.Skew (record {
           sdp = codes "p";
           media = 1;
           pair = 63;
           captures = codes "c" ∷ codes "d" ∷ [];
         })) }
-    ensures skew_one_capture { request (words (codes "skew --pair=1 --media=1 --sdp=p c"))
-        ≡ Some (asks.Skew (record {
-          sdp = codes "p";
-          media = 0;
-          pair = 0;
-          captures = codes "c" ∷ [];
-        })) }
-    ensures skew_three_captures { request (words (codes "skew --sdp p --media 2 --pair 1 c d e")) ≡ None }
-    ensures skew_no_capture { request (words (codes "skew --sdp p --media 2 --pair 1")) ≡ None }
-    ensures skew_no_sdp { request (words (codes "skew --media 2 --pair 1 c")) ≡ None }
-    ensures skew_no_media { request (words (codes "skew --sdp p --pair 1 c")) ≡ None }
-    ensures skew_no_pair { request (words (codes "skew --sdp p --media 2 c")) ≡ None }
-    ensures skew_tai { request (words (codes "skew --sdp p --media 2 --pair 1 --tai 0 c")) ≡ None }
+    ensures skew_one_capture { Asks (codes "skew --pair=1 --media=1 --sdp=p c")
+        (asks.Skew (record { sdp = codes "p"; media = 0; pair = 0; captures = codes "c" ∷ [] })) }
+    ensures skew_three_captures { IsRefused (codes "skew --sdp p --media 2 --pair 1 c d e") }
+    ensures skew_no_capture { IsRefused (codes "skew --sdp p --media 2 --pair 1") }
+    ensures skew_no_sdp { IsRefused (codes "skew --media 2 --pair 1 c") }
+    ensures skew_no_media { IsRefused (codes "skew --sdp p --pair 1 c") }
+    ensures skew_no_pair { IsRefused (codes "skew --sdp p --media 2 c") }
+    ensures skew_tai { IsRefused (codes "skew --sdp p --media 2 --pair 1 --tai 0 c") }
 {}
 
 /// First words that are no command.
 pub fn no_commands_by_hand()
     ensures nothing { request [] ≡ None }
-    ensures unknown { request (words (codes "help")) ≡ None }
-    ensures prefix { request (words (codes "chec --sdp p c")) ≡ None }
-    ensures capital { request (words (codes "Check --sdp p c")) ≡ None }
-    ensures after_options { request (words (codes "--sdp p check c")) ≡ None }
+    ensures unknown { IsRefused (codes "help") }
+    ensures prefix { IsRefused (codes "chec --sdp p c") }
+    ensures capital { IsRefused (codes "Check --sdp p c") }
+    ensures after_options { IsRefused (codes "--sdp p check c") }
 {}

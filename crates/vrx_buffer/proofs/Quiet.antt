@@ -1,5 +1,5 @@
 -- A packet that is known to be quiet by its stamp.
-use Rattle.std.proofs.Common.{◌≡◌, ◌≤◌, ◌<◌, ◌+◌, ◌-◌, ℕ, refl, Option, Some, None, List, [], ◌∷◌, ◌++◌, length, slice_index, sym, inl, inr, ◌∙◌, arith, subst}
+use Rattle.std.proofs.Common.{◌≡◌, ◌≤◌, ◌<◌, ◌-◌, ℕ, refl, Option, Some, None, List, [], ◌∷◌, ◌++◌, length, slice_index, sym, inl, inr, ◌∙◌, arith}
 use Rattle.std.proofs.lemmas.Bool.{cases_lt}
 use Rattle.std.proofs.lemmas.Int.{ints}
 use Rattle.fraction128.specs.Fractions.{whole}
@@ -7,7 +7,7 @@ use Rattle.sender_params.specs.Limits.{gapped_of}
 use Rattle.sender_params.specs.Reads.{AreDue, anchor_of}
 use Rattle.sender_params.specs.declared.params.Params.{Params}
 use Rattle.read_schedule.proofs.Rising.{due-some}
-use Rattle.read_schedule.specs.Stands.{IsDueAt, is_on_time}
+use Rattle.read_schedule.specs.Stands.{is_on_time}
 use Rattle.read_schedule.specs.declared.schedule.Due.{Due}
 use Rattle.vrx_buffer.specs.Faults.{BreaksNowhere, IsFirstFault, fault_at}
 use Rattle.vrx_buffer.specs.Quiet.{IsQuiet}

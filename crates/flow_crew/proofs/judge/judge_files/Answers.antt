@@ -1,4 +1,4 @@
-use Rattle.std.proofs.Common.{◌≡◌, ◌∙◌, sym, ap, subst, length, List, arith}
+use Rattle.std.proofs.Common.{◌≡◌, ◌∙◌, sym, ap, subst, length, List, arith, rules}
 use Rattle.std.specs.Prelude.{All}
 use Rattle.std.proofs.lemmas.Option.{IfSome_then}
 use Rattle.ruled_intake.specs.Lanes.{LaneId}
@@ -36,13 +36,19 @@ close_all-requires g c =
     c.in_ok-lanes.ensures.made c.in_ok-intakes.ensures count c.in_ok-worked.ensures.worked c.in_ok-takers.ensures.takers
     (read_on _ _ _ _ _ _ _ _ c.deref.ensures.value c.in_ok-worked.ensures.read) c.in_ok-sources.ensures.rows c.in_ok-senders.ensures)
 
-pub rows_if_whole-rows-requires-clause-count : goal.rows_if_whole-rows-requires-clause-count
-rows_if_whole-rows-requires-clause-count g c =
-    posted_count _ _ _ _ _ _ _ _ c.in_ok-lanes.ensures.made c.in_ok-worked.ensures.worked c.in_ok-takers.ensures.posted
-
-pub rows_if_whole-rows-requires-clause-posted : goal.rows_if_whole-rows-requires-clause-posted
-rows_if_whole-rows-requires-clause-posted g c =
-    (_, some_posted _ _ _ _ _ _ _ _ c.in_ok-lanes.ensures.made c.in_ok-worked.ensures.worked c.in_ok-takers.ensures.posted)
+pub rows_if_whole-rows-requires : goal.rows_if_whole-rows-requires
+rows_if_whole-rows-requires g c =
+    let posted = some_posted _ _ _ _ _ _ _ _ c.in_ok-lanes.ensures.made c.in_ok-worked.ensures.worked c.in_ok-takers.ensures.posted in
+    record {
+      few_media = search rules;
+      some_files = search rules;
+      few_files = search rules;
+      some_workers = c.requires.some_workers;
+      few_workers = c.requires.few_workers;
+      count = posted_count _ _ _ _ _ _ _ _ c.in_ok-lanes.ensures.made c.in_ok-worked.ensures.worked c.in_ok-takers.ensures.posted;
+      row_for = _;
+      posted_are = posted;
+    }
 
 pub returns-clause-back : goal.returns-clause-back
 returns-clause-back g c =

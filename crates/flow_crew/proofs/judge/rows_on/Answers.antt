@@ -15,9 +15,9 @@ pub gather-requires-clause-queued : goal.gather-requires-clause-queued
 gather-requires-clause-queued c =
     let asked = c.args.asked in
     let listed = keys-are asked.joined asked.files c.args.media c.file_count.result c.deref.result.now c.file_count.ensures (c.deref.ensures.value ∙ c.in_ok-keys.ensures) in (
-      c.requires.posted.0,
-      queued_by into_iter_items c.args.book.now c.requires.posted.0 c.args.media asked.workers (keys_of asked.joined asked.files c.args.media) c.deref.result.now
-          c.args.posted.items c.in_ok-queues.queues.items c.in_ok-queues.ensures listed c.requires.posted.1,
+      c.requires.row_for,
+      queued_by into_iter_items c.args.book.now c.requires.row_for c.args.media asked.workers (keys_of asked.joined asked.files c.args.media) c.deref.result.now
+          c.args.posted.items c.in_ok-queues.queues.items c.in_ok-queues.ensures listed c.requires.posted_are,
     )
 
 pub returns : goal.returns

@@ -10,7 +10,7 @@ returns-in_err-taken-clause-told g c = λ items end given.
 
 pub returns-in_err-finish-clause-told : goal.returns-in_err-finish-clause-told
 returns-in_err-finish-clause-told g c = λ items end given.
-    let lanes : c.args.routing.now.lanes ≡ length c.take_records.new.outboxes.lanes.now = c.requires.lanes ∙ ap length (sym c.in_ok-taken.ensures.same.lanes) in
+    let lanes : c.args.routing.now.lanes ≡ length c.take_records.new.outboxes.lanes.now = c.requires.begins.lanes ∙ ap length (sym c.in_ok-taken.ensures.same.lanes) in
     let is : c.from_residual-in_err-finish.result ≡ Err c.in_err-finish.field-0.0 = search rules in
     match_err c.from_residual-in_err-finish.result c.in_err-finish.field-0.0 _ _ is
     (begun-late c.args.routing.now c.take_records.new.outboxes c.finish.new.self c.in_ok-taken.taken.note c.in_ok-taken.taken.records items end lanes
@@ -18,6 +18,6 @@ returns-in_err-finish-clause-told g c = λ items end given.
 
 pub returns-clause-told : goal.returns-clause-told
 returns-clause-told g c = λ items end given.
-    let lanes : c.args.routing.now.lanes ≡ length c.take_records.new.outboxes.lanes.now = c.requires.lanes ∙ ap length (sym c.in_ok-taken.ensures.same.lanes) in
+    let lanes : c.args.routing.now.lanes ≡ length c.take_records.new.outboxes.lanes.now = c.requires.begins.lanes ∙ ap length (sym c.in_ok-taken.ensures.same.lanes) in
     sent-file c.args.routing.now c.take_records.new.outboxes c.finish.new.self c.in_ok-taken.taken.note c.in_ok-taken.taken.records items end lanes
     c.in_ok-finish.ensures.same c.in_ok-finish.ensures.ok (c.in_ok-taken.ensures.told items end given)

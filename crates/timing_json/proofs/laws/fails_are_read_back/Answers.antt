@@ -1,26 +1,5 @@
-use Rattle.std.proofs.Common.{◌≤◌, refl, ap, ◌∙◌, arith}
-use Rattle.std.specs.Prelude.{All, codes, option_and_then}
-use Rattle.std.proofs.lemmas.Str.{IsUtf8-append}
-use Rattle.json.specs.Tree.{depth}
-use Rattle.serde_json.specs.Written.{compact_text, outline}
-use Rattle.timing_report.proofs.Keys.{keys_of_rows}
-use Rattle.timing_json.proofs.Fitting.{Fits, Tellable, report_fits}
-use Rattle.timing_json.proofs.Reread.{read_line}
-use Rattle.timing_json.proofs.Texts.{ascii, text_utf8}
-use Rattle.timing_json.proofs.Told.{report_back}
-use Rattle.timing_json.specs.Json.{report_data}
-use Rattle.timing_json.specs.Reading.{report_of}
+use Rattle.timing_json.proofs.Back.{read-back}
 use Rattle.timing_json.proofs.laws.fails_are_read_back.Goals as goal
 
 pub returns : goal.returns
-returns c = λ job session notes rows is_job is_session media are fit names few.
-    let d = report_data job session notes rows in
-    let keys = keys_of_rows job session rows is_job are in
-    let tell : All (Tellable session) rows = λ k r within. ((keys k r within).0, (keys k r within).1, fit k r within) in
-    let fits : Fits 8 d = report_fits job session notes rows names is_session.few media tell in
-    let shallow : depth (outline d) ≤ 127 = omega (arith, fits.1) in
-    record {
-      few = few;
-      utf8 = IsUtf8-append (compact_text d) (codes "\n") (text_utf8 d fits.0 fits.2) (ascii (codes "\n") refl);
-      tells = ap (option_and_then report_of) (read_line d fits.0 shallow) ∙ report_back job session notes rows is_session.few tell;
-    }
+returns c = read-back

@@ -1,7 +1,5 @@
-use Rattle.timing_reach.proofs.Takings.{takes-text}
+use Rattle.timing_reach.proofs.Takings.{takes-alone}
 use Rattle.timing_reach.proofs.captures.take_source.Goals as goal
 
-pub returns-in-Ok-taken-clause-told : goal.returns-in-Ok-taken-clause-told
-returns-in-Ok-taken-clause-told g c = λ text whole.
-    takes-text g.T.Taker.takes text c.args.taker.now c.take_records-taken.new.taker c.in-Ok-taken.note
-    (λ items end holds. c.in-Ok-taken.ensures.told items end (c.in-Ok.ensures.gives text items end whole holds))
+pub returns-clause-told : goal.returns-clause-told
+returns-clause-told g c = λ text whole. takes-alone g.T.Taker.takes text c.args.taker.now c.take_source.new.taker c.in_ok-taken.taken (c.in_ok-taken.ensures.told text whole)

@@ -1,5 +1,6 @@
 use Rattle.std.proofs.Common.{◌≡◌, ◌≤◌, ◌+◌, ◌*◌, ◌^◌, ℕ, List, Option, length}
 use Rattle.std.specs.Prelude.{All, IfOk}
+use Rattle.timing_outside.specs.Shelves.{StaysAs}
 use Rattle.pcapng_reader.specs.Sources.{faults_of, left_of, name_of}
 use Rattle.timing_steps.specs.Fetched.{AreFetched, Reading}
 use Rattle.timing_reach.specs.Comparing.{AreCompared}
@@ -17,7 +18,5 @@ invariant-loop-source g l =
       fresh : All (λ source. faults source ≡ 0) l.source-iterator.rest.items;
       count : IfOk l.outcome (λ _. length l.comparing.notes.items + length l.source-iterator.rest.items ≡ l.count);
       given : IfOk l.outcome (λ _. pair_given l.comparing.pairing ≤ length l.comparing.notes.items * 2 ^ 36);
-      lacks : (n : List ℕ) → g.H.Shelf.lacks l.fn.shelf n → g.H.Shelf.lacks l.shelf n;
-      texts : (n : List ℕ) → g.H.Shelf.text l.shelf n ≡ g.H.Shelf.text l.fn.shelf n;
-      later : (n : List ℕ) → g.H.Shelf.faults l.fn.shelf n ≤ g.H.Shelf.faults l.shelf n;
+      stays : StaysAs g.H.Shelf.text g.H.Shelf.lacks g.H.Shelf.faults l.fn.shelf l.shelf;
     }

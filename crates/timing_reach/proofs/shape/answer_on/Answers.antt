@@ -13,7 +13,7 @@ returns-clause-follows g c =
     let same : c.job.inside.flow ≡ c.args.job.now.flow = search rules in
     reads-twice i (g.H.Shelf.text c.judge_flow.new.shelf) (g.H.Shelf.faults c.judge_flow.new.shelf) c.answer_seen.result c.args.job.now.flow.capture
     (λ text. IsSeenIn c.args.media.now c.args.job.now.flow.tai text c.in_ok-seen.seen) (HasShapeIn c.args.job.now c.args.media.now)
-    c.judge_flow.ensures.texts c.judge_flow.ensures.later
+    c.judge_flow.ensures.stays.texts c.judge_flow.ensures.stays.later
     (subst (λ (flow : FlowJob). (text : List ℕ) → classic_texts (g.H.Shelf.text c.args.shelf.now) flow.capture ≡ Some text → IsSeenIn c.args.media.now flow.tai text c.in_ok-seen.seen) same c.in_ok-seen.ensures.told)
     (subst (λ (flow : FlowJob). ¬ g.H.Shelf.lacks c.args.shelf.now flow.capture) same c.in_ok-seen.ensures.there) c.answer_seen.ensures.told c.answer_seen.ensures.cause
 
@@ -22,4 +22,4 @@ returns-clause-cause g c =
     let i = seen_of g.H.Shelf.text g.H.Shelf.lacks g.H.Shelf.faults c.args.shelf.now c.answer_seen.new.shelf in
     capture-cause i c.args.job.now.flow c.answer_seen.result c.answer_seen.ensures.answers
     (cause-after c.answer_seen.result (i.before c.args.job.now.flow.capture) (g.H.Shelf.faults c.judge_flow.new.shelf c.args.job.now.flow.capture) (i.now c.args.job.now.flow.capture)
-    (c.judge_flow.ensures.later c.args.job.now.flow.capture) c.answer_seen.ensures.cause)
+    (c.judge_flow.ensures.stays.later c.args.job.now.flow.capture) c.answer_seen.ensures.cause)

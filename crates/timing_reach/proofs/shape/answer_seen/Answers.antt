@@ -20,7 +20,5 @@ returns-in_ok-not_judged-in_default g c = record {
       (λ j e. c.in_default.not-Judged j e) s c.in_ok-not_judged-in_default.ensures;
   answers = subst (λ (a : Answer). IsAnswered a.status) (sym c.in_ok-not_judged-in_default.ensures) tt;
   cause = tt;
-  lacks = λ n h. h;
-  texts = λ n. refl;
-  later = λ n. omega arith;
+  stays = record { lacks = λ n h. h; texts = λ n. refl; later = λ n. omega arith };
 }

@@ -1,5 +1,6 @@
 use Rattle.std.proofs.Common.{rules, ◌≡◌, ◌∙◌}
 use Rattle.timing_reach.specs.Shaped.{HasShapeIn}
+use Rattle.timing_steps.specs.Answers.{seen_of}
 use Rattle.timing_steps.proofs.Seeing.{sees-rest}
 use Rattle.timing_reach.proofs.Following.{flow-session}
 use Rattle.timing_reach.proofs.shape.answer_shape.Goals as goal
@@ -9,9 +10,8 @@ returns-in-Ok-clause-follows g c =
     let named : c.as_str.result.now ≡ c.args.job.now.flow.sdp = search rules in
     let media : c.as_slice.result.now ≡ c.in-Ok.session = search rules in
     flow-session
-    (record { texts = g.H.Shelf.text c.args.shelf.now; lacks = g.H.Shelf.lacks c.args.shelf.now; before = g.H.Shelf.faults c.args.shelf.now; now = g.H.Shelf.faults c.answer_over.new.shelf })
-    (record { texts = g.H.Shelf.text c.fetch_session.new.shelf; lacks = g.H.Shelf.lacks c.fetch_session.new.shelf; before = g.H.Shelf.faults c.fetch_session.new.shelf; now = g.H.Shelf.faults c.answer_over.new.shelf })
+    (seen_of g.H.Shelf.text g.H.Shelf.lacks g.H.Shelf.faults c.args.shelf.now c.answer_over.new.shelf)
+    (seen_of g.H.Shelf.text g.H.Shelf.lacks g.H.Shelf.faults c.fetch_session.new.shelf c.answer_over.new.shelf)
     c.args.job.now.flow (HasShapeIn c.args.job.now) c.answer_over.result c.as_str.result.now c.as_slice.result.now c.in-Ok.session
-    (sees-rest (g.H.Shelf.text c.args.shelf.now) (g.H.Shelf.text c.fetch_session.new.shelf) (g.H.Shelf.lacks c.args.shelf.now) (g.H.Shelf.lacks c.fetch_session.new.shelf)
-    (g.H.Shelf.faults c.args.shelf.now) (g.H.Shelf.faults c.fetch_session.new.shelf) (g.H.Shelf.faults c.answer_over.new.shelf) c.fetch_session.ensures.texts c.fetch_session.ensures.lacks c.fetch_session.ensures.later)
+    (sees-rest g.H.Shelf.text g.H.Shelf.lacks g.H.Shelf.faults c.args.shelf.now c.fetch_session.new.shelf c.answer_over.new.shelf c.fetch_session.ensures.stays)
     named media c.in_ok-session.ensures.there (λ text t. c.in_ok-session.ensures.told text t ∙ c.in-Ok.is) c.answer_over.ensures.follows

@@ -16,7 +16,5 @@ returns-in_ok-not_judged-in_default g c = record {
       told-on text c.args.media.now c.args.job.now.tai (λ items. HasLines c.args.media.now) c.args.seen.now c.args.seen.now.verdict c.in_ok-not_judged-in_default.field-0 refl (λ j e. c.in_default.not-Judged j e) s c.in_ok-not_judged-in_default.ensures;
   answers = subst (λ (a : Answer). IsAnswered a.status) (sym c.in_ok-not_judged-in_default.ensures) tt;
   cause = tt;
-  lacks = λ n h. h;
-  texts = λ n. refl;
-  later = λ n. omega arith;
+  stays = record { lacks = λ n h. h; texts = λ n. refl; later = λ n. omega arith };
 }

@@ -1,5 +1,6 @@
-use Rattle.std.proofs.Common.{◌≡◌, ◌≤◌, ℕ, List, length}
+use Rattle.std.proofs.Common.{◌≤◌, length}
 use Rattle.std.specs.Prelude.{take}
+use Rattle.timing_outside.specs.Shelves.{StaysAs}
 use Rattle.pcapng_reader.specs.Classic.{classic_texts}
 use Rattle.pcapng_reader.specs.Sources.{faults_of, left_of, name_of}
 use Rattle.timing_steps.specs.Answers.{AreThere}
@@ -11,7 +12,5 @@ invariant-loop-number g l = record {
   within : l.number ≤ length l.names;
   fetched : AreFetched (name_of g.H.Source.Source.name) (left_of g.H.Source.Source.left) (faults_of g.H.Source.Source.faults) (classic_texts (g.H.Shelf.text l.fn.shelf)) (take l.number l.names) l.sources.items;
   there : AreThere (g.H.Shelf.lacks l.fn.shelf) (take l.number l.names);
-  lacks : (n : List ℕ) → g.H.Shelf.lacks l.fn.shelf n → g.H.Shelf.lacks l.shelf n;
-  texts : (n : List ℕ) → g.H.Shelf.text l.shelf n ≡ g.H.Shelf.text l.fn.shelf n;
-  later : (n : List ℕ) → g.H.Shelf.faults l.fn.shelf n ≤ g.H.Shelf.faults l.shelf n;
+  stays : StaysAs g.H.Shelf.text g.H.Shelf.lacks g.H.Shelf.faults l.fn.shelf l.shelf;
 }

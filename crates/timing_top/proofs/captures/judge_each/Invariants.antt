@@ -1,5 +1,6 @@
-use Rattle.std.proofs.Common.{◌≡◌, ◌≤◌, ◌+◌, ℕ, List, length}
+use Rattle.std.proofs.Common.{◌≡◌, ◌+◌, ℕ, List, length}
 use Rattle.std.specs.Prelude.{All, IfOk}
+use Rattle.timing_outside.specs.Shelves.{StaysAs}
 use Rattle.flow_bank.specs.Rows.{rows_of_files}
 use Rattle.timing_report.specs.Outcomes.{AreOfSession}
 use Rattle.timing_steps.specs.Fetched.{AreFetched, Reading}
@@ -16,7 +17,5 @@ invariant-loop-source g l = record {
   fresh : All (λ source. (faults_of g.H.Source.Source.faults) source ≡ 0) l.source-iterator.rest.items;
   count : IfOk l.outcome (λ _. length l.found.notes.items + length l.source-iterator.rest.items ≡ length l.fn.sources.items);
   of_session : IfOk l.outcome (λ _. AreOfSession l.media l.found.rows.items);
-  lacks : (n : List ℕ) → g.H.Shelf.lacks l.fn.shelf n → g.H.Shelf.lacks l.shelf n;
-  texts : (n : List ℕ) → g.H.Shelf.text l.shelf n ≡ g.H.Shelf.text l.fn.shelf n;
-  later : (n : List ℕ) → g.H.Shelf.faults l.fn.shelf n ≤ g.H.Shelf.faults l.shelf n;
+  stays : StaysAs g.H.Shelf.text g.H.Shelf.lacks g.H.Shelf.faults l.fn.shelf l.shelf;
 }

@@ -1,6 +1,7 @@
 use Rattle.std.proofs.Common.{◌≡◌, ◌≤◌, ◌+◌, ◌*◌, ◌^◌, ℕ, List, length}
 use Rattle.std.specs.Prelude.{All, IfOk}
 use Rattle.timing_base.specs.Captures.{Record}
+use Rattle.timing_outside.specs.Shelves.{StaysAs}
 use Rattle.flow_bank.specs.Stands.{StandsFor, records}
 use Rattle.timing_steps.specs.Fetched.{AreFetched, Reading}
 use Rattle.pcapng_reader.specs.Classic.{classic_texts}
@@ -18,7 +19,5 @@ invariant-loop-source g l = record {
   before : IfOk l.outcome (λ _. l.joined.records ≤ length l.joined.notes.items * 2 ^ 36);
   few_fed : IfOk l.outcome (λ _. records l.joined.bank ≤ length l.joined.notes.items * 2 ^ 36);
   fed : IfOk l.outcome (λ _. (items : List Record) × StandsFor l.media 0 l.tai l.joined.bank items);
-  lacks : (n : List ℕ) → g.H.Shelf.lacks l.fn.shelf n → g.H.Shelf.lacks l.shelf n;
-  texts : (n : List ℕ) → g.H.Shelf.text l.shelf n ≡ g.H.Shelf.text l.fn.shelf n;
-  later : (n : List ℕ) → g.H.Shelf.faults l.fn.shelf n ≤ g.H.Shelf.faults l.shelf n;
+  stays : StaysAs g.H.Shelf.text g.H.Shelf.lacks g.H.Shelf.faults l.fn.shelf l.shelf;
 }

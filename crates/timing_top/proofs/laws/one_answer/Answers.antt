@@ -4,10 +4,10 @@ use Rattle.timing_top.proofs.Asking.{answer-failed, only-answer, some-answer}
 use Rattle.timing_top.proofs.laws.one_answer.Goals as goal
 
 pub returns-clause-some : goal.returns-clause-some
-returns-clause-some c = λ asked texts lacking before now told alone there are within. some-answer asked (seen texts lacking before now) told alone (are-there lacking _ there) are within
+returns-clause-some c = λ asked texts lacking before now told there are. some-answer asked (seen texts lacking before now) told (are-there lacking _ there) are
 
 pub returns-clause-once : goal.returns-clause-once
-returns-clause-once c = λ asked texts lacking before now told a b alone are h k. only-answer asked (seen texts lacking before now) told a b alone are h k
+returns-clause-once c = λ asked texts lacking before now told a b are h k. only-answer asked (seen texts lacking before now) told a b are h k
 
 pub returns-clause-failed : goal.returns-clause-failed
-returns-clause-failed c = λ asked texts lacking before now told e alone are h. answer-failed asked (seen texts lacking before now) told e alone are h
+returns-clause-failed c = λ asked texts lacking before now told e are h. answer-failed asked (seen texts lacking before now) told e are h

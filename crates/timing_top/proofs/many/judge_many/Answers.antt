@@ -20,32 +20,36 @@ first_unread-requires g c = record {
       omega (arith, long, c.requires.few, ap length c.deref.ensures.value);
 }
 
-pub returns-in-Some-clause-cause : goal.returns-in-Some-clause-cause
-returns-in-Some-clause-cause g c = λ names fetched.
-    let notes = c.in_ok-sources.field-0.notes.items in
-    let unread : (c.in-Some.number < length notes) × ((d : FileNote) → slice_index_or notes c.in-Some.number d ≡ Refused ReadFault) =
-    subst (λ (l : List FileNote). (c.in-Some.number < length l) × ((d : FileNote) → slice_index_or l c.in-Some.number d ≡ Refused ReadFault)) c.deref.ensures.value c.in-Some.ensures in (
-      c.in-Some.number,
-      refl,
-      unread-rose (name_of g.H.Source.Source.name) (left_of g.H.Source.Source.left) (faults_of g.H.Source.Source.faults) (classic_texts (g.H.Shelf.text c.args.shelf.now)) (g.H.Shelf.faults c.args.shelf.now) (g.H.Shelf.faults c.give_back_all.new.shelf)
-          names c.args.sources.items notes c.in_ok-sources.field-0.sources.items c.in-Some.number fetched c.in_ok-sources.ensures.back c.give_back_all.ensures.raised unread.0 unread.1,
-    )
+pub returns-in-Some-clause-judged : goal.returns-in-Some-clause-judged
+returns-in-Some-clause-judged g c = record {
+  told = tt;
+  count = tt;
+  of_session = tt;
+  cause = λ names fetched.
+      let notes = c.in_ok-sources.field-0.notes.items in
+      let unread : (c.in-Some.number < length notes) × ((d : FileNote) → slice_index_or notes c.in-Some.number d ≡ Refused ReadFault) =
+      subst (λ (l : List FileNote). (c.in-Some.number < length l) × ((d : FileNote) → slice_index_or l c.in-Some.number d ≡ Refused ReadFault)) c.deref.ensures.value c.in-Some.ensures in (
+        c.in-Some.number,
+        refl,
+        unread-rose (name_of g.H.Source.Source.name) (left_of g.H.Source.Source.left) (faults_of g.H.Source.Source.faults) (classic_texts (g.H.Shelf.text c.args.shelf.now)) (g.H.Shelf.faults c.args.shelf.now) (g.H.Shelf.faults c.give_back_all.new.shelf)
+            names c.args.sources.items notes c.in_ok-sources.field-0.sources.items c.in-Some.number fetched c.in_ok-sources.ensures.back c.give_back_all.ensures.raised unread.0 unread.1,
+      );
+}
 
-pub returns-in-Some-rows-clause-told : goal.returns-in-Some-rows-clause-told
-returns-in-Some-rows-clause-told g c = λ names texts fetched told.
-    some-at c.in_ok-sources.field-0.rows c.in-Some-rows.rows
-    (λ rows. (read : List (List ℕ)) → AreTexts (left_of g.H.Source.Source.left) read c.args.sources.items
-    → AreFound read (rows_over c.args.joined c.args.tai c.args.media.now) c.in_ok-sources.field-0.notes.items rows.items)
-    c.in-Some-rows.is c.in_ok-sources.ensures.told texts
-    (fetched-texts (name_of g.H.Source.Source.name) (left_of g.H.Source.Source.left) (faults_of g.H.Source.Source.faults) (classic_texts (g.H.Shelf.text c.args.shelf.now)) names texts c.args.sources.items fetched told)
-
-pub returns-in-Some-rows-clause-count : goal.returns-in-Some-rows-clause-count
-returns-in-Some-rows-clause-count g c =
-    back-length (name_of g.H.Source.Source.name) (faults_of g.H.Source.Source.faults) c.args.sources.items c.in_ok-sources.field-0.notes.items c.in_ok-sources.field-0.sources.items c.in_ok-sources.ensures.back
-
-pub returns-in-Some-rows-clause-of_session : goal.returns-in-Some-rows-clause-of_session
-returns-in-Some-rows-clause-of_session g c =
-    keys-of_session c.args.joined (length c.args.sources.items) c.args.media.now c.in-Some-rows.rows.items c.requires.few
-    (some-at c.in_ok-sources.field-0.rows c.in-Some-rows.rows
-    (λ rows. map (λ (r : Row). r.key) rows.items ≡ keys_of c.args.joined (length c.args.sources.items) (length c.args.media.now))
-    c.in-Some-rows.is c.in_ok-sources.ensures.keys)
+pub returns-in-Some-rows-clause-judged : goal.returns-in-Some-rows-clause-judged
+returns-in-Some-rows-clause-judged g c = record {
+  told = λ names texts fetched told.
+      some-at c.in_ok-sources.field-0.rows c.in-Some-rows.rows
+      (λ rows. (read : List (List ℕ)) → AreTexts (left_of g.H.Source.Source.left) read c.args.sources.items
+      → AreFound read (rows_over c.args.joined c.args.tai c.args.media.now) c.in_ok-sources.field-0.notes.items rows.items)
+      c.in-Some-rows.is c.in_ok-sources.ensures.told texts
+      (fetched-texts (name_of g.H.Source.Source.name) (left_of g.H.Source.Source.left) (faults_of g.H.Source.Source.faults) (classic_texts (g.H.Shelf.text c.args.shelf.now)) names texts c.args.sources.items fetched told);
+  count =
+      back-length (name_of g.H.Source.Source.name) (faults_of g.H.Source.Source.faults) c.args.sources.items c.in_ok-sources.field-0.notes.items c.in_ok-sources.field-0.sources.items c.in_ok-sources.ensures.back;
+  of_session =
+      keys-of_session c.args.joined (length c.args.sources.items) c.args.media.now c.in-Some-rows.rows.items c.requires.few
+      (some-at c.in_ok-sources.field-0.rows c.in-Some-rows.rows
+      (λ rows. map (λ (r : Row). r.key) rows.items ≡ keys_of c.args.joined (length c.args.sources.items) (length c.args.media.now))
+      c.in-Some-rows.is c.in_ok-sources.ensures.keys);
+  cause = λ names fetched. tt;
+}

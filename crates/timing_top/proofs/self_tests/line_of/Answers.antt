@@ -1,60 +1,36 @@
-use Rattle.std.proofs.Common.{rules, false, ◌≡◌, ◌∙◌, ap, subst, ℕ, List, [], ◌∷◌, Some, Ok, codes, length}
-use Rattle.timing_base.specs.Media.{Media}
+use Rattle.std.proofs.Common.{rules, ◌≡◌, ◌∙◌, ap, ℕ, List, [], ◌∷◌, Some, length}
+use Rattle.timing_base.specs.Examples.{plain_media}
 use Rattle.timing_outside.specs.SteadyShelves.{bytes_of, left_of, name_of}
 use Rattle.pcapng_reader.specs.Classic.{classic, classic_texts}
 use Rattle.pcapng_reader.specs.Sources.{faults_of as classic_faults, left_of as classic_left, name_of as classic_name}
 use Rattle.std.specs.Option.{option_map}
-use Rattle.sdp_reader.specs.Session.{session}
-use Rattle.flow_bank.specs.Rows.{rows_over}
 use Rattle.capture_gen.specs.Capture.{capture}
 use Rattle.capture_gen.specs.Sdp.{sdp_text}
 use Rattle.timing_report.specs.declared.status.Input.{Input}
 use Rattle.timing_report.specs.declared.status.Input.TheVariants.{Capture}
 use Rattle.timing_steps.specs.Answers.{CaptureRose}
-use Rattle.flow_bank.specs.Found.{AreFound}
 use Rattle.timing_top.proofs.Following.{fetched-same}
-use Rattle.timing_top.proofs.SelfTests.{classic-capture, has-line, never-rose, no-cause, one-found, plain_media, session-is}
+use Rattle.timing_top.proofs.SelfTests.{found-made, has-line, never-rose, no-cause, one-found, session-is}
 use Rattle.timing_top.proofs.self_tests.line_of.Goals as goal
 
 pub returns-in-Err-clause-memory : goal.returns-in-Err-clause-memory
 returns-in-Err-clause-memory g c =
     let fetched = fetched-same (classic_name name_of) (classic_left (λ s. Some (left_of s))) (classic_faults (λ s. 0)) (classic_texts (λ n. Some (bytes_of c.fetch_session.new.shelf n))) (classic_texts (λ n. Some (bytes_of c.fetch_captures.new.shelf n))) (c.from_text.result ∷ []) c.in_ok-sources.sources.items
-    (λ n. ap (option_map classic) (c.fetch_captures.ensures.texts n)) c.in_ok-sources.ensures.fetched in
+    (λ n. ap (option_map classic) (c.fetch_captures.ensures.stays.texts n)) c.in_ok-sources.ensures.fetched in
     no-cause c.in-Err.failure (λ (i : Input). (number : ℕ) × (i ≡ Capture number) × CaptureRose (λ (n : List ℕ). 0) (λ (n : List ℕ). 0) (c.from_text.result ∷ []) number)
-    (λ i h. never-rose h.2.rose) (c.in-Err.ensures.cause (c.from_text.result ∷ []) fetched)
+    (λ i h. never-rose h.2.rose) (c.in-Err.ensures.judged.cause (c.from_text.result ∷ []) fetched)
 
 pub text_on-requires-clause-one_row : goal.text_on-requires-clause-one_row
 text_on-requires-clause-one_row g c =
-    let fetched = fetched-same (classic_name name_of) (classic_left (λ s. Some (left_of s))) (classic_faults (λ s. 0)) (classic_texts (λ n. Some (bytes_of c.fetch_session.new.shelf n))) (classic_texts (λ n. Some (bytes_of c.fetch_captures.new.shelf n))) (c.from_text.result ∷ []) c.in_ok-sources.sources.items
-    (λ n. ap (option_map classic) (c.fetch_captures.ensures.texts n)) c.in_ok-sources.ensures.fetched in
-    let plain : session sdp_text ≡ Ok c.in-Ok.session = c.in_ok-session.ensures.told sdp_text (ap Some c.in_ok-shelf.ensures.sdp) ∙ c.in-Ok.is in
-    let same : c.as_slice-media.result.now ≡ c.in-Ok.session = search rules in
-    let media : c.as_slice-media.result.now ≡ plain_media ∷ [] = same ∙ session-is c.in-Ok.session plain in
-    let name : c.from_text.result ≡ codes "made.pcap" = search rules in
-    let told : Some (bytes_of c.fetch_captures.new.shelf c.from_text.result) ≡ Some (capture c.args.frames c.args.frames c.args.flaw) =
-    c.fetch_captures.ensures.texts c.from_text.result ∙ c.fetch_session.ensures.texts c.from_text.result ∙ ap (λ n. Some (bytes_of c.in_ok-shelf.shelf n)) name ∙ ap Some c.in_ok-shelf.ensures.capture in
-    let text : classic_texts (λ n. Some (bytes_of c.fetch_captures.new.shelf n)) c.from_text.result ≡ Some (capture c.args.frames c.args.frames c.args.flaw) =
-    ap (option_map classic) told ∙ ap Some (classic-capture c.args.frames c.args.frames c.args.flaw) in
-    let found : AreFound (capture c.args.frames c.args.frames c.args.flaw ∷ []) (rows_over false 0 (plain_media ∷ [])) c.in-Ok-judge_any.found.notes.items c.in-Ok-judge_any.found.rows.items =
-    subst (λ (m : List Media). AreFound (capture c.args.frames c.args.frames c.args.flaw ∷ []) (rows_over false 0 m) c.in-Ok-judge_any.found.notes.items c.in-Ok-judge_any.found.rows.items) media
-    (c.in-Ok-judge_any.ensures.told (c.from_text.result ∷ []) (capture c.args.frames c.args.frames c.args.flaw ∷ []) fetched (text, tt)) in
-    let one = one-found (capture c.args.frames c.args.frames c.args.flaw) plain_media c.in-Ok-judge_any.found.notes.items c.in-Ok-judge_any.found.rows.items found in
+    let found = found-made (classic_name name_of) (classic_left (λ s. Some (left_of s))) (classic_faults (λ s. 0)) c.args.frames c.args.flaw (bytes_of c.in_ok-shelf.shelf) (bytes_of c.fetch_session.new.shelf) (bytes_of c.fetch_captures.new.shelf) c.from_text.result
+    c.in_ok-sources.sources.items c.in-Ok.session c.as_slice-media.result.now _ _ c.in_ok-shelf.ensures.capture (search rules) c.fetch_session.ensures.stays.texts c.fetch_captures.ensures.stays.texts
+    c.in_ok-sources.ensures.fetched (c.in_ok-session.ensures.told sdp_text (ap Some c.in_ok-shelf.ensures.sdp) ∙ c.in-Ok.is) (search rules) c.in-Ok-judge_any.ensures.judged.told in
+    let one = one-found (capture c.args.frames c.args.frames c.args.flaw) plain_media _ _ found in
     ap length one.found_is
 
 pub returns-clause-line : goal.returns-clause-line
 returns-clause-line g c =
-    let fetched = fetched-same (classic_name name_of) (classic_left (λ s. Some (left_of s))) (classic_faults (λ s. 0)) (classic_texts (λ n. Some (bytes_of c.fetch_session.new.shelf n))) (classic_texts (λ n. Some (bytes_of c.fetch_captures.new.shelf n))) (c.from_text.result ∷ []) c.in_ok-sources.sources.items
-    (λ n. ap (option_map classic) (c.fetch_captures.ensures.texts n)) c.in_ok-sources.ensures.fetched in
-    let plain : session sdp_text ≡ Ok c.in-Ok.session = c.in_ok-session.ensures.told sdp_text (ap Some c.in_ok-shelf.ensures.sdp) ∙ c.in-Ok.is in
-    let same : c.as_slice-media.result.now ≡ c.in-Ok.session = search rules in
-    let media : c.as_slice-media.result.now ≡ plain_media ∷ [] = same ∙ session-is c.in-Ok.session plain in
-    let name : c.from_text.result ≡ codes "made.pcap" = search rules in
-    let told : Some (bytes_of c.fetch_captures.new.shelf c.from_text.result) ≡ Some (capture c.args.frames c.args.frames c.args.flaw) =
-    c.fetch_captures.ensures.texts c.from_text.result ∙ c.fetch_session.ensures.texts c.from_text.result ∙ ap (λ n. Some (bytes_of c.in_ok-shelf.shelf n)) name ∙ ap Some c.in_ok-shelf.ensures.capture in
-    let text : classic_texts (λ n. Some (bytes_of c.fetch_captures.new.shelf n)) c.from_text.result ≡ Some (capture c.args.frames c.args.frames c.args.flaw) =
-    ap (option_map classic) told ∙ ap Some (classic-capture c.args.frames c.args.frames c.args.flaw) in
-    let found : AreFound (capture c.args.frames c.args.frames c.args.flaw ∷ []) (rows_over false 0 (plain_media ∷ [])) c.in-Ok-judge_any.found.notes.items c.in-Ok-judge_any.found.rows.items =
-    subst (λ (m : List Media). AreFound (capture c.args.frames c.args.frames c.args.flaw ∷ []) (rows_over false 0 m) c.in-Ok-judge_any.found.notes.items c.in-Ok-judge_any.found.rows.items) media
-    (c.in-Ok-judge_any.ensures.told (c.from_text.result ∷ []) (capture c.args.frames c.args.frames c.args.flaw ∷ []) fetched (text, tt)) in
-    has-line c.args.frames c.args.flaw _ c.in-Ok-judge_any.found.notes.items c.in-Ok-judge_any.found.rows.items found
-    (λ note row n r. c.in_ok-text_on.ensures plain_media note row (session-is c.in-Ok.session plain) n r)
+    let found = found-made (classic_name name_of) (classic_left (λ s. Some (left_of s))) (classic_faults (λ s. 0)) c.args.frames c.args.flaw (bytes_of c.in_ok-shelf.shelf) (bytes_of c.fetch_session.new.shelf) (bytes_of c.fetch_captures.new.shelf) c.from_text.result
+    c.in_ok-sources.sources.items c.in-Ok.session c.as_slice-media.result.now _ _ c.in_ok-shelf.ensures.capture (search rules) c.fetch_session.ensures.stays.texts c.fetch_captures.ensures.stays.texts
+    c.in_ok-sources.ensures.fetched (c.in_ok-session.ensures.told sdp_text (ap Some c.in_ok-shelf.ensures.sdp) ∙ c.in-Ok.is) (search rules) c.in-Ok-judge_any.ensures.judged.told in
+    has-line c.args.frames c.args.flaw _ _ _ found (λ note row n r. c.in_ok-text_on.ensures plain_media note row (session-is c.in-Ok.session (c.in_ok-session.ensures.told sdp_text (ap Some c.in_ok-shelf.ensures.sdp) ∙ c.in-Ok.is)) n r)

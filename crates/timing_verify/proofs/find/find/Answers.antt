@@ -20,4 +20,4 @@ pub returns-clause-cause : goal.returns-clause-cause
 returns-clause-cause g c =
     find-cause (name_of g.H.Source.Source.name) (left_of g.H.Source.Source.left) (faults_of g.H.Source.Source.faults) (classic_texts (g.H.Shelf.text c.args.shelf.now)) c.args.names.now c.in_ok-sources.sources.items c.confirm-sources.result.0.items
     (g.H.Shelf.faults c.args.shelf.now) (g.H.Shelf.faults c.fetch_captures.new.shelf) (g.H.Shelf.faults c.give_back_all.new.shelf) c.confirm-sources.result.1 c.finding_of.result c.finding_of.ensures
-    c.fetch_captures.ensures.later c.in_ok-sources.ensures.fetched c.confirm-sources.ensures.back c.confirm-sources.ensures.cause c.give_back_all.ensures.raised
+    c.fetch_captures.ensures.stays.later c.in_ok-sources.ensures.fetched c.confirm-sources.ensures.back c.confirm-sources.ensures.cause c.give_back_all.ensures.raised

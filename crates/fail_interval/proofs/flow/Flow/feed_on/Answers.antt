@@ -14,11 +14,11 @@ overflow_add-came c = omega (arith, stamp-known _ _ c.requires, seconds-known _ 
 
 pub feed-requires : goal.feed-requires
 feed-requires c =
-    let placed : Placed = record { cut = None; place = c.in-Some.field-0 } in
-    take-known _ 0 c.args.at c.args.rtp placed _ c.in-Some-open.is refl (λ packets s rest. c.in-Some.ensures.answer _ packets rest 0 s) c.requires
+    let placed : Placed = record { cut = None; place = c.in-Some-feed_on.field-0 } in
+    take-known _ 0 c.args.at c.args.rtp placed _ c.in-Some.is refl (λ packets s rest. c.in-Some-feed_on.ensures.answer _ packets rest 0 s) c.requires
 
-pub returns-clause-goes_on : goal.returns-clause-goes_on
-returns-clause-goes_on c = λ _ packets rec_number h.
-    let placed : Placed = record { cut = None; place = c.in-Some.field-0 } in
-    goes_on _ packets rec_number c.args.at c.args.rtp placed _ _ _ c.in-Some-open.is refl
-    (λ rest. c.in-Some.ensures.answer _ packets rest rec_number h.stands.grouper) (c.in-Some.ensures.stands _ packets rec_number h.stands.grouper) c.in_ok-feed-in-Some-open.ensures h
+pub returns-in_ok-feed-in-Some-clause-goes_on : goal.returns-in_ok-feed-in-Some-clause-goes_on
+returns-in_ok-feed-in-Some-clause-goes_on c = λ _ rec_number packets h.
+    let placed : Placed = record { cut = None; place = c.in-Some-feed_on.field-0 } in
+    goes_on _ packets rec_number c.args.at c.args.rtp placed _ _ _ c.in-Some.is refl
+    (λ rest. c.in-Some-feed_on.ensures.answer _ packets rest rec_number h.stands.grouper) (c.in-Some-feed_on.ensures.stands _ packets rec_number h.stands.grouper) c.in_ok-feed-in-Some.ensures h

@@ -7,7 +7,7 @@ pub feed-requires : goal.feed-requires
 feed-requires c = record { few = few-known _ _ c.requires }
 
 pub returns-in-Err-clause-ends : goal.returns-in-Err-clause-ends
-returns-in-Err-clause-ends c = λ packets rest fault h e.
+returns-in-Err-clause-ends c = λ fault e packets rest h.
     let same : fault ≡ c.in-Err.fault = cc in
     ends _ packets rest c.args.rec c.args.at c.args.rtp fault h (ap Err same ∙ c.in-Err.ensures.answer _ packets rest _ h.stands.grouper)
 
@@ -23,12 +23,12 @@ feed-requires-in-Some c =
     (λ packets s rest. c.in-Ok.ensures.answer _ packets rest _ s) c.requires
 
 pub returns-in-Some-clause-goes_on : goal.returns-in-Some-clause-goes_on
-returns-in-Some-clause-goes_on c = λ packets h _.
+returns-in-Some-clause-goes_on c = λ _ packets h.
     goes_on _ packets c.args.rec c.args.at c.args.rtp c.in-Ok.placed _ _ _ c.in-Some.is (none-of _ c.if-is_none.ensures)
     (λ rest. c.in-Ok.ensures.answer _ packets rest _ h.stands.grouper) (c.in-Ok.ensures.stands _ packets _ h.stands.grouper) c.in_ok-feed.ensures h
 
 pub returns-clause-goes_on : goal.returns-clause-goes_on
-returns-clause-goes_on c = λ packets h _.
+returns-clause-goes_on c = λ _ packets h.
     begins c.args.self.now c.if-is_none.self c.begin.new.self packets c.args.rec c.args.at c.args.rtp c.in-Ok.placed c.feed.new.self
     (elim c.if-is_none.branch as (λ _. c.if-is_none.self ≡ with_parts c.args.self.now c.feed.new.self c.args.self.now.open) [
       | then-is_none+in_default w ↦ w.self-is

@@ -10,7 +10,12 @@ invariant_of-self c =
     let went = c.feed_on.ensures.goes_on (c.in-Ok-true.is ∙ ap Ok c.in-Ok-true.field-0-test) in
     record { known = went-known c.args.self.now.fed c.args.rec c.args.at c.args.rtp _ _ went c.args.self.now.known c.requires.few c.requires.stamp }
 
-pub returns-clause-stands : goal.returns-clause-stands
-returns-clause-stands c = λ media key tai packets s.
-    c.feed_other.ensures.stands media key tai packets
-    (same-state media key tai c.args.self.now _ _ packets (c.feed_on.ensures.other (c.in-Ok-false.is ∙ ap Ok c.in-Ok-false.field-0-test)) s)
+pub returns : goal.returns
+returns c =
+    let same = c.feed_on.ensures.other (c.in-Ok-false.is ∙ ap Ok c.in-Ok-false.field-0-test) in
+    record {
+      fed = c.feed_other.ensures.fed;
+      stands = λ media key tai packets s. c.feed_other.ensures.stands media key tai packets (same-state media key tai c.args.self.now _ _ packets same s);
+      spends = c.feed_other.ensures.spends;
+      stays = λ spent. c.feed_other.ensures.stays (same ∙ spent);
+    }

@@ -5,23 +5,22 @@ use Rattle.fail_interval.proofs.judge.FlowJudge.feed_unread.Goals as goal
 pub feed-step-requires : goal.feed-step-requires
 feed-step-requires c = flow-known _ _ _ _ c.in-Going.is c.args.self.now.known c.requires.few c.requires.stamp
 
-pub returns-in-Refused-clause-stands : goal.returns-in-Refused-clause-stands
-returns-in-Refused-clause-stands c = λ media key tai packets s.
-    refused-before media key tai c.args.rec c.args.at _ (Err c.args.fault) _ c.args.self.now _ packets c.in-Refused.is c.requires.stamp s
+pub returns-in-Refused : goal.returns-in-Refused
+returns-in-Refused c = refused-before _ c.args.rec c.args.at _ (Err c.args.fault) _ c.args.self.now _ c.in-Refused.is c.requires.stamp
 
 pub invariant_of-self-in-None : goal.invariant_of-self-in-None
 invariant_of-self-in-None c = record {
   known = known-more _ c.args.rec c.args.at (Err c.args.fault) _ _ _ c.in-Going.is c.args.self.now.known c.requires.few c.requires.stamp
-      (λ packets h. c.feed-step.ensures.goes_on packets h (c.in-Ok.is ∙ ap Ok c.in-None.is));
+      (c.feed-step.ensures.goes_on (c.in-Ok.is ∙ ap Ok c.in-None.is));
 }
 
-pub returns-in-None-clause-stands : goal.returns-in-None-clause-stands
-returns-in-None-clause-stands c = λ media key tai packets s.
-    going-more media key tai c.args.rec c.args.at (Err c.args.fault) c.args.self.now _ _ _ packets c.in-Going.is c.requires.few c.requires.stamp
+pub returns-in-None : goal.returns-in-None
+returns-in-None c =
+    going-more _ c.args.rec c.args.at (Err c.args.fault) c.args.self.now _ _ _ c.in-Going.is c.requires.few c.requires.stamp
     c.feed-step.ensures.media c.feed-step.ensures.tai
-    (λ packets h. c.feed-step.ensures.goes_on packets h (c.in-Ok.is ∙ ap Ok c.in-None.is)) s
+    (c.feed-step.ensures.goes_on (c.in-Ok.is ∙ ap Ok c.in-None.is))
 
-pub returns-in-Some-clause-stands : goal.returns-in-Some-clause-stands
-returns-in-Some-clause-stands c = λ media key tai packets s.
-    refused-now media key tai c.args.rec c.args.at (Err c.args.fault) _ c.args.self.now _ _ _ packets c.in-Going.is c.refuse.ensures c.requires.few c.requires.stamp
-    (λ packets rest h. c.feed-step.ensures.ends packets rest _ h (c.in-Ok.is ∙ ap Ok c.in-Some.is)) s
+pub returns-in-Some : goal.returns-in-Some
+returns-in-Some c =
+    refused-now _ c.args.rec c.args.at (Err c.args.fault) _ c.args.self.now _ _ _ c.in-Going.is c.refuse.ensures c.requires.few c.requires.stamp
+    (c.feed-step.ensures.ends _ (c.in-Ok.is ∙ ap Ok c.in-Some.is))

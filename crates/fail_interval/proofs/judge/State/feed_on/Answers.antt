@@ -9,5 +9,5 @@ returns-in-Going-clause-goes_on c = λ took. record {
   becomes = refl;
   media = c.feed_on.ensures.media;
   tai = c.feed_on.ensures.tai;
-  goes = λ packets rec_number can. c.feed_on.ensures.goes_on took packets rec_number can;
+  goes = c.feed_on.ensures.goes_on took;
 }

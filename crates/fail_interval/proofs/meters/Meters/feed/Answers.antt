@@ -6,34 +6,16 @@ pub feed-requires-clause-begun : goal.feed-requires-clause-begun
 feed-requires-clause-begun c = (bounds-known _ _ _ c.requires).begun
 
 pub feed-requires-clause-in_time : goal.feed-requires-clause-in_time
-feed-requires-clause-in_time c = (bounds-known _ _ _ c.requires).in_time
+feed-requires-clause-in_time c = (bounds-known _ _ _ c.requires).within.in_time
 
 pub feed-requires-clause-few : goal.feed-requires-clause-few
 feed-requires-clause-few c = (bounds-known _ _ _ c.requires).few
 
-pub pass-requires-clause-in_time : goal.pass-requires-clause-in_time
-pass-requires-clause-in_time c = (bounds-known _ _ _ c.requires).in_time
+pub pass-requires-clause-within : goal.pass-requires-clause-within
+pass-requires-clause-within c = (bounds-known _ _ _ c.requires).within
 
-pub pass-requires-clause-narrow : goal.pass-requires-clause-narrow
-pass-requires-clause-narrow c = (bounds-known _ _ _ c.requires).narrow
-
-pub pass-requires-clause-narrow_linear : goal.pass-requires-clause-narrow_linear
-pass-requires-clause-narrow_linear c = (bounds-known _ _ _ c.requires).narrow_linear
-
-pub pass-requires-clause-wide : goal.pass-requires-clause-wide
-pass-requires-clause-wide c = (bounds-known _ _ _ c.requires).wide
-
-pub tell-requires-clause-in_time : goal.tell-requires-clause-in_time
-tell-requires-clause-in_time c = (bounds-known _ _ _ c.requires).in_time
-
-pub tell-requires-clause-narrow : goal.tell-requires-clause-narrow
-tell-requires-clause-narrow c = (bounds-known _ _ _ c.requires).narrow
-
-pub tell-requires-clause-narrow_linear : goal.tell-requires-clause-narrow_linear
-tell-requires-clause-narrow_linear c = (bounds-known _ _ _ c.requires).narrow_linear
-
-pub tell-requires-clause-wide : goal.tell-requires-clause-wide
-tell-requires-clause-wide c = (bounds-known _ _ _ c.requires).wide
+pub tell-requires : goal.tell-requires
+tell-requires c = (bounds-known _ _ _ c.requires).within
 
 pub returns-then-holds-clause-stands : goal.returns-then-holds-clause-stands
 returns-then-holds-clause-stands c = λ stamps follows.

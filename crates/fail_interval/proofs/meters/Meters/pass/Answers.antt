@@ -21,13 +21,13 @@ returns-clause-takes c = λ params before stamps follows origin stands.
         linear = later-by params false old.linear before.origin old.bucket.origin stamps at (sym origin) falls f.linear;
         narrow_kind = c.pass.ensures.kind ∙ f.narrow_kind;
         narrow = kind-passes params old.narrow c.pass.new.self old.bucket before.origin old.lull.left old.lull.brim old.lull.gapped stamps at c.pass.ensures.stands
-            falls stands first c.requires.in_time l.lasts l.within l.gapped s.lull.narrow f.narrow;
+            falls stands first c.requires.within.in_time l.lasts l.within l.gapped s.lull.narrow f.narrow;
         narrow_linear_kind = c.pass-2.ensures.kind ∙ f.narrow_linear_kind;
         narrow_linear = kind-passes params old.narrow_linear c.pass-2.new.self old.bucket before.origin old.lull.left old.lull.brim old.lull.linear stamps at c.pass-2.ensures.stands
-            falls stands first c.requires.in_time l.lasts l.within l.linear s.lull.narrow_linear f.narrow_linear;
+            falls stands first c.requires.within.in_time l.lasts l.within l.linear s.lull.narrow_linear f.narrow_linear;
         wide_kind = c.pass-3.ensures.kind ∙ f.wide_kind;
         wide = kind-passes params old.wide c.pass-3.new.self old.bucket before.origin old.lull.left old.lull.brim old.lull.linear stamps at c.pass-3.ensures.stands
-            falls stands first c.requires.in_time l.lasts l.within l.linear s.lull.wide f.wide;
+            falls stands first c.requires.within.in_time l.lasts l.within l.linear s.lull.wide f.wide;
       };
       lull = record {
         narrow = calm-next params before.origin old.bucket.origin old.narrow c.pass.new.self (old.lull.left - 1) old.lull.left old.lull.brim old.lull.gapped c.go_on.new.self

@@ -19,5 +19,5 @@ returns c =
     let joined : Joined = record { alloc = c.args.alloc; judges = c.in_ok-judges.judges; files = c.loop.all; next = 0; before = 0 } in
     let count : length c.loop.all.items ≡ c.args.files = search rules in
     record {
-      stands = joined-new s c.args.files c.args.worker joined refl c.requires.some_files c.requires.few_files count refl refl c.loop.invariant.each (c.in_ok-judges.ensures.fed true refl);
+      stands = joined-new s c.args.files c.args.worker joined refl c.requires.limits.some_files c.requires.limits.few_files count refl refl c.loop.invariant.each (c.in_ok-judges.ensures.fed true refl);
     }

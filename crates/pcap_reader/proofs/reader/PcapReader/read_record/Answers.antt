@@ -34,6 +34,6 @@ pub returns-clause-gives : goal.returns-clause-gives
 returns-clause-gives g c = λ text items end e told.
     let read = reads_record c.args.layout c.args.self.now.window c.hold.new.self.window c.hold-2.new.self.window c.pass_record.new.self _ _ _ text c.in_ok-head.head c.in_ok-hold.ensures.same c.in_ok-hold-2.ensures.same
     c.in_ok-hold.ensures.bytes c.in_ok-hold-2.ensures.bytes e (c.in_ok-hold.ensures.enough (search rules)) (c.in_ok-hold-2.ensures.enough (search rules))
-    c.in_ok-head.ensures.stamp c.in_ok-head.ensures.captured c.in_ok-head.ensures.whole
+    c.in_ok-head.ensures.head.stamp_is c.in_ok-head.ensures.head.captured_is c.in_ok-head.ensures.head.whole
     c.pass_record.ensures.held c.pass_record.ensures.behind c.pass_record.ensures.place c.pass_record.ensures.count in
     gives-frame c.args.layout c.args.self.now.window c.pass_record.new.self text _ c.in_ok-head.head items end read (search rules) (search rules) told (search rules)

@@ -1,10 +1,9 @@
-use Rattle.std.proofs.Common.{◌≡◌, ◌∙◌, ◌+◌, ◌-◌, ◌++◌, length, take, drop, min, ap, sym, arith}
+use Rattle.std.proofs.Common.{◌∙◌, ◌+◌, ◌-◌, ◌++◌, take, drop, ap, sym, arith}
 use Rattle.pcapng_reader.specs.Texts.{section_of, ahead, whole}
 use Rattle.pcapng_reader.specs.Windows.{kept_bytes, held_bytes}
-use Rattle.pcapng_reader.specs.Stages.{rank}
-use Rattle.pcapng_reader.specs.Classic.{number, padded}
+use Rattle.pcapng_reader.specs.Classic.{number}
 use Rattle.pcapng_reader.specs.Converting.{found_with, after}
-use Rattle.pcapng_reader.proofs.Steps.{steps-waits, option-cut, text-at_option, options-broken, option-passed, option-unformed}
+use Rattle.pcapng_reader.proofs.Steps.{option-count, option-value, option-waits, text-at_option, options-broken, option-passed, option-unformed}
 use Rattle.pcapng_reader.proofs.converter.Converter.option.Goals as goal
 
 pub returns-then-from-body : goal.returns-then-from-body
@@ -26,10 +25,7 @@ returns-then-from-body c =
 
 pub returns-then-len-count : goal.returns-then-len-count
 returns-then-len-count c =
-    let w = c.args.self.now in
-    let h = held_bytes w.window in
-    steps-waits w c.wait.new.self c.wait.result c.wait.ensures (omega (arith, ap length c.requires.given)) (omega (arith, ap rank c.requires.stage))
-    (λ left z. option-cut w.stage (section_of w) (kept_bytes w.window) h left (whole w left) w.budget c.args.body c.args.found c.requires.stage (omega arith) z)
+    option-waits c.args.self.now c.wait.new.self c.wait.result c.args.body c.args.found c.wait.ensures c.requires.stage c.requires.given (omega arith) (omega arith)
 
 pub returns-in-Some : goal.returns-in-Some
 returns-in-Some c =
@@ -38,12 +34,8 @@ returns-in-Some c =
     let b = c.args.body in
     let f = c.args.found in
     let s = section_of w in
-    let size : c.args.size ≡ number b.order 2 2 h = c.requires.size in
-    let count : c.min-count.result ≡ min b.left (4 + padded (number b.order 2 2 h)) =
-    c.min-count.ensures ∙ ap (λ n. min b.left (4 + n)) (c.padded.ensures.value ∙ ap padded c.requires.size) in
-    let bare : (4 + c.args.size) - 4 ≡ number b.order 2 2 h = omega (arith, c.requires.size) in
-    let value : take ((4 + c.args.size) - 4) (drop 4 c.peek.result.now) ≡ take (number b.order 2 2 h) (drop 4 h) =
-    ap (λ n. take n (drop 4 c.peek.result.now)) bare ∙ ap (λ x. take (number b.order 2 2 h) (drop 4 x)) c.peek.ensures in
+    let count = option-count c.min-count.result b.left _ c.args.size (number b.order 2 2 h) c.min-count.ensures c.padded.ensures.value c.requires.size in
+    let value = option-value c.args.size (number b.order 2 2 h) c.peek.result.now h c.requires.size c.peek.ensures in
     record {
       text = λ left.
           let r = take w.budget left in
@@ -63,11 +55,8 @@ returns-in-None c =
     let b = c.args.body in
     let f = c.args.found in
     let s = section_of w in
-    let count : c.min-count.result ≡ min b.left (4 + padded (number b.order 2 2 h)) =
-    c.min-count.ensures ∙ ap (λ n. min b.left (4 + n)) (c.padded.ensures.value ∙ ap padded c.requires.size) in
-    let bare : (4 + c.args.size) - 4 ≡ number b.order 2 2 h = omega (arith, c.requires.size) in
-    let value : take ((4 + c.args.size) - 4) (drop 4 c.peek.result.now) ≡ take (number b.order 2 2 h) (drop 4 h) =
-    ap (λ n. take n (drop 4 c.peek.result.now)) bare ∙ ap (λ x. take (number b.order 2 2 h) (drop 4 x)) c.peek.ensures in
+    let count = option-count c.min-count.result b.left _ c.args.size (number b.order 2 2 h) c.min-count.ensures c.padded.ensures.value c.requires.size in
+    let value = option-value c.args.size (number b.order 2 2 h) c.peek.result.now h c.requires.size c.peek.ensures in
     record {
       text = λ left.
           let r = take w.budget left in

@@ -1,10 +1,9 @@
-use Rattle.std.proofs.Common.{◌∙◌, length, take, ap, sym, arith, Some}
+use Rattle.std.proofs.Common.{◌∙◌, take, ap, sym, arith, Some}
 use Rattle.pcapng_reader.specs.Texts.{section_of, ahead, whole}
 use Rattle.pcapng_reader.specs.Windows.{kept_bytes, held_bytes}
-use Rattle.pcapng_reader.specs.Stages.{rank}
 use Rattle.pcapng_reader.specs.Classic.{number, add_interface}
 use Rattle.pcapng_reader.specs.Converting.{after}
-use Rattle.pcapng_reader.proofs.Steps.{steps-waits, option-cut, text-at_option, options-over, options-last}
+use Rattle.pcapng_reader.proofs.Steps.{option-waits, text-at_option, options-over, options-last}
 use Rattle.pcapng_reader.proofs.converter.Converter.options.Goals as goal
 
 pub returns-then-body-lt4 : goal.returns-then-body-lt4
@@ -24,10 +23,7 @@ returns-then-body-lt4 c =
 
 pub returns-then-len-lt4 : goal.returns-then-len-lt4
 returns-then-len-lt4 c =
-    let w = c.args.self.now in
-    let h = held_bytes w.window in
-    steps-waits w c.wait.new.self c.wait.result c.wait.ensures (omega (arith, ap length c.requires.given)) (omega (arith, ap rank c.requires.stage))
-    (λ left z. option-cut w.stage (section_of w) (kept_bytes w.window) h left (whole w left) w.budget c.args.body c.args.found c.requires.stage (omega arith) z)
+    option-waits c.args.self.now c.wait.new.self c.wait.result c.args.body c.args.found c.wait.ensures c.requires.stage c.requires.given (omega arith) (omega arith)
 
 pub returns-then-code-eq0 : goal.returns-then-code-eq0
 returns-then-code-eq0 c =

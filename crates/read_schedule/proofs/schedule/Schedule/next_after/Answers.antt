@@ -1,9 +1,9 @@
 use Rattle.std.proofs.Common.{◌≡◌, ◌≤◌, ◌<◌, ◌+◌, ◌-◌, ◌^◌, ◌↔◌, ℕ, arith, subst}
-use Rattle.std.proofs.Math.Nat.{add-mul, mul-le-mul_right}
+use Rattle.std.proofs.Math.Nat.{add-mul}
 use Rattle.read_schedule.specs.declared.grid.Grid.{Grid}
 use Rattle.read_schedule.specs.declared.schedule.Schedule.{Schedule}
 use Rattle.read_schedule.specs.Parts.{parts_at, parts_of}
-use Rattle.read_schedule.proofs.Instants.{are_due}
+use Rattle.read_schedule.proofs.Instants.{are_due, past-later, stands-later}
 use Rattle.read_schedule.proofs.Rounding.{rounded-before, rounded-le}
 use Rattle.read_schedule.proofs.Turns.{parts_at-rises}
 use Rattle.read_schedule.proofs.schedule.Schedule.next_after.Goals as goal
@@ -30,8 +30,7 @@ returns-clause-next c = λ m n anchor gapped before order stood.
     let g = c.args.self.now.grid in
     let s = c.catch_up.new.self in
     let e = c.catch_up.ensures in
-    let order_parts : parts_of g before ≤ parts_of g c.args.at = mul-le-mul_right g.den (omega (arith, order)) in
-    let due = e.due (λ x few. omega (arith, order_parts, (stood.grid.before x before).0 (stood.passed x few))) in
+    let due = e.due (past-later m n anchor gapped c.args.self.now before c.args.at order stood) in
     let next = λ (t : ℕ) (low : t < 2 ^ 62). subst (λ (h : Grid). (parts_at h s.passed ≤ parts_of h t) ↔ (s.next.at - 2 ^ 49 ≤ t)) e.grid (next_due s t low) in
     record {
       count = are_due m n anchor gapped g c.args.at _ stood.grid due e.ahead;
@@ -43,12 +42,4 @@ returns-clause-next c = λ m n anchor gapped before order stood.
     }
 
 pub returns-clause-stands : goal.returns-clause-stands
-returns-clause-stands c = λ m n anchor gapped before order stood.
-    let g = c.args.self.now.grid in
-    let e = c.catch_up.ensures in
-    let order_parts : parts_of g before ≤ parts_of g c.args.at = mul-le-mul_right g.den (omega (arith, order)) in
-    let due = e.due (λ x few. omega (arith, order_parts, (stood.grid.before x before).0 (stood.passed x few))) in
-    record {
-      grid = rw e.grid stood.grid;
-      passed = λ x few. (stood.grid.before x c.args.at).1 (due x few);
-    }
+returns-clause-stands c = stands-later c.args.self.now c.catch_up.new.self c.args.at c.catch_up.ensures.grid c.catch_up.ensures.due

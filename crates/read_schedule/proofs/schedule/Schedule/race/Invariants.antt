@@ -1,12 +1,11 @@
-use Rattle.std.proofs.Common.{◌≡◌, ◌≤◌, ◌<◌, ◌+◌, ◌-◌, ◌*◌, ℕ}
-use Rattle.read_schedule.specs.Parts.{parts_at}
+use Rattle.std.proofs.Common.{◌≡◌, ◌+◌, ◌-◌}
+use Rattle.read_schedule.specs.Parts.{ArePast}
 use Rattle.read_schedule.proofs.schedule.Schedule.race.Given as goal
 
 abbrev pub invariant-loop-self : goal.invariant-loop-self
 invariant-loop-self l = record {
   grid : l.self.grid ≡ l.fn.self.grid;
-  due : ((x : ℕ) → x < l.fn.self.passed → parts_at l.fn.self.grid x ≤ l.t * l.fn.self.grid.den)
-      → (x : ℕ) → x < l.self.passed → parts_at l.fn.self.grid x ≤ l.t * l.fn.self.grid.den;
+  due : ArePast l.fn.self.grid l.fn.self.passed l.t → ArePast l.fn.self.grid l.self.passed l.t;
 }
 
 abbrev pub decreases-loop-self : goal.decreases-loop-self

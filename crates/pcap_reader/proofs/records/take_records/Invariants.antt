@@ -2,15 +2,15 @@ use Rattle.std.proofs.Common.{◌≡◌, ◌≤◌, ◌+◌, ◌*◌, List, None
 use Rattle.timing_base.specs.Captures.{Record}
 use Rattle.timing_base.specs.declared.capture.FileNote.{FileNote}
 use Rattle.pcap_reader.specs.Readers.{WillGive, end_note, frame_count, most_of, under}
-use Rattle.timing_reach.specs.Taken.{HasTaken, TakesFew}
-use Rattle.timing_reach.proofs.captures.take_records.Given as goal
+use Rattle.pcap_reader.specs.Taken.{HasTaken, TakesFew}
+use Rattle.pcap_reader.proofs.records.take_records.Given as goal
 
 abbrev pub invariant-loop-number : goal.invariant-loop-number
 invariant-loop-number g l =
     let left = g.S.Source.left in
     let takes = g.T.Taker.takes in
     record {
-      told : (items : List Record) (end : FileNote) → WillGive left l.fn.reader items end → HasTaken left takes l.fn.taker l.taker l.reader items end;
+      told : (items : List Record) (end : FileNote) → WillGive left l.fn.reader items end → HasTaken left takes l.before l.fn.taker l.taker l.reader (frame_count l.reader) items end;
       fed : TakesFew takes (frame_count l.reader) l.fn.taker l.taker;
       fresh : end_note l.reader ≡ None;
       number : frame_count l.reader + 1 ≡ l.number;
