@@ -16,6 +16,7 @@ pub mod Passes
 pub mod Outgoing
 pub mod Targeting
 pub mod Dealt
+pub mod Deals
 pub mod Each
 pub mod Fed
 pub mod Posted

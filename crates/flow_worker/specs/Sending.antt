@@ -17,6 +17,11 @@ use Rattle.flow_worker.specs.Opening.{for_lane, full_batches, sent_of, session_p
 use Rattle.flow_worker.specs.declared.outboxes.Outboxes.{Outboxes}
 use Rattle.flow_worker.specs.declared.routing.Routing.{Routing}
 
+-- the lane of each of the first media of a file, by the media's number: of `count` of these media
+abbrev pub AreDealt : (file media lanes count : ℕ) → List ℕ → Type 0
+AreDealt file media lanes count dealt =
+    (length dealt ≡ 64) × ((m : ℕ) → m < count → slice_index_or dealt m 0 ≡ route (key_of file m) media lanes)
+
 -- the lane of a packet
 abbrev pub route_of : Routing → Packet → ℕ
 route_of r p = route (key_of r.file p.media) (length r.media.now) r.lanes
@@ -28,6 +33,7 @@ pub record IsRouting (r : Routing) : Type 0 where
   pub few_media : length r.media.now ≤ 64
   pub some_lanes : 1 ≤ r.lanes
   pub few_lanes : r.lanes ≤ 16
+  pub dealt : AreDealt r.file (length r.media.now) r.lanes (length r.media.now) r.dealt
 
 -- what was sent to a lane
 abbrev pub sent_to : Outboxes → ℕ → List Message

@@ -14,9 +14,9 @@ ghost use Rattle.flow_worker.specs.Opening.{session_packets};
 ghost use Rattle.flow_worker.specs.Sending.{AreOutboxes, AreSame, BeginsFile, Cuts, CutsNext, HasBegunFile, HasCutAll, HasLeftOff, HasSentFile, HaveAllFew, IsRouting, Stays, route_of};
 
 use crate::outboxes::Outboxes;
-use crate::routing::{Routing, dealt_file};
+use crate::routing::{Routing, deal, dealt_file};
 use pcap_reader::{MOST, PcapReader, Step};
-use ruled_intake::{Halt, Lane, Raised, SendPass};
+use ruled_intake::{Halt, Lane, Raised, SendPass, wake_all};
 use std::alloc::{AllocError as OutOfMemory, Global};
 use std::sync::Wait;
 use timing_base::{FileNote, Media};
@@ -176,10 +176,11 @@ fn send_file<R: Wait, S: Source>(
     Ok(taken.note)
 }
 
-/// Raises the halt for want of memory, and leaves what there is.
+/// Raises the halt for want of memory, so that the workers see it, and leaves what there is.
 fn stop<'h, R: Wait, S: Source>(
     rt: &R,
     source: S,
+    lanes: &[Lane],
     passes: Vec<SendPass>,
     halt: &'h Halt,
 ) -> (IntakeDone<S>, Option<Raised<'h>>)
@@ -189,6 +190,7 @@ fn stop<'h, R: Wait, S: Source>(
     ensures raised { result.1 ≡ Some halt.now }
 {
     let raised = halt.raise(rt);
+    wake_all(lanes);
     let done = IntakeDone {
         source,
         passes,
@@ -203,6 +205,7 @@ fn take_file<'h, R: Wait, S: Source>(
     alloc: Global,
     reader: PcapReader<S>,
     routing: &Routing<'_>,
+    lanes: &[Lane],
     outboxes: Outboxes<'_>,
     halt: &'h Halt,
 ) -> (IntakeDone<S>, Option<Raised<'h>>)
@@ -234,7 +237,7 @@ fn take_file<'h, R: Wait, S: Source>(
             };
             (done, None)
         }
-        Err(_) => stop(rt, source, passes, halt),
+        Err(_) => stop(rt, source, lanes, passes, halt),
     }
 }
 
@@ -281,15 +284,18 @@ pub fn intake<'h, R: Wait, S: Source, G: Gate>(
     gate.meet(rt, u64::from(file));
     let outboxes = match Outboxes::new(alloc, file, lanes, passes) {
         Ok(outboxes) => outboxes,
-        Err(passes) => return stop(rt, source, passes, halt),
+        Err(passes) => return stop(rt, source, lanes, passes, halt),
     };
+    let dealt_as = dealt_file(file, joined);
+    let lane_count = lanes.len() as u32;
     let routing = Routing {
         media,
-        file: dealt_file(file, joined),
-        lanes: lanes.len() as u32,
+        file: dealt_as,
+        lanes: lane_count,
+        dealt: deal(dealt_as, media.len() as u32, lane_count),
     };
     match PcapReader::start(alloc, source, MOST) {
-        Ok(reader) => take_file(rt, alloc, reader, &routing, outboxes, halt),
-        Err(source) => stop(rt, source, outboxes.into_passes(), halt),
+        Ok(reader) => take_file(rt, alloc, reader, &routing, lanes, outboxes, halt),
+        Err(source) => stop(rt, source, lanes, outboxes.into_passes(), halt),
     }
 }

@@ -3,6 +3,7 @@
 ghost use Rattle.std.specs.Prelude.{◌≡◌, ◌≤◌, ◌<◌, ◌^◌, IfSome, if◌then◌else◌, length};
 ghost use Rattle.timing_base.specs.Captures.{IsStamp};
 ghost use Rattle.flow_worker.specs.Opening.{packet_from};
+ghost use Rattle.flow_worker.specs.Sending.{AreDealt};
 ghost use Rattle.flow_worker.specs.Targeted.{media_to};
 
 use ruled_intake::Packet;
@@ -17,6 +18,8 @@ pub struct Routing<'a> {
     pub file: u32,
     /// The number of lanes.
     pub lanes: u32,
+    /// The lane of each media, by its number.
+    pub dealt: [u32; 64],
 }
 
 /// The file whose flows a packet counts to: its own, or the first where the files are joined.
@@ -24,6 +27,25 @@ pub fn dealt_file(file: u32, joined: bool) -> u32
     ensures { result ≡ (if joined then 0 else file) }
 {
     if joined { 0 } else { file }
+}
+
+/// The lane of each media of a file, by the media's number.
+pub fn deal(file: u32, media: u32, lanes: u32) -> [u32; 64]
+    requires file { file < 16 }
+    requires few_media { media ≤ 64 }
+    requires some_lanes { 1 ≤ lanes }
+    requires few_lanes { lanes ≤ 16 }
+    ensures { AreDealt file media lanes media result }
+{
+    let mut dealt = [0; 64];
+    for number in 0..media {
+        let key = FlowKey {
+            file,
+            media: number,
+        };
+        dealt[number as usize] = route(key, media, lanes);
+    }
+    dealt
 }
 
 /// The number of the first of these media that has the target.
@@ -72,10 +94,6 @@ impl Routing<'_> {
         ensures lane { result ≡ route_of self.now packet.now }
         ensures within { result < self.now.lanes }
     {
-        let key = FlowKey {
-            file: self.file,
-            media: packet.media(),
-        };
-        route(key, self.media.len() as u32, self.lanes) as usize
+        self.dealt[packet.media() as usize] as usize
     }
 }

@@ -156,7 +156,11 @@ fn next_message<R: Wait>(
         if halt.raised().is_some() {
             break;
         }
-        backoff.snooze();
+        if backoff.is_completed() {
+            lane.wait_for_message(rt, halt);
+        } else {
+            backoff.snooze();
+        }
     }
     Err(OutOfMemory)
 }

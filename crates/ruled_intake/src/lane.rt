@@ -7,10 +7,12 @@ ghost use Rattle.ruled_intake.specs.Lanes.{AreSenders, all_sent, sent_of};
 ghost use Rattle.ruled_intake.specs.Rule.{new_taker};
 ghost use Rattle.ruled_intake.specs.declared.rule.View.TheVariants.{Takes};
 
+use crate::halt::Halt;
 use crate::message::Message;
 use crate::passes::{SendPass, TakePass};
 use crate::rule::{Compares, LanePass, LaneQueue, OneMore, TakeIn};
 use crossbeam_utils::CachePadded;
+use crossbeam_utils::sync::EventCount;
 use std::alloc::{AllocError as OutOfMemory, Global};
 use std::marker::Model;
 use std::sync::Wait;
@@ -26,9 +28,12 @@ const FAR_AHEAD: u64 = 64;
 /// A lane from 1 to 16 senders to one worker.
 pub struct Lane {
     queue: LaneQueue,
-    /// How many messages were sent and how many were taken, about: nothing rests on them.
+    /// How many messages were sent and how many were taken, about: nothing but waiting rests on them. A
+    /// message is counted before it can be taken.
     sent: CachePadded<AtomicU64>,
     taken: CachePadded<AtomicU64>,
+    /// Wakes the worker.
+    news: EventCount,
 }
 
 impl Model for Lane {
@@ -45,6 +50,7 @@ impl Drop for Lane {
             queue,
             sent: _,
             taken: _,
+            news: _,
         } = self;
         queue.destroy();
     }
@@ -62,7 +68,7 @@ impl Lane {
     ghost use Rattle.ruled_intake.specs.Lanes.{HasTaken, IsPrefix, IsWithin, messages, of, with_sent};
     ghost use Rattle.ruled_intake.specs.Rule.{HeldNothing};
 
-    /// Puts a message at the back. `Err` is want of memory, and hands the message back.
+    /// Puts a message at the back, and wakes the worker. `Err` is want of memory, and hands the message back.
     ///
     /// The call may wait for another thread's step in flight, and promises if it returns.
     pub fn send<R: Wait>(
@@ -76,9 +82,29 @@ impl Lane {
         ensures ok { OnOk result (pass.new ≡ with_sent pass.old message) }
         ensures err { IfErr result (λ back. (back ≡ message) × (pass.new ≡ pass.old)) }
     {
-        pass.put(rt, &self.queue, message)?;
         self.sent.fetch_add(1, Ordering::SeqCst);
-        Ok(())
+        let put = pass.put(rt, &self.queue, message);
+        if put.is_err() {
+            self.sent.fetch_sub(1, Ordering::SeqCst);
+        }
+        self.news.notify_one();
+        put
+    }
+
+    /// Wakes the worker, so that it sees a halt that was raised.
+    pub fn wake(&self) {
+        // The step before has every thread see the halt before this one looks for a sleeper.
+        self.sent.fetch_add(0, Ordering::SeqCst);
+        self.news.notify_one();
+    }
+
+    /// Lets the worker's thread sleep while the lane holds nothing and the halt isn't raised. Nothing is
+    /// promised of how long that is.
+    pub fn wait_for_message<R: Wait>(&self, rt: &R, halt: &Halt) {
+        let sleep = self.news.prepare_wait();
+        if self.ahead() == 0 && halt.raised().is_none() {
+            sleep.wait(rt);
+        }
     }
 
     /// Lets the worker run first, where it is far behind: yields the processor while the lane is
@@ -147,6 +173,7 @@ impl Lane {
                     queue,
                     sent: CachePadded::new(AtomicU64::new(0)),
                     taken: CachePadded::new(AtomicU64::new(0)),
+                    news: EventCount::new(),
                 },
                 passes,
                 TakePass { pass, taken: 0 },
@@ -175,11 +202,19 @@ impl Lane {
             queue,
             sent: _,
             taken: _,
+            news: _,
         } = self;
         let sent = take_in(&queue, &mut pass, senders);
         let _left = queue.len_as::<Compares, R>(rt, &mut pass);
         queue.destroy();
         Closed { sent, taken }
+    }
+}
+
+/// Wakes the workers of these lanes, as [`Lane::wake`] does.
+pub fn wake_all(lanes: &[Lane]) {
+    for lane in lanes {
+        lane.wake();
     }
 }
 

@@ -4,7 +4,6 @@ ghost use Rattle.std.specs.Prelude.{◌≡◌, length};
 ghost use Rattle.ruled_intake.specs.Lanes.{AreSenders};
 
 use super::*;
-use crossbeam_utils::Backoff;
 use std::alloc::Global;
 use std::process::Abort;
 use std::sync::Wait;
@@ -87,16 +86,15 @@ fn take_ends<R: Wait + Abort>(rt: &R, lane: &Lane, taker: TakePass, count: u64)
     let mut taker = taker;
     let mut last = [0u64; 2];
     let mut taken = 0u64;
-    let backoff = Backoff::new();
+    let halt = Halt::new();
     for _ in rt.forever() {
         if taken >= count {
             break;
         }
         let Some(message) = lane.take(rt, &mut taker) else {
-            backoff.snooze();
+            lane.wait_for_message(rt, &halt);
             continue;
         };
-        backoff.reset();
         taken = taken.wrapping_add(1);
         let Message::End(end) = message else {
             assert!(rt; false, "no end of a file");
@@ -214,23 +212,22 @@ fn goes_on(rt: &impl Abort, batch: &Batch, first: u32) -> u32 {
     number
 }
 
-// Takes the files of all senders, and asserts that each has its packets in order.
+// Takes the files of all senders, and asserts that each has its packets in order. Where there is none it sleeps.
 fn take_files<R: Wait + Abort>(rt: &R, lane: &Lane, taker: TakePass)
     requires { taker.lane ≡ lane.now }
 {
     let mut taker = taker;
     let mut next = [0u32; 16];
     let mut ended = 0u32;
-    let backoff = Backoff::new();
+    let halt = Halt::new();
     for _ in rt.forever() {
         if ended >= SENDERS {
             break;
         }
         let Some(message) = lane.take(rt, &mut taker) else {
-            backoff.snooze();
+            lane.wait_for_message(rt, &halt);
             continue;
         };
-        backoff.reset();
         match &message {
             Message::Batch(batch) => {
                 let file = batch.file as usize;
@@ -295,4 +292,38 @@ fn halt_is_seen_once_raised(rt: HostRuntime) {
     assert!(rt; halt.raised().is_none());
     halt.raise(&rt);
     assert!(rt; halt.raised().is_some());
+}
+
+// Sleeps until the halt is seen raised.
+fn sleep_until_raised<R: Wait>(rt: &R, lane: &Lane, halt: &Halt) {
+    for _ in rt.forever() {
+        if halt.raised().is_some() {
+            break;
+        }
+        lane.wait_for_message(rt, halt);
+    }
+}
+
+// One thread sleeps, and another raises the halt and wakes it.
+fn sleeper_and_halt<R: Threads + Wait + Abort + Sync>(rt: &R, alloc: Global) {
+    let Ok((lane, _passes, _taker)) = Lane::new(alloc, 1) else {
+        assert!(rt; false, "there is memory");
+        return;
+    };
+    let halt = Halt::new();
+    let (shared, stop) = (&lane, &halt);
+    thread::join(
+        rt,
+        || sleep_until_raised(rt, shared, stop),
+        || {
+            stop.raise(rt);
+            shared.wake();
+        },
+    );
+    assert!(rt; halt.raised().is_some());
+}
+
+#[test]
+fn sleeper_sees_the_halt(rt: HostRuntime) {
+    sleeper_and_halt(&rt, rt.alloc());
 }
