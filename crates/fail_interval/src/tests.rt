@@ -7,6 +7,7 @@ use super::*;
 use sender_params::worked::video;
 use std::alloc::Global;
 use std::process::Abort;
+use timing_base::worked::{NARROW, reading};
 use timing_base::{
     Broken, FailProof, FlowKey, Judged, Kind, KindVerdict, Media, PacketFault, Row, Rtp, Run,
     RunVerdict, Unjudged, Verdict,
@@ -66,16 +67,6 @@ fn unjudged(row: &Row) -> Option<Unjudged> {
     }
 }
 
-fn read(number: u32, timestamp: u32, marker: bool) -> Rtp {
-    Rtp {
-        number,
-        timestamp,
-        marker,
-        pt: 96,
-        ssrc: 1,
-    }
-}
-
 // A made capture: a marked packet 1 ms before the first group, and a group every 20 ms.
 #[derive(Clone, Copy)]
 struct Made {
@@ -120,7 +111,7 @@ impl Made {
 
     fn feed_head(&self, rt: &impl Abort, flow: &mut Flow) {
         let at = (1_000_000_000 * u64::from(self.start)).saturating_sub(1_000_000);
-        flow.feed(rt, at, read(self.number, 0, true));
+        flow.feed(rt, at, reading(self.number, 0, true));
     }
 
     // Feeds the packets from this one up to that one, counted after the head.
@@ -131,7 +122,7 @@ impl Made {
             let place = j % self.size;
             let next = self.number.wrapping_add(1).wrapping_add(j);
             let timestamp = group.wrapping_add(1).wrapping_mul(1800);
-            let rtp = read(next, timestamp, place == self.size - 1);
+            let rtp = reading(next, timestamp, place == self.size - 1);
             flow.feed(rt, self.stamp(group, place), rtp);
         }
     }
@@ -149,15 +140,9 @@ fn passes(frames: u64) -> Judged
     requires { frames < 2 ^ 32 }
 {
     Judged {
-        n: 20,
         frames,
         packets: 20 * frames,
-        head: 1,
-        tail: 0,
-        bucket_peak: 1,
-        gapped_peak: 1,
-        linear_peak: 1,
-        kinds: [KindVerdict::Pass, KindVerdict::Pass, KindVerdict::Pass],
+        ..NARROW
     }
 }
 
@@ -385,10 +370,10 @@ fn interlaced_narrow(rt: HostRuntime) {
 fn usual_equipment(rt: HostRuntime) {
     let begin: u64 = 1_601_600_000_000_000_000 - 37_000_000_000;
     let mut flow = Flow::later(rt.alloc(), &video(1080, false, 60_000, 1001), 37);
-    flow.feed(&rt, begin + 636_674 - 1_000_000, read(0, 0, true));
+    flow.feed(&rt, begin + 636_674 - 1_000_000, reading(0, 0, true));
     for j in 0..8640_u32 {
         let late = 450_450_000 * u64::from(j / 4320) + 17_217_200 + 100_100 * u64::from(j % 4320);
-        let rtp = read(j + 1, 1500 * (1 + j / 4320), j % 4320 == 4319);
+        let rtp = reading(j + 1, 1500 * (1 + j / 4320), j % 4320 == 4319);
         flow.feed(&rt, begin + late / 27 - 1_000, rtp);
     }
     let want = Judged {
@@ -419,7 +404,7 @@ fn no_packets(rt: HostRuntime) {
 fn no_marker(rt: HostRuntime) {
     let mut flow = Flow::new(rt.alloc(), &plain());
     for number in 0..5 {
-        flow.feed(&rt, 7, read(number, 7, false));
+        flow.feed(&rt, 7, reading(number, 7, false));
     }
     assert_eq!(rt;
         unjudged(&flow.finish()),
@@ -437,7 +422,7 @@ fn short_frame(rt: HostRuntime) {
     let mut flow = Flow::new(rt.alloc(), &plain());
     PLAIN.feed_head(&rt, &mut flow);
     PLAIN.feed(&rt, &mut flow, 0, 38);
-    flow.feed(&rt, PLAIN.stamp(1, 18), read(39, 3600, true));
+    flow.feed(&rt, PLAIN.stamp(1, 18), reading(39, 3600, true));
     let want = refused(40, PacketFault::FrameSize { want: 20, got: 19 });
     assert_eq!(rt; unjudged(&flow.finish()), want);
 }
@@ -449,7 +434,7 @@ fn second_source(rt: HostRuntime) {
     PLAIN.feed_head(&rt, &mut flow);
     let other = Rtp {
         ssrc: 2,
-        ..read(1, 1800, false)
+        ..reading(1, 1800, false)
     };
     flow.feed(&rt, PLAIN.stamp(0, 0), other);
     PLAIN.feed(&rt, &mut flow, 1, 40);
@@ -464,7 +449,7 @@ fn second_source(rt: HostRuntime) {
 fn stamp_back(rt: HostRuntime) {
     let mut flow = Flow::later(rt.alloc(), &plain(), 1000);
     PLAIN.feed_head(&rt, &mut flow);
-    flow.feed(&rt, 1_599_999_999_998_999_999, read(1, 1800, false));
+    flow.feed(&rt, 1_599_999_999_998_999_999, reading(1, 1800, false));
     let want = PacketFault::StampBack {
         before: 1_599_999_999_999_000_000,
         got: 1_599_999_999_998_999_999,
@@ -484,9 +469,9 @@ fn captured_at_40(rt: HostRuntime) {
 #[test]
 fn frame_too_large(rt: HostRuntime) {
     let mut flow = Flow::new(rt.alloc(), &plain());
-    flow.feed(&rt, 7, read(0, 0, true));
+    flow.feed(&rt, 7, reading(0, 0, true));
     for j in 0..262_145_u32 {
-        flow.feed(&rt, 7, read(j + 1, 1800, false));
+        flow.feed(&rt, 7, reading(j + 1, 1800, false));
     }
     let want = refused(262_146, PacketFault::FrameTooLarge);
     assert_eq!(rt; unjudged(&flow.finish()), want);
@@ -496,7 +481,7 @@ fn frame_too_large(rt: HostRuntime) {
 fn too_many_gaps(rt: HostRuntime) {
     let mut flow = Flow::new(rt.alloc(), &plain());
     for j in 0..1026_u32 {
-        flow.feed(&rt, 7, read(2 * j, 0, false));
+        flow.feed(&rt, 7, reading(2 * j, 0, false));
     }
     let want = Unjudged::Gap {
         rec: 1026,
@@ -550,9 +535,9 @@ fn two_runs(rt: HostRuntime) {
 #[test]
 fn equal_low_halves(rt: HostRuntime) {
     let mut flow = Flow::new(rt.alloc(), &plain());
-    flow.feed(&rt, 7, read(6, 0, true));
-    flow.feed(&rt, 7, read(7, 1800, false));
-    flow.feed(&rt, 7, read(65_544, 1800, false));
+    flow.feed(&rt, 7, reading(6, 0, true));
+    flow.feed(&rt, 7, reading(7, 1800, false));
+    flow.feed(&rt, 7, reading(65_544, 1800, false));
     let first = Run {
         rec: 1,
         number: 6,

@@ -10,26 +10,19 @@ use std::alloc::{AllocError, Global};
 use std::process::Abort;
 use std::sync::Wait;
 use std::test::Fail;
-use timing_base::worked::undeclared_to;
-use timing_base::{FileNote, FlowKey, FlowPacket, Items, PacketFault, Row, Rtp, Unjudged, Verdict};
+use timing_base::worked::{reading, undeclared_to};
+use timing_base::{FileNote, FlowKey, FlowPacket, Items, PacketFault, Row, Unjudged, Verdict};
 use timing_outside::NoGate;
 use verdict_book::{Book, Receipt};
 
 // The packet of a media with this number, of this record. It doesn't end its frame.
 fn packet(media: u32, rec: u32, number: u32) -> Packet {
-    let rtp = Rtp {
-        number,
-        timestamp: 1800,
-        marker: false,
-        pt: 96,
-        ssrc: 1,
-    };
     Packet::new(
         media,
         FlowPacket {
             rec: u64::from(rec),
             at: u64::from(rec) * 1000,
-            rtp: Ok(rtp),
+            rtp: Ok(reading(number, 1800, false)),
         },
     )
 }

@@ -5,6 +5,7 @@ ghost use Rattle.frame_group.specs.Stands.{count_fed};
 
 use super::*;
 use std::process::Abort;
+use timing_base::worked::reading;
 use timing_base::{PacketFault, Rtp};
 
 // A grouper, and how many packets it was fed.
@@ -32,16 +33,6 @@ impl Flow {
     }
 }
 
-fn read(number: u32, timestamp: u32, marker: bool) -> Rtp {
-    Rtp {
-        number,
-        timestamp,
-        marker,
-        pt: 96,
-        ssrc: 1,
-    }
-}
-
 const IN_HEAD: Result<Placed, PacketFault> = Ok(Placed {
     cut: None,
     place: Place::Head,
@@ -64,7 +55,7 @@ fn start(number: u32) -> u64
 
 // Feeds a marked packet 1 ms before frame 0.
 fn feed_head(rt: &impl Abort, flow: &mut Flow, number: u32) {
-    let answer = flow.feed(rt, start(number) - 1_000_000, read(number, 0, true));
+    let answer = flow.feed(rt, start(number) - 1_000_000, reading(number, 0, true));
     assert_eq!(rt; answer, IN_HEAD);
 }
 
@@ -78,7 +69,7 @@ fn feed_frames(rt: &impl Abort, flow: &mut Flow, number: u32, count: u32) {
         let next = number.wrapping_add(1).wrapping_add(j);
         let timestamp = (1 + j / 20).wrapping_mul(1800);
         let last = j % 20 == 19;
-        let answer = flow.feed(rt, at, read(next, timestamp, last));
+        let answer = flow.feed(rt, at, reading(next, timestamp, last));
         assert_eq!(rt;
             answer,
             in_group(u64::from(j / 20), j % 20, last),
@@ -100,7 +91,7 @@ fn second_source(rt: HostRuntime) {
     feed_head(&rt, &mut flow, 0);
     let other = Rtp {
         ssrc: 2,
-        ..read(1, 1800, false)
+        ..reading(1, 1800, false)
     };
     assert_eq!(rt;
         flow.feed(&rt, start(0) + 764_000, other),
@@ -111,15 +102,15 @@ fn second_source(rt: HostRuntime) {
 #[test]
 fn stamp_back(rt: HostRuntime) {
     let mut flow = Flow::new();
-    let first = flow.feed(&rt, 1_599_999_999_999_000_000, read(0, 0, true));
+    let first = flow.feed(&rt, 1_599_999_999_999_000_000, reading(0, 0, true));
     assert_eq!(rt; first, IN_HEAD);
     let want = PacketFault::StampBack {
         before: 1_599_999_999_999_000_000,
         got: 1_599_999_999_998_999_999,
     };
-    let second = flow.feed(&rt, 1_599_999_999_998_999_999, read(1, 1800, false));
+    let second = flow.feed(&rt, 1_599_999_999_998_999_999, reading(1, 1800, false));
     assert_eq!(rt; second, Err(want));
-    let third = flow.feed(&rt, 1_599_999_999_999_000_000, read(2, 1800, false));
+    let third = flow.feed(&rt, 1_599_999_999_999_000_000, reading(2, 1800, false));
     assert_eq!(rt; third, Err(want));
 }
 
@@ -128,7 +119,7 @@ fn short_frame(rt: HostRuntime) {
     let mut flow = Flow::new();
     feed_head(&rt, &mut flow, 0);
     feed_frames(&rt, &mut flow, 0, 38);
-    let answer = flow.feed(&rt, start(0) + 38_044_000, read(39, 3600, true));
+    let answer = flow.feed(&rt, start(0) + 38_044_000, reading(39, 3600, true));
     assert_eq!(rt; answer, Err(PacketFault::FrameSize { want: 20, got: 19 }));
 }
 
@@ -137,7 +128,7 @@ fn equal_low_halves(rt: HostRuntime) {
     let mut flow = Flow::new();
     feed_head(&rt, &mut flow, 6);
     feed_frames(&rt, &mut flow, 6, 1);
-    let answer = flow.feed(&rt, start(6) + 1_724_000, read(65_544, 1800, false));
+    let answer = flow.feed(&rt, start(6) + 1_724_000, reading(65_544, 1800, false));
     let want = Placed {
         cut: Some(8),
         place: Place::Head,
@@ -148,14 +139,14 @@ fn equal_low_halves(rt: HostRuntime) {
 #[test]
 fn too_many_gaps(rt: HostRuntime) {
     let mut flow = Flow::new();
-    assert_eq!(rt; flow.feed(&rt, start(0), read(0, 0, false)), IN_HEAD);
+    assert_eq!(rt; flow.feed(&rt, start(0), reading(0, 0, false)), IN_HEAD);
     for j in 1..1025_u32 {
         let want = Placed {
             cut: Some(2 * j - 1),
             place: Place::Head,
         };
         assert_eq!(rt;
-            flow.feed(&rt, start(0), read(2 * j, 0, false)),
+            flow.feed(&rt, start(0), reading(2 * j, 0, false)),
             Ok(want),
             "packet {j}"
         );
@@ -164,17 +155,20 @@ fn too_many_gaps(rt: HostRuntime) {
         expected: 2049,
         got: 2050,
     };
-    assert_eq!(rt; flow.feed(&rt, start(0), read(2050, 0, false)), Err(want));
+    assert_eq!(rt;
+        flow.feed(&rt, start(0), reading(2050, 0, false)),
+        Err(want)
+    );
 }
 
 #[test]
 fn frame_too_large(rt: HostRuntime) {
     let mut flow = Flow::new();
-    assert_eq!(rt; flow.feed(&rt, start(0), read(0, 0, true)), IN_HEAD);
+    assert_eq!(rt; flow.feed(&rt, start(0), reading(0, 0, true)), IN_HEAD);
     for j in 0..262_144_u32 {
-        let answer = flow.feed(&rt, start(0), read(j + 1, 1800, false));
+        let answer = flow.feed(&rt, start(0), reading(j + 1, 1800, false));
         assert_eq!(rt; answer, in_group(0, j, false), "packet {j}");
     }
-    let answer = flow.feed(&rt, start(0), read(262_145, 1800, false));
+    let answer = flow.feed(&rt, start(0), reading(262_145, 1800, false));
     assert_eq!(rt; answer, Err(PacketFault::FrameTooLarge));
 }

@@ -5,7 +5,7 @@ ghost use Rattle.std.specs.Prelude.{◌≡◌, ◌+◌, IfOk, length};
 use super::*;
 use std::alloc::{AllocError, Global};
 use std::test::Fail;
-use timing_base::worked::PLAIN;
+use timing_base::worked::{LATE, PLAIN};
 use timing_base::{Broken, FailProof, Kind, PacketFault, Unjudged};
 use timing_examples::{FRAME, HEAD, source_of};
 use timing_outside::{MemorySource, OpenFault};
@@ -147,13 +147,7 @@ fn verify_burst(rt: HostRuntime) -> Result<(), Fail> {
 #[test]
 fn verify_empty(rt: HostRuntime) -> Result<(), Fail> {
     for (count, want) in [(1, true), (2, false), (0, false)] {
-        let proof = FailProof {
-            model: Broken::Empty,
-            from: 1,
-            to: 1,
-            count,
-            limit: 2,
-        };
+        let proof = FailProof { count, ..LATE };
         let text = capture(rt.alloc(), Sender::Linear, 0, 21)?;
         let answer = told(rt.alloc(), text, 0, proof)?;
         assert_eq!(rt; answer, Ok(want), "count {count}");

@@ -7,6 +7,7 @@ use super::*;
 use std::alloc::Global;
 use std::process::Abort;
 use std::test::Fail;
+use timing_base::worked::reading;
 use timing_base::{PacketFault, Rtp};
 
 // Two flows, and how many packets of each were taken.
@@ -20,13 +21,7 @@ struct Pair {
 }
 
 fn read(number: u32) -> Result<Rtp, PacketFault> {
-    Ok(Rtp {
-        number,
-        timestamp: 0,
-        marker: false,
-        pt: 96,
-        ssrc: 1,
-    })
+    Ok(reading(number, 0, false))
 }
 
 // A skew, and the records of its packets.

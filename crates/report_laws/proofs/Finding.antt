@@ -14,6 +14,7 @@ use Rattle.timing_base.specs.Media.{IsMedia, Media}
 use Rattle.timing_base.specs.declared.capture.FileNote.{FileNote}
 use Rattle.timing_base.specs.declared.row.Row.{Row}
 use Rattle.pcap_reader.specs.Records.{AreRecords, Records}
+use Rattle.pcap_reader.proofs.Captures.{map-raised}
 use Rattle.udp_rtp.specs.Flow.{flow}
 use Rattle.fail_interval.specs.Row.{verdict_of}
 use Rattle.flow_bank.specs.Rows.{rows_from, rows_of, rows_of_files, rows_over}
@@ -65,12 +66,6 @@ all-rows : (media : List Media) (tai file : ℕ) (items : List Record) → All I
     → All (IsInFile media tai file items) (fails_of (rows_of tai file media items))
 all-rows media tai file items are g =
     file-rows media tai file 0 media items are (λ k. let z : 0 + k ≡ k = omega arith in ap (slice_get media) z) g
-
-map-raised : (items : List Record) → map (raised 0) items ≡ items
-map-raised [] = refl
-map-raised (r ∷ rs) =
-    let same : 0 + r.number ≡ r.number = omega arith in
-    ap (λ n. record { number = n; stamp = r.stamp; bytes = r.bytes } ∷ map (raised 0) rs) same ∙ ap (λ l. r ∷ l) (map-raised rs)
 
 -- one capture that is joined is itself
 one-joined : (items : List Record) → joined (items ∷ []) ≡ items

@@ -1,7 +1,7 @@
 //! What several crates are tried on: a plain video stream, the check of one capture, and what is judged of two
 //! frames. For the tests of the crates above alone.
 
-ghost use Rattle.std.specs.Prelude.{◌≡◌, true};
+ghost use Rattle.std.specs.Prelude.{◌≡◌, true, IfOk};
 ghost use Rattle.timing_base.specs.Name.{is_file_name};
 
 use crate::fail::{Broken, FailProof};
@@ -9,6 +9,7 @@ use crate::job::CheckJob;
 use crate::list::Items;
 use crate::media::{Kind, Media, Session};
 use crate::name::FileName;
+use crate::packet::Rtp;
 use crate::row::{Judged, KindVerdict};
 use std::alloc::{AllocError as OutOfMemory, Global};
 
@@ -70,13 +71,34 @@ pub fn undeclared_to(port: u16) -> Media {
     }
 }
 
+/// A packet of the plain stream, from source 1.
+pub fn reading(number: u32, timestamp: u32, marker: bool) -> Rtp
+    ensures value { result ≡ record { number = number; timestamp = timestamp; marker = marker; pt = 96; ssrc = 1 } }
+{
+    Rtp {
+        number,
+        timestamp,
+        marker,
+        pt: PLAIN.pt,
+        ssrc: 1,
+    }
+}
+
+/// The name of a file that has this text.
+pub fn file_name(alloc: Global, text: &str) -> Result<FileName, OutOfMemory>
+    requires { is_file_name text.now ≡ true }
+    ensures { IfOk result (λ name. name ≡ text.now) }
+{
+    Ok(FileName::from_text(String::from_str(alloc, text)?))
+}
+
 /// The check of one capture by itself, on one thread.
 pub fn check_of(alloc: Global, capture: &str, json: bool) -> Result<CheckJob, OutOfMemory>
     requires { is_file_name capture.now ≡ true }
 {
-    let sdp = FileName::from_text(String::from_str(alloc, "a.sdp")?);
+    let sdp = file_name(alloc, "a.sdp")?;
     let mut captures = Vec::new(alloc);
-    captures.push(FileName::from_text(String::from_str(alloc, capture)?))?;
+    captures.push(file_name(alloc, capture)?)?;
     Ok(CheckJob {
         sdp,
         captures: Items::from_vec(captures),

@@ -6,6 +6,7 @@ mod by_hand;
 mod description;
 mod path;
 mod pcapng;
+mod shelf;
 mod spread;
 mod usual;
 
@@ -13,6 +14,7 @@ pub use by_hand::{FRAME, HEAD, source_of};
 pub use description::{MEDIA, described, three_media, two_paths};
 pub use path::second_path;
 pub use pcapng::{MICROS, NANOS, SECTION, as_pcapng, push_number, push_packet};
+pub use shelf::put;
 pub use spread::{NARROW, Spread};
 pub use usual::usual_equipment;
 

@@ -6,23 +6,24 @@ use Rattle.std.proofs.lemmas.Bool.{eq-eqb}
 use Rattle.std.proofs.lemmas.Bool.Decides.{eqb_tells}
 use Rattle.timing_base.specs.Captures.{Record}
 use Rattle.timing_base.specs.Media.{Media}
-use Rattle.timing_base.specs.declared.capture.FileNote.{FileNote}
 use Rattle.timing_base.specs.declared.packet.FlowPacket.{FlowPacket}
 use Rattle.path_skew.specs.Pair.{skew}
 use Rattle.path_skew.specs.Stands.{StandsFor}
 use Rattle.path_skew.specs.declared.skew.Skew.{Skew}
 use Rattle.pcap_reader.specs.Records.{AreRecords}
+use Rattle.pcap_reader.specs.declared.records.Taken.{Taken}
 use Rattle.pcap_reader.proofs.Captures.{files-length, records-push}
+use Rattle.timing_steps.specs.Taken.{TakesText}
 use Rattle.timing_steps.specs.declared.failure.Failure.{Failure}
 use Rattle.udp_rtp.specs.Flow.{flow}
 use Rattle.timing_reach.specs.Added.{Adds, taken_of}
 use Rattle.timing_reach.specs.Comparing.{AreCompared, ComparesNext, IsComparedIn}
 use Rattle.timing_reach.specs.Pairs.{PairsOn, taken-none}
 use Rattle.timing_reach.specs.Skewed.{first_of, last_of}
-use Rattle.timing_reach.specs.Taken.{TakesText}
 use Rattle.timing_reach.specs.declared.compare.Compared.{Compared}
 use Rattle.timing_reach.specs.declared.compare.Comparing.{Comparing}
 use Rattle.timing_reach.specs.declared.pairing.Pairing.{Pairing}
+use Rattle.timing_reach.proofs.Takings.{fed-alone}
 
 eqb-other : (x y : ℕ) → x ≢ y → (x == y) ≡ false
 eqb-other x y h = by-case (eqb_tells x y)
@@ -98,25 +99,26 @@ compared-all texts a b count c done h all notes row =
     }
 
 -- a capture's records were taken
-pub compares-next : (text : List ℕ) (count : ℕ) (old new : Comparing) (turned taken : Pairing) (note : FileNote) → turned.first ≡ old.pairing.first → turned.second ≡ old.pairing.second
+pub compares-next : (text : List ℕ) (count : ℕ) (old new : Comparing) (turned taken : Pairing) (read : Taken) → turned.first ≡ old.pairing.first → turned.second ≡ old.pairing.second
     → turned.takes_first ≡ (length old.notes.items == 0) → turned.takes_second ≡ (length old.notes.items + 1 == count) → turned.skew ≡ old.pairing.skew
-    → TakesText PairsOn text turned taken note → new.notes.items ≡ old.notes.items ++ note ∷ [] → new.pairing ≡ taken → ComparesNext text count old new
-compares-next text count old new turned taken note first second takes_first takes_second kept t notes is =
+    → TakesText PairsOn text 0 turned taken read → new.notes.items ≡ old.notes.items ++ read.note ∷ [] → new.pairing ≡ taken → ComparesNext text count old new
+compares-next text count old new turned taken read first second takes_first takes_second kept t notes is =
     let items = t.items in
+    let fed = fed-alone PairsOn text turned taken read t in
     let one : taken_of turned.takes_first turned.first items ≡ taken_of (length old.notes.items == 0) old.pairing.first items =
     ap (λ b. taken_of b turned.first items) takes_first ∙ ap (λ (m : Media). taken_of (length old.notes.items == 0) m items) first in
     let two : taken_of turned.takes_second turned.second items ≡ taken_of (length old.notes.items + 1 == count) old.pairing.second items =
     ap (λ b. taken_of b turned.second items) takes_second ∙ ap (λ (m : Media). taken_of (length old.notes.items + 1 == count) m items) second in
     record {
       items = items;
-      note = note;
+      note = read.note;
       records = t.records;
       notes = notes;
-      first = ap (λ (p : Pairing). p.first) is ∙ t.taken.same.first ∙ first;
-      second = ap (λ (p : Pairing). p.second) is ∙ t.taken.same.second ∙ second;
+      first = ap (λ (p : Pairing). p.first) is ∙ fed.same.first ∙ first;
+      second = ap (λ (p : Pairing). p.second) is ∙ fed.same.second ∙ second;
       adds =
           let last = taken_of (length old.notes.items + 1 == count) old.pairing.second items in
           subst (λ (s : Skew). Adds s new.pairing.skew (taken_of (length old.notes.items == 0) old.pairing.first items) last) kept
           (subst (λ (p : Pairing). Adds turned.skew p.skew (taken_of (length old.notes.items == 0) old.pairing.first items) last) (sym is)
-          (subst (λ f. Adds turned.skew taken.skew f last) one (subst (Adds turned.skew taken.skew (taken_of turned.takes_first turned.first items)) two t.taken.adds)));
+          (subst (λ f. Adds turned.skew taken.skew f last) one (subst (Adds turned.skew taken.skew (taken_of turned.takes_first turned.first items)) two fed.adds)));
     }

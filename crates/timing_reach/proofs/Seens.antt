@@ -15,16 +15,17 @@ use Rattle.fail_interval.specs.Stands.{StandsFor}
 use Rattle.pcap_reader.specs.Header.{header}
 use Rattle.pcap_reader.specs.Records.{Records}
 use Rattle.pcap_reader.specs.Taken.{TakesFew}
+use Rattle.pcap_reader.specs.declared.records.Taken.{Taken}
 use Rattle.pcap_reader.proofs.Lists.{only_by}
 use Rattle.sender_params.specs.Reads.{anchor_of}
 use Rattle.udp_rtp.specs.Flow.{flow, flow_packet}
 use Rattle.timing_report.specs.declared.status.Status.TheVariants as status
 use Rattle.timing_steps.specs.Answers.{Answer}
+use Rattle.timing_steps.specs.Taken.{TakesText}
 use Rattle.timing_reach.specs.Asked.{HasWindow, OnFlow, OnRun, not_judged}
 use Rattle.timing_reach.specs.Gauging.{GaugesOn, IsGauged, gauged}
 use Rattle.timing_reach.specs.Opening.{IsOpening}
 use Rattle.timing_reach.specs.Readings.{IsJudging, IsSeen, IsSeenIn, JudgesOn}
-use Rattle.timing_reach.specs.Taken.{TakesText}
 use Rattle.timing_reach.specs.Windows.{AreWindowsOf, HasLines, windows_text}
 use Rattle.timing_reach.specs.declared.gauge.Gauge.{Gauge}
 use Rattle.timing_reach.specs.declared.judging.Judging.{Judging}
@@ -33,6 +34,7 @@ use Rattle.timing_reach.specs.declared.windows.Windows.{Windows}
 use Rattle.timing_reach.proofs.Gauges.{one-packet}
 use Rattle.timing_reach.proofs.Judgings.{judged-few, judged-of, one-run, within-run}
 use Rattle.timing_reach.proofs.Packets.{flow-few}
+use Rattle.timing_reach.proofs.Takings.{fed-alone}
 
 -- a packet of the flow was passed to the judge
 pub judges-packet : {T E : Type 0} (result : Result T E) (old new : Judging) (r : Record) (p : FlowPacket) → flow_packet old.media r ≡ Some p → new.media ≡ old.media
@@ -45,13 +47,13 @@ judges-packet (Ok x) old new r p e media opens feeds = λ m key tai packets h.
 judges-packet (Err e) old new r p is media opens feeds = tt
 
 -- the records of a text were passed
-pub seen-in : (text : List ℕ) (m : Media) (key : FlowKey) (tai : ℕ) (old new : Judging) (note : FileNote) (seen : Seen) → IsJudging m key tai old []
-    → TakesText JudgesOn text old new note → ((packets : List FlowPacket) → IsJudging m key tai new packets → IsSeen m tai packets seen) → IsSeenIn m tai text seen
-seen-in text m key tai old new note seen start t finish = record {
+pub seen-in : (text : List ℕ) (m : Media) (key : FlowKey) (tai : ℕ) (old new : Judging) (read : Taken) (seen : Seen) → IsJudging m key tai old []
+    → TakesText JudgesOn text 0 old new read → ((packets : List FlowPacket) → IsJudging m key tai new packets → IsSeen m tai packets seen) → IsSeenIn m tai text seen
+seen-in text m key tai old new read seen start t finish = record {
   items = t.items;
-  note = note;
+  note = read.note;
   records = t.records;
-  seen_is = finish (flow t.items m) (t.taken m key tai [] start);
+  seen_is = finish (flow t.items m) (fed-alone JudgesOn text old new read t m key tai [] start);
 }
 
 -- few records were passed
@@ -65,22 +67,22 @@ seen-few m key tai most old new seen j start t finish is =
     omega (arith, few, flow-few m t.items, t.few)
 
 -- the records of a text were measured, whose flow was judged so
-pub measured : (text : List ℕ) (m : Media) (tai first : ℕ) (j : Judged) (run : JudgedRun) (old new : Gauge) (items : List Record) (note end : FileNote) (w : Windows)
-    → IsGauged m j.n tai (anchor_of m (first + tai * 10 ^ 9)) j.head j.packets old [] → TakesText GaugesOn text old new end → Records text (2 ^ 40) items note
+pub measured : (text : List ℕ) (m : Media) (tai first : ℕ) (j : Judged) (run : JudgedRun) (old new : Gauge) (items : List Record) (note : FileNote) (read : Taken) (w : Windows)
+    → IsGauged m j.n tai (anchor_of m (first + tai * 10 ^ 9)) j.head j.packets old [] → TakesText GaugesOn text 0 old new read → Records text (2 ^ 40) items note
     → judged (flow items m) m.pt tai ≡ in_one_run (whole_frames run) → j ≡ judged_values m run → slice_index run.stamps 0 ≡ first + tai * 10 ^ 9
     → ((m : Media) (n tai head count : ℕ) (packets : List FlowPacket) (stamps : List ℕ) → IsGauged m n tai (anchor_of m (slice_index stamps 0)) head count new packets
     → count ≤ length packets - head → gauged tai head count packets ≡ stamps → AreWindowsOf m n stamps w)
     → AreWindowsOf m run.n run.stamps w
-measured text m tai first j run old new items note end w start t records is values opens finish =
+measured text m tai first j run old new items note read w start t records is values opens finish =
     let packets = flow items m in
-    let same : t.items ≡ items = (only_by (header text) (2 ^ 40) text t.items items end note t.records records).0 in
+    let same : t.items ≡ items = (only_by (header text) (2 ^ 40) text t.items items read.note note t.records records).0 in
     let within = within-run packets tai run (one-run packets m.pt tai run is) in
     let at_start : IsGauged m run.n tai (anchor_of m (slice_index run.stamps 0)) run.head (length run.stamps) old [] =
     subst (λ (x : Judged). IsGauged m x.n tai (anchor_of m (slice_index run.stamps 0)) x.head x.packets old []) values
     (subst (λ (a : ℕ). IsGauged m j.n tai (anchor_of m a) j.head j.packets old []) (sym opens) start) in
     finish m run.n tai run.head (length run.stamps) packets run.stamps
     (subst (λ (l : List Record). IsGauged m run.n tai (anchor_of m (slice_index run.stamps 0)) run.head (length run.stamps) new (flow l m)) same
-    (t.taken m run.n tai (anchor_of m (slice_index run.stamps 0)) run.head (length run.stamps) [] at_start)) within.few within.gauged_is
+    (fed-alone GaugesOn text old new read t m run.n tai (anchor_of m (slice_index run.stamps 0)) run.head (length run.stamps) [] at_start)) within.few within.gauged_is
 
 -- the answer on a flow that is judged in one run, and on any other
 pub lines-on : (text : List ℕ) (m : Media) (tai : ℕ) (seen : Seen) (j : Judged) (w : Windows) (answer : Answer) → seen.verdict ≡ verdict.Judged j → IsSeenIn m tai text seen

@@ -18,14 +18,15 @@ use Rattle.timing_base.specs.declared.packet.FlowPacket.{FlowPacket}
 use Rattle.timing_base.specs.declared.row.Verdict.TheVariants as verdict
 use Rattle.pcap_reader.specs.Header.{header}
 use Rattle.pcap_reader.specs.Records.{Records}
+use Rattle.pcap_reader.specs.declared.records.Taken.{Taken}
 use Rattle.pcap_reader.proofs.Lists.{only_by}
 use Rattle.timing_report.specs.declared.status.Status.TheVariants as status
 use Rattle.timing_steps.specs.Answers.{Answer}
+use Rattle.timing_steps.specs.Taken.{TakesText}
 use Rattle.timing_reach.specs.Asked.{OnFlow, OnRun}
 use Rattle.timing_reach.specs.Gauging.{gauged}
 use Rattle.timing_reach.specs.Readings.{IsSeenIn}
 use Rattle.timing_reach.specs.declared.seen.Seen.{Seen}
-use Rattle.timing_reach.specs.Taken.{TakesText}
 use Rattle.udp_rtp.specs.Flow.{flow, flow_packet}
 use Rattle.timing_reach.specs.Leaving.{HasGiven, HasLeft, IsFit, IsPartOf, Part, Takes, stamps_in}
 use Rattle.timing_reach.specs.Shapes.{AreBounds, HasShape, IsLate, IsList, LeaveInTime, Prints, delays, delays_line, end_of, flow_records, greatest, not_shaped, packet_line, packet_lines, shaped_capture}
@@ -39,6 +40,7 @@ use Rattle.timing_reach.proofs.Gauges.{gauged-none}
 use Rattle.timing_reach.proofs.Leavings.{length-stamps, retold}
 use Rattle.timing_reach.proofs.Judgings.{judged-of, one-run, within-run}
 use Rattle.timing_reach.proofs.Listings.{bounds-more, bounds-none, count-more, delays-more, greatest-more, late-more, length-delays, lines-more}
+use Rattle.timing_reach.proofs.Takings.{fed-alone}
 
 -- the first stamps of packets are those of fewer
 stamps-first : (w : Part) (packets more : List FlowPacket) → (later : List ℕ) × (stamps_in w (packets ++ more) ≡ stamps_in w packets ++ later)
@@ -382,14 +384,14 @@ ends-copied w list t passed items run packets answer none is e h =
     })
 
 -- the records of a text were passed
-pub shaped-in : (w : Part) (list : Bool) (text : List ℕ) (old new : Shaping) (items : List Record) (run : JudgedRun) (note end : FileNote) (packets : ℕ) → w.count ≡ packets → IsShaping w list old [] []
-    → TakesText ShapesOn text old new end → Records text (2 ^ 40) items note → IsPartOf w items run → Ends w list new (flow items w.media) items run packets
-shaped-in w list text old new items run note end packets count start t records part =
+pub shaped-in : (w : Part) (list : Bool) (text : List ℕ) (old new : Shaping) (items : List Record) (run : JudgedRun) (note : FileNote) (read : Taken) (packets : ℕ) → w.count ≡ packets → IsShaping w list old [] []
+    → TakesText ShapesOn text 0 old new read → Records text (2 ^ 40) items note → IsPartOf w items run → Ends w list new (flow items w.media) items run packets
+shaped-in w list text old new items run note read packets count start t records part =
     let passed = flow items w.media in
-    let same : t.items ≡ items = (only_by (header text) (2 ^ 40) text t.items items end note t.records records).0 in
+    let same : t.items ≡ items = (only_by (header text) (2 ^ 40) text t.items items read.note note t.records records).0 in
     let within = within-run passed w.tai run (one-run passed w.media.pt w.tai run part.judged_is) in
     record {
-      shaping = subst (λ (l : List Record). IsShaping w list new (flow l w.media) (flow_records w.media l)) same (t.taken w list [] [] start);
+      shaping = subst (λ (l : List Record). IsShaping w list new (flow l w.media) (flow_records w.media l)) same (fed-alone ShapesOn text old new read t w list [] [] start);
       group = part.group;
       head = part.head;
       count = count;

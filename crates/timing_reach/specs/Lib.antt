@@ -9,7 +9,6 @@ pub mod Worked
 pub mod WorkedShapes
 -- these only serve proofs
 pub mod Opening
-pub mod Taken
 pub mod Readings
 pub mod Gauging
 pub mod Leaving

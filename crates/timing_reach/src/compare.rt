@@ -10,7 +10,6 @@ ghost use Rattle.timing_steps.specs.Fetched.{AreFetched};
 ghost use Rattle.timing_reach.specs.Comparing.{ComparesNext, IsComparedIn};
 ghost use Rattle.timing_reach.specs.Pairs.{pair_given};
 
-use crate::captures::take_source;
 use crate::pairing::Pairing;
 use path_skew::SkewRow;
 use pcapng_reader::Classic;
@@ -18,7 +17,7 @@ use std::alloc::Global;
 use timing_base::{FileNote, Media, SkewJob};
 use timing_outside::{Shelf, Source};
 use timing_report::Input;
-use timing_steps::{Failure, fetch_captures, give_back};
+use timing_steps::{Failure, fetch_captures, give_back, take_source};
 
 /// How the captures of a job end, and what is told of two flows in them.
 #[derive(Drop)]
@@ -62,8 +61,15 @@ fn read_next<H: Shelf>(
 {
     let number = comparing.notes.len();
     comparing.pairing.turn(number, count);
-    let note = take_source(alloc, shelf, source, number as u32, &mut comparing.pairing)?;
-    comparing.notes.push(note)?;
+    let taken = take_source(
+        alloc,
+        shelf,
+        source,
+        number as u32,
+        0,
+        &mut comparing.pairing,
+    )?;
+    comparing.notes.push(taken.note)?;
     Ok(())
 }
 

@@ -4,8 +4,9 @@ use super::*;
 use std::alloc::{AllocError, Global};
 use std::process::Abort;
 use std::test::Fail;
-use timing_base::{FileName, FlowJob, Items, Kind, ShapeJob, SkewJob};
-use timing_examples::{NARROW, second_path, two_paths};
+use timing_base::worked::file_name;
+use timing_base::{FlowJob, Items, Kind, ShapeJob, SkewJob};
+use timing_examples::{NARROW, put, second_path, two_paths};
 use timing_outside::{MemoryShelf, MemorySink, ReadPlan};
 use timing_report::Status;
 
@@ -22,30 +23,18 @@ fn two_on_a_shelf(alloc: Global) -> Result<MemoryShelf, Fail> {
             piece: 100,
             fails: Vec::new(alloc),
         };
-        shelf.put(String::from_str(alloc, name)?, text, plan)?;
+        put(alloc, &mut shelf, name, &text, plan)?;
     }
     Ok(shelf)
-}
-
-fn description(alloc: Global) -> Result<FileName, AllocError> {
-    Ok(FileName::from_text(String::from_str(alloc, "p.sdp")?))
-}
-
-fn first(alloc: Global) -> Result<FileName, AllocError> {
-    Ok(FileName::from_text(String::from_str(alloc, "a.pcap")?))
-}
-
-fn second(alloc: Global) -> Result<FileName, AllocError> {
-    Ok(FileName::from_text(String::from_str(alloc, "b.pcap")?))
 }
 
 // The flow of the first media in the first capture.
 fn flow(alloc: Global) -> Result<FlowJob, AllocError> {
     Ok(FlowJob {
-        sdp: description(alloc)?,
+        sdp: file_name(alloc, "p.sdp")?,
         media: 0,
         tai: 0,
-        capture: first(alloc)?,
+        capture: file_name(alloc, "a.pcap")?,
     })
 }
 
@@ -97,10 +86,10 @@ fn skew_prints(rt: HostRuntime) -> Result<(), Fail> {
     let mut out = MemorySink::new(alloc, 4096)?;
     let mut err = MemorySink::new(alloc, 4096)?;
     let mut captures = Vec::new(alloc);
-    captures.push(first(alloc)?)?;
-    captures.push(second(alloc)?)?;
+    captures.push(file_name(alloc, "a.pcap")?)?;
+    captures.push(file_name(alloc, "b.pcap")?)?;
     let job = SkewJob {
-        sdp: description(alloc)?,
+        sdp: file_name(alloc, "p.sdp")?,
         media: 0,
         pair: 1,
         captures: Items::from_vec(captures),

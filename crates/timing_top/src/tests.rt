@@ -150,11 +150,7 @@ fn put(
         piece,
         fails: Vec::from_slice(alloc, &plan.fails)?,
     };
-    shelf.put(
-        String::from_str(alloc, name)?,
-        Vec::from_slice(alloc, text)?,
-        plan,
-    )?;
+    timing_examples::put(alloc, shelf, name, text, plan)?;
     Ok(())
 }
 

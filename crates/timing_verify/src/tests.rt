@@ -4,7 +4,8 @@ use super::*;
 use std::alloc::{AllocError, Global};
 use std::process::Abort;
 use std::test::Fail;
-use timing_base::{Broken, FailProof, FileName, Items, Kind, ReportJob, VerifyJob};
+use timing_base::worked::{LATE, file_name};
+use timing_base::{Broken, FailProof, Items, Kind, ReportJob, VerifyJob};
 use timing_examples::{NARROW, Spread, described};
 use timing_outside::{MemoryShelf, MemorySink, ReadPlan};
 use timing_report::{Input, Status};
@@ -86,11 +87,7 @@ fn put(
         piece: 100,
         fails: Vec::from_slice(alloc, fails)?,
     };
-    shelf.put(
-        String::from_str(alloc, name)?,
-        Vec::from_slice(alloc, text)?,
-        plan,
-    )?;
+    timing_examples::put(alloc, shelf, name, text, plan)?;
     Ok(())
 }
 
@@ -113,66 +110,30 @@ fn burst(from: u64, to: u64, limit: u64) -> FailProof {
     }
 }
 
-// The names `p.sdp`, `a.pcap`, `b.pcap` and `r.json`.
-fn description(alloc: Global) -> Result<FileName, AllocError> {
-    Ok(FileName::from_text(String::from_str(alloc, "p.sdp")?))
-}
-
-fn first(alloc: Global) -> Result<FileName, AllocError> {
-    Ok(FileName::from_text(String::from_str(alloc, "a.pcap")?))
-}
-
-fn second(alloc: Global) -> Result<FileName, AllocError> {
-    Ok(FileName::from_text(String::from_str(alloc, "b.pcap")?))
-}
-
-fn report(alloc: Global) -> Result<FileName, AllocError> {
-    Ok(FileName::from_text(String::from_str(alloc, "r.json")?))
-}
-
-// Whether the first capture confirms a fail. Asserts what jobs have to keep, since a proof does not
-// follow the rows of a table.
-fn alone<R: Abort + AllocGlobal>(
+// Whether the first capture confirms a fail, or both as one. Asserts what jobs have to keep, since a
+// proof does not follow the rows of a table.
+fn claimed<R: Abort + AllocGlobal>(
     rt: &R,
     asked: Asked,
     proof: FailProof,
+    joined: bool,
 ) -> Result<VerifyJob, AllocError> {
     let Asked { media, kind, tai } = asked;
     assert!(rt; media < 64);
     assert!(rt; tai <= 1000);
     let mut captures = Vec::new(rt.alloc());
-    captures.push(first(rt.alloc())?)?;
+    captures.push(file_name(rt.alloc(), "a.pcap")?)?;
+    if joined {
+        captures.push(file_name(rt.alloc(), "b.pcap")?)?;
+    }
     Ok(VerifyJob {
-        sdp: description(rt.alloc())?,
+        sdp: file_name(rt.alloc(), "p.sdp")?,
         media,
         kind,
         proof,
         tai,
         captures: Items::from_vec(captures),
-        joined: false,
-    })
-}
-
-// The same of both captures, as one.
-fn together<R: Abort + AllocGlobal>(
-    rt: &R,
-    asked: Asked,
-    proof: FailProof,
-) -> Result<VerifyJob, AllocError> {
-    let Asked { media, kind, tai } = asked;
-    assert!(rt; media < 64);
-    assert!(rt; tai <= 1000);
-    let mut captures = Vec::new(rt.alloc());
-    captures.push(first(rt.alloc())?)?;
-    captures.push(second(rt.alloc())?)?;
-    Ok(VerifyJob {
-        sdp: description(rt.alloc())?,
-        media,
-        kind,
-        proof,
-        tai,
-        captures: Items::from_vec(captures),
-        joined: true,
+        joined,
     })
 }
 
@@ -184,11 +145,11 @@ fn reported<R: Abort + AllocGlobal>(
 ) -> Result<ReportJob, AllocError> {
     assert!(rt; tai <= 1000);
     let mut captures = Vec::new(rt.alloc());
-    captures.push(first(rt.alloc())?)?;
-    captures.push(second(rt.alloc())?)?;
+    captures.push(file_name(rt.alloc(), "a.pcap")?)?;
+    captures.push(file_name(rt.alloc(), "b.pcap")?)?;
     Ok(ReportJob {
-        sdp: description(rt.alloc())?,
-        report: report(rt.alloc())?,
+        sdp: file_name(rt.alloc(), "p.sdp")?,
+        report: file_name(rt.alloc(), "r.json")?,
         tai,
         captures: Items::from_vec(captures),
         joined,
@@ -238,10 +199,10 @@ fn verify_burst(rt: HostRuntime) -> Result<(), Fail> {
     let alloc = rt.alloc();
     let capture = FIVE_AT_ONCE.capture(alloc)?;
     let mut shelf = shelf_with(alloc, "a.pcap", &capture)?;
-    let job = alone(&rt, FIRST, burst(0, 4, 4))?;
+    let job = claimed(&rt, FIRST, burst(0, 4, 4), false)?;
     verifies(&rt, &job, &mut shelf, CONFIRMED)?;
     for proof in [burst(0, 3, 4), burst(0, 4, 3)] {
-        verifies(&rt, &alone(&rt, FIRST, proof)?, &mut shelf, DENIED)?;
+        verifies(&rt, &claimed(&rt, FIRST, proof, false)?, &mut shelf, DENIED)?;
     }
     let mut shelf = shelf_with(alloc, "a.pcap", part(&rt, &capture, 0, 24))?;
     let absent = (Status::NotAllJudged, "not judged: absent\n");
@@ -252,14 +213,8 @@ fn verify_burst(rt: HostRuntime) -> Result<(), Fail> {
 fn verify_empty(rt: HostRuntime) -> Result<(), Fail> {
     let mut shelf = shelf_with(rt.alloc(), "a.pcap", &EVEN.capture(rt.alloc())?)?;
     for (count, wanted) in [(1, CONFIRMED), (2, DENIED)] {
-        let proof = FailProof {
-            model: Broken::Empty,
-            from: 1,
-            to: 1,
-            count,
-            limit: 2,
-        };
-        verifies(&rt, &alone(&rt, FIRST, proof)?, &mut shelf, wanted)?;
+        let proof = FailProof { count, ..LATE };
+        verifies(&rt, &claimed(&rt, FIRST, proof, false)?, &mut shelf, wanted)?;
     }
     Ok(())
 }
@@ -269,9 +224,9 @@ fn verify_empty(rt: HostRuntime) -> Result<(), Fail> {
 fn verify_no_media(rt: HostRuntime) -> Result<(), Fail> {
     let mut shelf = shelf_with(rt.alloc(), "other", &[])?;
     let beyond = Asked { media: 1, ..FIRST };
-    let job = alone(&rt, beyond, burst(0, 4, 4))?;
+    let job = claimed(&rt, beyond, burst(0, 4, 4), false)?;
     verifies(&rt, &job, &mut shelf, DENIED)?;
-    let job = alone(&rt, FIRST, burst(0, 4, 4))?;
+    let job = claimed(&rt, FIRST, burst(0, 4, 4), false)?;
     let missing = (Status::ReadFault(Input::Capture(0)), "");
     verifies(&rt, &job, &mut shelf, missing)
 }
@@ -282,7 +237,7 @@ fn verify_joined(rt: HostRuntime) -> Result<(), Fail> {
     let (front, rest) = halves(&rt, alloc, &BURST.capture(alloc)?)?;
     let mut shelf = shelf_with(alloc, "a.pcap", &front)?;
     put(alloc, &mut shelf, "b.pcap", &rest, &[])?;
-    let job = together(&rt, FIRST, burst(20, 24, 4))?;
+    let job = claimed(&rt, FIRST, burst(20, 24, 4), true)?;
     verifies(&rt, &job, &mut shelf, CONFIRMED)?;
     // failing_reads
     put(alloc, &mut shelf, "b.pcap", &rest, &[3])?;

@@ -1,8 +1,8 @@
 //! The fails of the worked rows: each is confirmed, and with one of its fields changed it isn't.
 
 use super::{
-    Asked, BURST, CONFIRMED, DENIED, EVEN, FIRST, FIVE_AT_ONCE, alone, halves, put, reported,
-    together, verifies, verifies_report,
+    Asked, BURST, CONFIRMED, DENIED, EVEN, FIRST, FIVE_AT_ONCE, claimed, halves, put, reported,
+    verifies, verifies_report,
 };
 use std::alloc::{AllocError, Global};
 use std::process::Abort;
@@ -109,11 +109,7 @@ fn asks<R: Abort + AllocGlobal>(
         kind,
         tai: row.tai,
     };
-    if row.rest.is_some() {
-        together(rt, asked, proof)
-    } else {
-        alone(rt, asked, proof)
-    }
+    claimed(rt, asked, proof, row.rest.is_some())
 }
 
 // A report that tells the fail of this type twice: of the first run, where it stands, and of a second,
