@@ -7,6 +7,7 @@ use super::*;
 use std::alloc::Global;
 use std::process::Abort;
 use std::sync::Wait;
+use std::sync::atomic::{AtomicBool, Ordering};
 use std::thread::Threads;
 use std::{mem, thread};
 use timing_base::{FileNote, FlowPacket, Items, PacketFault, Rtp};
@@ -294,13 +295,27 @@ fn halt_is_seen_once_raised(rt: HostRuntime) {
     assert!(rt; halt.raised().is_some());
 }
 
-// Sleeps until the halt is seen raised.
-fn sleep_until_raised<R: Wait>(rt: &R, lane: &Lane, halt: &Halt) {
+// Sleeps until the halt is seen raised, and tells before that it begins.
+fn sleep_until_raised<R: Wait>(rt: &R, lane: &Lane, halt: &Halt, begun: &AtomicBool) {
+    begun.store(true, Ordering::SeqCst);
     for _ in rt.forever() {
         if halt.raised().is_some() {
             break;
         }
         lane.wait_for_message(rt, halt);
+    }
+}
+
+// Lets the other thread begin, and then gives it time to fall asleep.
+fn let_sleep(begun: &AtomicBool) {
+    for _ in 0..1_000_000 {
+        if begun.load(Ordering::SeqCst) {
+            break;
+        }
+        thread::yield_now();
+    }
+    for _ in 0..10_000 {
+        thread::yield_now();
     }
 }
 
@@ -311,11 +326,13 @@ fn sleeper_and_halt<R: Threads + Wait + Abort + Sync>(rt: &R, alloc: Global) {
         return;
     };
     let halt = Halt::new();
-    let (shared, stop) = (&lane, &halt);
+    let begun = AtomicBool::new(false);
+    let (shared, stop, flag) = (&lane, &halt, &begun);
     thread::join(
         rt,
-        || sleep_until_raised(rt, shared, stop),
+        || sleep_until_raised(rt, shared, stop, flag),
         || {
+            let_sleep(flag);
             stop.raise(rt);
             shared.wake();
         },
