@@ -6,7 +6,7 @@ ghost use Rattle.flow_crew.specs.Threads.{AreIntakeJobs, AreRead, AreWorkJobs, A
 
 use crate::jobs::{IntakeJob, WorkJob};
 use flow_worker::{IntakeDone, WorkDone, intake, work};
-use ruled_intake::{Halt, Lane, wake_all};
+use ruled_intake::{Halt, Lane};
 use std::alloc::{AllocError as OutOfMemory, Global};
 use std::sync::Wait;
 use std::thread::{self, Threads};
@@ -146,8 +146,7 @@ pub fn run_intakes<R: Threads + Wait + Sync, S: Source, G: Gate>(
     match thread::map_vec(rt, jobs, &one) {
         Ok(dones) => Ok(dones),
         Err(refused) => {
-            halt.raise(rt);
-            wake_all(lanes);
+            halt.raise(rt, lanes);
             Err(refused)
         }
     }

@@ -16,7 +16,7 @@ ghost use Rattle.flow_worker.specs.Sending.{AreOutboxes, AreSame, BeginsFile, Cu
 use crate::outboxes::Outboxes;
 use crate::routing::{Routing, deal, dealt_file};
 use pcap_reader::{MOST, PcapReader, Step};
-use ruled_intake::{Halt, Lane, Raised, SendPass, wake_all};
+use ruled_intake::{Halt, Lane, Raised, SendPass};
 use std::alloc::{AllocError as OutOfMemory, Global};
 use std::sync::Wait;
 use timing_base::{FileNote, Media};
@@ -189,8 +189,7 @@ fn stop<'h, R: Wait, S: Source>(
     ensures note { result.0.note ≡ file_note.Stopped }
     ensures raised { result.1 ≡ Some halt.now }
 {
-    let raised = halt.raise(rt);
-    wake_all(lanes);
+    let raised = halt.raise(rt, lanes);
     let done = IntakeDone {
         source,
         passes,

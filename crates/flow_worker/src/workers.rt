@@ -157,7 +157,7 @@ fn next_message<R: Wait>(
             break;
         }
         if backoff.is_completed() {
-            lane.wait_for_message(rt, halt);
+            lane.wait_for_message(rt, pass, halt);
         } else {
             backoff.snooze();
         }

@@ -2,6 +2,7 @@
 
 ghost use Rattle.std.specs.Prelude.{◌≡◌, IfSome};
 
+use crate::lane::Lane;
 use std::marker::Model;
 use std::sync::{OnceLock, OnceToken, Wait};
 
@@ -42,13 +43,16 @@ impl Halt {
         }
     }
 
-    /// Raises the flag, for good. The call may wait for another thread that is raising it.
-    pub fn raise<R: Wait>(&self, rt: &R) -> Raised<'_>
+    /// Raises the flag, for good, and wakes the workers that sleep at these lanes. The call may wait for
+    /// another thread that is raising it.
+    pub fn raise<R: Wait>(&self, rt: &R, lanes: &[Lane]) -> Raised<'_>
         ensures { result ≡ self.now }
     {
-        Raised {
-            token: self.raised.init(rt, || ()),
+        let token = self.raised.init(rt, || ());
+        for lane in lanes {
+            lane.wake();
         }
+        Raised { token }
     }
 
     /// Whether the flag was seen raised.

@@ -92,16 +92,21 @@ impl Lane {
     }
 
     /// Wakes the worker, so that it sees a halt that was raised.
-    pub fn wake(&self) {
-        // The step before has every thread see the halt before this one looks for a sleeper.
+    pub(crate) fn wake(&self) {
+        // Writes the count that `wait_for_message` reads between its word that it will sleep and its look at
+        // the halt: either it reads this write, and then sees the halt, or the next line sees its word.
         self.sent.fetch_add(0, Ordering::SeqCst);
         self.news.notify_one();
     }
 
     /// Lets the worker's thread sleep while the lane holds nothing and the halt isn't raised. Nothing is
-    /// promised of how long that is.
-    pub fn wait_for_message<R: Wait>(&self, rt: &R, halt: &Halt) {
+    /// promised of how long that is. One thread at a time sleeps at a lane.
+    pub fn wait_for_message<R: Wait>(&self, rt: &R, pass: &mut TakePass, halt: &Halt)
+        requires lane { pass.old.lane ≡ self.now }
+        ensures same { pass.new ≡ pass.old }
+    {
         let sleep = self.news.prepare_wait();
+        // The lane is looked at first, and then the halt: `wake` counts on it.
         if self.ahead() == 0 && halt.raised().is_none() {
             sleep.wait(rt);
         }
@@ -208,13 +213,6 @@ impl Lane {
         let _left = queue.len_as::<Compares, R>(rt, &mut pass);
         queue.destroy();
         Closed { sent, taken }
-    }
-}
-
-/// Wakes the workers of these lanes, as [`Lane::wake`] does.
-pub fn wake_all(lanes: &[Lane]) {
-    for lane in lanes {
-        lane.wake();
     }
 }
 

@@ -18,7 +18,7 @@ mod passes;
 mod rule;
 
 pub use halt::{Halt, Raised};
-pub use lane::{Closed, Lane, wake_all};
+pub use lane::{Closed, Lane};
 pub use message::{Batch, FileEnd, Message};
 pub use packet::Packet;
 pub use passes::{SendPass, TakePass};

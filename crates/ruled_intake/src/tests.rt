@@ -9,7 +9,7 @@ use std::process::Abort;
 use std::sync::Wait;
 use std::sync::atomic::{AtomicBool, Ordering};
 use std::thread::Threads;
-use std::{mem, thread};
+use std::{mem, slice, thread};
 use timing_base::{FileNote, FlowPacket, Items, PacketFault, Rtp};
 
 // The end of a file that is cut at this byte.
@@ -93,7 +93,7 @@ fn take_ends<R: Wait + Abort>(rt: &R, lane: &Lane, taker: TakePass, count: u64)
             break;
         }
         let Some(message) = lane.take(rt, &mut taker) else {
-            lane.wait_for_message(rt, &halt);
+            lane.wait_for_message(rt, &mut taker, &halt);
             continue;
         };
         taken = taken.wrapping_add(1);
@@ -226,7 +226,7 @@ fn take_files<R: Wait + Abort>(rt: &R, lane: &Lane, taker: TakePass)
             break;
         }
         let Some(message) = lane.take(rt, &mut taker) else {
-            lane.wait_for_message(rt, &halt);
+            lane.wait_for_message(rt, &mut taker, &halt);
             continue;
         };
         match &message {
@@ -291,18 +291,27 @@ fn packet_has_40_bytes(rt: HostRuntime) {
 fn halt_is_seen_once_raised(rt: HostRuntime) {
     let halt = Halt::new();
     assert!(rt; halt.raised().is_none());
-    halt.raise(&rt);
+    halt.raise(&rt, &[]);
     assert!(rt; halt.raised().is_some());
 }
 
 // Sleeps until the halt is seen raised, and tells before that it begins.
-fn sleep_until_raised<R: Wait>(rt: &R, lane: &Lane, halt: &Halt, begun: &AtomicBool) {
+fn sleep_until_raised<R: Wait>(
+    rt: &R,
+    lane: &Lane,
+    taker: TakePass,
+    halt: &Halt,
+    begun: &AtomicBool,
+)
+    requires { taker.lane ≡ lane.now }
+{
+    let mut taker = taker;
     begun.store(true, Ordering::SeqCst);
     for _ in rt.forever() {
         if halt.raised().is_some() {
             break;
         }
-        lane.wait_for_message(rt, halt);
+        lane.wait_for_message(rt, &mut taker, halt);
     }
 }
 
@@ -319,9 +328,9 @@ fn let_sleep(begun: &AtomicBool) {
     }
 }
 
-// One thread sleeps, and another raises the halt and wakes it.
+// One thread sleeps, and another raises the halt.
 fn sleeper_and_halt<R: Threads + Wait + Abort + Sync>(rt: &R, alloc: Global) {
-    let Ok((lane, _passes, _taker)) = Lane::new(alloc, 1) else {
+    let Ok((lane, _passes, taker)) = Lane::new(alloc, 1) else {
         assert!(rt; false, "there is memory");
         return;
     };
@@ -330,11 +339,12 @@ fn sleeper_and_halt<R: Threads + Wait + Abort + Sync>(rt: &R, alloc: Global) {
     let (shared, stop, flag) = (&lane, &halt, &begun);
     thread::join(
         rt,
-        || sleep_until_raised(rt, shared, stop, flag),
+        ||
+            requires { taker.lane ≡ shared.now }
+        { sleep_until_raised(rt, shared, taker, stop, flag) },
         || {
             let_sleep(flag);
-            stop.raise(rt);
-            shared.wake();
+            stop.raise(rt, slice::from_ref(shared));
         },
     );
     assert!(rt; halt.raised().is_some());
