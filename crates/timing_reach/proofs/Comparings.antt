@@ -1,6 +1,7 @@
 -- Captures of two flows that are read one after the other.
-use Rattle.std.specs.Prelude.{IfOk, Result, Ok, Err, slice_index_or, ◌==◌}
-use Rattle.std.proofs.Common.{◌≡◌, ◌≢◌, ◌⊎◌, ◌<◌, ◌+◌, ℕ, true, false, List, [], ◌∷◌, ◌++◌, length, Option, Some, refl, arith, ap, ◌∙◌, sym, subst, append-nil, length-append, inl, inr}
+use Rattle.std.specs.Prelude.{IfErr, IfOk, Result, Ok, Err, slice_index_or, ◌==◌}
+use Rattle.std.specs.Result.{IsErrAnd}
+use Rattle.std.proofs.Common.{◌≡◌, ◌≢◌, ◌≤◌, ◌⊎◌, ◌<◌, ◌+◌, ℕ, true, false, List, [], ◌∷◌, ◌++◌, length, Option, Some, refl, arith, ap, ◌∙◌, sym, subst, append-nil, length-append, inl, inr}
 use Rattle.std.proofs.Math.Seq.{get_or-append_seam}
 use Rattle.std.proofs.lemmas.Bool.{eq-eqb}
 use Rattle.std.proofs.lemmas.Bool.Decides.{eqb_tells}
@@ -13,8 +14,12 @@ use Rattle.path_skew.specs.declared.skew.Skew.{Skew}
 use Rattle.pcap_reader.specs.Records.{AreRecords}
 use Rattle.pcap_reader.specs.declared.records.Taken.{Taken}
 use Rattle.pcap_reader.proofs.Captures.{files-length, records-push}
+use Rattle.timing_report.specs.declared.status.Input.TheVariants as input
+use Rattle.timing_steps.specs.Answers.{CaptureRose, OnReadFault}
 use Rattle.timing_steps.specs.Taken.{TakesText}
 use Rattle.timing_steps.specs.declared.failure.Failure.{Failure}
+use Rattle.timing_steps.specs.declared.failure.Failure.TheVariants as failure
+use Rattle.timing_steps.proofs.Seeing.{rose-within}
 use Rattle.udp_rtp.specs.Flow.{flow}
 use Rattle.timing_reach.specs.Added.{Adds, taken_of}
 use Rattle.timing_reach.specs.Comparing.{AreCompared, ComparesNext, IsComparedIn}
@@ -122,3 +127,28 @@ compares-next text count old new turned taken read first second takes_first take
           (subst (λ (p : Pairing). Adds turned.skew p.skew (taken_of (length old.notes.items == 0) old.pairing.first items) last) (sym is)
           (subst (λ f. Adds turned.skew taken.skew f last) one (subst (Adds turned.skew taken.skew (taken_of turned.takes_first turned.first items)) two fed.adds)));
     }
+
+-- what holds whatever the value is
+pub on-ok : {T E : Type 0} (result : Result T E) (P : Type 0) → P → IfOk result (λ _. P)
+on-ok (Ok x) P h = h
+on-ok (Err e) P h = tt
+
+-- a capture's count rose in a part of the run, which asked by the names of the job
+pub cause-before : {T : Type 0} (result : Result T Failure) (before mid now : List ℕ → ℕ) (names asked : List (List ℕ)) → names ≡ asked → ((n : List ℕ) → before n ≤ mid n)
+    → IfErr result (λ e. OnReadFault e (λ i. (number : ℕ) × (i ≡ input.Capture number) × CaptureRose mid now names number))
+    → IfErr result (λ e. OnReadFault e (λ i. (number : ℕ) × (i ≡ input.Capture number) × CaptureRose before now asked number))
+cause-before (Ok x) before mid now names asked same earlier h = tt
+cause-before (Err (failure.ReadFault i)) before mid now names asked same earlier h =
+    let n = slice_index_or names h.0 [] in
+    (h.0, h.1, subst (λ (l : List (List ℕ)). CaptureRose before now l h.0) same (record { within = h.2.within; rose = rose-within (before n) (mid n) (now n) (now n) (earlier n) (omega arith) h.2.rose }))
+cause-before (Err failure.WriteFault) before mid now names asked same earlier h = h
+cause-before (Err failure.OutOfMemory) before mid now names asked same earlier h = tt
+
+-- a fault that is passed on, where the job has the names that were asked
+pub cause-passed : {T : Type 0} (result : Result T Failure) (e : Failure) (before now : List ℕ → ℕ) (names asked : List (List ℕ)) → names ≡ asked → IsErrAnd result (λ x. x ≡ e)
+    → OnReadFault e (λ i. (number : ℕ) × (i ≡ input.Capture number) × CaptureRose before now names number)
+    → IfErr result (λ e. OnReadFault e (λ i. (number : ℕ) × (i ≡ input.Capture number) × CaptureRose before now asked number))
+cause-passed (Ok x) e before now names asked same is h = absurd is
+cause-passed (Err x) e before now names asked same is h =
+    subst (λ (l : List (List ℕ)). OnReadFault x (λ i. (number : ℕ) × (i ≡ input.Capture number) × CaptureRose before now l number)) same
+    (subst (λ (y : Failure). OnReadFault y (λ i. (number : ℕ) × (i ≡ input.Capture number) × CaptureRose before now names number)) (sym is) h)

@@ -2,18 +2,20 @@
 use Rattle.std.proofs.Common.{◌≡◌, ◌≤◌, ℕ, List, Option, Some, None, refl, arith, ap, ◌∙◌, sym, subst, inl, inr}
 use Rattle.std.specs.Prelude.{IfErr, IfOk, Result, Ok, Err, slice_get}
 use Rattle.std.specs.Option.{option_map}
+use Rattle.std.specs.Result.{IsErrAnd}
 use Rattle.timing_base.specs.Jobs.{FlowJob}
 use Rattle.timing_base.specs.Media.{Media}
 use Rattle.timing_outside.specs.Causes.{Rose}
 use Rattle.pcapng_reader.specs.Classic.{classic, classic_texts}
 use Rattle.sdp_reader.specs.Session.{session}
+use Rattle.timing_report.specs.declared.status.Input.{Input}
 use Rattle.timing_report.specs.declared.status.Input.TheVariants as input
 use Rattle.timing_steps.specs.Answers.{Answer, Gives, Inputs, OnReadFault, ReadsSession, Yields}
 use Rattle.timing_steps.specs.Ran.{HasCause, IsAnswered}
 use Rattle.timing_steps.specs.declared.failure.Failure.{Failure}
 use Rattle.timing_steps.specs.declared.failure.Failure.TheVariants as failure
 use Rattle.timing_steps.proofs.Seeing.{Sees, follows-session, risen-seen, rose-within, yields-on}
-use Rattle.timing_reach.specs.Asked.{FlowInputRose, ReadsCapture, ReadsFlow}
+use Rattle.timing_reach.specs.Asked.{FlowInputRose, ReadsCapture, ReadsFlow, no_such_media}
 
 -- a capture that was read, or couldn't be
 pub reads-capture : (i : Inputs) (outcome : Result Answer Failure) (name : List ℕ) (next : List ℕ → Answer → Type 0)
@@ -78,3 +80,30 @@ reads-twice i mid between outcome name Seen next texts earlier seen there told c
     there-too : (outcome : Result Answer Failure) → IfOk outcome (λ _. ¬ i.lacks name)
     there-too (Ok answer) = there
     there-too (Err e) = tt
+
+-- memory ran out
+pub ran-out : (outcome : Result Answer Failure) → IsErrAnd outcome (λ e. e ≡ failure.OutOfMemory) → outcome ≡ Err failure.OutOfMemory
+ran-out (Ok answer) h = absurd h
+ran-out (Err e) h = ap Err h
+
+pub cause-out : (outcome : Result Answer Failure) (InputRose : Input → Type 0) → IsErrAnd outcome (λ e. e ≡ failure.OutOfMemory) → HasCause outcome InputRose
+cause-out outcome InputRose h = subst (λ o. HasCause o InputRose) (sym (ran-out outcome h)) tt
+
+-- the description hasn't the media
+pub reads-none : (i : Inputs) (job : FlowJob) (next : Media → List ℕ → Answer → Type 0) (answer : Answer) (there : Option Media) → there ≡ None → answer ≡ no_such_media
+    → Yields (Ok answer) (ReadsFlow i (Ok answer) job next there)
+reads-none i job next answer there none is = inr (subst (ReadsFlow i (Ok answer) job next) (sym none) (answer, refl, is))
+
+-- the description has it
+pub reads-some : (i : Inputs) (outcome : Result Answer Failure) (job : FlowJob) (next : Media → List ℕ → Answer → Type 0) (there : Option Media) (m : Media) → there ≡ Some m
+    → Yields outcome (ReadsFlow i outcome job next (Some m)) → Yields outcome (ReadsFlow i outcome job next there)
+reads-some i outcome job next there m some h = subst (λ t. Yields outcome (ReadsFlow i outcome job next t)) (sym some) h
+
+-- an input's count rose in a part of the run
+pub cause-seen : (i j : Inputs) (outcome : Result Answer Failure) (job : FlowJob) → Sees i j → HasCause outcome (FlowInputRose job j) → HasCause outcome (FlowInputRose job i)
+cause-seen i j (Ok answer) job s h = h
+cause-seen i j (Err (failure.ReadFault input.Sdp)) job s h = risen-seen i j job.sdp s h
+cause-seen i j (Err (failure.ReadFault input.Report)) job s h = absurd h
+cause-seen i j (Err (failure.ReadFault (input.Capture number))) job s h = (h.0, risen-seen i j job.capture s h.1)
+cause-seen i j (Err failure.WriteFault) job s h = h
+cause-seen i j (Err failure.OutOfMemory) job s h = tt

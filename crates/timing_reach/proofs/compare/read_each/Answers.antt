@@ -1,4 +1,4 @@
-use Rattle.std.proofs.Common.{rules, refl, ◌≡◌, ◌∙◌}
+use Rattle.std.proofs.Common.{rules, refl, ◌≡◌}
 use Rattle.pcapng_reader.specs.Sources.{faults_of, left_of, name_of}
 use Rattle.timing_steps.proofs.Readings.{fresh-tail, none-left, reading-all, reading-at, reading-next, reading-start, reading-stopped}
 use Rattle.timing_reach.specs.Comparing.{AreCompared}

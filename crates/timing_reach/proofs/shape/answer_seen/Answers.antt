@@ -9,7 +9,7 @@ use Rattle.timing_reach.proofs.shape.answer_seen.Goals as goal
 pub returns-in-Judged-clause-told : goal.returns-in-Judged-clause-told
 returns-in-Judged-clause-told g c =
     if-ok c.shape_flow.result
-    (λ answer told text whole s. shape-on text c.args.media.now _ c.args.job.now.flow.tai _ c.args.job.now.kind _ c.args.job.now.list c.args.seen.now c.in-Judged.judged c.new-leaver.result answer c.in-Judged.is s
+    (λ answer told text whole s. shape-on text c.args.media.now c.job-inside.inside.0.0.tai c.args.job.now.flow.tai c.job-inside.inside.0.1.0 c.args.job.now.kind c.job-inside.inside.0.1.1.0 c.args.job.now.list c.args.seen.now c.in-Judged.judged c.new-leaver.result answer c.in-Judged.is s
     c.new-leaver.ensures.given (λ w items note run records given part. told w text items note run (search rules) records given part) (search rules) (search rules) (search rules))
     c.shape_flow.ensures.told
 
