@@ -15,8 +15,8 @@ pub mod Senders
 pub mod Passes
 pub mod Outgoing
 pub mod Targeting
+pub mod Told
 pub mod Dealt
-pub mod Deals
 pub mod Each
 pub mod Fed
 pub mod Posted

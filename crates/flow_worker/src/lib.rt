@@ -20,8 +20,3 @@ mod workers;
 
 pub use intakes::{IntakeDone, intake};
 pub use workers::{WorkDone, work};
-
-#[cfg(test)]
-mod tests;
-#[cfg(test)]
-mod work_tests;

@@ -4,8 +4,6 @@
 pub mod laws;
 mod object;
 mod reading;
-#[cfg(test)]
-mod tests;
 mod written;
 
 pub use reading::{ReportError, ReportProof, read_json};

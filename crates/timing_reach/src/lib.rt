@@ -31,6 +31,3 @@ pub use shape::{answer_shape, shape_one};
 pub use skew::{answer_skew, skew_one};
 pub use window::{answer_window, window_one};
 pub use windows::Windows;
-
-#[cfg(test)]
-mod tests;

@@ -15,6 +15,3 @@ mod self_tests;
 
 pub use check::{check_many, check_one};
 pub use commands::{run, self_test};
-
-#[cfg(test)]
-mod tests;

@@ -15,6 +15,3 @@ mod words;
 pub use checked::{Checked, Finding};
 pub use report::{answer_report, verify_all};
 pub use verify::{answer_verify, verify_one};
-
-#[cfg(test)]
-mod tests;

@@ -14,6 +14,3 @@ mod values;
 
 pub use line::WordFault;
 pub use read::read_words;
-
-#[cfg(test)]
-mod tests;

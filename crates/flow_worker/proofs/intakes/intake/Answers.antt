@@ -1,6 +1,6 @@
 use Rattle.std.proofs.Common.{◌≡◌, length, rules}
 use Rattle.flow_worker.specs.Intakes.{intake_setting}
-use Rattle.flow_worker.proofs.Dealt.{told-nothing, told-stop}
+use Rattle.flow_worker.proofs.Told.{told-nothing, told-stop}
 use Rattle.flow_worker.proofs.intakes.intake.Goals as goal
 
 pub returns-in-Err-clause-told : goal.returns-in-Err-clause-told

@@ -1,6 +1,6 @@
 use Rattle.std.proofs.Common.{◌≡◌, ap, sym, ◌∙◌, length, Err, rules}
 use Rattle.flow_worker.proofs.Outgoing.{match_err}
-use Rattle.flow_worker.proofs.Dealt.{begun-early, begun-late, sent-file}
+use Rattle.flow_worker.proofs.Told.{begun-early, begun-late, sent-file}
 use Rattle.flow_worker.proofs.intakes.send_file.Goals as goal
 
 pub returns-in_err-taken-clause-told : goal.returns-in_err-taken-clause-told

@@ -1,7 +1,7 @@
 use Rattle.std.proofs.Common.{◌≡◌, List, sym, subst, rules}
 use Rattle.ruled_intake.specs.Lanes.{Sender}
 use Rattle.flow_worker.specs.Intakes.{HasTold, intake_setting}
-use Rattle.flow_worker.proofs.Dealt.{told-file, told-stop, told-stopped}
+use Rattle.flow_worker.proofs.Told.{told-file, told-stop, told-stopped}
 use Rattle.flow_worker.proofs.intakes.take_file.Goals as goal
 
 pub returns-in-Ok-clause-told : goal.returns-in-Ok-clause-told

@@ -1,5 +1,5 @@
 use Rattle.std.proofs.Common.{rules}
-use Rattle.flow_worker.proofs.Dealt.{cut-more}
+use Rattle.flow_worker.proofs.Told.{cut-more}
 use Rattle.flow_worker.proofs.Outgoing.{AreSame-then}
 use Rattle.flow_worker.proofs.intakes.take_records.Goals as goal
 

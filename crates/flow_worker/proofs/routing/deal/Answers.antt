@@ -1,5 +1,5 @@
 use Rattle.std.proofs.Common.{◌<◌, refl, arith}
-use Rattle.flow_worker.proofs.Deals.{dealt-more}
+use Rattle.flow_worker.proofs.Dealt.{dealt-more}
 use Rattle.flow_worker.proofs.routing.deal.Goals as goal
 
 pub loop-number-init : goal.loop-number-init

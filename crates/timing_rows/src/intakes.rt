@@ -1,10 +1,10 @@
 //! The intake of captures in memory, with each message compared.
 
-ghost use Rattle.std.specs.Prelude.{◌≡◌, ◌∷◌, [], IfOk};
+ghost use Rattle.std.specs.Prelude.{◌≡◌, ◌≤◌, ◌∷◌, [], IfOk, length};
 ghost use Rattle.flow_worker.specs.Intakes.{AreOfFile, HaveSentNothing};
 
-use super::*;
 use capture_gen::{capture_len, sdp_bytes, write_capture};
+use flow_worker::{IntakeDone, intake};
 use ruled_intake::{Closed, Halt, Lane, Message, SendPass, TakePass};
 use sdp_reader::read_sdp;
 use std::alloc::{AllocError, Global};
@@ -13,9 +13,9 @@ use std::slice;
 use std::sync::Wait;
 use std::test::Fail;
 use timing_base::worked::undeclared_to;
-use timing_base::{FileNote, PcapFault};
+use timing_base::{FileNote, Media, PcapFault};
 use timing_examples::{FRAME, HEAD, source_of};
-use timing_outside::{MemorySink, NoGate};
+use timing_outside::{MemorySink, NoGate, Source};
 
 // The made capture of 13 frames of 20 packets: with the packet before them it has 261 records.
 fn made(alloc: Global) -> Result<MemorySink, Fail> {
@@ -31,6 +31,39 @@ fn one_lane(alloc: Global) -> Result<(Lane, Vec<SendPass>, TakePass), AllocError
     ensures senders { IfOk result (λ made. made.2.senders ≡ 1) }
 {
     Lane::new(alloc, 1)
+}
+
+// The intake of file 0, which doesn't raise the halt.
+fn taken_in<R: Wait + Abort + AllocGlobal, S: Source>(
+    rt: &R,
+    media: &[Media],
+    source: S,
+    lanes: &[Lane],
+    passes: Vec<SendPass>,
+) -> IntakeDone<S>
+    requires some_media { 1 ≤ length media.now }
+    requires few_media { length media.now ≤ 64 }
+    requires some_lanes { 1 ≤ length lanes.now }
+    requires few_lanes { length lanes.now ≤ 16 }
+    requires passes { HaveSentNothing 0 lanes.now passes.items }
+    ensures passes { AreOfFile 0 lanes.now result.passes.items }
+{
+    let halt = Halt::new();
+    let (done, raised) = intake(
+        rt,
+        rt.alloc(),
+        0,
+        false,
+        media,
+        source,
+        lanes,
+        passes,
+        &halt,
+        &NoGate,
+    );
+    assert!(rt; raised.is_none());
+    assert!(rt; halt.raised().is_none());
+    done
 }
 
 // Takes the front message.
@@ -86,14 +119,8 @@ fn batches(rt: HostRuntime) -> Result<(), Fail> {
     assert_eq!(rt; media.len(), 1);
     let source = source_of(alloc, made(alloc)?.bytes(), 65_536, &[])?;
     let (lane, passes, mut taker) = one_lane(alloc)?;
-    let lanes = slice::from_ref(&lane);
-    let halt = Halt::new();
-    let (done, raised) = intake(
-        &rt, alloc, 0, false, media, source, lanes, passes, &halt, &NoGate,
-    );
+    let done = taken_in(&rt, media, source, slice::from_ref(&lane), passes);
     assert_eq!(rt; done.note, FileNote::End);
-    assert!(rt; raised.is_none());
-    assert!(rt; halt.raised().is_none());
     let first: Vec<u64> = (1..257).collect(alloc)?;
     is_batch(&rt, take(&rt, &lane, &mut taker), 0, &first);
     is_batch(
@@ -118,15 +145,9 @@ fn failed_read(rt: HostRuntime) -> Result<(), Fail> {
     assert_eq!(rt; media.len(), 1);
     let source = source_of(alloc, made(alloc)?.bytes(), 7200, &[2])?;
     let (lane, passes, mut taker) = one_lane(alloc)?;
-    let lanes = slice::from_ref(&lane);
-    let halt = Halt::new();
-    let (done, raised) = intake(
-        &rt, alloc, 0, false, media, source, lanes, passes, &halt, &NoGate,
-    );
+    let done = taken_in(&rt, media, source, slice::from_ref(&lane), passes);
     let note = FileNote::Refused(PcapFault::ReadFault);
     assert_eq!(rt; done.note, note);
-    assert!(rt; raised.is_none());
-    assert!(rt; halt.raised().is_none());
     let before: Vec<u64> = (1..100).collect(alloc)?;
     is_batch(&rt, take(&rt, &lane, &mut taker), 0, &before);
     is_end(&rt, take(&rt, &lane, &mut taker), note, 99);
@@ -158,12 +179,8 @@ fn two_lanes(rt: HostRuntime) -> Result<(), Fail> {
     let (second, mut more, mut second_taker) = one_lane(alloc)?;
     passes.append(&mut more)?;
     let lanes = [first, second];
-    let halt = Halt::new();
-    let (done, raised) = intake(
-        &rt, alloc, 0, false, &media, source, &lanes, passes, &halt, &NoGate,
-    );
+    let done = taken_in(&rt, &media, source, &lanes, passes);
     assert_eq!(rt; done.note, FileNote::End);
-    assert!(rt; raised.is_none());
     is_batch(&rt, take(&rt, &lanes[0], &mut first_taker), 0, &[1, 5]);
     is_end(
         &rt,

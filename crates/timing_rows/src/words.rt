@@ -1,10 +1,10 @@
 //! Lines of words and what they are read as, worked by hand.
 
-use super::*;
 use std::alloc::{AllocError, Global};
 use std::process::Abort;
 use std::test::Fail;
 use timing_base::{FileName, Items, Request};
+use timing_words::{WordFault, read_words};
 
 // The words of a line, which bars part.
 fn words_of(alloc: Global, line: &str) -> Result<Vec<String>, AllocError> {

@@ -1,7 +1,7 @@
 //! The rows of `shape`.
 
 use super::windows::{fails_by_reads, prints};
-use super::{CHECK, Setting, judges, made, over, part, run, shelf_of, words_of};
+use super::{CHECK, Setting, judges, made, over, part, shelf_of, words_of};
 use capture_gen::{Packet, file_head};
 use std::alloc::{AllocError, Global};
 use std::process::Abort;
@@ -11,6 +11,7 @@ use std::thread::Threads;
 use timing_examples::{NARROW, Spread, described};
 use timing_outside::{MemorySink, NoGate};
 use timing_report::Status;
+use timing_top::run;
 
 // The bytes of a capture before its first record.
 const FILE_HEAD: usize = 24;

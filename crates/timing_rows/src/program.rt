@@ -1,7 +1,6 @@
 //! The worked rows, each through [`run`] over files in memory, with the bytes that it prints: on one
 //! thread, and with several numbers of workers.
 
-use super::*;
 use capture_gen::{capture_len, sdp_bytes, write_capture};
 use std::alloc::{AllocError, Global};
 use std::process::Abort;
@@ -10,6 +9,7 @@ use std::test::Fail;
 use std::thread::Threads;
 use timing_outside::{MemoryShelf, MemorySink, NoGate, ReadPlan, WritePlan};
 use timing_report::Status;
+use timing_top::run;
 
 mod captures;
 mod descriptions;
@@ -118,7 +118,7 @@ fn made<R: Abort + AllocGlobal>(rt: &R, number: u64, flaw: u32) -> Result<Vec<u8
 }
 
 // Some of the bytes.
-fn part<'a>(rt: &impl Abort, bytes: &'a [u8], from: usize, to: usize) -> &'a [u8] {
+pub fn part<'a>(rt: &impl Abort, bytes: &'a [u8], from: usize, to: usize) -> &'a [u8] {
     assert!(rt; from <= to);
     assert!(rt; to <= bytes.len());
     &bytes[from..to]

@@ -133,7 +133,12 @@ fn verify_joined(rt: HostRuntime) -> Result<(), Fail> {
         .extend_from_slice(part(&rt, &burst, 1464, burst.len()))?;
     let line =
         "verify --joined --sdp p.sdp --media 1 --type N --model Bucket --from 20 --to 24 --count 5 --limit 4 a.pcap b.pcap";
-    ends(&rt, line, &setting, (Status::Pass, "confirmed\n", ""))
+    ends(&rt, line, &setting, (Status::Pass, "confirmed\n", ""))?;
+    // failing_reads
+    setting.second_plan.piece = 100;
+    setting.second_plan.fails = Vec::from_slice(alloc, &[3])?;
+    let failed = Status::ReadFault(Input::Capture(1));
+    ends(&rt, line, &setting, (failed, "", "read fault: capture 2\n"))
 }
 
 // The report stands under the name of the second capture.

@@ -2,7 +2,6 @@
 
 use super::self_tests::SELFTEST_2;
 use super::{HEADER, NARROW, made, over, shelf_of, words_of};
-use crate::run;
 use capture_gen::{capture_len, write_capture};
 use std::process::Abort;
 use std::sync::Wait;
@@ -13,6 +12,7 @@ use timing_outside::{
     Failed, Gate, MemoryShelf, MemorySink, MemorySource, NoGate, OpenFault, Shelf, Source,
 };
 use timing_report::Status;
+use timing_top::run;
 
 // How often a flag is looked at.
 const LOOKS: u32 = 200_000_000;

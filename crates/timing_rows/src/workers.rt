@@ -4,10 +4,11 @@ ghost use Rattle.std.specs.Prelude.{◌≡◌, ◌≤◌, ◌<◌, All, IfOk, If
 ghost use Rattle.ruled_intake.specs.Lanes.{AreSenders};
 ghost use Rattle.verdict_book.specs.Receipts.{IsOf};
 
-use super::*;
+use flow_worker::work;
 use ruled_intake::{Batch, FileEnd, Halt, Lane, Message, Packet, SendPass};
 use std::alloc::{AllocError, Global};
 use std::process::Abort;
+use std::slice;
 use std::sync::Wait;
 use std::test::Fail;
 use timing_base::worked::{reading, undeclared_to};
@@ -84,6 +85,8 @@ struct Asked {
     worker: u32,
     workers: u32,
     joined: bool,
+    // Whether the halt is raised before it begins.
+    halted: bool,
 }
 
 // The receipts of a worker that takes these messages, of two media and two files.
@@ -93,7 +96,6 @@ fn worked<R: Wait + Abort>(
     asked: Asked,
     messages: Vec<Message>,
     book: &Book,
-    halt: &Halt,
 ) -> Result<Option<Vec<Receipt>>, AllocError>
     ensures { IfOk result (λ some. IfSome some (λ receipts. All (IsOf book.now) receipts.items)) }
 {
@@ -101,13 +103,18 @@ fn worked<R: Wait + Abort>(
         worker,
         workers,
         joined,
+        halted,
     } = asked;
     assert!(rt; worker < workers && workers <= 16);
     let (lane, passes, taker) = Lane::new(alloc, 1)?;
     send_all(rt, &lane, passes, messages);
+    let halt = Halt::new();
+    if halted {
+        halt.raise(rt, slice::from_ref(&lane));
+    }
     let media = [undeclared_to(50_000); 2];
     let done = work(
-        rt, alloc, worker, workers, joined, &media, 2, 37, &lane, taker, book, halt, &NoGate,
+        rt, alloc, worker, workers, joined, &media, 2, 37, &lane, taker, book, &halt, &NoGate,
     );
     Ok(done.receipts)
 }
@@ -159,8 +166,9 @@ fn files_each_for_itself(rt: HostRuntime) -> Result<(), Fail> {
         worker: 0,
         workers: 1,
         joined: false,
+        halted: false,
     };
-    let receipts = worked(&rt, alloc, asked, messages, &book, &Halt::new())?;
+    let receipts = worked(&rt, alloc, asked, messages, &book)?;
     let want = [
         (0, 0, Unjudged::NoWholeFrame { head: 3 }),
         (
@@ -195,8 +203,9 @@ fn second_file_waits_for_the_first(rt: HostRuntime) -> Result<(), Fail> {
         worker: 0,
         workers: 1,
         joined: true,
+        halted: false,
     };
-    let receipts = worked(&rt, alloc, asked, messages, &book, &Halt::new())?;
+    let receipts = worked(&rt, alloc, asked, messages, &book)?;
     let want = [
         (
             0,
@@ -233,8 +242,9 @@ fn flows_of_others_are_passed_over(rt: HostRuntime) -> Result<(), Fail> {
         worker: 2,
         workers: 3,
         joined: false,
+        halted: false,
     };
-    let receipts = worked(&rt, alloc, asked, messages, &book, &Halt::new())?;
+    let receipts = worked(&rt, alloc, asked, messages, &book)?;
     let want = [(1, 0, Unjudged::NoWholeFrame { head: 1 })];
     are_rows(&rt, &book, receipts, &want);
     Ok(())
@@ -247,14 +257,13 @@ fn halt_stops_without_receipts(rt: HostRuntime) -> Result<(), Fail> {
     let book = Book::new(alloc)?;
     let mut messages = Vec::new(alloc);
     messages.push(end(1, 2))?;
-    let halt = Halt::new();
-    halt.raise(&rt);
     let asked = Asked {
         worker: 0,
         workers: 1,
         joined: true,
+        halted: true,
     };
-    let receipts = worked(&rt, alloc, asked, messages, &book, &halt)?;
+    let receipts = worked(&rt, alloc, asked, messages, &book)?;
     assert!(rt; receipts.is_none());
     Ok(())
 }

@@ -1,14 +1,15 @@
-//! The rows of the two commands, over captures in memory.
+//! The rows of `verify` and `verify-report`, over captures in memory.
 
-use super::*;
+use crate::program::part;
 use std::alloc::{AllocError, Global};
 use std::process::Abort;
 use std::test::Fail;
-use timing_base::worked::{LATE, file_name};
-use timing_base::{Broken, FailProof, Items, Kind, ReportJob, VerifyJob};
+use timing_base::worked::file_name;
+use timing_base::{FailProof, Items, Kind, ReportJob, VerifyJob};
 use timing_examples::{NARROW, Spread, described};
 use timing_outside::{MemoryShelf, MemorySink, ReadPlan};
 use timing_report::{Input, Status};
+use timing_verify::{verify_all, verify_one};
 
 mod rows;
 
@@ -54,13 +55,6 @@ const FIRST: Asked = Asked {
     tai: 0,
 };
 
-// Some of the bytes.
-fn part<'a>(rt: &impl Abort, bytes: &'a [u8], from: usize, to: usize) -> &'a [u8] {
-    assert!(rt; from <= to);
-    assert!(rt; to <= bytes.len());
-    &bytes[from..to]
-}
-
 // The front of a capture, which is a capture too, and one of its rest, which begins with a packet of its
 // first frame.
 fn halves(
@@ -97,17 +91,6 @@ fn shelf_with(alloc: Global, name: &str, text: &[u8]) -> Result<MemoryShelf, Fai
     put(alloc, &mut shelf, "p.sdp", &described(alloc, "", "")?, &[])?;
     put(alloc, &mut shelf, name, text, &[])?;
     Ok(shelf)
-}
-
-// A fail of the bucket, of five packets.
-fn burst(from: u64, to: u64, limit: u64) -> FailProof {
-    FailProof {
-        model: Broken::Bucket,
-        from,
-        to,
-        count: 5,
-        limit,
-    }
 }
 
 // Whether the first capture confirms a fail, or both as one. Asserts what jobs have to keep, since a
@@ -192,66 +175,6 @@ fn verifies_report<R: Abort + AllocGlobal>(
     let line = status.error_line();
     assert_eq!(rt; err.bytes(), line.as_str().as_bytes());
     Ok(())
-}
-
-#[test]
-fn verify_burst(rt: HostRuntime) -> Result<(), Fail> {
-    let alloc = rt.alloc();
-    let capture = FIVE_AT_ONCE.capture(alloc)?;
-    let mut shelf = shelf_with(alloc, "a.pcap", &capture)?;
-    let job = claimed(&rt, FIRST, burst(0, 4, 4), false)?;
-    verifies(&rt, &job, &mut shelf, CONFIRMED)?;
-    for proof in [burst(0, 3, 4), burst(0, 4, 3)] {
-        verifies(&rt, &claimed(&rt, FIRST, proof, false)?, &mut shelf, DENIED)?;
-    }
-    let mut shelf = shelf_with(alloc, "a.pcap", part(&rt, &capture, 0, 24))?;
-    let absent = (Status::NotAllJudged, "not judged: absent\n");
-    verifies(&rt, &job, &mut shelf, absent)
-}
-
-#[test]
-fn verify_empty(rt: HostRuntime) -> Result<(), Fail> {
-    let mut shelf = shelf_with(rt.alloc(), "a.pcap", &EVEN.capture(rt.alloc())?)?;
-    for (count, wanted) in [(1, CONFIRMED), (2, DENIED)] {
-        let proof = FailProof { count, ..LATE };
-        verifies(&rt, &claimed(&rt, FIRST, proof, false)?, &mut shelf, wanted)?;
-    }
-    Ok(())
-}
-
-// The capture isn't there, and for a media that isn't there none is fetched.
-#[test]
-fn verify_no_media(rt: HostRuntime) -> Result<(), Fail> {
-    let mut shelf = shelf_with(rt.alloc(), "other", &[])?;
-    let beyond = Asked { media: 1, ..FIRST };
-    let job = claimed(&rt, beyond, burst(0, 4, 4), false)?;
-    verifies(&rt, &job, &mut shelf, DENIED)?;
-    let job = claimed(&rt, FIRST, burst(0, 4, 4), false)?;
-    let missing = (Status::ReadFault(Input::Capture(0)), "");
-    verifies(&rt, &job, &mut shelf, missing)
-}
-
-#[test]
-fn verify_joined(rt: HostRuntime) -> Result<(), Fail> {
-    let alloc = rt.alloc();
-    let (front, rest) = halves(&rt, alloc, &BURST.capture(alloc)?)?;
-    let mut shelf = shelf_with(alloc, "a.pcap", &front)?;
-    put(alloc, &mut shelf, "b.pcap", &rest, &[])?;
-    let job = claimed(&rt, FIRST, burst(20, 24, 4), true)?;
-    verifies(&rt, &job, &mut shelf, CONFIRMED)?;
-    // failing_reads
-    put(alloc, &mut shelf, "b.pcap", &rest, &[3])?;
-    let failed = (Status::ReadFault(Input::Capture(1)), "");
-    verifies(&rt, &job, &mut shelf, failed)
-}
-
-#[test]
-fn verify_report(rt: HostRuntime) -> Result<(), Fail> {
-    let mut shelf = shelf_with(rt.alloc(), "a.pcap", &EVEN.capture(rt.alloc())?)?;
-    let job = reported(&rt, 0, false)?;
-    let lines = (Status::Pass, "1.1 N confirmed\nstatus 0\n");
-    verifies_report(&rt, &job, LINEAR, &mut shelf, lines)?;
-    verifies_report(&rt, &job, "[]", &mut shelf, (Status::ReportRefused, ""))
 }
 
 // A read of the report fails.
