@@ -8,7 +8,7 @@ use Rattle.timing_base.specs.declared.row.Row.{Row}
 use Rattle.udp_rtp.specs.Examples.{group}
 use Rattle.udp_rtp.specs.Flow.{flow}
 use Rattle.fail_interval.specs.Row.{row}
-use Rattle.flow_bank.specs.Examples.{first_capture, joined_captures, next_port, packet_at, second_capture}
+use Rattle.udp_rtp.specs.TwoFlows.{first_capture, joined_captures, next_port, packet_at, second_capture}
 use Rattle.flow_bank.specs.Rows.{rows_of, rows_of_files}
 use Rattle.timing_base.specs.Keys.{key_of}
 

@@ -8,7 +8,7 @@ ghost use Rattle.timing_base.specs.Targets.{target_of};
 ghost use Rattle.udp_rtp.specs.Examples.{group};
 ghost use Rattle.udp_rtp.specs.Flow.{flow};
 ghost use Rattle.fail_interval.specs.Row.{row};
-ghost use Rattle.flow_bank.specs.Examples.{first_capture, joined_captures, next_port, packet_at, second_capture};
+ghost use Rattle.udp_rtp.specs.TwoFlows.{first_capture, joined_captures, next_port, packet_at, second_capture};
 ghost use Rattle.flow_bank.specs.Rows.{rows_of, rows_of_files};
 ghost use Rattle.timing_base.specs.Keys.{key_of};
 

@@ -1,10 +1,6 @@
-pub mod Dealing
-pub mod Making
-pub mod Telling
 pub mod Keys
 pub mod Queues
 pub mod Listing
-pub mod Lists
 pub mod Starting
 pub mod Running
 pub mod Finding

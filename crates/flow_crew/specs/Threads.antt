@@ -1,46 +1,16 @@
--- What threads of a run are asked for, and what they leave. Files and workers count from 0; there is a lane for each worker.
-use Rattle.std.specs.Prelude.{◌≡◌, ◌≤◌, ◌<◌, ◌^◌, ℕ, List, length, slice_index_or, IfSome, Option, Some}
-use Rattle.timing_base.specs.Captures.{Record}
-use Rattle.timing_base.specs.Media.{Media}
-use Rattle.timing_base.specs.declared.capture.FileNote.{FileNote}
-use Rattle.timing_base.specs.declared.capture.FileNote.TheVariants.{Refused}
-use Rattle.timing_base.specs.declared.capture.PcapFault.TheVariants.{ReadFault}
-use Rattle.timing_outside.specs.Causes.{Rose}
-use Rattle.pcap_reader.specs.Records.{Records}
+-- What the workers of a run begin with, and what they leave. Workers count from 0; there is a lane for each worker.
+use Rattle.std.specs.Prelude.{◌≡◌, ◌<◌, ℕ, List, length, slice_index_or, IfSome}
 use Rattle.ruled_intake.specs.Lanes.{LaneId}
 use Rattle.verdict_book.specs.declared.book.Book.{Book}
-use Rattle.flow_worker.specs.Intakes.{AreOfFile, HasTold, HaveSentNothing}
-use Rattle.flow_worker.specs.Opening.{Setting}
+use Rattle.flow_intake.specs.Opening.{Setting}
 use Rattle.flow_worker.specs.Works.{HasJudged, HasTakenNothing}
-use Rattle.flow_worker.specs.declared.intakes.IntakeDone.{IntakeDone}
 use Rattle.flow_worker.specs.declared.workers.WorkDone.{WorkDone}
-use Rattle.flow_crew.specs.declared.jobs.IntakeJob.{IntakeJob}
-use Rattle.flow_crew.specs.declared.jobs.WorkJob.{WorkJob}
-use Rattle.flow_crew.specs.declared.threads.Asked.{Asked}
-
--- what is asked, with the media of the session
-abbrev pub setting_of : List Media → Asked → Setting
-setting_of media asked = record { media = media; workers = asked.workers; joined = asked.joined; tai = asked.tai }
-
--- 1 to 64 media, 1 to 16 files and workers, and at most 1,000 seconds are asked for
-pub record IsAsked (media : List Media) (asked : Asked) : Type 0 where
-  pub some_media : 1 ≤ length media
-  pub few_media : length media ≤ 64
-  pub some_files : 1 ≤ asked.files
-  pub few_files : asked.files ≤ 16
-  pub some_workers : 1 ≤ asked.workers
-  pub few_workers : asked.workers ≤ 16
-  pub tai : asked.tai ≤ 1000
+use Rattle.intake_crew.specs.declared.jobs.WorkJob.{WorkJob}
 
 -- the worker has the pass of its lane, and took nothing
 pub record IsWorkJob (lanes : List LaneId) (job : WorkJob) : Type 0 where
   pub number : job.worker < length lanes
   pub pass : (l : LaneId) → HasTakenNothing (slice_index_or lanes job.worker l) job.pass
-
--- the intake has the file's passes of these lanes, and sent nothing
-pub record IsIntakeJob {S : Type 0} (lanes : List LaneId) (job : IntakeJob S) : Type 0 where
-  pub file : job.file < 16
-  pub passes : HaveSentNothing job.file lanes job.passes.items
 
 -- what a worker leaves of its job
 pub record HasWorked (s : Setting) (files : ℕ) (book : Book) (job : WorkJob) (done : WorkDone) : Type 0 where
@@ -48,33 +18,12 @@ pub record HasWorked (s : Setting) (files : ℕ) (book : Book) (job : WorkJob) (
   pub senders_is : done.pass.senders ≡ job.pass.senders
   pub judged : IfSome done.receipts (λ receipts. HasJudged s files job.worker done.pass book receipts.items)
 
--- what an intake leaves of its job
-pub record HasRead {S : Type 0} (name : S → List ℕ) (left : S → Option (List ℕ)) (faults : S → ℕ) (s : Setting)
-    (lanes : List LaneId) (job : IntakeJob S) (done : IntakeDone S) : Type 0 where
-  pub passes : AreOfFile job.file lanes done.passes.items
-  pub told : (text : List ℕ) (items : List Record) (end : FileNote) → left job.source ≡ Some text → Records text (2 ^ 40) items end
-      → HasTold s job.file lanes (record { records = items; note = end }) done.note done.passes.items
-  pub name_is : name done.source ≡ name job.source
-  pub later : faults job.source ≤ faults done.source
-  pub failed : done.note ≡ Refused ReadFault → Rose (faults job.source) (faults done.source)
-
 -- the same of all workers
 pub record AreWorked (s : Setting) (files : ℕ) (book : Book) (jobs : List WorkJob) (dones : List WorkDone) : Type 0 where
   pub count : length dones ≡ length jobs
   pub each : (worker : ℕ) (j : WorkJob) (d : WorkDone) → worker < length jobs
       → HasWorked s files book (slice_index_or jobs worker j) (slice_index_or dones worker d)
 
--- and of all intakes
-pub record AreRead {S : Type 0} (name : S → List ℕ) (left : S → Option (List ℕ)) (faults : S → ℕ) (s : Setting)
-    (lanes : List LaneId) (jobs : List (IntakeJob S)) (dones : List (IntakeDone S)) : Type 0 where
-  pub count : length dones ≡ length jobs
-  pub each : (file : ℕ) (j : IntakeJob S) (d : IntakeDone S) → file < length jobs
-      → HasRead name left faults s lanes (slice_index_or jobs file j) (slice_index_or dones file d)
-
 -- each is a job of a worker
 abbrev pub AreWorkJobs : List LaneId → List WorkJob → Type 0
 AreWorkJobs lanes jobs = (worker : ℕ) (j : WorkJob) → worker < length jobs → IsWorkJob lanes (slice_index_or jobs worker j)
-
--- each is a job of an intake
-abbrev pub AreIntakeJobs : {S : Type 0} → List LaneId → List (IntakeJob S) → Type 0
-AreIntakeJobs {S} lanes jobs = (file : ℕ) (j : IntakeJob S) → file < length jobs → IsIntakeJob lanes (slice_index_or jobs file j)

@@ -1,53 +1,20 @@
-//! What the threads of a run left, in order.
+//! What the workers of a run left, in order.
 
 ghost use Rattle.std.specs.Prelude.{◌≡◌, Some, IfOk, map};
 ghost use Rattle.std.specs.Vec.Iter.{into_iter_items};
 ghost use Rattle.flow_crew.specs.Ends.{receipts_in};
 
-use flow_worker::{IntakeDone, WorkDone};
-use ruled_intake::{SendPass, TakePass};
+use flow_worker::WorkDone;
+use ruled_intake::TakePass;
 use std::alloc::{AllocError as OutOfMemory, Global};
 use std::vec::IntoIter;
-use timing_base::FileNote;
-use timing_outside::Source;
 use verdict_book::Receipt;
-
-/// What the intakes left.
-#[derive(Drop)]
-pub struct Read<S: Source> {
-    pub sources: Vec<S>,
-    pub notes: Vec<FileNote>,
-    /// The passes of each file.
-    pub rows: Vec<Vec<SendPass>>,
-}
 
 /// What the workers left, in order.
 #[derive(Drop)]
 pub struct Worked {
     pub takers: Vec<TakePass>,
     pub posted: Vec<Option<Vec<Receipt>>>,
-}
-
-/// Takes apart what the intakes left. `Err` is want of memory.
-pub fn take_read<S: Source>(
-    alloc: Global,
-    dones: Vec<IntakeDone<S>>,
-) -> Result<Read<S>, OutOfMemory>
-    ensures sources { IfOk result (λ read. read.sources.items ≡ map (λ d. d.source) dones.items) }
-    ensures notes { IfOk result (λ read. read.notes.items ≡ map (λ d. d.note) dones.items) }
-    ensures rows { IfOk result (λ read. read.rows.items ≡ map (λ d. d.passes) dones.items) }
-{
-    let mut read = Read {
-        sources: Vec::new(alloc),
-        notes: Vec::new(alloc),
-        rows: Vec::new(alloc),
-    };
-    for done in dones {
-        read.sources.push(done.source)?;
-        read.notes.push(done.note)?;
-        read.rows.push(done.passes)?;
-    }
-    Ok(read)
 }
 
 /// Takes apart what the workers left. `Err` is want of memory.

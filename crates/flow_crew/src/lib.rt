@@ -1,11 +1,8 @@
 //! All files of a job, read and judged beside each other.
 #![tactic(auto)]
 
-mod close;
-mod columns;
 mod ends;
 mod gather;
-mod jobs;
 mod judge;
 mod threads;
 

@@ -1,29 +1,18 @@
-//! The threads of a run: intakes and workers.
+//! The workers of a run, beside each other.
 
 ghost use Rattle.std.specs.Prelude.{◌≡◌, IfOk, length};
-ghost use Rattle.flow_worker.specs.Intakes.{intake_setting};
-ghost use Rattle.flow_crew.specs.Threads.{AreIntakeJobs, AreRead, AreWorkJobs, AreWorked, HasRead, HasWorked, IsAsked, IsIntakeJob, IsWorkJob, setting_of};
+ghost use Rattle.flow_crew.specs.Threads.{AreWorkJobs, AreWorked, HasWorked, IsWorkJob};
+ghost use Rattle.intake_crew.specs.Threads.{IsAsked, setting_of};
 
-use crate::jobs::{IntakeJob, WorkJob};
-use flow_worker::{IntakeDone, WorkDone, intake, work};
+use flow_worker::{WorkDone, work};
+use intake_crew::{Asked, WorkJob};
 use ruled_intake::{Halt, Lane};
 use std::alloc::{AllocError as OutOfMemory, Global};
 use std::sync::Wait;
 use std::thread::{self, Threads};
 use timing_base::Media;
-use timing_outside::{Gate, Source};
+use timing_outside::Gate;
 use verdict_book::Book;
-
-/// What is asked of a run, beside the media.
-#[derive(Clone, Copy, Debug)]
-pub struct Asked {
-    pub files: u32,
-    pub workers: u32,
-    /// Whether the files are judged as one.
-    pub joined: bool,
-    /// The seconds that are added to the stamps.
-    pub tai: u64,
-}
 
 /// One worker.
 fn work_one<R: Wait, G: Gate>(
@@ -60,42 +49,6 @@ fn work_one<R: Wait, G: Gate>(
     )
 }
 
-/// One intake.
-fn read_one<R: Wait, S: Source, G: Gate>(
-    rt: &R,
-    alloc: Global,
-    asked: Asked,
-    media: &[Media],
-    lanes: &[Lane],
-    halt: &Halt,
-    gate: &G,
-    job: IntakeJob<S>,
-) -> IntakeDone<S>
-    requires asked { IsAsked media.now asked }
-    requires lanes { length lanes.now ≡ asked.workers }
-    requires job { IsIntakeJob lanes.now job }
-    ensures { HasRead S.name S.left S.faults (setting_of media.now asked) lanes.now job result }
-{
-    let IntakeJob {
-        file,
-        source,
-        passes,
-    } = job;
-    let (done, _raised) = intake(
-        rt,
-        alloc,
-        file,
-        asked.joined,
-        media,
-        source,
-        lanes,
-        passes,
-        halt,
-        gate,
-    );
-    done
-}
-
 /// Runs the workers, each on a thread of its own where one can be made. `Err` is want of memory.
 pub fn run_workers<R: Threads + Wait + Sync, G: Gate>(
     rt: &R,
@@ -119,35 +72,4 @@ pub fn run_workers<R: Threads + Wait + Sync, G: Gate>(
         ensures { HasWorked (setting_of media.entry.now asked) asked.files book.entry.now job result }
     { work_one(rt, alloc, asked, media, lanes, book, halt, gate, job) };
     thread::map_vec(rt, jobs, &one)
-}
-
-/// Runs the intakes in the same way. `Err` is want of memory; the halt is then raised, since an intake
-/// that didn't run sends no end.
-pub fn run_intakes<R: Threads + Wait + Sync, S: Source, G: Gate>(
-    rt: &R,
-    alloc: Global,
-    asked: Asked,
-    media: &[Media],
-    lanes: &[Lane],
-    halt: &Halt,
-    gate: &G,
-    jobs: Vec<IntakeJob<S>>,
-) -> Result<Vec<IntakeDone<S>>, OutOfMemory>
-    requires asked { IsAsked media.now asked }
-    requires lanes { length lanes.now ≡ asked.workers }
-    requires jobs { AreIntakeJobs lanes.now jobs.items }
-    ensures { IfOk result (λ dones. AreRead S.name S.left S.faults (setting_of media.now asked)
-        lanes.now jobs.items dones.items) }
-{
-    let one = |job: IntakeJob<S>| -> IntakeDone<S>
-        requires { IsAsked media.now asked × (length lanes.now ≡ asked.workers) × IsIntakeJob lanes.now job }
-        ensures { HasRead S.name S.left S.faults (setting_of media.entry.now asked) lanes.entry.now job result }
-    { read_one(rt, alloc, asked, media, lanes, halt, gate, job) };
-    match thread::map_vec(rt, jobs, &one) {
-        Ok(dones) => Ok(dones),
-        Err(refused) => {
-            halt.raise(rt, lanes);
-            Err(refused)
-        }
-    }
 }

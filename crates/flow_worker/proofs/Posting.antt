@@ -14,15 +14,13 @@ use Rattle.udp_rtp.specs.Flow.{flow}
 use Rattle.timing_base.specs.Keys.{key_of, no_media, media_of}
 use Rattle.ruled_intake.specs.Packets.{Packet}
 use Rattle.ruled_intake.specs.declared.message.Message.{Message}
-use Rattle.flow_worker.specs.Messages.{file_packets, has_end, media_packets, of_file, packets_in, records_told}
-use Rattle.flow_worker.specs.Opening.{Capture, Setting, for_lane, lane_packets, media_lane, messages, packet_lane, sends_if, session_packets}
+use Rattle.flow_intake.specs.Messages.{file_packets, has_end, media_packets, of_file, packets_in, records_told}
+use Rattle.flow_intake.specs.Opening.{Capture, IsSetting, Setting, for_lane, lane_packets, media_lane, messages, packet_lane, sends_if, session_packets}
 use Rattle.flow_worker.specs.Posting.{is_key, joined_packets, key_lane, key_records, key_row, records_if, row_over, taken_packets, taken_row}
-use Rattle.flow_worker.specs.Kept.{HasTaken, HasTakenAll, IsSetting, is_in_file}
-use Rattle.flow_worker.specs.Cut.{AreWhole}
-use Rattle.flow_worker.proofs.Lists.{media_packets-lane}
-use Rattle.flow_worker.proofs.Lanes.{sent_whole}
+use Rattle.flow_worker.specs.Kept.{HasTaken, HasTakenAll, is_in_file}
+use Rattle.flow_intake.specs.Cut.{AreWhole}
 use Rattle.flow_worker.proofs.Ends.{before_end-of_file, before_end-whole, has_end-of_file, records_told-of_file}
-use Rattle.flow_worker.proofs.Media.{session_packets-media}
+use Rattle.flow_intake.proofs.Whole.{lane_flow, media_lane-below, messages_whole}
 use Rattle.flow_worker.proofs.Joined.{TellsFlow, joined_packets-all}
 
 -- what was taken of a file begins all of it and has its end: so it is all
@@ -33,25 +31,6 @@ whole_taken f packets note n all taken later w e ended =
       ap packets_in (before_end-of_file f taken) ∙ t.0 ∙ w.have,
       sym (records_told-of_file f taken) ∙ t.1,
     )
-
--- a lane is that of a worker
-pub media_lane-below : (s : Setting) (f k : ℕ) → 1 ≤ s.workers → media_lane s f k < s.workers
-media_lane-below s f k some = mod_below ((if s.joined then 0 else f) * length s.media + k) s.workers some
-
--- the messages of a file for a lane are batches with the packets of the lane, in order, and then the end
-pub messages_whole : (s : Setting) (captures : List Capture) (f w : ℕ) (c : Capture) → slice_get captures f ≡ Some c → w < s.workers
-    → AreWhole f (lane_packets (packet_lane s f) w (session_packets s.media c.records)) c.note (length c.records) (messages s captures f w)
-messages_whole s captures f w c file below =
-    let ps = session_packets s.media c.records in
-    subst (λ (o : Option Capture). AreWhole f (lane_packets (packet_lane s f) w ps) c.note (length c.records) (for_lane w (sends_if 256 s f o)))
-    (sym file) (sent_whole 256 f (packet_lane s f) ps s.workers w c.note (length c.records) (omega arith) below)
-
--- the packets of a media among those of its lane are its flow
-pub lane_flow : (s : Setting) (f k : ℕ) (m : Media) (items : List Record) → IsSetting s → slice_get s.media k ≡ Some m
-    → media_packets k (lane_packets (packet_lane s f) (media_lane s f k) (session_packets s.media items)) ≡ flow items m
-lane_flow s f k m items is media =
-    media_packets-lane (packet_lane s f) (media_lane s f k) k (λ p e. ap (media_lane s f) e) (session_packets s.media items)
-    ∙ session_packets-media s.media k m items is.targets media
 
 -- what was taken of a file by the worker of a media tells the media's flow
 tells : (s : Setting) (captures : List Capture) (w f k : ℕ) (m : Media) (c : Capture) (taken : List Message) → IsSetting s → slice_get s.media k ≡ Some m

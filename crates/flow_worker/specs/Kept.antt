@@ -1,22 +1,12 @@
--- What holds in the machine at every moment, and what its laws ask of a run.
+-- What holds in the machine at every moment.
 use Rattle.std.specs.Prelude.{◌≡◌, ◌≤◌, ◌==◌, ℕ, Bool, nat_lt, if◌then◌else◌, List, ◌++◌, length, IsTrue, All}
-use Rattle.timing_base.specs.Targets.{HaveOwnTargets}
 use Rattle.timing_base.specs.declared.key.FlowKey.{FlowKey}
 use Rattle.timing_base.specs.declared.row.Row.{Row}
 use Rattle.ruled_intake.specs.declared.message.Message.{Message}
-use Rattle.flow_worker.specs.Messages.{has_end, of_file}
-use Rattle.flow_worker.specs.Opening.{Capture, Setting, for_lane, messages}
+use Rattle.flow_intake.specs.Messages.{IsPrefix, has_end, of_file}
+use Rattle.flow_intake.specs.Opening.{Capture, Setting, for_lane, messages}
 use Rattle.flow_worker.specs.Posting.{is_key, key_lane, key_row}
 use Rattle.flow_worker.specs.World.{State, times}
-
--- there is a worker, and no two media of the session have one target
-pub record IsSetting (s : Setting) : Type 0 where
-  pub some : 1 ≤ s.workers
-  pub targets : HaveOwnTargets s.media
-
--- the first list is the beginning of the second
-abbrev pub IsPrefix : List Message → List Message → Type 0
-IsPrefix xs whole = (later : List Message) × (xs ++ later ≡ whole)
 
 -- the messages of a file that were taken from a lane begin all that there are, and its end is among them
 pub record HasTaken (s : Setting) (captures : List Capture) (lane : ℕ) (taken : List Message) (file : ℕ) : Type 0 where

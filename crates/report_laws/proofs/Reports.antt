@@ -11,7 +11,7 @@ use Rattle.timing_json.specs.Reading.{IsReport}
 use Rattle.timing_json.specs.declared.reading.ReportProof.{ReportProof}
 use Rattle.timing_steps.specs.Answers.{Answer}
 use Rattle.timing_verify.specs.Asked.{HasReported}
-use Rattle.timing_top.specs.Report.{HasReport, rows}
+use Rattle.timing_check.specs.Report.{HasReport, rows}
 use Rattle.report_laws.specs.ReadBack.{IsReadable, reading_back}
 use Rattle.report_laws.proofs.Finding.{IsConfirmed}
 use Rattle.report_laws.proofs.ReadBack.{report-confirmed, report-status, report-told}

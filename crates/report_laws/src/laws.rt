@@ -15,7 +15,7 @@ ghost use Rattle.timing_json.specs.declared.reading.ReportProof.{ReportProof};
 ghost use Rattle.timing_report.specs.declared.status.Status.TheVariants as status;
 ghost use Rattle.timing_steps.specs.Answers.{Answer};
 ghost use Rattle.timing_verify.specs.Asked.{FindsOf, HasReported, media_for};
-ghost use Rattle.timing_top.specs.Report.{HasReport, rows};
+ghost use Rattle.timing_check.specs.Report.{HasReport, rows};
 ghost use Rattle.report_laws.specs.Exact.{IsExactRow};
 ghost use Rattle.report_laws.specs.ReadBack.{AreBytes, IsReadable, reading_back};
 

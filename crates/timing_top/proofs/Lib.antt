@@ -1,11 +1,7 @@
-mod Begun
 mod Answering
 mod Asking
 mod Crewing
 mod Verifying
 mod Reaching
-mod Following
-mod Takings
 mod Reported
-mod Reports
 mod SelfTests

@@ -1,25 +1,18 @@
 -- What each request and its texts define, in the order in which its inputs are read.
 use Rattle.std.specs.Prelude.{◌≡◌, Bool, IsTrue, ℕ, List, [], ◌∷◌, Option, Some, None, Result}
-use Rattle.timing_base.specs.Jobs.{CheckJob}
 use Rattle.timing_base.specs.declared.job.Request.{Request}
 use Rattle.timing_base.specs.declared.job.Request.TheVariants as request
 use Rattle.timing_report.specs.declared.status.Input.{Input}
-use Rattle.timing_report.specs.declared.status.Input.TheVariants as input
 use Rattle.timing_report.specs.declared.status.Status.{Status}
 use Rattle.timing_report.specs.declared.status.Status.TheVariants as status
-use Rattle.timing_steps.specs.Answers.{Answer, CaptureRose, Gives, HasRisen, Inputs, ReadsCaptures, ReadsSession, Yields, silent}
+use Rattle.timing_steps.specs.Answers.{Answer, Gives, Inputs, Yields, silent}
 use Rattle.timing_steps.specs.declared.failure.Failure.{Failure}
+use Rattle.timing_check.specs.Asked.{CheckInputRose, FollowsCheck}
 use Rattle.timing_reach.specs.Asked.{FlowInputRose, FollowsWindow}
 use Rattle.timing_reach.specs.Shaped.{FollowsShape}
 use Rattle.timing_reach.specs.Skewed.{FollowsSkew, SkewInputRose}
 use Rattle.timing_verify.specs.Asked.{FollowsReport, FollowsVerify, ReportInputRose, VerifyInputRose}
-use Rattle.timing_top.specs.Report.{HasReport}
 use Rattle.timing_top.specs.SelfTest.{HasSelfTest}
-
--- `check`: the description, then the captures, then their report
-abbrev pub FollowsCheck : CheckJob → Inputs → Result Answer Failure → Type 0
-FollowsCheck job i outcome = Yields outcome (ReadsSession i outcome job.sdp (λ media.
-    ReadsCaptures i outcome job.captures (λ texts. Gives outcome (HasReport job media texts))))
 
 -- `selftest` with so many frames, for which nothing is read
 abbrev pub FollowsSelfTest : ℕ → Result Answer Failure → Type 0
@@ -39,12 +32,6 @@ Follows (Some (request.SelfTest job)) i outcome = FollowsSelfTest job.frames out
 Follows (Some (request.Window job)) i outcome = FollowsWindow job i outcome
 Follows (Some (request.Shape job)) i outcome = FollowsShape job i outcome
 Follows (Some (request.Skew job)) i outcome = FollowsSkew job i outcome
-
--- the count of the name of this input of `check` rose
-abbrev pub CheckInputRose : CheckJob → Inputs → Input → Type 0
-CheckInputRose job i input.Sdp = HasRisen i job.sdp
-CheckInputRose job i input.Report = ⊥
-CheckInputRose job i (input.Capture number) = CaptureRose i.before i.now job.captures number
 
 -- the count of the name of this input of the request rose; what reads nothing has none
 abbrev pub InputRose : Option Request → Inputs → Input → Type 0

@@ -3,8 +3,6 @@
 
 ghost use Rattle.std.specs.Prelude.{◌≡◌, ◌⊎◌, [], ◌∷◌, ℕ, Bool, List, All, Option, Ok, Err, false};
 ghost use Rattle.timing_base.specs.Examples.{plain_media};
-ghost use Rattle.timing_base.specs.Jobs.{CheckJob};
-ghost use Rattle.timing_base.specs.Media.{Media};
 ghost use Rattle.timing_base.specs.declared.job.Request.{Request};
 ghost use Rattle.sdp_reader.specs.Session.{session};
 ghost use Rattle.capture_gen.specs.Sdp.{sdp_text};
@@ -13,16 +11,7 @@ ghost use Rattle.timing_steps.specs.Answers.{Answer, AreTold};
 ghost use Rattle.timing_steps.specs.declared.failure.Failure.{Failure};
 ghost use Rattle.timing_steps.specs.declared.failure.Failure.TheVariants as failure;
 ghost use Rattle.timing_top.specs.Asked.{Follows, InputRose, names_of, seen};
-ghost use Rattle.timing_top.specs.Report.{HasReport};
 ghost use Rattle.timing_top.specs.SelfTest.{HasSelfTest};
-
-/// Texts have one report: there is one, and there are not two.
-pub fn one_report()
-    ensures some { (job : CheckJob) (media : List Media) (texts : List (List ℕ))
-        → (answer : Answer) × HasReport job media texts answer }
-    ensures once { (job : CheckJob) (media : List Media) (texts : List (List ℕ)) (a b : Answer)
-        → HasReport job media texts a → HasReport job media texts b → a ≡ b }
-{}
 
 /// `selftest` prints one text: there is one, and there are not two.
 pub fn one_self_test()

@@ -4,14 +4,12 @@
 //! printed, and why there is nothing, is its contract.
 #![tactic(auto)]
 
-mod captures;
 mod check;
 mod commands;
-mod joined;
 mod judging;
 pub mod laws;
 mod many;
 mod self_tests;
 
-pub use check::{check_many, check_one};
+pub use check::check_many;
 pub use commands::{run, self_test};

@@ -8,15 +8,15 @@ ghost use Rattle.timing_outside.specs.Shelves.{StaysAs};
 ghost use Rattle.flow_bank.specs.Rows.{rows_over};
 ghost use Rattle.pcapng_reader.specs.Sources.{faults_of, left_of, name_of};
 ghost use Rattle.timing_steps.specs.Answers.{seen_of};
-ghost use Rattle.timing_top.specs.Found.{IsJudged};
+ghost use Rattle.timing_check.specs.Found.{IsJudged};
 
-use crate::captures::Found;
 use flow_crew::{Judged, judge_files};
 use pcapng_reader::Classic;
 use std::alloc::Global;
 use std::sync::Wait;
 use std::thread::Threads;
 use timing_base::{FileNote, Media, PcapFault};
+use timing_check::Found;
 use timing_outside::{Gate, Shelf};
 use timing_report::Input;
 use timing_steps::{Failure, give_back_all};

@@ -11,13 +11,13 @@ ghost use Rattle.timing_report.specs.Outcomes.{AreOfSession};
 ghost use Rattle.timing_top.specs.Asked.{FollowsSelfTest};
 ghost use Rattle.timing_top.specs.SelfTest.{HasLine, flaw_line};
 
-use crate::captures::Found;
 use crate::judging::judge_any;
 use capture_gen::{capture_len, sdp_bytes, write_capture};
 use std::alloc::{AllocError as OutOfMemory, Global};
 use std::sync::Wait;
 use std::thread::Threads;
 use timing_base::{FileName, Session};
+use timing_check::Found;
 use timing_outside::{Gate, MemorySink, SteadyShelf};
 use timing_report::{Status, status_of, verdict_of};
 use timing_steps::{Answer, Failure, fetch_captures, fetch_session};

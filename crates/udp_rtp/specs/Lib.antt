@@ -5,3 +5,4 @@ pub mod Numbers
 pub mod Reading
 -- frames and payloads that are worked by hand
 pub mod Examples
+pub mod TwoFlows

@@ -1,0 +1,13 @@
+pub mod Lists
+pub mod Batches
+pub mod Lanes
+pub mod Files
+pub mod Cutting
+pub mod Senders
+pub mod Passes
+pub mod Outgoing
+pub mod Targeting
+pub mod Told
+pub mod Dealt
+pub mod Media
+pub mod Whole

@@ -1,0 +1,4 @@
+pub mod Dealing
+pub mod Making
+pub mod Telling
+pub mod Lists

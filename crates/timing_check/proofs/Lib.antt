@@ -1,0 +1,4 @@
+pub mod Begun
+pub mod Following
+pub mod Reports
+mod Takings
