@@ -15,5 +15,3 @@ mod run;
 
 pub use judge::FlowJudge;
 
-#[cfg(test)]
-mod tests;

@@ -11,5 +11,3 @@ mod media_judge;
 
 pub use bank::Bank;
 
-#[cfg(test)]
-mod tests;

@@ -16,8 +16,6 @@ mod marks;
 mod reads;
 mod records;
 mod sample;
-#[cfg(test)]
-mod tests;
 mod walk;
 
 pub use checker::confirm;

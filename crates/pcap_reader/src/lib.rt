@@ -25,5 +25,3 @@ pub use reader::{MOST, PcapReader, Step};
 pub use records::{Taken, take_records};
 pub use taker::Taker;
 
-#[cfg(test)]
-mod tests;

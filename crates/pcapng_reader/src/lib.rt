@@ -29,5 +29,3 @@ mod window;
 
 pub use source::Classic;
 
-#[cfg(test)]
-mod tests;

@@ -13,5 +13,3 @@ mod session;
 pub use fault::{SdpCause, SdpError, SdpFault};
 pub use session::read_sdp;
 
-#[cfg(test)]
-mod tests;

@@ -34,5 +34,3 @@ pub use packet::{FlowPacket, PacketFault, Rtp};
 pub use row::{Judged, KindVerdict, Row, Run, RunVerdict, Runs, Unjudged, Verdict};
 pub use target::Target;
 
-#[cfg(test)]
-mod tests;

@@ -30,5 +30,3 @@ pub use sink::{Sink, put_all};
 pub use source::{Failed, Source};
 pub use steady_shelf::{SteadyShelf, SteadySource};
 
-#[cfg(test)]
-mod tests;

@@ -8,8 +8,6 @@
 pub mod laws;
 mod outcomes;
 mod status;
-#[cfg(test)]
-mod tests;
 mod text;
 mod verdict;
 mod words;

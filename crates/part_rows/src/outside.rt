@@ -1,6 +1,8 @@
 //! The calls with memory at hand, and files that are not there.
 
-use super::*;
+use timing_outside::{
+    FileShelf, StdSink, MemoryShelf, MemorySink, ReadPlan, WritePlan, OpenFault, put_all, Failed, Shelf, Sink, Source, SteadyShelf,
+};
 use std::alloc::{AllocError, Global};
 use std::process::Abort;
 use std::test::Fail;

@@ -1,6 +1,6 @@
 //! The calls once each, on rows and targets that are known.
 
-use super::*;
+use timing_base::{FlowKey, Items, Row, Run, RunVerdict, Runs, Target, Verdict, route};
 use std::alloc::Global;
 
 const FLOW: FlowKey = FlowKey { file: 2, media: 1 };

@@ -3,7 +3,7 @@
 ghost use Rattle.std.specs.Prelude.{◌≡◌, ◌≤◌, ◌<◌, ◌*◌, ◌^◌};
 ghost use Rattle.fail_interval.specs.Stands.{count_fed};
 
-use super::*;
+use fail_interval::FlowJudge;
 use sender_params::worked::video;
 use std::alloc::Global;
 use std::process::Abort;

@@ -1,6 +1,6 @@
 //! Captures as pcapng files, in pieces, with reads that fail, and with long blocks.
 
-use super::*;
+use pcapng_reader::Classic;
 use capture_gen::{capture_len, write_capture};
 use std::alloc::{AllocError, Global};
 use std::process::Abort;

@@ -2,7 +2,7 @@
 
 ghost use Rattle.std.specs.Prelude.{◌≡◌, ◌+◌, IfOk, length};
 
-use super::*;
+use interval_checker::{CheckFault, confirm};
 use std::alloc::{AllocError, Global};
 use std::test::Fail;
 use timing_base::worked::{LATE, PLAIN};

@@ -1,6 +1,6 @@
 //! Rows that are worked by hand, as texts made with ample memory.
 
-use super::*;
+use timing_report::{Status, file_line, status_of, text_of, verdict_of};
 use std::alloc::{AllocError, Global};
 use std::test::Fail;
 use timing_base::worked::{LINEAR, NARROW, PLAIN, check_of, plain_session};

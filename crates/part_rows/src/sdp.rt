@@ -3,7 +3,7 @@
 
 ghost use Rattle.std.specs.Prelude.{◌≤◌};
 
-use super::*;
+use sdp_reader::{SdpCause, SdpError, SdpFault, read_sdp};
 use SdpCause::*;
 use std::alloc::{AllocError, Global};
 use std::process::Abort;

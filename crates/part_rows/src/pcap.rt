@@ -1,6 +1,6 @@
 //! Captures in pieces, reads that fail, and the largest record.
 
-use super::*;
+use pcap_reader::{MOST, PcapReader, Step};
 use std::alloc::{AllocError, Global};
 use std::process::Abort;
 use std::test::Fail;
