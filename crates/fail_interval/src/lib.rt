@@ -14,4 +14,3 @@ mod meters;
 mod run;
 
 pub use judge::FlowJudge;
-

@@ -10,4 +10,3 @@ pub mod laws;
 mod media_judge;
 
 pub use bank::Bank;
-

@@ -15,7 +15,10 @@ use crate::gather::{gather, list_keys};
 use crate::threads::run_workers;
 use flow_intake::IntakeDone;
 use flow_worker::WorkDone;
-use intake_crew::{Asked, IntakeJob, Made, Read, WorkJob, close_all, deal_all, make_intakes, make_lanes, run_intakes, take_read};
+use intake_crew::{
+    Asked, IntakeJob, Made, Read, WorkJob, close_all, deal_all, make_intakes, make_lanes,
+    run_intakes, take_read,
+};
 use ruled_intake::{Halt, Lane};
 use std::alloc::{AllocError as OutOfMemory, Global};
 use std::sync::Wait;

@@ -1,7 +1,7 @@
 //! The calls once each, on rows and targets that are known.
 
-use timing_base::{FlowKey, Items, Row, Run, RunVerdict, Runs, Target, Verdict, route};
 use std::alloc::Global;
+use timing_base::{FlowKey, Items, Row, Run, RunVerdict, Runs, Target, Verdict, route};
 
 const FLOW: FlowKey = FlowKey { file: 2, media: 1 };
 

@@ -1,11 +1,12 @@
 //! The calls with memory at hand, and files that are not there.
 
-use timing_outside::{
-    FileShelf, StdSink, MemoryShelf, MemorySink, ReadPlan, WritePlan, OpenFault, put_all, Failed, Shelf, Sink, Source, SteadyShelf,
-};
 use std::alloc::{AllocError, Global};
 use std::process::Abort;
 use std::test::Fail;
+use timing_outside::{
+    Failed, FileShelf, MemoryShelf, MemorySink, OpenFault, ReadPlan, Shelf, Sink, Source, StdSink,
+    SteadyShelf, WritePlan, put_all,
+};
 
 // A plan of pieces of at most 3 bytes, whose second read fails.
 fn plan(alloc: Global) -> Result<ReadPlan, AllocError> {

@@ -1,7 +1,7 @@
 //! Captures as pcapng files, in pieces, with reads that fail, and with long blocks.
 
-use pcapng_reader::Classic;
 use capture_gen::{capture_len, write_capture};
+use pcapng_reader::Classic;
 use std::alloc::{AllocError, Global};
 use std::process::Abort;
 use std::test::Fail;

@@ -1,12 +1,12 @@
 //! Rows that are worked by hand, as texts made with ample memory.
 
-use timing_report::{Status, file_line, status_of, text_of, verdict_of};
 use std::alloc::{AllocError, Global};
 use std::test::Fail;
 use timing_base::worked::{LINEAR, NARROW, PLAIN, check_of, plain_session};
 use timing_base::{
     FileNote, FlowKey, Items, Judged, PcapFault, Row, Run, RunVerdict, Runs, Unjudged, Verdict,
 };
+use timing_report::{Status, file_line, status_of, text_of, verdict_of};
 
 // The text of a report of one capture that ends whole, with this verdict on its flow.
 fn report(alloc: Global, verdict: Verdict) -> Result<String, AllocError> {

@@ -3,8 +3,8 @@
 
 ghost use Rattle.std.specs.Prelude.{◌≤◌};
 
-use sdp_reader::{SdpCause, SdpError, SdpFault, read_sdp};
 use SdpCause::*;
+use sdp_reader::{SdpCause, SdpError, SdpFault, read_sdp};
 use std::alloc::{AllocError, Global};
 use std::process::Abort;
 use timing_base::worked::PLAIN;

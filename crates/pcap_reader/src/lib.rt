@@ -24,4 +24,3 @@ mod window;
 pub use reader::{MOST, PcapReader, Step};
 pub use records::{Taken, take_records};
 pub use taker::Taker;
-

@@ -28,4 +28,3 @@ mod step;
 mod window;
 
 pub use source::Classic;
-

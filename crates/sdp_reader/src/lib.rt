@@ -12,4 +12,3 @@ mod session;
 
 pub use fault::{SdpCause, SdpError, SdpFault};
 pub use session::read_sdp;
-

@@ -33,4 +33,3 @@ pub use name::FileName;
 pub use packet::{FlowPacket, PacketFault, Rtp};
 pub use row::{Judged, KindVerdict, Row, Run, RunVerdict, Runs, Unjudged, Verdict};
 pub use target::Target;
-

@@ -94,11 +94,7 @@ pub fn open<H: Shelf>(
 }
 
 /// The answer of a job on one thread, or why there is none.
-fn answer_check<H: Shelf>(
-    alloc: Global,
-    job: &CheckJob,
-    shelf: &mut H,
-) -> Result<Answer, Failure>
+fn answer_check<H: Shelf>(alloc: Global, job: &CheckJob, shelf: &mut H) -> Result<Answer, Failure>
     ensures follows { FollowsCheck job.now (seen_of H.text H.lacks H.faults shelf.old shelf.new) result }
     ensures cause { HasCause result (CheckInputRose job.now (seen_of H.text H.lacks H.faults shelf.old shelf.new)) }
     ensures stays { StaysAs H.text H.lacks H.faults shelf.old shelf.new }

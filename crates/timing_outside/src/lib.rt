@@ -29,4 +29,3 @@ pub use shelf::{OpenFault, Shelf};
 pub use sink::{Sink, put_all};
 pub use source::{Failed, Source};
 pub use steady_shelf::{SteadyShelf, SteadySource};
-
