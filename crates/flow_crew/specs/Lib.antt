@@ -1,5 +1,6 @@
+-- what is promised
+pub mod Judging
 -- these only serve proofs
 pub mod Threads
-pub mod Judging
 pub mod Ends
 pub mod Gathering

@@ -1,5 +1,5 @@
--- these only serve proofs
-pub mod Columns
+-- what is promised
 pub mod Jobs
 pub mod Threads
 pub mod Closing
+pub mod Columns

@@ -1,5 +1,4 @@
--- what is promised
+-- what is promised; of `Found` all but what is said of one capture more, and of captures that are joined
 pub mod Asked
 pub mod Report
--- these only serve proofs
 pub mod Found
