@@ -1,5 +1,5 @@
-//! The worked rows of the parts: tests of the readers, the judges and the texts, each by itself. Nothing
-//! else stands here.
+//! Tests of the parts, worked by hand: the readers, the judges and the texts, each by itself. Nothing else
+//! stands here.
 //!
 //! They call what is public alone. A crate's own tests have all of it proved again, which takes minutes for
 //! the crates that these call.

@@ -1,4 +1,4 @@
-//! The worked rows: tests of whole calls over captures in memory, with all that each call prints, sends or
+//! Tests of whole calls, worked by hand, over captures in memory, with all that each call prints, sends or
 //! posts. Nothing else stands here.
 //!
 //! They call what is public alone. A crate's own tests have all of it proved again, which takes minutes for
