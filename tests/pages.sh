@@ -20,7 +20,7 @@ not_run=(
     'gst-launch-1.0|a network to send into'
     './run check --sdp gst_1080.sdp|a capture of 1.4 MB that does not ship'
     'sbatch|a cluster'
-    'rt ci|more than an hour, and runs by itself'
+    'rt ci|the time of the whole gate, and runs by itself'
 )
 # Tools that a machine may lack.
 tools='jq xargs parallel tcpdump editcap mergecap capinfos tshark'
