@@ -1,5 +1,6 @@
 -- Runs between cuts, and that their groups are of one size.
-use Rattle.std.proofs.Common.{◌≡◌, ◌≤◌, ◌+◌, ◌-◌, ℕ, zero, suc, Bool, true, false, List, [], ◌∷◌, ◌++◌, length, Some, None, refl, arith, ap, ◌∙◌, sym, subst, add-one, inl, inr}
+use Rattle.std.proofs.Common.{◌≡◌, ◌≤◌, ◌+◌, ◌-◌, ℕ, zero, suc, Bool, true, false, List, [], ◌∷◌, ◌++◌, length, Some, None, refl, arith, ap, ◌∙◌, sym, subst,
+    add-one, inl, inr}
 use Rattle.std.proofs.Common.{get_or, drop}
 use Rattle.std.specs.Prelude.{◌==◌, cond, All, slice_index, slice_range}
 use Rattle.std.proofs.lemmas.Grind.{common_steps}
@@ -28,7 +29,8 @@ each_sized packets pt e (suc i) h =
     let next = sized-next packets pt i here (sized-enter packets i _ refl (each_sized packets pt e i (omega arith))) in
     rw add-one at next
 
-from-case : (test : ℕ → Bool) (from n : ℕ) (b : Bool) → test n ≡ b → (1 ≤ length (places test from n) → from ≤ slice_index (places test from n) 0) → from ≤ n → 1 ≤ length (places test from (n + 1)) → from ≤ slice_index (places test from (n + 1)) 0
+from-case : (test : ℕ → Bool) (from n : ℕ) (b : Bool) → test n ≡ b → (1 ≤ length (places test from n) → from ≤ slice_index (places test from n) 0) → from ≤ n
+    → 1 ≤ length (places test from (n + 1)) → from ≤ slice_index (places test from (n + 1)) 0
 from-case test from n true e h l some = rw (places-here test from n l e) (push-case (places test from n) h l)
   where
     push-case : (xs : List ℕ) → (1 ≤ length xs → from ≤ slice_index xs 0) → from ≤ n → from ≤ slice_index (xs ++ n ∷ []) 0
@@ -45,7 +47,8 @@ places-from test from zero some = absurd (omega arith)
 places-from test from (suc n) some =
     elim (leb_tells from n) as (λ _. from ≤ slice_index (places test from (suc n)) 0) [
       | inl l ↦ (rw add-one at (from-case test from n (test n) refl (places-from test from n) l.1)) some
-      | inr l ↦ absurd (let none : places test from (suc n) ≡ [] = places-none test from (suc n) (omega (arith, l.1)) in let z : length (places test from (suc n)) ≡ 0 = ap length none in omega arith)
+      | inr l ↦ absurd (let none : places test from (suc n) ≡ [] = places-none test from (suc n) (omega (arith, l.1)) in let z : length
+          (places test from (suc n)) ≡ 0 = ap length none in omega arith)
     ]
 
 -- what holds of each packet holds in a part
@@ -53,7 +56,8 @@ pub all_range : (P : FlowPacket → Type 0) (packets : List FlowPacket) (a b : �
 all_range P packets a b all = All-take P (b - a) (drop a packets) (All-drop P a packets all)
 
 -- at a cut the run before it is done
-pub runs-cut : (packets : List FlowPacket) (tai i from : ℕ) (done new : List FlowRun) (run : FlowRun) → is_cut packets i ≡ true → new ≡ done ++ run ∷ [] → run ≡ run_at packets tai from i
+pub runs-cut : (packets : List FlowPacket) (tai i from : ℕ) (done new : List FlowRun) (run : FlowRun) → is_cut packets i ≡ true → new ≡ done ++ run ∷ []
+    → run ≡ run_at packets tai from i
     → ((to : ℕ) → runs_between packets tai to 0 (cuts packets i) ≡ done ++ run_at packets tai from to ∷ [])
     → (to : ℕ) → runs_between packets tai to 0 (cuts packets (i + 1)) ≡ new ++ run_at packets tai i to ∷ []
 runs-cut packets tai i from done new run e n r before to =
@@ -75,7 +79,8 @@ pub start-other : (packets : List FlowPacket) (i : ℕ) → is_cut packets i ≡
 start-other packets i e = sym (run_start-other packets i e)
 
 -- the verdict on a flow with a fault
-pub judged-refused : (packets : List FlowPacket) (pt tai : ℕ) (x : FirstFault) (d : FlowPacket) (r : FlowVerdict) → (length packets == 0) ≡ false → first_fault packets pt ≡ Some x
+pub judged-refused : (packets : List FlowPacket) (pt tai : ℕ) (x : FirstFault) (d : FlowPacket) (r : FlowVerdict) → (length packets == 0) ≡ false
+    → first_fault packets pt ≡ Some x
     → r ≡ refusal (get_or packets x.index d).rec x.fault → r ≡ judged packets pt tai
 judged-refused packets pt tai x d r some e is =
     let first = first_fault-is packets pt x e in

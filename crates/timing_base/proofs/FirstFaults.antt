@@ -7,11 +7,13 @@ use Rattle.std.proofs.lemmas.Bool.Decides.{leb_tells}
 use Rattle.timing_base.specs.Flows.{IsFirstFault, fault, first_fault, first_fault_below, earlier_or}
 
 -- no fault yet, and none here
-pub no_fault-next : (packets : List FlowPacket) (pt i : ℕ) → first_fault_below packets pt i ≡ None → fault packets pt i ≡ None → first_fault_below packets pt (i + 1) ≡ None
+pub no_fault-next : (packets : List FlowPacket) (pt i : ℕ) → first_fault_below packets pt i ≡ None → fault packets pt i ≡ None
+    → first_fault_below packets pt (i + 1) ≡ None
 no_fault-next packets pt i before here = rw add-one (ap (λ first. earlier_or first i (fault packets pt i)) before ∙ ap (earlier_or None i) here)
 
 -- no fault yet, and one here
-pub fault-here : (packets : List FlowPacket) (pt i : ℕ) (f : PacketFault) → first_fault_below packets pt i ≡ None → fault packets pt i ≡ Some f → first_fault_below packets pt (i + 1) ≡ Some record { index = i; fault = f }
+pub fault-here : (packets : List FlowPacket) (pt i : ℕ) (f : PacketFault) → first_fault_below packets pt i ≡ None → fault packets pt i ≡ Some f
+    → first_fault_below packets pt (i + 1) ≡ Some record { index = i; fault = f }
 fault-here packets pt i f before here = rw add-one (ap (λ first. earlier_or first i (fault packets pt i)) before ∙ ap (earlier_or None i) here)
 
 kept-add : (packets : List FlowPacket) (pt k m : ℕ) (x : FirstFault) → first_fault_below packets pt k ≡ Some x → first_fault_below packets pt (m + k) ≡ Some x
@@ -21,7 +23,8 @@ kept-add packets pt k (suc m) x e =
     ap (first_fault_below packets pt) s ∙ ap (λ first. earlier_or first (m + k) (fault packets pt (m + k))) (kept-add packets pt k m x e)
 
 -- an earlier fault stays the first
-pub fault-kept : (packets : List FlowPacket) (pt k n : ℕ) (x : FirstFault) → k ≤ n → first_fault_below packets pt k ≡ Some x → first_fault_below packets pt n ≡ Some x
+pub fault-kept : (packets : List FlowPacket) (pt k n : ℕ) (x : FirstFault) → k ≤ n → first_fault_below packets pt k ≡ Some x
+    → first_fault_below packets pt n ≡ Some x
 fault-kept packets pt k n x h e =
     let s : n ≡ (n - k) + k = omega arith in
     ap (first_fault_below packets pt) s ∙ kept-add packets pt k (n - k) x e
@@ -41,8 +44,10 @@ no_fault-at packets pt (suc n) k e h =
       | inr l ↦ no_fault-at packets pt n k both.0 l.1
     ]
 
-first-case : (packets : List FlowPacket) (pt n : ℕ) (x : FirstFault) (first : Option FirstFault) (here : Option PacketFault) → first_fault_below packets pt n ≡ first → fault packets pt n ≡ here
-    → earlier_or first n here ≡ Some x → ((y : FirstFault) → first ≡ Some y → (y.index < n) × (fault packets pt y.index ≡ Some y.fault) × ((k : ℕ) → k < y.index → fault packets pt k ≡ None))
+first-case : (packets : List FlowPacket) (pt n : ℕ) (x : FirstFault) (first : Option FirstFault) (here : Option PacketFault)
+    → first_fault_below packets pt n ≡ first → fault packets pt n ≡ here
+    → earlier_or first n here ≡ Some x → ((y : FirstFault) → first ≡ Some y
+        → (y.index < n) × (fault packets pt y.index ≡ Some y.fault) × ((k : ℕ) → k < y.index → fault packets pt k ≡ None))
     → (x.index < n + 1) × (fault packets pt x.index ≡ Some x.fault) × ((k : ℕ) → k < x.index → fault packets pt k ≡ None)
 first-case packets pt n x (Some y) here f h e before =
     let r = before x e in

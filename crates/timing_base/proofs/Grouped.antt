@@ -1,5 +1,6 @@
 -- Where no packet has a fault, judged runs are whole groups whose stamps never fall.
-use Rattle.std.proofs.Common.{◌≡◌, ◌≤◌, ◌<◌, ◌+◌, ◌-◌, ◌*◌, ◌^◌, ℕ, zero, suc, Bool, true, false, List, [], ◌∷◌, ◌++◌, length, map, get_or, drop, min, Option, Some, None, refl, arith, ap, ◌∙◌, sym, subst, add-one, length-append}
+use Rattle.std.proofs.Common.{◌≡◌, ◌≤◌, ◌<◌, ◌+◌, ◌-◌, ◌*◌, ◌^◌, ℕ, zero, suc, Bool, true, false, List, [], ◌∷◌, ◌++◌, length, map, get_or, drop, min, Option,
+    Some, None, refl, arith, ap, ◌∙◌, sym, subst, add-one, length-append}
 use Rattle.std.specs.Prelude.{All, IsSome, slice_index, slice_range, nat_lt, nat_le, ◌==◌, if◌then◌else◌, ◌&&◌}
 use Rattle.std.specs.List.Sorted.{IsNonDecreasing, IsNonDecreasingBy}
 use Rattle.std.proofs.lemmas.Grind.{common_steps}
@@ -7,12 +8,15 @@ use Rattle.std.proofs.lemmas.Bool.Decides.{nat_tests}
 use Rattle.std.proofs.lemmas.List.{length-take, length-drop, length-map, get_or-map}
 use Rattle.std.proofs.lemmas.List.Elements.{All-map, All-nil, All-cons, All-head, All-tail, All-push}
 use Rattle.std.proofs.lemmas.List.Sorted.{IsNonDecreasingBy-take, IsNonDecreasingBy-drop, IsNonDecreasingBy-from_all_adjacent}
-use Rattle.timing_base.specs.Judged.{absent, in_one_run, in_runs, JudgedRun, no_whole_frame, whole_frames, FlowRun, FlowVerdict, stamp_of, judged_run, run_outcome, head_len, run_at, runs_between, runs, judged_runs, refusal, refused_or, judged}
+use Rattle.timing_base.specs.Judged.{absent, in_one_run, in_runs, JudgedRun, no_whole_frame, whole_frames, FlowRun, FlowVerdict, stamp_of, judged_run,
+    run_outcome, head_len, run_at, runs_between, runs, judged_runs, refusal, refused_or, judged}
 use Rattle.timing_base.specs.declared.packet.FlowPacket.{FlowPacket}
 use Rattle.timing_base.specs.declared.packet.PacketFault.{PacketFault}
-use Rattle.timing_base.specs.declared.packet.PacketFault.TheVariants.{Short, Version, PayloadType, SecondSource, Number, StampBack, NoMarker, SameStamp, FrameSize, FrameTooLarge}
+use Rattle.timing_base.specs.declared.packet.PacketFault.TheVariants.{Short, Version, PayloadType, SecondSource, Number, StampBack, NoMarker, SameStamp,
+    FrameSize, FrameTooLarge}
 use Rattle.timing_base.specs.Flows.{FirstFault}
-use Rattle.timing_base.specs.Flows.{AreStamped, expected_number, packet, fault, first_fault, cuts, markers, last_place, group_len, is_cut, is_stamp_back, is_cut_too_many, order_fault, size_fault, sender_fault}
+use Rattle.timing_base.specs.Flows.{AreStamped, expected_number, packet, fault, first_fault, cuts, markers, last_place, group_len, is_cut, is_stamp_back,
+    is_cut_too_many, order_fault, size_fault, sender_fault}
 use Rattle.timing_base.specs.Grouped.{IsGrouped, IsGroupedOutcome, ExpectsAfterFirst, AreGrouped, IsGroupedVerdict}
 use Rattle.timing_base.specs.Grouped.{IsSized, EachSized}
 use Rattle.timing_base.proofs.FirstFaults.{no_fault-at}
@@ -21,7 +25,8 @@ use Rattle.timing_base.proofs.Between.{each_sized, one_sized, all_range, runs-cu
 use Rattle.timing_base.proofs.Sizes.{first-none, if-none}
 
 -- a packet with no fault is not one cut too many, and does not go back
-pub none-order : (packets : List FlowPacket) (pt i : ℕ) → fault packets pt i ≡ None → (is_cut_too_many 1024 packets i ≡ false) × (is_stamp_back packets i ≡ false)
+pub none-order : (packets : List FlowPacket) (pt i : ℕ) → fault packets pt i ≡ None
+    → (is_cut_too_many 1024 packets i ≡ false) × (is_stamp_back packets i ≡ false)
 none-order packets pt i e =
     let order = (first-none (order_fault 1024 packets i) (size_fault 262144 packets i) (first-none (sender_fault packets pt i) _ e).1).0 in
     let first = first-none _ _ order in
@@ -31,11 +36,13 @@ none-order packets pt i e =
 not_back : (i a b : ℕ) → (nat_lt 0 i && nat_lt a b) ≡ false → 0 < i → b ≤ a
 not_back i a b e h = grind (arith, nat_tests)
 
-adjacent : (packets : List FlowPacket) (pt k : ℕ) (d : FlowPacket) → first_fault packets pt ≡ None → k + 1 < length packets → (get_or packets k d).at ≤ (get_or packets (k + 1) d).at
+adjacent : (packets : List FlowPacket) (pt k : ℕ) (d : FlowPacket) → first_fault packets pt ≡ None → k + 1 < length packets
+    → (get_or packets k d).at ≤ (get_or packets (k + 1) d).at
 adjacent packets pt k d e h =
     let none : fault packets pt (k + 1) ≡ None = no_fault-at packets pt (length packets) (k + 1) e h in
     let less : (k + 1) - 1 ≡ k = omega arith in
-    let back : (packet packets ((k + 1) - 1)).at ≤ (packet packets (k + 1)).at = not_back (k + 1) (packet packets (k + 1)).at (packet packets ((k + 1) - 1)).at (none-order packets pt (k + 1) none).1 (omega arith) in
+    let back : (packet packets ((k + 1) - 1)).at ≤ (packet packets (k + 1)).at =
+        not_back (k + 1) (packet packets (k + 1)).at (packet packets ((k + 1) - 1)).at (none-order packets pt (k + 1) none).1 (omega arith) in
     let before : packet packets ((k + 1) - 1) ≡ get_or packets k d = ap (packet packets) less ∙ grind (arith, common_steps) in
     let here : packet packets (k + 1) ≡ get_or packets (k + 1) d = grind (arith, common_steps) in
     subst (λ (p : FlowPacket). p.at ≤ (get_or packets (k + 1) d).at) before (subst (λ (p : FlowPacket). (packet packets ((k + 1) - 1)).at ≤ p.at) here back)
@@ -58,7 +65,8 @@ early-all tai packets h all = All-map (λ at. at < 2 ^ 62) (stamp_of tai) packet
 
 -- a judged run of a flow with no fault
 pub run-grouped : (packets : List FlowPacket) (tai from to : ℕ) → to ≤ length packets → length packets < 2 ^ 41 → tai ≤ 1000 → AreStamped packets
-    → IsNonDecreasingBy (λ (p : FlowPacket). p.at) packets → IsSized to (markers packets from to) → 2 ≤ length (markers packets from to) → IsGrouped (judged_run packets tai from to)
+    → IsNonDecreasingBy (λ (p : FlowPacket). p.at) packets → IsSized to (markers packets from to) → 2 ≤ length (markers packets from to)
+        → IsGrouped (judged_run packets tai from to)
 run-grouped packets tai from to within few h all rise sized two =
     let marks = markers packets from to in
     let a = slice_index marks 0 + 1 in
@@ -75,7 +83,8 @@ run-grouped packets tai from to within few h all rise sized two =
       some_groups = omega (arith, two);
       whole = mapped ∙ omega (arith, total, whole);
       bounded = omega (arith, mapped, total, later, within, few);
-      rising = rising-map tai part (IsNonDecreasingBy-take (λ (p : FlowPacket). p.at) (b - a) (drop a packets) (IsNonDecreasingBy-drop (λ (p : FlowPacket). p.at) a packets rise));
+      rising = rising-map tai part (IsNonDecreasingBy-take (λ (p : FlowPacket). p.at) (b - a) (drop a packets)
+          (IsNonDecreasingBy-drop (λ (p : FlowPacket). p.at) a packets rise));
       early = early-all tai part h (all_range (λ (p : FlowPacket). p.at < 2 ^ 32 * 10 ^ 9) packets a b all);
     }
 
@@ -99,7 +108,8 @@ record RunsTo (packets : List FlowPacket) (tai i : ℕ) : Type 0 where
   grouped : All (λ (run : FlowRun). IsGroupedOutcome run.outcome) done
   are : (to : ℕ) → runs_between packets tai to 0 (cuts packets i) ≡ done ++ run_at packets tai (last_place (0 ∷ cuts packets i)) to ∷ []
 
-to-case : (packets : List FlowPacket) (tai i : ℕ) (b : Bool) → is_cut packets i ≡ b → RunsTo packets tai i → IsGroupedOutcome (run_outcome packets tai (last_place (0 ∷ cuts packets i)) i) → RunsTo packets tai (i + 1)
+to-case : (packets : List FlowPacket) (tai i : ℕ) (b : Bool) → is_cut packets i ≡ b → RunsTo packets tai i
+    → IsGroupedOutcome (run_outcome packets tai (last_place (0 ∷ cuts packets i)) i) → RunsTo packets tai (i + 1)
 to-case packets tai i true e before last = record {
   done = before.done ++ run_at packets tai (last_place (0 ∷ cuts packets i)) i ∷ [];
   grouped = All-push (λ (run : FlowRun). IsGroupedOutcome run.outcome) before.done (run_at packets tai (last_place (0 ∷ cuts packets i)) i) before.grouped last;
@@ -113,7 +123,8 @@ to-case packets tai i false e before last = record {
       ∙ ap (λ from. before.done ++ run_at packets tai from to ∷ []) (start-other packets i e);
 }
 
-runs-to : (packets : List FlowPacket) (tai : ℕ) → ((from to : ℕ) → to ≤ length packets → IsSized to (markers packets from to) → IsGroupedOutcome (run_outcome packets tai from to)) → EachSized packets
+runs-to : (packets : List FlowPacket) (tai : ℕ) → ((from to : ℕ) → to ≤ length packets → IsSized to (markers packets from to)
+    → IsGroupedOutcome (run_outcome packets tai from to)) → EachSized packets
     → (i : ℕ) → i ≤ length packets → RunsTo packets tai i
 runs-to packets tai outcome each zero h = record { done = []; grouped = All-nil (λ (run : FlowRun). IsGroupedOutcome run.outcome); are = λ to. refl }
 runs-to packets tai outcome each (suc i) h =
@@ -122,13 +133,15 @@ runs-to packets tai outcome each (suc i) h =
     rw add-one at next
 
 -- each run of a flow with no fault
-pub runs-grouped : (packets : List FlowPacket) (tai : ℕ) → ((from to : ℕ) → to ≤ length packets → IsSized to (markers packets from to) → IsGroupedOutcome (run_outcome packets tai from to)) → EachSized packets
+pub runs-grouped : (packets : List FlowPacket) (tai : ℕ) → ((from to : ℕ) → to ≤ length packets → IsSized to (markers packets from to)
+    → IsGroupedOutcome (run_outcome packets tai from to)) → EachSized packets
     → All (λ (run : FlowRun). IsGroupedOutcome run.outcome) (runs packets tai)
 runs-grouped packets tai outcome each =
     let n = length packets in
     let all = runs-to packets tai outcome each n (omega arith) in
     subst (All (λ (run : FlowRun). IsGroupedOutcome run.outcome)) (sym (all.are n))
-    (All-push (λ (run : FlowRun). IsGroupedOutcome run.outcome) all.done (run_at packets tai (last_place (0 ∷ cuts packets n)) n) all.grouped (outcome (last_place (0 ∷ cuts packets n)) n (omega arith) (each n (omega arith))))
+    (All-push (λ (run : FlowRun). IsGroupedOutcome run.outcome) all.done (run_at packets tai (last_place (0 ∷ cuts packets n)) n) all.grouped
+        (outcome (last_place (0 ∷ cuts packets n)) n (omega arith) (each n (omega arith))))
 
 pub length-runs_between : (packets : List FlowPacket) (tai to from : ℕ) (places : List ℕ) → length (runs_between packets tai to from places) ≡ length places + 1
 length-runs_between packets tai to from [] = refl
@@ -141,16 +154,21 @@ some-case false x e = refl
 some_expected : (packets : List FlowPacket) (tai from to : ℕ) → 0 < from → IsSome (run_at packets tai from to).expected
 some_expected packets tai from to h = some-case (from == 0) (expected_number packets from) (grind (arith, nat_tests))
 
-later_expected : (packets : List FlowPacket) (tai to from : ℕ) (places : List ℕ) → 0 < from → All (λ k. 0 < k) places → All (λ (run : FlowRun). IsSome run.expected) (runs_between packets tai to from places)
+later_expected : (packets : List FlowPacket) (tai to from : ℕ) (places : List ℕ) → 0 < from → All (λ k. 0 < k) places
+    → All (λ (run : FlowRun). IsSome run.expected) (runs_between packets tai to from places)
 later_expected packets tai to from [] h all =
-    All-cons (λ (run : FlowRun). IsSome run.expected) (run_at packets tai from to) [] (some_expected packets tai from to h) (All-nil (λ (run : FlowRun). IsSome run.expected))
+    All-cons (λ (run : FlowRun). IsSome run.expected) (run_at packets tai from to) [] (some_expected packets tai from to h)
+        (All-nil (λ (run : FlowRun). IsSome run.expected))
 later_expected packets tai to from (cut ∷ rest) h all =
-    All-cons (λ (run : FlowRun). IsSome run.expected) (run_at packets tai from cut) (runs_between packets tai to cut rest) (some_expected packets tai from cut h)
+    All-cons (λ (run : FlowRun). IsSome run.expected) (run_at packets tai from cut) (runs_between packets tai to cut rest)
+        (some_expected packets tai from cut h)
     (later_expected packets tai to cut rest (All-head (λ (k : ℕ). 0 < k) cut rest all) (All-tail (λ (k : ℕ). 0 < k) cut rest all))
 
-pub first_expected : (packets : List FlowPacket) (tai to : ℕ) (places : List ℕ) → All (λ k. 0 < k) places → ExpectsAfterFirst (runs_between packets tai to 0 places)
+pub first_expected : (packets : List FlowPacket) (tai to : ℕ) (places : List ℕ) → All (λ k. 0 < k) places
+    → ExpectsAfterFirst (runs_between packets tai to 0 places)
 first_expected packets tai to [] all = (refl, All-nil (λ (run : FlowRun). IsSome run.expected))
-first_expected packets tai to (cut ∷ rest) all = (refl, later_expected packets tai to cut rest (All-head (λ (k : ℕ). 0 < k) cut rest all) (All-tail (λ (k : ℕ). 0 < k) cut rest all))
+first_expected packets tai to (cut ∷ rest) all =
+    (refl, later_expected packets tai to cut rest (All-head (λ (k : ℕ). 0 < k) cut rest all) (All-tail (λ (k : ℕ). 0 < k) cut rest all))
 
 cut_later : (i : ℕ) (b : Bool) → (nat_lt 0 i && b) ≡ true → 0 < i
 cut_later i b e = grind (arith, nat_tests)
@@ -163,10 +181,12 @@ pub record FewCuts (places : List ℕ) : Type 0 where
 not_many : (n : ℕ) → nat_le 1024 n ≡ false → n < 1024
 not_many n e = grind (arith, nat_tests)
 
-cuts-case : (packets : List FlowPacket) (pt i : ℕ) (b : Bool) → is_cut packets i ≡ b → fault packets pt i ≡ None → FewCuts (cuts packets i) → FewCuts (cuts packets (i + 1))
+cuts-case : (packets : List FlowPacket) (pt i : ℕ) (b : Bool) → is_cut packets i ≡ b → fault packets pt i ≡ None → FewCuts (cuts packets i)
+    → FewCuts (cuts packets (i + 1))
 cuts-case packets pt i true e none before = subst FewCuts (sym (cuts-here packets i e)) record {
   few =
-      let most : length (cuts packets i) < 1024 = not_many _ (ap (λ b. b && nat_le 1024 (length (cuts packets i))) (sym e) ∙ (none-order packets pt i none).0) in
+      let most : length (cuts packets i) < 1024 =
+          not_many _ (ap (λ b. b && nat_le 1024 (length (cuts packets i))) (sym e) ∙ (none-order packets pt i none).0) in
       omega (arith, most, length-append (cuts packets i) (i ∷ []));
   later = All-push (λ (k : ℕ). 0 < k) (cuts packets i) i before.later (cut_later i _ e);
 }
@@ -175,10 +195,12 @@ cuts-case packets pt i false e none before = subst FewCuts (sym (cuts-other pack
 pub few_cuts : (packets : List FlowPacket) (pt : ℕ) → first_fault packets pt ≡ None → (i : ℕ) → i ≤ length packets → FewCuts (cuts packets i)
 few_cuts packets pt e zero h = record { few = omega arith; later = All-nil (λ (k : ℕ). 0 < k) }
 few_cuts packets pt e (suc i) h =
-    let next = cuts-case packets pt i (is_cut packets i) refl (no_fault-at packets pt (length packets) i e (omega arith)) (few_cuts packets pt e i (omega arith)) in
+    let next = cuts-case packets pt i (is_cut packets i) refl (no_fault-at packets pt (length packets) i e (omega arith))
+        (few_cuts packets pt e i (omega arith)) in
     rw add-one at next
 
-runs-case : (packets : List FlowPacket) (tai : ℕ) (b : Bool) → (b ≡ true → IsGroupedOutcome (run_outcome packets tai 0 (length packets))) → (b ≡ false → AreGrouped (runs packets tai))
+runs-case : (packets : List FlowPacket) (tai : ℕ) (b : Bool) → (b ≡ true → IsGroupedOutcome (run_outcome packets tai 0 (length packets)))
+    → (b ≡ false → AreGrouped (runs packets tai))
     → IsGroupedVerdict (if b then in_one_run (run_outcome packets tai 0 (length packets)) else in_runs (runs packets tai))
 runs-case packets tai true one many = one refl
 runs-case packets tai false one many = many refl
@@ -217,7 +239,8 @@ many-grouped packets pt tai few h all e some =
       some = omega (arith, some, length-runs_between packets tai n 0 (cuts packets n));
       few = omega (arith, most.few, length-runs_between packets tai n 0 (cuts packets n));
       expected = first_expected packets tai n (cuts packets n) most.later;
-      outcomes = runs-grouped packets tai (λ from to within sized. outcome-grouped packets tai from to within few h all (stamps_rise packets pt e) sized) (each_sized packets pt e);
+      outcomes = runs-grouped packets tai (λ from to within sized. outcome-grouped packets tai from to within few h all (stamps_rise packets pt e) sized)
+          (each_sized packets pt e);
     }
 
 -- a flow with no fault
@@ -228,7 +251,8 @@ unfaulted-grouped packets pt tai few h all e =
     (λ none. one-grouped packets pt tai few h all e (is_zero _ none))
     (λ some. many-grouped packets pt tai few h all e (not_zero _ some))
 
-refused-case : (packets : List FlowPacket) (first : Option FirstFault) (verdict : FlowVerdict) → (first ≡ None → IsGroupedVerdict verdict) → IsGroupedVerdict (refused_or packets first verdict)
+refused-case : (packets : List FlowPacket) (first : Option FirstFault) (verdict : FlowVerdict) → (first ≡ None → IsGroupedVerdict verdict)
+    → IsGroupedVerdict (refused_or packets first verdict)
 refused-case packets (Some first) verdict h = refusal-grouped _ first.fault
 refused-case packets None verdict h = h refl
 
@@ -237,6 +261,7 @@ judged-case true verdict h = tt
 judged-case false verdict h = h
 
 -- what is judged of a flow
-pub judged-grouped : (packets : List FlowPacket) (pt tai : ℕ) → length packets < 2 ^ 41 → tai ≤ 1000 → AreStamped packets → IsGroupedVerdict (judged packets pt tai)
+pub judged-grouped : (packets : List FlowPacket) (pt tai : ℕ) → length packets < 2 ^ 41 → tai ≤ 1000 → AreStamped packets
+    → IsGroupedVerdict (judged packets pt tai)
 judged-grouped packets pt tai few h all =
     judged-case (length packets == 0) _ (refused-case packets (first_fault packets pt) (judged_runs packets tai) (unfaulted-grouped packets pt tai few h all))

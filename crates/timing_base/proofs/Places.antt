@@ -51,11 +51,13 @@ pub run_start-le : (packets : List FlowPacket) (i : ℕ) → run_start packets i
 run_start-le packets i = start-case packets i (is_cut packets i) refl
 
 -- the markers of a run, with that of packet i
-pub markers-here : (packets : List FlowPacket) (i : ℕ) → has_marker packets i ≡ true → markers packets (run_start packets i) (i + 1) ≡ markers_before packets i ++ i ∷ []
+pub markers-here : (packets : List FlowPacket) (i : ℕ) → has_marker packets i ≡ true
+    → markers packets (run_start packets i) (i + 1) ≡ markers_before packets i ++ i ∷ []
 markers-here packets i e = places-here (has_marker packets) (run_start packets i) i (run_start-le packets i) e
 
 -- the markers of a run, where packet i has none
-pub markers-other : (packets : List FlowPacket) (i : ℕ) → has_marker packets i ≡ false → markers packets (run_start packets i) (i + 1) ≡ markers_before packets i
+pub markers-other : (packets : List FlowPacket) (i : ℕ) → has_marker packets i ≡ false
+    → markers packets (run_start packets i) (i + 1) ≡ markers_before packets i
 markers-other packets i e = places-other (has_marker packets) (run_start packets i) i e
 
 -- the cuts, with that at packet i

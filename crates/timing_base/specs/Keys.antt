@@ -36,7 +36,8 @@ keys_of_file file media (suc count) = key_of file media ∷ keys_of_file file (m
 -- the keys of so many files from one on, by rising file and then media
 abbrev pub keys_of_files : (first files media_count : ℕ) → List FlowKey
 keys_of_files first zero media_count = []
-keys_of_files first (suc files) media_count = keys_of_file first 0 media_count ++ keys_of_files (first + 1) files media_count
+keys_of_files first (suc files) media_count =
+    keys_of_file first 0 media_count ++ keys_of_files (first + 1) files media_count
 
 -- the keys of a run: each media of each file, or of joined files each media once
 abbrev pub keys_of : (joined : Bool) → (files media_count : ℕ) → List FlowKey

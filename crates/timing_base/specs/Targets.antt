@@ -6,8 +6,10 @@ use Rattle.timing_base.specs.declared.target.Target.{Target}
 
 -- the four octets of an address and a port, as `239.0.0.1:50000`
 abbrev pub address_text : ℕ → ℕ → List ℕ
-address_text address port = decimal (address / 2 ^ 24) ++ (codes "." ++ (decimal (address / 2 ^ 16 % 2 ^ 8) ++ (codes "."
-    ++ (decimal (address / 2 ^ 8 % 2 ^ 8) ++ (codes "." ++ (decimal (address % 2 ^ 8) ++ (codes ":" ++ decimal port)))))))
+address_text address port =
+    decimal (address / 2 ^ 24) ++ (codes "." ++ (decimal (address / 2 ^ 16 % 2 ^ 8) ++ (codes "."
+    ++ (decimal (address / 2 ^ 8 % 2 ^ 8) ++ (codes "." ++ (decimal (address % 2 ^ 8)
+        ++ (codes ":" ++ decimal port)))))))
 
 -- a target in that form
 abbrev pub target_text : Target → List ℕ

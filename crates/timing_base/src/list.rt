@@ -18,14 +18,6 @@ impl<T> Model for Items<T> {
 }
 
 impl<T> Items<T> {
-    /// The same values in a `Vec`.
-    pub fn into_vec(self) -> Vec<T>
-        ensures { result.items ≡ self }
-    {
-        let Items { values } = self;
-        values
-    }
-
     /// The values, in order.
     pub fn as_slice(&self) -> &[T]
         ensures { result.now ≡ self.now }

@@ -52,7 +52,7 @@ pub const NARROW: Judged = Judged {
     kinds: [KindVerdict::Pass, KindVerdict::Pass, KindVerdict::Pass],
 };
 
-/// The same of a linear sender.
+/// Two frames of 20 packets of a linear sender, whose packets come too late for the gapped reads.
 pub const LINEAR: Judged = Judged {
     kinds: [
         KindVerdict::Fail(LATE),
