@@ -1,6 +1,6 @@
 -- Which records of a capture were taken. `takes` says of what took them that by these records and no others the first
 -- became the second; their numbers are raised by `before`, the records before this capture.
-use Rattle.std.specs.Prelude.{◌≡◌, ◌≤◌, ℕ, List, [], ◌∷◌, ◌++◌, length, map, Option, Some, None}
+use Rattle.std.specs.Prelude.{◌≡◌, ◌≤◌, ℕ, ⊤, List, [], ◌∷◌, ◌++◌, length, map, Option, Some, None}
 use Rattle.timing_base.specs.Captures.{Record, raised}
 use Rattle.timing_base.specs.declared.capture.FileNote.{FileNote}
 use Rattle.pcap_reader.specs.declared.reader.PcapReader.{PcapReader}
@@ -11,6 +11,10 @@ pub record TakesFew {T : Type 0} (takes : T → T → List Record → Type 0) (m
   pub items : List Record
   pub few : length items ≤ most
   pub taken : takes old new items
+
+-- what took them stopped, which says nothing of the records
+abbrev pub StopsAnyhow : {T E : Type 0} → (old new : T) → E → List Record → Type 0
+StopsAnyhow old new stop items = ⊤
 
 -- of these records so many were taken, up to an end with this note: all, unless a read failed
 pub record HasTaken {T : Type 0} (takes : T → T → List Record → Type 0) (before : ℕ) (old new : T)
