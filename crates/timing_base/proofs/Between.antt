@@ -1,6 +1,6 @@
 -- Runs between cuts, and that their groups are of one size.
-use Rattle.std.proofs.Common.{◌≡◌, ◌≤◌, ◌+◌, ◌-◌, ℕ, zero, suc, Bool, true, false, List, [], ◌∷◌, ◌++◌, length, Some, None, refl, arith, ap, ◌∙◌, sym, subst,
-    add-one, inl, inr}
+use Rattle.std.proofs.Common.{◌≡◌, ◌≤◌, ◌+◌, ◌-◌, ℕ, zero, suc, Bool, true, false, List, [], ◌∷◌, ◌++◌, length, Some, None, refl, arith, ap, ◌∙◌, sym, subst}
+use Rattle.std.proofs.Common.{add-one, inl, inr}
 use Rattle.std.proofs.Common.{get_or, drop}
 use Rattle.std.specs.Prelude.{◌==◌, cond, All, slice_index, slice_range}
 use Rattle.std.proofs.lemmas.Grind.{common_steps}

@@ -47,7 +47,7 @@ no_fault-at packets pt (suc n) k e h =
 first-case : (packets : List FlowPacket) (pt n : ℕ) (x : FirstFault) (first : Option FirstFault) (here : Option PacketFault)
     → first_fault_below packets pt n ≡ first → fault packets pt n ≡ here
     → earlier_or first n here ≡ Some x → ((y : FirstFault) → first ≡ Some y
-        → (y.index < n) × (fault packets pt y.index ≡ Some y.fault) × ((k : ℕ) → k < y.index → fault packets pt k ≡ None))
+    → (y.index < n) × (fault packets pt y.index ≡ Some y.fault) × ((k : ℕ) → k < y.index → fault packets pt k ≡ None))
     → (x.index < n + 1) × (fault packets pt x.index ≡ Some x.fault) × ((k : ℕ) → k < x.index → fault packets pt k ≡ None)
 first-case packets pt n x (Some y) here f h e before =
     let r = before x e in

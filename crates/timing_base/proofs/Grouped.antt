@@ -1,6 +1,6 @@
 -- Where no packet has a fault, judged runs are whole groups whose stamps never fall.
-use Rattle.std.proofs.Common.{◌≡◌, ◌≤◌, ◌<◌, ◌+◌, ◌-◌, ◌*◌, ◌^◌, ℕ, zero, suc, Bool, true, false, List, [], ◌∷◌, ◌++◌, length, map, get_or, drop, min, Option,
-    Some, None, refl, arith, ap, ◌∙◌, sym, subst, add-one, length-append}
+use Rattle.std.proofs.Common.{◌≡◌, ◌≤◌, ◌<◌, ◌+◌, ◌-◌, ◌*◌, ◌^◌, ℕ, zero, suc, Bool, true, false, List, [], ◌∷◌, ◌++◌, length, map, get_or, drop, min, Option}
+use Rattle.std.proofs.Common.{Some, None, refl, arith, ap, ◌∙◌, sym, subst, add-one, length-append}
 use Rattle.std.specs.Prelude.{All, IsSome, slice_index, slice_range, nat_lt, nat_le, ◌==◌, if◌then◌else◌, ◌&&◌}
 use Rattle.std.specs.List.Sorted.{IsNonDecreasing, IsNonDecreasingBy}
 use Rattle.std.proofs.lemmas.Grind.{common_steps}
@@ -8,15 +8,15 @@ use Rattle.std.proofs.lemmas.Bool.Decides.{nat_tests}
 use Rattle.std.proofs.lemmas.List.{length-take, length-drop, length-map, get_or-map}
 use Rattle.std.proofs.lemmas.List.Elements.{All-map, All-nil, All-cons, All-head, All-tail, All-push}
 use Rattle.std.proofs.lemmas.List.Sorted.{IsNonDecreasingBy-take, IsNonDecreasingBy-drop, IsNonDecreasingBy-from_all_adjacent}
-use Rattle.timing_base.specs.Judged.{absent, in_one_run, in_runs, JudgedRun, no_whole_frame, whole_frames, FlowRun, FlowVerdict, stamp_of, judged_run,
-    run_outcome, head_len, run_at, runs_between, runs, judged_runs, refusal, refused_or, judged}
+use Rattle.timing_base.specs.Judged.{absent, in_one_run, in_runs, JudgedRun, no_whole_frame, whole_frames, FlowRun, FlowVerdict, stamp_of, judged_run}
+use Rattle.timing_base.specs.Judged.{run_outcome, head_len, run_at, runs_between, runs, judged_runs, refusal, refused_or, judged}
 use Rattle.timing_base.specs.declared.packet.FlowPacket.{FlowPacket}
 use Rattle.timing_base.specs.declared.packet.PacketFault.{PacketFault}
-use Rattle.timing_base.specs.declared.packet.PacketFault.TheVariants.{Short, Version, PayloadType, SecondSource, Number, StampBack, NoMarker, SameStamp,
-    FrameSize, FrameTooLarge}
+use Rattle.timing_base.specs.declared.packet.PacketFault.TheVariants.{Short, Version, PayloadType, SecondSource, Number, StampBack, NoMarker, SameStamp}
+use Rattle.timing_base.specs.declared.packet.PacketFault.TheVariants.{FrameSize, FrameTooLarge}
 use Rattle.timing_base.specs.Flows.{FirstFault}
-use Rattle.timing_base.specs.Flows.{AreStamped, expected_number, packet, fault, first_fault, cuts, markers, last_place, group_len, is_cut, is_stamp_back,
-    is_cut_too_many, order_fault, size_fault, sender_fault}
+use Rattle.timing_base.specs.Flows.{AreStamped, expected_number, packet, fault, first_fault, cuts, markers, last_place, group_len, is_cut, is_stamp_back}
+use Rattle.timing_base.specs.Flows.{is_cut_too_many, order_fault, size_fault, sender_fault}
 use Rattle.timing_base.specs.Grouped.{IsGrouped, IsGroupedOutcome, ExpectsAfterFirst, AreGrouped, IsGroupedVerdict}
 use Rattle.timing_base.specs.Grouped.{IsSized, EachSized}
 use Rattle.timing_base.proofs.FirstFaults.{no_fault-at}
@@ -42,7 +42,7 @@ adjacent packets pt k d e h =
     let none : fault packets pt (k + 1) ≡ None = no_fault-at packets pt (length packets) (k + 1) e h in
     let less : (k + 1) - 1 ≡ k = omega arith in
     let back : (packet packets ((k + 1) - 1)).at ≤ (packet packets (k + 1)).at =
-        not_back (k + 1) (packet packets (k + 1)).at (packet packets ((k + 1) - 1)).at (none-order packets pt (k + 1) none).1 (omega arith) in
+    not_back (k + 1) (packet packets (k + 1)).at (packet packets ((k + 1) - 1)).at (none-order packets pt (k + 1) none).1 (omega arith) in
     let before : packet packets ((k + 1) - 1) ≡ get_or packets k d = ap (packet packets) less ∙ grind (arith, common_steps) in
     let here : packet packets (k + 1) ≡ get_or packets (k + 1) d = grind (arith, common_steps) in
     subst (λ (p : FlowPacket). p.at ≤ (get_or packets (k + 1) d).at) before (subst (λ (p : FlowPacket). (packet packets ((k + 1) - 1)).at ≤ p.at) here back)
@@ -66,7 +66,7 @@ early-all tai packets h all = All-map (λ at. at < 2 ^ 62) (stamp_of tai) packet
 -- a judged run of a flow with no fault
 pub run-grouped : (packets : List FlowPacket) (tai from to : ℕ) → to ≤ length packets → length packets < 2 ^ 41 → tai ≤ 1000 → AreStamped packets
     → IsNonDecreasingBy (λ (p : FlowPacket). p.at) packets → IsSized to (markers packets from to) → 2 ≤ length (markers packets from to)
-        → IsGrouped (judged_run packets tai from to)
+    → IsGrouped (judged_run packets tai from to)
 run-grouped packets tai from to within few h all rise sized two =
     let marks = markers packets from to in
     let a = slice_index marks 0 + 1 in
@@ -141,7 +141,7 @@ runs-grouped packets tai outcome each =
     let all = runs-to packets tai outcome each n (omega arith) in
     subst (All (λ (run : FlowRun). IsGroupedOutcome run.outcome)) (sym (all.are n))
     (All-push (λ (run : FlowRun). IsGroupedOutcome run.outcome) all.done (run_at packets tai (last_place (0 ∷ cuts packets n)) n) all.grouped
-        (outcome (last_place (0 ∷ cuts packets n)) n (omega arith) (each n (omega arith))))
+    (outcome (last_place (0 ∷ cuts packets n)) n (omega arith) (each n (omega arith))))
 
 pub length-runs_between : (packets : List FlowPacket) (tai to from : ℕ) (places : List ℕ) → length (runs_between packets tai to from places) ≡ length places + 1
 length-runs_between packets tai to from [] = refl
@@ -158,10 +158,10 @@ later_expected : (packets : List FlowPacket) (tai to from : ℕ) (places : List 
     → All (λ (run : FlowRun). IsSome run.expected) (runs_between packets tai to from places)
 later_expected packets tai to from [] h all =
     All-cons (λ (run : FlowRun). IsSome run.expected) (run_at packets tai from to) [] (some_expected packets tai from to h)
-        (All-nil (λ (run : FlowRun). IsSome run.expected))
+    (All-nil (λ (run : FlowRun). IsSome run.expected))
 later_expected packets tai to from (cut ∷ rest) h all =
     All-cons (λ (run : FlowRun). IsSome run.expected) (run_at packets tai from cut) (runs_between packets tai to cut rest)
-        (some_expected packets tai from cut h)
+    (some_expected packets tai from cut h)
     (later_expected packets tai to cut rest (All-head (λ (k : ℕ). 0 < k) cut rest all) (All-tail (λ (k : ℕ). 0 < k) cut rest all))
 
 pub first_expected : (packets : List FlowPacket) (tai to : ℕ) (places : List ℕ) → All (λ k. 0 < k) places
@@ -186,7 +186,7 @@ cuts-case : (packets : List FlowPacket) (pt i : ℕ) (b : Bool) → is_cut packe
 cuts-case packets pt i true e none before = subst FewCuts (sym (cuts-here packets i e)) record {
   few =
       let most : length (cuts packets i) < 1024 =
-          not_many _ (ap (λ b. b && nat_le 1024 (length (cuts packets i))) (sym e) ∙ (none-order packets pt i none).0) in
+      not_many _ (ap (λ b. b && nat_le 1024 (length (cuts packets i))) (sym e) ∙ (none-order packets pt i none).0) in
       omega (arith, most, length-append (cuts packets i) (i ∷ []));
   later = All-push (λ (k : ℕ). 0 < k) (cuts packets i) i before.later (cut_later i _ e);
 }
@@ -196,7 +196,7 @@ pub few_cuts : (packets : List FlowPacket) (pt : ℕ) → first_fault packets pt
 few_cuts packets pt e zero h = record { few = omega arith; later = All-nil (λ (k : ℕ). 0 < k) }
 few_cuts packets pt e (suc i) h =
     let next = cuts-case packets pt i (is_cut packets i) refl (no_fault-at packets pt (length packets) i e (omega arith))
-        (few_cuts packets pt e i (omega arith)) in
+    (few_cuts packets pt e i (omega arith)) in
     rw add-one at next
 
 runs-case : (packets : List FlowPacket) (tai : ℕ) (b : Bool) → (b ≡ true → IsGroupedOutcome (run_outcome packets tai 0 (length packets)))

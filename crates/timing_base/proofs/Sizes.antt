@@ -1,13 +1,13 @@
 -- The sizes of groups where no packet has a fault.
-use Rattle.std.proofs.Common.{◌≡◌, ◌≢◌, ◌≤◌, ◌<◌, ◌+◌, ◌-◌, ◌*◌, ℕ, suc, Bool, true, false, List, [], ◌∷◌, ◌++◌, length, Option, Some, None, refl, arith, ap,
-    ◌∙◌, sym, subst, ◌&&◌, ◌||◌}
+use Rattle.std.proofs.Common.{◌≡◌, ◌≢◌, ◌≤◌, ◌<◌, ◌+◌, ◌-◌, ◌*◌, ℕ, suc, Bool, true, false, List, [], ◌∷◌, ◌++◌, length, Option, Some, None, refl, arith, ap}
+use Rattle.std.proofs.Common.{◌∙◌, sym, subst, ◌&&◌, ◌||◌}
 use Rattle.std.specs.Prelude.{nat_le, nat_lt, slice_index, ◌==◌}
 use Rattle.std.proofs.lemmas.Grind.{common_steps}
 use Rattle.std.proofs.lemmas.Bool.Decides.{nat_tests}
 use Rattle.timing_base.specs.declared.packet.FlowPacket.{FlowPacket}
 use Rattle.timing_base.specs.declared.packet.PacketFault.{PacketFault}
-use Rattle.timing_base.specs.Flows.{last_place, is_cut, cuts, markers, markers_before, run_start, has_marker, group_len, place_in_group, fault, fault_if,
-    first_of, is_other_size, is_too_large, size_fault, order_fault, sender_fault}
+use Rattle.timing_base.specs.Flows.{last_place, is_cut, cuts, markers, markers_before, run_start, has_marker, group_len, place_in_group, fault, fault_if}
+use Rattle.timing_base.specs.Flows.{first_of, is_other_size, is_too_large, size_fault, order_fault, sender_fault}
 use Rattle.timing_base.specs.Grouped.{IsSized}
 use Rattle.timing_base.proofs.Places.{last_place-push, run_start-other, run_start-cut, markers-here, markers-other, places-none}
 
@@ -118,7 +118,7 @@ pub small_here : (packets : List FlowPacket) (pt i : ℕ) → fault packets pt i
 small_here packets pt i e s one =
     let place : place_in_group (markers_before packets i) i ≢ 262145 = not_large _ _ (none-sizes packets pt i e).1 one in
     let last : last_place (markers_before packets i) ≡ slice_index (markers_before packets i) 0 =
-        ap (λ n. slice_index (markers_before packets i) (n - 1)) one in
+    ap (λ n. slice_index (markers_before packets i) (n - 1)) one in
     let most = s.first one in
     omega (arith, place, last, most)
 
@@ -128,7 +128,7 @@ pub short_here : (packets : List FlowPacket) (pt i : ℕ) → fault packets pt i
     → i ≤ last_place (markers_before packets i) + group_len (markers_before packets i)
 short_here packets pt i e s two =
     let other = not_other (length (markers_before packets i)) (place_in_group (markers_before packets i) i)
-        (group_len (markers_before packets i)) _ (none-sizes packets pt i e).0 two in
+    (group_len (markers_before packets i)) _ (none-sizes packets pt i e).0 two in
     let next = s.next two in
     let later = s.later two in
     let differs : place_in_group (markers_before packets i) i ≢ group_len (markers_before packets i) + 1 = other.0 in
@@ -140,7 +140,7 @@ pub whole_here : (packets : List FlowPacket) (pt i : ℕ) → fault packets pt i
     → i ≡ last_place (markers_before packets i) + group_len (markers_before packets i)
 whole_here packets pt i e s marked two =
     let other = not_other (length (markers_before packets i)) (place_in_group (markers_before packets i) i)
-        (group_len (markers_before packets i)) _ (none-sizes packets pt i e).0 two in
+    (group_len (markers_before packets i)) _ (none-sizes packets pt i e).0 two in
     let most = short_here packets pt i e s two in
     let later = s.later two in
     let least : group_len (markers_before packets i) ≤ place_in_group (markers_before packets i) i = other.1 marked in

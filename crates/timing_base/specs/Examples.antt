@@ -10,17 +10,26 @@ use Rattle.timing_base.specs.declared.packet.PacketFault.{PacketFault}
 
 -- a packet by record, stamp, packet number, RTP timestamp and marker
 abbrev pub sent : ℕ → ℕ → ℕ → ℕ → Bool → FlowPacket
-sent rec at number timestamp marker = record { rec = rec; at = at;
-    rtp = Ok record { number = number; timestamp = timestamp; marker = marker; pt = 96; ssrc = 7 } }
+sent rec at number timestamp marker = record {
+  rec = rec;
+  at = at;
+  rtp = Ok record { number = number; timestamp = timestamp; marker = marker; pt = 96; ssrc = 7 };
+}
 
 -- the same from another source, and with another payload type
 abbrev pub sent_by : ℕ → ℕ → ℕ → ℕ → ℕ → Bool → FlowPacket
-sent_by ssrc rec at number timestamp marker = record { rec = rec; at = at;
-    rtp = Ok record { number = number; timestamp = timestamp; marker = marker; pt = 96; ssrc = ssrc } }
+sent_by ssrc rec at number timestamp marker = record {
+  rec = rec;
+  at = at;
+  rtp = Ok record { number = number; timestamp = timestamp; marker = marker; pt = 96; ssrc = ssrc };
+}
 
 abbrev pub sent_as : ℕ → ℕ → ℕ → ℕ → ℕ → Bool → FlowPacket
-sent_as pt rec at number timestamp marker = record { rec = rec; at = at;
-    rtp = Ok record { number = number; timestamp = timestamp; marker = marker; pt = pt; ssrc = 7 } }
+sent_as pt rec at number timestamp marker = record {
+  rec = rec;
+  at = at;
+  rtp = Ok record { number = number; timestamp = timestamp; marker = marker; pt = pt; ssrc = 7 };
+}
 
 -- a record of a capture, without bytes
 abbrev pub captured : (number stamp : ℕ) → Record

@@ -4,15 +4,16 @@
 -- each gap in the packet numbers, is this project's profile.
 -- Packets count from 0 here. A stamp is the capture's, in nanoseconds; a timestamp is that of RTP, in ticks
 -- of 90 kHz, and one for all packets of a frame or field.
-use Rattle.std.specs.Prelude.{◌≡◌, ◌<◌, ℕ, zero, suc, Bool, false, not, ◌&&◌, ◌||◌, ◌+◌, ◌-◌, ◌%◌, ◌^◌, ◌==◌, nat_lt,
-    nat_le, if◌then◌else◌, List, [], ◌∷◌, ◌++◌, length, slice_index, slice_index_or, Option, Some, None, Result, Ok,
-    Err, All}
+use Rattle.std.specs.Prelude.{◌≡◌, ◌<◌, ℕ, zero, suc, Bool, false, not, ◌&&◌, ◌||◌, ◌+◌, ◌-◌, ◌%◌, ◌^◌, ◌==◌, nat_lt}
+use Rattle.std.specs.Prelude.{nat_le, if◌then◌else◌, List, [], ◌∷◌, ◌++◌, length, slice_index, slice_index_or, Option}
+use Rattle.std.specs.Prelude.{Some, None, Result, Ok, Err, All}
 use Rattle.timing_base.specs.Captures.{IsStamp}
 use Rattle.timing_base.specs.declared.packet.Rtp.{Rtp}
 use Rattle.timing_base.specs.declared.packet.FlowPacket.{FlowPacket}
 use Rattle.timing_base.specs.declared.packet.PacketFault.{PacketFault}
-use Rattle.timing_base.specs.declared.packet.PacketFault.TheVariants.{Short, PayloadType, SecondSource, Number,
-    StampBack, NoMarker, SameStamp, FrameSize, FrameTooLarge}
+use Rattle.timing_base.specs.declared.packet.PacketFault.TheVariants.{Short, PayloadType, SecondSource, Number}
+use Rattle.timing_base.specs.declared.packet.PacketFault.TheVariants.{StampBack, NoMarker, SameStamp, FrameSize}
+use Rattle.timing_base.specs.declared.packet.PacketFault.TheVariants.{FrameTooLarge}
 
 -- the places from one on and below another at which the test holds, rising
 abbrev pub places : (ℕ → Bool) → ℕ → ℕ → List ℕ

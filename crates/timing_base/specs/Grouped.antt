@@ -1,11 +1,11 @@
 -- What holds of every flow that is judged: whole groups of one size, and stamps that never fall.
-use Rattle.std.specs.Prelude.{◌≡◌, ◌≤◌, ◌<◌, ◌+◌, ◌*◌, ◌-◌, ◌^◌, ℕ, List, [], ◌∷◌, length, slice_index, All, IsSome,
-    None, ⊤}
+use Rattle.std.specs.Prelude.{◌≡◌, ◌≤◌, ◌<◌, ◌+◌, ◌*◌, ◌-◌, ◌^◌, ℕ, List, [], ◌∷◌, length, slice_index, All, IsSome}
+use Rattle.std.specs.Prelude.{None, ⊤}
 use Rattle.std.specs.List.Sorted.{IsNonDecreasing}
 use Rattle.timing_base.specs.declared.packet.FlowPacket.{FlowPacket}
 use Rattle.timing_base.specs.Flows.{cuts, markers, last_place, group_len}
-use Rattle.timing_base.specs.Judged.{JudgedRun, RunOutcome, no_whole_frame, whole_frames, FlowRun, FlowVerdict, absent,
-    refused, gap, in_one_run, in_runs}
+use Rattle.timing_base.specs.Judged.{JudgedRun, RunOutcome, no_whole_frame, whole_frames, FlowRun, FlowVerdict, absent}
+use Rattle.timing_base.specs.Judged.{refused, gap, in_one_run, in_runs}
 
 -- the judged packets are whole groups of one size, in the order of their stamps
 pub record IsGrouped (run : JudgedRun) : Type 0 where

@@ -1,13 +1,13 @@
 -- What is judged of a flow: the runs between its cuts, and in each the packets of whole groups.
 -- In a run the packets up to and including the first marker are the head, those after the last marker the
 -- tail; those between are judged. Stamps are nanoseconds; a group is a frame or a field.
-use Rattle.std.specs.Prelude.{ℕ, ◌+◌, ◌-◌, ◌*◌, ◌^◌, ◌==◌, nat_lt, if◌then◌else◌, List, [], ◌∷◌, length, map,
-    slice_index, slice_range, Option, Some, None}
+use Rattle.std.specs.Prelude.{ℕ, ◌+◌, ◌-◌, ◌*◌, ◌^◌, ◌==◌, nat_lt, if◌then◌else◌, List, [], ◌∷◌, length, map}
+use Rattle.std.specs.Prelude.{slice_index, slice_range, Option, Some, None}
 use Rattle.timing_base.specs.declared.packet.FlowPacket.{FlowPacket}
 use Rattle.timing_base.specs.declared.packet.PacketFault.{PacketFault}
 use Rattle.timing_base.specs.declared.packet.PacketFault.TheVariants.{Number}
-use Rattle.timing_base.specs.Flows.{FirstFault, packet, rtp, expected_number, cuts, markers, last_place, group_len,
-    first_fault}
+use Rattle.timing_base.specs.Flows.{FirstFault, packet, rtp, expected_number, cuts, markers, last_place, group_len}
+use Rattle.timing_base.specs.Flows.{first_fault}
 
 -- the judged packets of a run
 pub record JudgedRun : Type 0 where
@@ -103,7 +103,7 @@ refused_or packets None verdict = verdict
 abbrev pub judged_runs : List FlowPacket → ℕ → FlowVerdict
 judged_runs packets tai =
     if length (cuts packets (length packets)) == 0 then in_one_run (run_outcome packets tai 0 (length packets))
-        else in_runs (runs packets tai)
+    else in_runs (runs packets tai)
 
 -- what is judged of the packets of one media with this payload type, with so many seconds added to the stamps
 abbrev pub judged : List FlowPacket → ℕ → ℕ → FlowVerdict

@@ -9,7 +9,7 @@ abbrev pub address_text : ℕ → ℕ → List ℕ
 address_text address port =
     decimal (address / 2 ^ 24) ++ (codes "." ++ (decimal (address / 2 ^ 16 % 2 ^ 8) ++ (codes "."
     ++ (decimal (address / 2 ^ 8 % 2 ^ 8) ++ (codes "." ++ (decimal (address % 2 ^ 8)
-        ++ (codes ":" ++ decimal port)))))))
+    ++ (codes ":" ++ decimal port)))))))
 
 -- a target in that form
 abbrev pub target_text : Target → List ℕ

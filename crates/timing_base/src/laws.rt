@@ -78,6 +78,26 @@ pub fn order_faults_by_hand()
     ensures same_stamp_at_cut { fault (sent 1 0 6 0 true ∷ sent 2 0 8 0 false ∷ []) 96 1 ≡ None }
 {}
 
+/// Worked by hand: what is no fault, though it looks like one, and what is one, though it looks like none.
+pub fn near_faults_by_hand()
+    // A source with a smaller number than the first one's is another source too.
+    ensures smaller_source { judged (sent 1 0 6 0 true ∷ sent_by 6 2 0 7 1 true ∷ []) 96 0
+        ≡ refused 2 PacketFault.SecondSource }
+
+    // A timestamp may be below the one before, behind a marker alone.
+    ensures wrapped { fault (sent 1 0 6 4294967295 true ∷ sent 2 0 7 0 false ∷ []) 96 1 ≡ None }
+    ensures fallen { judged (sent 1 0 6 1 false ∷ sent 2 0 7 0 true ∷ []) 96 0
+        ≡ refused 2 PacketFault.NoMarker }
+
+    // One cut is allowed here, and a packet that goes on behind it adds none.
+    ensures behind_last_cut { fault_within 1 9 (sent 1 0 0 0 true ∷ sent 2 0 2 1 true
+        ∷ sent 3 0 3 2 true ∷ []) 96 2 ≡ None }
+
+    // A head may be longer than the largest group, which has three packets here.
+    ensures long_head { fault_within 9 3 (sent 1 0 6 0 false ∷ sent 2 0 7 0 false
+        ∷ sent 3 0 8 0 false ∷ sent 4 0 9 0 false ∷ []) 96 3 ≡ None }
+{}
+
 /// Worked by hand: the faults by the group, for groups of at most three packets where it says so.
 pub fn size_faults_by_hand()
     ensures short { judged (sent 1 0 6 0 true ∷ sent 2 0 7 1 false ∷ sent 3 0 8 1 true
@@ -156,6 +176,16 @@ pub fn cut_flows_by_hand()
           outcome = judged_twos 2 (20 ∷ 30 ∷ 40 ∷ 50 ∷ []);
         }
         ∷ record { rec = 7; number = 13; expected = Some 12; outcome = no_whole_frame 1 }
+        ∷ []) }
+{}
+
+/// Worked by hand: a flow of three runs; at the second cut the number falls.
+pub fn three_runs_by_hand()
+    ensures { judged (sent 1 10 6 100 true ∷ sent 2 20 9 101 true ∷ sent 3 30 5 102 false ∷ []) 96 0
+        ≡ in_runs (
+        record { rec = 1; number = 6; expected = None; outcome = no_whole_frame 1 }
+        ∷ record { rec = 2; number = 9; expected = Some 7; outcome = no_whole_frame 1 }
+        ∷ record { rec = 3; number = 5; expected = Some 10; outcome = no_whole_frame 1 }
         ∷ []) }
 {}
 
