@@ -1,7 +1,7 @@
 -- What a bank of judges says of the records that it was fed: each judge was fed the flow of its media. Media count
 -- from 0.
-use Rattle.std.specs.Prelude.{◌≡◌, ◌+◌, ℕ, ⊤, List, [], ◌∷◌, ◌++◌}
-use Rattle.std.proofs.Common.{subst, sym, append_assoc, append-nil}
+use Rattle.std.specs.Prelude.{◌≡◌, ◌≤◌, ◌+◌, ◌^◌, ℕ, ⊤, List, [], ◌∷◌, ◌++◌}
+use Rattle.std.proofs.Common.{arith, subst, sym, append_assoc, append-nil}
 use Rattle.timing_base.specs.Captures.{Record}
 use Rattle.timing_base.specs.Media.{Media}
 use Rattle.timing_base.specs.Targets.{target_of}
@@ -43,6 +43,13 @@ feeds_more old mid new a b first second media file tai items h =
 -- the records that were taken
 abbrev pub records : Bank → ℕ
 records bank = bank.records
+
+-- it has room for so many records more
+abbrev pub HasRoom : (number count : ℕ) → Bank → Type 0
+HasRoom number count bank = records bank + count ≤ 2 ^ 41
+
+pub room_less : (number few many : ℕ) (bank : Bank) → few ≤ many → HasRoom number many bank → HasRoom number few bank
+room_less number few many bank less room = omega (arith, less, room)
 
 -- the bank was fed some records, and no others
 abbrev pub IsFed : (old new : Bank) → Type 0

@@ -75,15 +75,27 @@ impl Bank {
 }
 
 impl Taker for Bank {
-    ghost use Rattle.flow_bank.specs.Stands.{Feeds, feeds_more, feeds_none, records};
+    ghost use Rattle.flow_bank.specs.Stands.{Feeds, HasRoom, feeds_more, feeds_none, room_less};
+    ghost use Rattle.pcap_reader.specs.Taken.{StopsAnyhow};
+
+    /// Want of memory.
+    type Stop = OutOfMemory;
 
     ghost takes = { Feeds };
 
-    ghost given = { records };
+    ghost stops = { StopsAnyhow };
+
+    ghost room = { HasRoom };
 
     ghost none = { feeds_none };
 
     ghost more = { feeds_more };
+
+    ghost ends = { λ _ _ _ _ _ _ _ _. tt };
+
+    ghost halts = { λ _ _ _ _ _ _. tt };
+
+    ghost less = { room_less };
 
     #[inline(always)]
     fn take(&mut self, number: u64, at: u64, frame: &[u8]) -> Result<(), OutOfMemory> {

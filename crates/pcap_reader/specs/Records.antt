@@ -4,14 +4,14 @@
 -- This project's profile: a fraction is below a second, at most 262,144 bytes are captured, a
 -- capture has at most `most` bytes; which of several faults is the first, and that nothing comes
 -- behind it.
-use Rattle.std.specs.Prelude.{◌≡◌, ◌≢◌, ⊤, ℕ, ◌+◌, ◌*◌, ◌^◌, ◌==◌, nat_lt, if◌then◌else◌, List, [], ◌∷◌, length, take, drop, Option, Some, None, Result, Ok, Err}
+use Rattle.std.specs.Prelude.{◌≡◌, ⊤, ℕ, ◌+◌, ◌*◌, ◌^◌, ◌==◌, nat_lt, if◌then◌else◌, List, [], ◌∷◌, length, take, drop, Option, Some, None, Result, Ok, Err}
 use Rattle.timing_base.specs.Captures.{Record}
 use Rattle.timing_base.specs.declared.capture.PcapFault.{PcapFault}
 use Rattle.timing_base.specs.declared.capture.PcapFault.TheVariants.{ReadFault, BadStamp, BadLength, TooLong}
 use Rattle.pcap_reader.specs.declared.layout.Fraction.{Fraction}
 use Rattle.pcap_reader.specs.declared.layout.Layout.{Layout}
 use Rattle.timing_base.specs.declared.capture.FileNote.{FileNote}
-use Rattle.timing_base.specs.declared.capture.FileNote.TheVariants.{End, Cut, Refused, Stopped}
+use Rattle.timing_base.specs.declared.capture.FileNote.TheVariants.{End, Cut, Refused}
 use Rattle.pcap_reader.specs.Header.{number, nanos, per_second, header}
 
 -- the whole seconds of the record at the front of a rest
@@ -89,7 +89,3 @@ UnlessReadFault note P = P
 abbrev pub OnReadFault : FileNote → Type 0 → Type 0
 OnReadFault (Refused ReadFault) P = P
 OnReadFault note P = Unit {0}
-
--- a note that a reader gives: it takes no memory, so it is never stopped for want of it
-abbrev pub IsGiven : FileNote → Type 0
-IsGiven note = note ≢ Stopped

@@ -1,10 +1,10 @@
 -- Which records of a capture were taken. `takes` says of what took them that by these records and no others the first
 -- became the second; their numbers are raised by `before`, the records before this capture.
-use Rattle.std.specs.Prelude.{◌≡◌, ◌≤◌, ℕ, List, [], ◌∷◌, ◌++◌, length, map, Option, Some, None}
+use Rattle.std.specs.Prelude.{◌≡◌, ◌≤◌, ℕ, ⊤, List, [], ◌∷◌, ◌++◌, length, map, Option, Some, None}
 use Rattle.timing_base.specs.Captures.{Record, raised}
 use Rattle.timing_base.specs.declared.capture.FileNote.{FileNote}
 use Rattle.pcap_reader.specs.declared.reader.PcapReader.{PcapReader}
-use Rattle.pcap_reader.specs.Readers.{WillGive}
+use Rattle.pcap_reader.specs.Readers.{GivesNote, WillGive}
 
 -- some records were taken, at most so many
 pub record TakesFew {T : Type 0} (takes : T → T → List Record → Type 0) (most : ℕ) (old new : T) : Type 0 where
@@ -12,16 +12,30 @@ pub record TakesFew {T : Type 0} (takes : T → T → List Record → Type 0) (m
   pub few : length items ≤ most
   pub taken : takes old new items
 
--- a record was taken off what the reader was to give, with its number raised; or there is no record more
-abbrev pub TakesNext : {S T : Type 0} → (left : S → Option (List ℕ)) → (takes : T → T → List Record → Type 0) → (before : ℕ) → (old new : T)
-    → PcapReader S → Option FileNote → List Record → FileNote → Type 0
+-- what took them stopped, which says nothing of the records
+abbrev pub StopsAnyhow : {T E : Type 0} → (old new : T) → E → List Record → Type 0
+StopsAnyhow old new stop items = ⊤
+
+-- of these records so many were taken, up to an end with this note: all, unless a read failed
+pub record HasTaken {T : Type 0} (takes : T → T → List Record → Type 0) (before : ℕ) (old new : T)
+    (note : FileNote) (count : ℕ) (items : List Record) (end : FileNote) : Type 0 where
+  pub taken : List Record
+  pub rest : List Record
+  pub whole : items ≡ taken ++ rest
+  pub ends : GivesNote note rest end
+  pub count_is : length taken ≡ count
+  pub fed : takes old new (map (raised before) taken)
+
+-- a record was taken off what the reader was to give; or there is no record more
+abbrev pub TakesNext : {S T : Type 0} → (left : S → Option (List ℕ)) → (takes : T → T → List Record → Type 0)
+    → (before : ℕ) → (old new : T) → PcapReader S → Option FileNote → List Record → FileNote → Type 0
 TakesNext left takes before old new reader None items end = (item : Record) × (later : List Record) × (items ≡ item ∷ later)
     × WillGive left reader later end × takes old new (raised before item ∷ [])
-TakesNext left takes before old new reader (Some note) items end = (items ≡ []) × (note ≡ end)
+TakesNext left takes before old new reader (Some note) items end = GivesNote note items end
 
--- so many records were taken off what the reader was to give, with their numbers raised; the others are still to come
-pub record HasTaken {S T : Type 0} (left : S → Option (List ℕ)) (takes : T → T → List Record → Type 0) (before : ℕ) (old new : T)
-    (reader : PcapReader S) (count : ℕ) (items : List Record) (end : FileNote) : Type 0 where
+-- so many records were taken off what the reader was to give; the others are still to come
+pub record HasBegun {S T : Type 0} (left : S → Option (List ℕ)) (takes : T → T → List Record → Type 0) (before : ℕ)
+    (old new : T) (reader : PcapReader S) (count : ℕ) (items : List Record) (end : FileNote) : Type 0 where
   pub taken : List Record
   pub rest : List Record
   pub whole : items ≡ taken ++ rest

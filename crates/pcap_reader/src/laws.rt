@@ -5,7 +5,7 @@ ghost use Rattle.std.specs.Prelude.{◌≡◌, ◌≢◌, ◌^◌, ◌+◌, ◌*
 ghost use Rattle.timing_base.specs.Captures.{Record};
 ghost use Rattle.timing_base.specs.declared.capture.PcapFault.TheVariants.{ReadFault, BadMagic, BadVersion, BadLink, BadStamp, BadLength, TooLong};
 ghost use Rattle.timing_base.specs.declared.capture.FileNote.{FileNote};
-ghost use Rattle.timing_base.specs.declared.capture.FileNote.TheVariants.{End, Cut, Refused, Stopped};
+ghost use Rattle.timing_base.specs.declared.capture.FileNote.TheVariants.{End, Cut, Refused};
 ghost use Rattle.pcap_reader.specs.Records.{Records};
 ghost use Rattle.pcap_reader.specs.Examples.{little_micros, little_nanos, big_micros, big_nanos, little_record, big_record, changed, head, zero_bytes, one_byte, most_bytes, too_many_bytes, last_micro, million, last_nano, milliard};
 
@@ -23,11 +23,9 @@ pub fn only_list()
         → Records text most xs d → Records text most ys e → d ≡ e }
 {}
 
-/// A text ends neither for want of memory nor by a failed read.
+/// No text ends by a failed read.
 pub fn ends_by_itself()
-    ensures memory { (text : List ℕ) (most : ℕ) (items : List Record) (note : FileNote)
-        → Records text most items note → note ≢ Stopped }
-    ensures read { (text : List ℕ) (most : ℕ) (items : List Record) (note : FileNote)
+    ensures { (text : List ℕ) (most : ℕ) (items : List Record) (note : FileNote)
         → Records text most items note → note ≢ Refused ReadFault }
 {}
 

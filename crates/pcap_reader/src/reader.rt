@@ -1,11 +1,9 @@
 //! The reader, which lends one frame after the other.
 
 ghost use Rattle.std.specs.Prelude.{◌≡◌, ◌≤◌, ◌^◌, List, ℕ, Some, None, Ok, Err, IfOk, IfErr, IfSome, MatchResult, drop};
-ghost use Rattle.std.specs.Option.{ForSome};
 ghost use Rattle.timing_base.specs.Captures.{Record};
 ghost use Rattle.timing_base.specs.declared.capture.PcapFault.TheVariants as fault;
 ghost use Rattle.timing_base.specs.declared.capture.FileNote.TheVariants as file_note;
-ghost use Rattle.pcap_reader.specs.Records.{IsGiven};
 
 use crate::layout::Layout;
 use crate::stage::{Head, Stage};
@@ -89,20 +87,18 @@ impl<S: Source> PcapReader<S> {
         match self.find() {
             Ok(head) => Ok(Step::Frame {
                 at: head.at,
-                bytes: self.window.last(head.captured),
+                bytes: self.frame(head),
             }),
             Err(FileNote::End) => Ok(Step::End),
             Err(FileNote::Cut { at }) => Ok(Step::Cut { at }),
             Err(FileNote::Refused(fault)) => Err(fault),
-            Err(FileNote::Stopped) => unreachable!(),
         }
     }
 
     /// How the records ended, where they have: what the last answer of `next` said, if it was no
-    /// frame. A reader takes no memory, so it is never `Stopped`.
+    /// frame.
     pub fn note(&self) -> Option<FileNote>
         ensures note { result ≡ end_note self.now }
-        ensures given { ForSome result IsGiven }
     {
         self.window.note()
     }
@@ -121,6 +117,7 @@ impl<S: Source> PcapReader<S> {
     ghost use Rattle.pcap_reader.specs.Header.{header};
     ghost use Rattle.pcap_reader.specs.Records.{RecordsFrom};
     ghost use Rattle.pcap_reader.specs.Readers.{ahead, end_note};
+    ghost use Rattle.pcap_reader.specs.Windows.{last_bytes};
     ghost use Rattle.pcap_reader.specs.Finding.{Holds, HeaderIs, FoundGives, FoundCounts, Moves, OnRose, Finds};
     ghost use Rattle.pcap_reader.specs.declared.stage.Stage.TheVariants as stage;
 
@@ -166,7 +163,6 @@ impl<S: Source> PcapReader<S> {
         ensures stage { IfOk result (λ layout. self.new.window.stage ≡ stage.Records layout) }
         ensures moves { Moves S.left S.name S.faults self.old self.new }
         ensures failed { OnRose S.faults self.old self.new result }
-        ensures given { IfErr result IsGiven }
     {
         if !self.hold(24)? {
             return Err(FileNote::Refused(PcapFault::BadMagic));
@@ -192,7 +188,6 @@ impl<S: Source> PcapReader<S> {
         ensures stage { self.new.window.stage ≡ self.old.window.stage }
         ensures moves { Moves S.left S.name S.faults self.old self.new }
         ensures failed { OnRose S.faults self.old self.new result }
-        ensures given { IfErr result IsGiven }
     {
         if !self.hold(16)? {
             return Err(if self.window.len() == 0 {
@@ -220,7 +215,6 @@ impl<S: Source> PcapReader<S> {
         // After an end nothing is taken, and that is the answer.
         ensures same { (note : _) → end_note self.old ≡ Some note → self.new ≡ self.old }
         ensures again { (note : _) → end_note self.old ≡ Some note → result ≡ Err note }
-        ensures given { IfErr result IsGiven }
     {
         match self.window.stage {
             Stage::Header => {
@@ -249,14 +243,22 @@ impl<S: Source> PcapReader<S> {
         Some(head)
     }
 
+    /// The captured bytes of the record that was found last.
+    #[inline(always)]
+    pub(crate) fn frame(&self, head: Head) -> &[u8]
+        requires { head.captured ≤ self.now.window.start }
+        ensures { result.now ≡ last_bytes head.captured self.now.window }
+    {
+        self.window.last(head.captured)
+    }
+
     /// Finds the next record, or says how all ended, and keeps that.
     #[inline(always)]
-    fn find(&mut self) -> Result<Head, FileNote>
+    pub(crate) fn find(&mut self) -> Result<Head, FileNote>
         ensures finds { Finds S.left S.name S.faults self.old self.new result }
         ensures tells { MatchResult result (λ _. end_note self.new ≡ None)
             (λ note. end_note self.new ≡ Some note) }
         ensures again { (note : _) → end_note self.old ≡ Some note → self.new ≡ self.old }
-        ensures given { IfErr result IsGiven }
     {
         match self.read_front() {
             Some(head) => Ok(head),
@@ -264,7 +266,7 @@ impl<S: Source> PcapReader<S> {
         }
     }
 
-    /// The same, for a record that isn't held whole, or none.
+    /// Finds a record that isn't held whole, or none.
     #[cold]
     #[inline(never)]
     fn find_other(&mut self) -> Result<Head, FileNote>
@@ -272,7 +274,6 @@ impl<S: Source> PcapReader<S> {
         ensures tells { MatchResult result (λ _. end_note self.new ≡ None)
             (λ note. end_note self.new ≡ Some note) }
         ensures again { (note : _) → end_note self.old ≡ Some note → self.new ≡ self.old }
-        ensures given { IfErr result IsGiven }
     {
         let found = self.advance();
         if let Err(note) = found {

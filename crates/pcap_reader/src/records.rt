@@ -1,25 +1,24 @@
 //! The records of a capture, taken one after the other.
 
-ghost use Rattle.std.specs.Prelude.{◌≡◌, ◌≢◌, ◌≤◌, ◌<◌, ◌+◌, ◌*◌, ◌^◌, ℕ, List, None, Some, IfOk, IsErrOf, MatchOption, map, length};
+ghost use Rattle.std.specs.Prelude.{◌≡◌, ◌≢◌, ◌≤◌, ◌<◌, ◌+◌, ◌*◌, ◌^◌, ℕ, List, None, Some, IfOk, IfErr, MatchOption, MatchResult, map, length};
 ghost use Rattle.timing_base.specs.Captures.{Record, raised};
 ghost use Rattle.timing_base.specs.declared.capture.FileNote.TheVariants as file_note;
 ghost use Rattle.timing_base.specs.declared.capture.PcapFault.TheVariants as fault;
 ghost use Rattle.timing_outside.specs.Causes.{Rose};
 ghost use Rattle.pcap_reader.specs.Readers.{WillGive, end_note, frame_count, most_of, under};
-ghost use Rattle.pcap_reader.specs.Records.{IsGiven};
-ghost use Rattle.pcap_reader.specs.Taken.{TakesFew, TakesNext};
+ghost use Rattle.pcap_reader.specs.Taken.{HasTaken, TakesFew, TakesNext};
 
-use crate::reader::{PcapReader, Step};
+use crate::reader::PcapReader;
 use crate::taker::Taker;
-use timing_base::{FileNote, PcapFault};
-use timing_outside::{OpenFault, Source};
+use timing_base::FileNote;
+use timing_outside::Source;
 
 /// The records of a capture that were taken.
 #[derive(Clone, Copy, Debug, PartialEq, Eq)]
 pub struct Taken {
-    /// How the records end.
+    /// How the records end, or that a read failed.
     pub note: FileNote,
-    /// How many there are.
+    /// How many they are, or where a read failed those before.
     pub records: u64,
 }
 
@@ -31,75 +30,69 @@ fn take_next<S: Source, T: Taker>(
     before: u64,
     number: u64,
     taker: &mut T,
-) -> Result<Option<FileNote>, OpenFault>
+) -> Result<Option<FileNote>, T::Stop>
     requires fresh { end_note reader.old ≡ None }
     requires number { number ≡ frame_count reader.old + 1 }
     requires within { number ≤ 2 ^ 37 }
+    requires most { most_of reader.old ≤ 2 ^ 40 }
     requires before { before ≤ 2 ^ 41 }
-    requires few { T.given taker.old < 2 ^ 41 }
+    requires room { number ≤ 2 ^ 36 → T.room (before + number) 1 taker.old }
     ensures told { (items : List Record) (end : _) → WillGive S.left reader.old items end
-        → IfOk result (λ o. TakesNext S.left T.takes before taker.old taker.new reader.new o items end) }
+        → MatchResult result
+        (λ o. TakesNext S.left T.takes before taker.old taker.new reader.new o items end)
+        (λ stop. T.stops taker.old taker.new stop (map (raised before) items)) }
     ensures fed { IfOk result (λ _. TakesFew T.takes 1 taker.old taker.new) }
     ensures none { IfOk result (λ o. (note : _) → o ≡ Some note → taker.new ≡ taker.old) }
-    ensures given { IfOk result (λ o. (note : _) → o ≡ Some note → IsGiven note) }
-    ensures read { IfOk result (λ o. o ≢ Some (file_note.Refused fault.ReadFault)) }
+    ensures room { (count : ℕ) → IfOk result (λ o. o ≡ None
+        → T.room (before + number) (count + 1) taker.old → T.room (before + number + 1) count taker.new) }
     ensures fresh { IfOk result (λ o. o ≡ None → end_note reader.new ≡ None) }
     ensures number { IfOk result (λ o. MatchOption o (frame_count reader.new ≡ number)
         (λ _. frame_count reader.new + 1 ≡ number)) }
     ensures within { 16 * frame_count reader.new ≤ most_of reader.new }
     ensures most { most_of reader.new ≡ most_of reader.old }
-    ensures count { T.given taker.new + frame_count reader.old
-        ≤ T.given taker.old + frame_count reader.new }
     ensures name { S.name (under reader.new) ≡ S.name (under reader.old) }
     ensures later { S.faults (under reader.old) ≤ S.faults (under reader.new) }
-    ensures failed { IsErrOf result OpenFault.Failed
-        → Rose (S.faults (under reader.old)) (S.faults (under reader.new)) }
+    ensures failed { IfOk result (λ o. o ≡ Some (file_note.Refused fault.ReadFault)
+        → Rose (S.faults (under reader.old)) (S.faults (under reader.new))) }
 {
-    match reader.next() {
-        Ok(Step::Frame { at, bytes }) => {
-            taker.take(before + number, at, bytes)?;
+    match reader.find() {
+        Ok(head) => {
+            taker.take(before + number, head.at, reader.frame(head))?;
             Ok(None)
         }
-        Ok(Step::End) => Ok(Some(FileNote::End)),
-        Ok(Step::Cut { at }) => Ok(Some(FileNote::Cut { at })),
-        Err(PcapFault::ReadFault) => Err(OpenFault::Failed),
-        Err(fault) => Ok(Some(FileNote::Refused(fault))),
+        Err(note) => Ok(Some(note)),
     }
 }
 
 /// Takes all records of a reader that has answered none, the number of each raised by `before`, the
-/// records before this capture.
-///
-/// `Failed` comes only where a read of the source failed, and `OutOfMemory` is want of memory. After
-/// either the taker has taken some of the records, and which it took isn't known.
+/// records before this capture. They end, or a read of the source fails, or the taker stops (`Err`).
 pub fn take_records<S: Source, T: Taker>(
     reader: &mut PcapReader<S>,
     before: u64,
     taker: &mut T,
-) -> Result<Taken, OpenFault>
+) -> Result<Taken, T::Stop>
     requires fresh { end_note reader.old ≡ None }
     requires first { frame_count reader.old ≡ 0 }
     requires most { most_of reader.old ≤ 2 ^ 40 }
     requires before { before ≤ 2 ^ 41 }
-    requires few { T.given taker.old + 2 ^ 36 < 2 ^ 41 }
+    requires room { T.room (before + 1) (2 ^ 36) taker.old }
 
-    // What the reader had still to give is how the records end, how many they are, and what was taken.
+    // What the reader had still to give says which records were taken, how they end, and at which the
+    // taker stopped.
     ensures told { (items : List Record) (end : _) → WillGive S.left reader.old items end
-        → IfOk result (λ taken. (taken.note ≡ end) × (taken.records ≡ length items)
-        × T.takes taker.old taker.new (map (raised before) items)) }
+        → MatchResult result
+        (λ taken. HasTaken T.takes before taker.old taker.new taken.note taken.records items end)
+        (λ stop. T.stops taker.old taker.new stop (map (raised before) items)) }
 
     // Whatever the source tells, its records were taken and no others.
     ensures fed { IfOk result (λ _. TakesFew T.takes (2 ^ 36) taker.old taker.new) }
-    ensures given { IfOk result (λ taken. IsGiven taken.note) }
-    ensures read { IfOk result (λ taken. taken.note ≢ file_note.Refused fault.ReadFault) }
     ensures few { IfOk result (λ taken. taken.records ≤ 2 ^ 36) }
-    ensures counted { IfOk result
-        (λ taken. T.given taker.new ≤ T.given taker.old + taken.records) }
-    ensures count { T.given taker.new ≤ T.given taker.old + 2 ^ 36 }
+    ensures room { (count : ℕ) → IfOk result (λ taken. T.room (before + 1) (taken.records + count) taker.old
+        → T.room (before + taken.records + 1) count taker.new) }
     ensures name { S.name (under reader.new) ≡ S.name (under reader.old) }
     ensures later { S.faults (under reader.old) ≤ S.faults (under reader.new) }
-    ensures failed { IsErrOf result OpenFault.Failed
-        → Rose (S.faults (under reader.old)) (S.faults (under reader.new)) }
+    ensures failed { IfOk result (λ taken. taken.note ≡ file_note.Refused fault.ReadFault
+        → Rose (S.faults (under reader.old)) (S.faults (under reader.new))) }
 {
     for number in 1..u64::MAX {
         if let Some(note) = take_next(reader, before, number, taker)? {

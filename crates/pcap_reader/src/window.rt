@@ -1,8 +1,6 @@
 //! The part of a capture that is held in the buffer.
 
-ghost use Rattle.std.specs.Option.{ForSome};
 ghost use Rattle.pcap_reader.specs.Stages.{is_begun, stage_note};
-ghost use Rattle.pcap_reader.specs.Records.{IsGiven};
 ghost use Rattle.pcap_reader.specs.declared.stage.Stage.TheVariants as stage;
 ghost use Rattle.std.specs.Prelude.{◌≡◌, ◌≤◌, ◌<◌, ◌+◌, ◌-◌, ◌*◌, ◌^◌, ◌++◌, ℕ, [], IfOk, IfErr, IfSome, Some, None, IsTrue, true, false, vec_len, length, take, drop};
 
@@ -44,7 +42,6 @@ pub struct Window {
     ghost inside: { place ≤ most },
     ghost few: { 16 * count ≤ place },
     ghost taken: { place + (filled - start) ≤ most + 16 },
-    ghost given: { ForSome (stage_note stage) IsGiven },
 }
 
 impl Window {
@@ -81,7 +78,6 @@ impl Window {
     /// How all ended, where it has.
     pub fn note(&self) -> Option<FileNote>
         ensures note { result ≡ stage_note self.now.stage }
-        ensures given { ForSome result IsGiven }
     {
         match self.stage {
             Stage::Header | Stage::Records(_) => None,
@@ -130,7 +126,6 @@ impl Window {
 
     /// Says how all ended.
     pub fn settle(&mut self, note: FileNote)
-        requires { IsGiven note }
         ensures held { held_bytes self.new ≡ held_bytes self.old }
         ensures taken { taken_length self.new ≡ taken_length self.old }
         ensures count { self.new.count ≡ self.old.count }
@@ -197,7 +192,6 @@ impl Window {
             → front_note layout self.now long ≡ Some (file_note.Cut self.now.place)) }
         ensures faulty { IfErr result (λ e. (long : ℕ) → front_note layout self.now long ≡ Some e) }
         ensures read { IfErr result (λ e. OnReadFault e ⊥) }
-        ensures given { IfErr result IsGiven }
     {
         let bytes = self.peek();
         let seconds = layout.order.read_u32(bytes, 0);

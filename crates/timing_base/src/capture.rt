@@ -28,6 +28,4 @@ pub enum FileNote {
     Cut { at: u64 },
     /// The file header or the next record has this fault, or a read failed (`ReadFault`).
     Refused(PcapFault),
-    /// Memory ran out before the end, which no report tells.
-    Stopped,
 }

@@ -105,7 +105,6 @@ pub note_utf8 : (n : FileNote) → IsUtf8 (note_text n)
 note_utf8 note.End = ascii (codes "end") refl
 note_utf8 (note.Cut at) = lead (codes "cut at ") _ refl (decimal_utf8 at)
 note_utf8 (note.Refused fault) = lead (codes "refused ") _ refl (pcap_fault_utf8 fault)
-note_utf8 note.Stopped = ascii (codes "stopped") refl
 
 pub target_utf8 : (target : Target) → IsUtf8 (target_text target)
 target_utf8 target =

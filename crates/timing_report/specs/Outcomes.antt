@@ -7,7 +7,7 @@ use Rattle.timing_base.specs.Keys.{keys_of, media_of}
 use Rattle.timing_base.specs.Media.{Media}
 use Rattle.timing_base.specs.Verdicts.{Judged}
 use Rattle.timing_base.specs.declared.capture.FileNote.{FileNote}
-use Rattle.timing_base.specs.declared.capture.FileNote.TheVariants.{End, Cut, Refused, Stopped}
+use Rattle.timing_base.specs.declared.capture.FileNote.TheVariants.{End, Cut, Refused}
 use Rattle.timing_base.specs.declared.capture.PcapFault.{PcapFault}
 use Rattle.timing_base.specs.declared.capture.PcapFault.TheVariants.{ReadFault}
 use Rattle.timing_base.specs.declared.key.FlowKey.{FlowKey}
@@ -71,7 +71,6 @@ abbrev pub is_refused : FileNote → Bool
 is_refused End = false
 is_refused (Cut at) = false
 is_refused (Refused fault) = is_refused_fault fault
-is_refused Stopped = false
 
 -- the flow was judged, as one run
 abbrev pub is_judged : Verdict → Bool

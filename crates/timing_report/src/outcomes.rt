@@ -91,7 +91,7 @@ fn is_refused(note: &FileNote) -> bool
 {
     match note {
         FileNote::Refused(fault) => !matches!(fault, PcapFault::ReadFault),
-        FileNote::End | FileNote::Cut { .. } | FileNote::Stopped => false,
+        FileNote::End | FileNote::Cut { .. } => false,
     }
 }
 

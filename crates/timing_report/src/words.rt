@@ -133,7 +133,6 @@ impl fmt::Display for NoteText {
                 let fault = PcapFaultText { fault };
                 write!(f, "refused {fault}")
             }
-            FileNote::Stopped => f.write_str("stopped"),
         }
     }
 }
