@@ -4,10 +4,9 @@ use Rattle.std.specs.Prelude.{if◌then◌else◌, is_some}
 use Rattle.std.proofs.Props.{props}
 use Rattle.std.proofs.Math.Logic.{∥∥₁_elim, ∥∥₁_map}
 use Rattle.std.proofs.lemmas.List.Elements.{All-push}
-use Rattle.frame_group.specs.Placing.{answer_at, cut_at}
+use Rattle.frame_group.specs.Cuts.{answer_at, cut_at}
 use Rattle.frame_group.specs.Stands.{StandsFor as GrouperStandsFor, count_fed}
 use Rattle.frame_group.specs.declared.grouper.Grouper.{Grouper}
-use Rattle.frame_group.specs.declared.place.Placed.{Placed}
 use Rattle.timing_base.specs.Captures.{IsStamp}
 use Rattle.timing_base.specs.Flows.{AreStamped, cuts, fault, fault_if, first_fault, first_fault_below, first_of, is_cut, is_other_payload, is_second_source, last_place, order_fault, packet, reading_fault, size_fault}
 use Rattle.timing_base.specs.declared.packet.PacketFault.TheVariants.{PayloadType, SecondSource}
@@ -23,7 +22,7 @@ use Rattle.fail_interval.specs.SoFar.{Fits, SoFar, in_head, so_far_at, so_far_ne
 use Rattle.fail_interval.specs.declared.flow.Flow.{Flow}
 use Rattle.fail_interval.specs.declared.flow.OpenRun.{OpenRun}
 use Rattle.fail_interval.specs.declared.run.RunJudge.{RunJudge}
-use Rattle.fail_interval.proofs.Flows.{fault-is, goes_on-next, goes_on-so_far, packet-here, placed-is}
+use Rattle.fail_interval.proofs.Flows.{cut-answered, fault-is, goes_on-next, goes_on-so_far, packet-here}
 use Rattle.fail_interval.proofs.Limits.{fits-at}
 
 -- a packet that was read
@@ -64,28 +63,28 @@ some_cut-case true n m e = refl
 some_cut-case false n m e = cc
 
 -- what the grouper says of the packet, whatever follows
-abbrev pub IsPlaced : List FlowPacket → FlowPacket → ℕ → Placed → Type 0
-IsPlaced packets p pt placed = (rest : List FlowPacket) → Ok placed ≡ answer_at (packets ++ p ∷ rest) pt (length packets)
+abbrev pub IsAnswered : List FlowPacket → FlowPacket → ℕ → Option ℕ → Type 0
+IsAnswered packets p pt cut = (rest : List FlowPacket) → Ok cut ≡ answer_at (packets ++ p ∷ rest) pt (length packets)
 
 -- where it says that no cut stands, none does
-pub not_cut : (packets rest : List FlowPacket) (p : FlowPacket) (pt : ℕ) (placed : Placed) → IsPlaced packets p pt placed → placed.cut ≡ None
+pub not_cut : (packets rest : List FlowPacket) (p : FlowPacket) (pt : ℕ) (cut : Option ℕ) → IsAnswered packets p pt cut → cut ≡ None
     → is_cut (packets ++ p ∷ rest) (length packets) ≡ false
-not_cut packets rest p pt placed answer none =
-    let is = (placed-is (packets ++ p ∷ rest) pt (length packets) placed (answer rest)).1 in
-    no_cut-case _ _ (sym (ap (λ (q : Placed). q.cut) is) ∙ none)
+not_cut packets rest p pt cut answer none =
+    let is = (cut-answered (packets ++ p ∷ rest) pt (length packets) cut (answer rest)).1 in
+    no_cut-case _ _ (sym is ∙ none)
 
-pub is_cut-there : (packets rest : List FlowPacket) (p : FlowPacket) (pt n : ℕ) (placed : Placed) → IsPlaced packets p pt placed → placed.cut ≡ Some n
+pub is_cut-there : (packets rest : List FlowPacket) (p : FlowPacket) (pt n : ℕ) (cut : Option ℕ) → IsAnswered packets p pt cut → cut ≡ Some n
     → is_cut (packets ++ p ∷ rest) (length packets) ≡ true
-is_cut-there packets rest p pt n placed answer some =
-    let is = (placed-is (packets ++ p ∷ rest) pt (length packets) placed (answer rest)).1 in
-    some_cut-case _ _ n (sym (ap (λ (q : Placed). q.cut) is) ∙ some)
+is_cut-there packets rest p pt n cut answer some =
+    let is = (cut-answered (packets ++ p ∷ rest) pt (length packets) cut (answer rest)).1 in
+    some_cut-case _ _ n (sym is ∙ some)
 
 -- the open run with the packet is within the limits
-pub fits-next : (flow : Flow) (packets : List FlowPacket) (rec_number at : ℕ) (seen : Rtp) (placed : Placed) (open_run : OpenRun)
-    → (c : CanGoOn flow packets at) → flow.open ≡ Some open_run → placed.cut ≡ None
-    → IsPlaced packets (read_packet rec_number at seen) flow.media.pt placed
+pub fits-next : (flow : Flow) (packets : List FlowPacket) (rec_number at : ℕ) (seen : Rtp) (cut : Option ℕ) (open_run : OpenRun)
+    → (c : CanGoOn flow packets at) → flow.open ≡ Some open_run → cut ≡ None
+    → IsAnswered packets (read_packet rec_number at seen) flow.media.pt cut
     → Fits (so_far_next c.stands.so_far (at + flow.tai * 1000000000) seen.marker)
-fits-next flow packets rec_number at seen placed open_run c e none answer =
+fits-next flow packets rec_number at seen cut open_run c e none answer =
     let p = read_packet rec_number at seen in
     let all = packets ++ p ∷ [] in
     let i = length packets in
@@ -93,30 +92,30 @@ fits-next flow packets rec_number at seen placed open_run c e none answer =
     let o : IsOpen flow.media flow.tai all i (cuts all i) c.stands.so_far flow.done.items open_run =
     subst (λ x. OpensAt flow.media flow.tai all i c.stands.so_far flow.done.items x) e (c.stands.runs (p ∷ [])) in
     let is : so_far_next c.stands.so_far (at + flow.tai * 1000000000) seen.marker ≡ so_far_at all flow.tai (last_place (0 ∷ cuts all (i + 1))) (i + 1) =
-    goes_on-so_far all flow.tai i rec_number (at + flow.tai * 1000000000) seen c.stands.so_far (comes packets [] flow.tai rec_number at seen) (not_cut packets [] p flow.media.pt placed answer none) o.so_far_is in
-    let no_fault : first_fault all flow.media.pt ≡ None = ap (first_fault_below all flow.media.pt) long ∙ (placed-is all flow.media.pt i placed (answer [])).0 in
+    goes_on-so_far all flow.tai i rec_number (at + flow.tai * 1000000000) seen c.stands.so_far (comes packets [] flow.tai rec_number at seen) (not_cut packets [] p flow.media.pt cut answer none) o.so_far_is in
+    let no_fault : first_fault all flow.media.pt ≡ None = ap (first_fault_below all flow.media.pt) long ∙ (cut-answered all flow.media.pt i cut (answer [])).0 in
     let fits = fits-at all flow.media.pt flow.tai no_fault (omega (arith, long, c.few)) c.stands.seconds (stamped-more packets p c.stamped c.stamp) in
     subst Fits (ap (λ k. so_far_at all flow.tai (last_place (0 ∷ cuts all k)) k) long ∙ sym is) fits
 
 -- so the run can take it
-pub can_take : (flow : Flow) (packets : List FlowPacket) (rec_number at : ℕ) (seen : Rtp) (placed : Placed) (open_run : OpenRun)
-    → (c : CanGoOn flow packets at) → flow.open ≡ Some open_run → placed.cut ≡ None
-    → IsPlaced packets (read_packet rec_number at seen) flow.media.pt placed
+pub can_take : (flow : Flow) (packets : List FlowPacket) (rec_number at : ℕ) (seen : Rtp) (cut : Option ℕ) (open_run : OpenRun)
+    → (c : CanGoOn flow packets at) → flow.open ≡ Some open_run → cut ≡ None
+    → IsAnswered packets (read_packet rec_number at seen) flow.media.pt cut
     → CanTake flow.media open_run.judge c.stands.so_far (at + flow.tai * 1000000000) seen.marker
-can_take flow packets rec_number at seen placed open_run c e none answer =
+can_take flow packets rec_number at seen cut open_run c e none answer =
     let o : IsOpen flow.media flow.tai (packets ++ []) (length packets) (cuts (packets ++ []) (length packets)) c.stands.so_far flow.done.items open_run =
     subst (λ x. OpensAt flow.media flow.tai (packets ++ []) (length packets) c.stands.so_far flow.done.items x) e (c.stands.runs []) in
-    record { stands = o.judge; fits = fits-next flow packets rec_number at seen placed open_run c e none answer }
+    record { stands = o.judge; fits = fits-next flow packets rec_number at seen cut open_run c e none answer }
 
 -- no packet up to this one has a fault
-pub sound-next : (flow : Flow) (packets : List FlowPacket) (rec_number at : ℕ) (seen : Rtp) (placed : Placed)
-    → IsPlaced packets (read_packet rec_number at seen) flow.media.pt placed
+pub sound-next : (flow : Flow) (packets : List FlowPacket) (rec_number at : ℕ) (seen : Rtp) (cut : Option ℕ)
+    → IsAnswered packets (read_packet rec_number at seen) flow.media.pt cut
     → (rest : List FlowPacket)
     → first_fault_below ((packets ++ read_packet rec_number at seen ∷ []) ++ rest) flow.media.pt (length (packets ++ read_packet rec_number at seen ∷ [])) ≡ None
-sound-next flow packets rec_number at seen placed answer =
+sound-next flow packets rec_number at seen cut answer =
     let p = read_packet rec_number at seen in
     shift (λ all n. first_fault_below all flow.media.pt n ≡ None) packets p
-    (λ rest. (placed-is (packets ++ p ∷ rest) flow.media.pt (length packets) placed (answer rest)).0)
+    (λ rest. (cut-answered (packets ++ p ∷ rest) flow.media.pt (length packets) cut (answer rest)).0)
 
 -- a flow with other parts
 abbrev pub with_parts : Flow → Grouper → Option OpenRun → Flow
@@ -130,32 +129,32 @@ with_parts flow grouper open_run = record {
 }
 
 -- the open run goes on with the packet
-pub goes_on : (flow : Flow) (packets : List FlowPacket) (rec_number at : ℕ) (seen : Rtp) (placed : Placed) (grouper : Grouper) (open_run : OpenRun) (judge : RunJudge)
-    → flow.open ≡ Some open_run → placed.cut ≡ None
-    → IsPlaced packets (read_packet rec_number at seen) flow.media.pt placed
+pub goes_on : (flow : Flow) (packets : List FlowPacket) (rec_number at : ℕ) (seen : Rtp) (cut : Option ℕ) (grouper : Grouper) (open_run : OpenRun) (judge : RunJudge)
+    → flow.open ≡ Some open_run → cut ≡ None
+    → IsAnswered packets (read_packet rec_number at seen) flow.media.pt cut
     → GrouperStandsFor flow.media.pt grouper (packets ++ read_packet rec_number at seen ∷ [])
     → ((so_far : SoFar) → CanTake flow.media open_run.judge so_far (at + flow.tai * 1000000000) seen.marker
     → RunStandsFor flow.media judge (so_far_next so_far (at + flow.tai * 1000000000) seen.marker))
     → CanGoOn flow packets at
     → StandsFor (with_parts flow grouper (Some (record { rec = open_run.rec; number = open_run.number; expected = open_run.expected; judge = judge })))
     (packets ++ read_packet rec_number at seen ∷ [])
-goes_on flow packets rec_number at seen placed grouper open_run judge e none answer grouped fed c =
+goes_on flow packets rec_number at seen cut grouper open_run judge e none answer grouped fed c =
     let p = read_packet rec_number at seen in
     let stamp = at + flow.tai * 1000000000 in
     let more = so_far_next c.stands.so_far stamp seen.marker in
-    let stands = fed c.stands.so_far (can_take flow packets rec_number at seen placed open_run c e none answer) in
+    let stands = fed c.stands.so_far (can_take flow packets rec_number at seen cut open_run c e none answer) in
     let with_it : OpenRun = record { rec = open_run.rec; number = open_run.number; expected = open_run.expected; judge = judge } in
     record {
       seconds = c.stands.seconds;
       grouper = grouped;
-      sound = sound-next flow packets rec_number at seen placed answer;
+      sound = sound-next flow packets rec_number at seen cut answer;
       so_far = more;
       runs = shift (λ all n. OpensAt flow.media flow.tai all n more flow.done.items (Some with_it)) packets p
           (λ rest.
           let o : IsOpen flow.media flow.tai (packets ++ p ∷ rest) (length packets) (cuts (packets ++ p ∷ rest) (length packets)) c.stands.so_far flow.done.items open_run =
           subst (λ x. OpensAt flow.media flow.tai (packets ++ p ∷ rest) (length packets) c.stands.so_far flow.done.items x) e (c.stands.runs (p ∷ rest)) in
           goes_on-next flow.media (packets ++ p ∷ rest) flow.tai (length packets) rec_number stamp seen c.stands.so_far flow.done.items open_run judge
-          (comes packets rest flow.tai rec_number at seen) (not_cut packets rest p flow.media.pt placed answer none) o stands);
+          (comes packets rest flow.tai rec_number at seen) (not_cut packets rest p flow.media.pt cut answer none) o stands);
       room = c.stands.room;
     }
 
@@ -171,16 +170,16 @@ Begun flow new expected rec_number stamp seen = (all : List FlowPacket) (i : ℕ
     → OpensAt new.media new.tai all (i + 1) (so_far_next (in_head 0) stamp seen.marker) new.done.items new.open
 
 -- a run begins with the packet
-begins-from : (flow new : Flow) (packets : List FlowPacket) (rec_number at : ℕ) (seen : Rtp) (placed : Placed) (grouper : Grouper)
+begins-from : (flow new : Flow) (packets : List FlowPacket) (rec_number at : ℕ) (seen : Rtp) (cut : Option ℕ) (grouper : Grouper)
     → new.media ≡ flow.media → new.tai ≡ flow.tai → new.grouper ≡ grouper
     → (HasRoom flow → HasRoom new)
-    → ((run : OpenRun) → flow.open ≡ Some run → (n : ℕ) × (placed.cut ≡ Some n))
-    → IsPlaced packets (read_packet rec_number at seen) flow.media.pt placed
+    → ((run : OpenRun) → flow.open ≡ Some run → (n : ℕ) × (cut ≡ Some n))
+    → IsAnswered packets (read_packet rec_number at seen) flow.media.pt cut
     → GrouperStandsFor flow.media.pt grouper (packets ++ read_packet rec_number at seen ∷ [])
-    → Begun flow new placed.cut rec_number (at + flow.tai * 1000000000) seen
+    → Begun flow new cut rec_number (at + flow.tai * 1000000000) seen
     → CanGoOn flow packets at
     → StandsFor new (packets ++ read_packet rec_number at seen ∷ [])
-begins-from flow new packets rec_number at seen placed grouper media tai same_grouper room cut answer grouped begun c =
+begins-from flow new packets rec_number at seen cut grouper media tai same_grouper room opens answer grouped begun c =
     let p = read_packet rec_number at seen in
     let stamp = at + flow.tai * 1000000000 in
     let same_pt : new.media.pt ≡ flow.media.pt = ap (λ (m : Media). m.pt) media in
@@ -190,34 +189,34 @@ begins-from flow new packets rec_number at seen placed grouper media tai same_gr
       grouper = subst (λ g. GrouperStandsFor new.media.pt g (packets ++ p ∷ [])) (sym same_grouper)
           (subst (λ pt. GrouperStandsFor pt grouper (packets ++ p ∷ [])) (sym same_pt) grouped);
       sound = λ rest. subst (λ pt. first_fault_below ((packets ++ p ∷ []) ++ rest) pt (length (packets ++ p ∷ [])) ≡ None) (sym same_pt)
-          (sound-next flow packets rec_number at seen placed answer rest);
+          (sound-next flow packets rec_number at seen cut answer rest);
       so_far = more;
       runs = shift (λ all n. OpensAt new.media new.tai all n more new.done.items new.open) packets p
           (λ rest.
           begun (packets ++ p ∷ rest) (length packets) c.stands.so_far (comes packets rest flow.tai rec_number at seen)
-          (ap (λ (q : Placed). q.cut) (placed-is (packets ++ p ∷ rest) flow.media.pt (length packets) placed (answer rest)).1)
+          (cut-answered (packets ++ p ∷ rest) flow.media.pt (length packets) cut (answer rest)).1
           (starts-case (packets ++ p ∷ rest) (length packets) flow.open
-          (λ run e. let there = cut run e in is_cut-there packets rest p flow.media.pt there.0 placed answer there.1))
+          (λ run e. let there = opens run e in is_cut-there packets rest p flow.media.pt there.0 cut answer there.1))
           (c.stands.runs (p ∷ rest)));
       room = room c.stands.room;
     }
 
 -- the same after the grouper took the packet
-pub begins : (flow between new : Flow) (packets : List FlowPacket) (rec_number at : ℕ) (seen : Rtp) (placed : Placed) (grouper : Grouper)
+pub begins : (flow between new : Flow) (packets : List FlowPacket) (rec_number at : ℕ) (seen : Rtp) (cut : Option ℕ) (grouper : Grouper)
     → between ≡ with_parts flow grouper flow.open
     → new.media ≡ between.media → new.tai ≡ between.tai → new.grouper ≡ between.grouper
     → (HasRoom between → HasRoom new)
-    → ((run : OpenRun) → flow.open ≡ Some run → (n : ℕ) × (placed.cut ≡ Some n))
-    → IsPlaced packets (read_packet rec_number at seen) flow.media.pt placed
+    → ((run : OpenRun) → flow.open ≡ Some run → (n : ℕ) × (cut ≡ Some n))
+    → IsAnswered packets (read_packet rec_number at seen) flow.media.pt cut
     → GrouperStandsFor flow.media.pt grouper (packets ++ read_packet rec_number at seen ∷ [])
-    → Begun between new placed.cut rec_number (at + flow.tai * 1000000000) seen
+    → Begun between new cut rec_number (at + flow.tai * 1000000000) seen
     → CanGoOn flow packets at
     → StandsFor new (packets ++ read_packet rec_number at seen ∷ [])
-begins flow between new packets rec_number at seen placed grouper is media tai same_grouper room cut answer grouped begun c =
-    begins-from flow new packets rec_number at seen placed grouper
+begins flow between new packets rec_number at seen cut grouper is media tai same_grouper room opens answer grouped begun c =
+    begins-from flow new packets rec_number at seen cut grouper
     (media ∙ ap (λ (f : Flow). f.media) is) (tai ∙ ap (λ (f : Flow). f.tai) is) (same_grouper ∙ ap (λ (f : Flow). f.grouper) is)
-    (subst (λ (f : Flow). HasRoom f → HasRoom new) is room) cut answer grouped
-    (subst (λ (f : Flow). Begun f new placed.cut rec_number (at + flow.tai * 1000000000) seen) is begun) c
+    (subst (λ (f : Flow). HasRoom f → HasRoom new) is room) opens answer grouped
+    (subst (λ (f : Flow). Begun f new cut rec_number (at + flow.tai * 1000000000) seen) is begun) c
 
 -- what is known of some packets of the flow
 abbrev pub Known : Flow → ℕ → Type 0
@@ -239,14 +238,14 @@ pub seconds-known : (flow : Flow) (at : ℕ) → Known flow at → flow.tai ≤ 
 seconds-known flow at known = ∥∥₁_elim known (hlevel props) (λ (packets, c). c.stands.seconds)
 
 -- the open run can take the packet
-pub take-known : (flow : Flow) (rec_number at : ℕ) (seen : Rtp) (placed : Placed) (open_run : OpenRun) → flow.open ≡ Some open_run → placed.cut ≡ None
-    → ((packets : List FlowPacket) → GrouperStandsFor flow.media.pt flow.grouper packets → IsPlaced packets (read_packet rec_number at seen) flow.media.pt placed)
+pub take-known : (flow : Flow) (rec_number at : ℕ) (seen : Rtp) (cut : Option ℕ) (open_run : OpenRun) → flow.open ≡ Some open_run → cut ≡ None
+    → ((packets : List FlowPacket) → GrouperStandsFor flow.media.pt flow.grouper packets → IsAnswered packets (read_packet rec_number at seen) flow.media.pt cut)
     → Known flow at
     → ∥ ((so_far : SoFar) × CanTake flow.media open_run.judge so_far (at + flow.tai * 1000000000) seen.marker) ∥₁
-take-known flow rec_number at seen placed open_run e none answer known =
-    ∥∥₁_map known (λ (packets, c). (c.stands.so_far, can_take flow packets rec_number at seen placed open_run c e none (answer packets c.stands.grouper)))
+take-known flow rec_number at seen cut open_run e none answer known =
+    ∥∥₁_map known (λ (packets, c). (c.stands.so_far, can_take flow packets rec_number at seen cut open_run c e none (answer packets c.stands.grouper)))
 
--- a packet that is not placed has the first fault
+-- a packet that is answered with a fault has the first one
 pub ends : (flow : Flow) (packets rest : List FlowPacket) (rec_number at : ℕ) (seen : Rtp) (fault : PacketFault) → CanGoOn flow packets at
     → Err fault ≡ answer_at (packets ++ read_packet rec_number at seen ∷ rest) flow.media.pt (length packets)
     → has_fault (packets ++ read_packet rec_number at seen ∷ rest) flow.media.pt (length packets) fault

@@ -4,8 +4,7 @@ use Rattle.std.specs.Prelude.{if◌then◌else◌, nat_lt, ◌&&◌, ◌==◌}
 use Rattle.std.proofs.Math.Seq.{get_or-append_seam}
 use Rattle.std.proofs.lemmas.Bool.Decides.{nat_tests}
 use Rattle.std.proofs.lemmas.List.{map-append}
-use Rattle.frame_group.specs.Placing.{answer_at, cut_at, placed_at, unless_fault}
-use Rattle.frame_group.specs.declared.place.Placed.{Placed}
+use Rattle.frame_group.specs.Cuts.{answer_at, cut_at, unless_fault}
 use Rattle.timing_base.specs.Flows.{FirstFault, cuts, earlier_or, expected_number, fault, first_fault_below, has_marker, is_cut, last_place, no_packet, packet, read_or_zeros, rtp}
 use Rattle.timing_base.specs.Judged.{expected_at, run_at, run_outcome, runs_between}
 use Rattle.timing_base.specs.Media.{Media}
@@ -28,28 +27,28 @@ use Rattle.fail_interval.proofs.Runs.{outcome-so_far, so_far_at-next, so_far_at-
 pub packet-here : (packets rest : List FlowPacket) (p : FlowPacket) → packet (packets ++ p ∷ rest) (length packets) ≡ p
 packet-here packets rest p = get_or-append_seam packets p rest no_packet
 
-answer-case : (first : Option FirstFault) (placed here : Placed) → Ok placed ≡ unless_fault first here → (first ≡ None) × (placed ≡ here)
-answer-case None placed here e = (refl, cc)
-answer-case (Some first) placed here e = cc
+answer-case : (first : Option FirstFault) (cut here : Option ℕ) → Ok cut ≡ unless_fault first here → (first ≡ None) × (cut ≡ here)
+answer-case None cut here e = (refl, cc)
+answer-case (Some first) cut here e = cc
 
--- a packet that is placed has no fault
-pub placed-is : (packets : List FlowPacket) (pt i : ℕ) (placed : Placed) → Ok placed ≡ answer_at packets pt i
-    → (first_fault_below packets pt (i + 1) ≡ None) × (placed ≡ placed_at packets i)
-placed-is packets pt i placed e = answer-case _ _ _ e
+-- a packet that is answered with its cut has no fault
+pub cut-answered : (packets : List FlowPacket) (pt i : ℕ) (cut : Option ℕ) → Ok cut ≡ answer_at packets pt i
+    → (first_fault_below packets pt (i + 1) ≡ None) × (cut ≡ cut_at packets i)
+cut-answered packets pt i cut e = answer-case _ _ _ e
 
-earlier-case : (first : Option FirstFault) (n : ℕ) (here : Option PacketFault) (placed : Placed) (f : PacketFault) → first ≡ None
-    → Err f ≡ unless_fault (earlier_or first n here) placed → earlier_or first n here ≡ Some record { index = n; fault = f }
-earlier-case None n None placed f none e = cc
-earlier-case None n (Some fault_here) placed f none e = let same : fault_here ≡ f = cc in ap (λ g. Some (record { index = n; fault = g })) same
-earlier-case (Some first) n here placed f none e = cc
+earlier-case : (first : Option FirstFault) (n : ℕ) (here : Option PacketFault) (cut : Option ℕ) (f : PacketFault) → first ≡ None
+    → Err f ≡ unless_fault (earlier_or first n here) cut → earlier_or first n here ≡ Some record { index = n; fault = f }
+earlier-case None n None cut f none e = cc
+earlier-case None n (Some fault_here) cut f none e = let same : fault_here ≡ f = cc in ap (λ g. Some (record { index = n; fault = g })) same
+earlier-case (Some first) n here cut f none e = cc
 
--- the first packet that isn't placed has the first fault
+-- the first packet that is answered with a fault has it
 pub fault-is : (packets : List FlowPacket) (pt i : ℕ) (f : PacketFault) → first_fault_below packets pt i ≡ None → Err f ≡ answer_at packets pt i → has_fault packets pt i f
 fault-is packets pt i f none e =
     let next : i + 1 ≡ suc i = omega arith in
-    let told : Err f ≡ unless_fault (first_fault_below packets pt (suc i)) (placed_at packets i) =
-    e ∙ ap (λ k. unless_fault (first_fault_below packets pt k) (placed_at packets i)) next in
-    ap (first_fault_below packets pt) next ∙ earlier-case (first_fault_below packets pt i) i (fault packets pt i) (placed_at packets i) f none told
+    let told : Err f ≡ unless_fault (first_fault_below packets pt (suc i)) (cut_at packets i) =
+    e ∙ ap (λ k. unless_fault (first_fault_below packets pt k) (cut_at packets i)) next in
+    ap (first_fault_below packets pt) next ∙ earlier-case (first_fault_below packets pt i) i (fault packets pt i) (cut_at packets i) f none told
 
 -- a run by its parts
 abbrev with_judge : OpenRun → RunJudge → OpenRun

@@ -1,5 +1,6 @@
 -- A judge is fed one packet, and answers its row.
-use Rattle.std.proofs.Common.{◌≡◌, ◌<◌, ◌+◌, ◌^◌, ℕ, List, [], ◌∷◌, ◌++◌, length, length-append, Some, Ok, Result, arith, ap, ◌∙◌, refl, sym, subst}
+use Rattle.std.proofs.Common.{◌≡◌, ◌<◌, ◌+◌, ◌^◌, ℕ, List, [], ◌∷◌, ◌++◌, length, length-append, Some, Ok, Err, Result, arith, ap, ◌∙◌, refl, sym, subst}
+use Rattle.std.specs.Prelude.{IsErr, IsOk}
 use Rattle.std.proofs.Math.Logic.{∥∥₁_map}
 use Rattle.timing_base.specs.Captures.{IsStamp}
 use Rattle.timing_base.specs.Flows.{first_fault_below, packet}
@@ -13,7 +14,7 @@ use Rattle.timing_base.specs.declared.row.Row.{Row}
 use Rattle.timing_base.specs.declared.row.Verdict.{Verdict}
 use Rattle.timing_base.proofs.FirstFaults.{fault-kept}
 use Rattle.fail_interval.specs.Flowing.{CanGoOn, EndsBy, StandsFor as FlowStandsFor, Took, has_fault}
-use Rattle.fail_interval.specs.Goings.{GoesOn}
+use Rattle.fail_interval.specs.Goings.{GoesOn, Refuses}
 use Rattle.fail_interval.specs.Row.{row, verdict_of}
 use Rattle.fail_interval.specs.Stands.{StandsFor, Takes}
 use Rattle.fail_interval.specs.States.{IsAt, IsFedTo, IsKnown, IsRefused}
@@ -72,12 +73,14 @@ at-flow : (m : Media) (tai at : ℕ) (state : State) (flow : Flow) (packets : Li
 at-flow m tai at state flow packets e is = subst (IsAt m tai packets) e is
 
 -- a call that took a packet of a judge that isn't spent
-took : {T E : Type 0} (value : T) (rec at : ℕ) (rtp : Result Rtp PacketFault) (judge : FlowJudge) (state : State) (known : ∥ IsKnown (judge.fed + 1) state ∥₁)
+took : {T E : Type 0} (result : Result T E) (rec at : ℕ) (rtp : Result Rtp PacketFault) (judge : FlowJudge) (state : State) (known : ∥ IsKnown (judge.fed + 1) state ∥₁)
+    → IsOk result
     → (judge.state ≡ Spent → ⊥)
     → ((m : Media) (key : FlowKey) (tai : ℕ) (packets : List FlowPacket) → StandsFor m key tai judge packets
     → StandsFor m key tai (judge_by judge.key (judge.fed + 1) state known) (packets ++ fed_packet rec at rtp ∷ []))
-    → Takes {T = T} {E = E} judge (judge_by judge.key (judge.fed + 1) state known) (fed_packet rec at rtp) (Ok value)
-took value rec at rtp judge state known goes_on stands = record {
+    → Takes judge (judge_by judge.key (judge.fed + 1) state known) (fed_packet rec at rtp) result
+took (Err cause) rec at rtp judge state known ok goes_on stands = cc
+took (Ok value) rec at rtp judge state known ok goes_on stands = record {
   fed = refl;
   stands = stands;
   spends = tt;
@@ -91,7 +94,7 @@ pub going-more : {T E : Type 0} (value : T) (rec at : ℕ) (rtp : Result Rtp Pac
     → Took flow new (fed_packet rec at rtp)
     → Takes {T = T} {E = E} judge (judge_by judge.key (judge.fed + 1) (Going new) known) (fed_packet rec at rtp) (Ok value)
 going-more value rec at rtp judge flow new known e few stamp media seconds goes =
-    took value rec at rtp judge (Going new) known (λ spent. cc)
+    took (Ok value) rec at rtp judge (Going new) known refl (λ spent. cc)
     (λ m key tai packets s.
     let is = at-flow m tai at judge.state flow packets e s.state in
     let c : CanGoOn flow packets at = record { stands = is.2; stamped = s.stamped; stamp = stamp; few = omega (arith, s.fed, few) } in
@@ -136,12 +139,12 @@ refused-more m packets p rec fault r = record {
 }
 
 -- the flow ends with a fault
-pub refused-now : {T E : Type 0} (value : T) (rec at : ℕ) (rtp : Result Rtp PacketFault) (fault : PacketFault) (judge : FlowJudge) (flow : Flow) (state : State) (known : ∥ IsKnown (judge.fed + 1) state ∥₁)
-    → judge.state ≡ Going flow → state ≡ Refused rec fault → judge.fed < 2 ^ 41 → IsStamp at
+pub refused-now : {T E : Type 0} (result : Result T E) (rec at : ℕ) (rtp : Result Rtp PacketFault) (fault : PacketFault) (judge : FlowJudge) (flow : Flow) (state : State) (known : ∥ IsKnown (judge.fed + 1) state ∥₁)
+    → judge.state ≡ Going flow → IsOk result × (state ≡ Refused rec fault) → judge.fed < 2 ^ 41 → IsStamp at
     → EndsBy flow (fed_packet rec at rtp) fault
-    → Takes {T = T} {E = E} judge (judge_by judge.key (judge.fed + 1) state known) (fed_packet rec at rtp) (Ok value)
-refused-now value rec at rtp fault judge flow state known e ended few stamp ends =
-    took value rec at rtp judge state known (λ spent. cc)
+    → Takes judge (judge_by judge.key (judge.fed + 1) state known) (fed_packet rec at rtp) result
+refused-now result rec at rtp fault judge flow state known e (ok, ended) few stamp ends =
+    took result rec at rtp judge state known ok (λ spent. cc)
     (λ m key tai packets s.
     let is = at-flow m tai at judge.state flow packets e s.state in
     let c : CanGoOn flow packets at = record { stands = is.2; stamped = s.stamped; stamp = stamp; few = omega (arith, s.fed, few) } in
@@ -155,15 +158,54 @@ refused-now value rec at rtp fault judge flow state known e ended few stamp ends
     more m key tai rec at rtp judge state known packets stamp s (subst (IsAt m tai (packets ++ p ∷ [])) (sym ended) refused))
 
 -- it ended before
-pub refused-before : {T E : Type 0} (value : T) (rec at more_rec : ℕ) (rtp : Result Rtp PacketFault) (fault : PacketFault) (judge : FlowJudge) (known : ∥ IsKnown (judge.fed + 1) judge.state ∥₁)
-    → judge.state ≡ Refused more_rec fault → IsStamp at
-    → Takes {T = T} {E = E} judge (judge_by judge.key (judge.fed + 1) judge.state known) (fed_packet rec at rtp) (Ok value)
-refused-before value rec at more_rec rtp fault judge known e stamp =
-    took value rec at rtp judge judge.state known (λ spent. cc)
+pub refused-before : {T E : Type 0} (result : Result T E) (rec at more_rec : ℕ) (rtp : Result Rtp PacketFault) (fault : PacketFault) (judge : FlowJudge) (state : State) (known : ∥ IsKnown (judge.fed + 1) state ∥₁)
+    → judge.state ≡ Refused more_rec fault → IsOk result × (state ≡ Refused more_rec fault) → IsStamp at
+    → Takes judge (judge_by judge.key (judge.fed + 1) state known) (fed_packet rec at rtp) result
+refused-before result rec at more_rec rtp fault judge state known e (ok, stays) stamp =
+    took result rec at rtp judge state known ok (λ spent. cc)
     (λ m key tai packets s.
     let p = fed_packet rec at rtp in
     let is : IsRefused m packets more_rec fault = subst (IsAt m tai packets) e s.state in
-    more m key tai rec at rtp judge judge.state known packets stamp s (subst (IsAt m tai (packets ++ p ∷ [])) (sym e) (refused-more m packets p more_rec fault is)))
+    more m key tai rec at rtp judge state known packets stamp s (subst (IsAt m tai (packets ++ p ∷ [])) (sym stays) (refused-more m packets p more_rec fault is)))
+
+-- memory was refused before
+spent-before : {T E : Type 0} (result : Result T E) (rec at : ℕ) (rtp : Result Rtp PacketFault) (judge : FlowJudge) (state : State) (known : ∥ IsKnown (judge.fed + 1) state ∥₁)
+    → IsErr result × (state ≡ Spent)
+    → Takes judge (judge_by judge.key (judge.fed + 1) state known) (fed_packet rec at rtp) result
+spent-before (Ok value) rec at rtp judge state known (err, stays) = cc
+spent-before (Err cause) rec at rtp judge state known (err, stays) = record {
+  fed = refl;
+  stands = λ m key tai packets s. tt;
+  spends = stays;
+  stays = λ spent. err;
+}
+
+refuses-case : {T E : Type 0} (result : Result T E) (rec at : ℕ) (rtp : Result Rtp PacketFault) (fault : PacketFault) (judge : FlowJudge) (old state : State) (known : ∥ IsKnown (judge.fed + 1) state ∥₁)
+    → judge.state ≡ old → Refuses judge.state state rec fault result → judge.fed < 2 ^ 41 → IsStamp at
+    → ((flow : Flow) → EndsBy flow (fed_packet rec at rtp) fault)
+    → Takes judge (judge_by judge.key (judge.fed + 1) state known) (fed_packet rec at rtp) result
+refuses-case result rec at rtp fault judge (Going flow) state known e r few stamp ends =
+    refused-now result rec at rtp fault judge flow state known e (r.going flow e) few stamp (ends flow)
+refuses-case result rec at rtp fault judge (Refused first earlier) state known e r few stamp ends =
+    refused-before result rec at first rtp earlier judge state known e (r.refused first earlier e) stamp
+refuses-case result rec at rtp fault judge Spent state known e r few stamp ends = spent-before result rec at rtp judge state known (r.spent e)
+
+-- a packet that ends each flow by its fault
+pub refuses : {T E : Type 0} (result : Result T E) (rec at : ℕ) (rtp : Result Rtp PacketFault) (fault : PacketFault) (judge : FlowJudge) (state : State) (known : ∥ IsKnown (judge.fed + 1) state ∥₁)
+    → Refuses judge.state state rec fault result → judge.fed < 2 ^ 41 → IsStamp at
+    → ((flow : Flow) → EndsBy flow (fed_packet rec at rtp) fault)
+    → Takes judge (judge_by judge.key (judge.fed + 1) state known) (fed_packet rec at rtp) result
+refuses result rec at rtp fault judge state known r few stamp ends =
+    refuses-case result rec at rtp fault judge judge.state state known refl r few stamp ends
+
+-- of such a state nothing is to be known
+known-here : (fed : ℕ) (state : State) (rec : ℕ) (fault : PacketFault) → state ≡ Refused rec fault → ∥ IsKnown fed state ∥₁
+known-here fed state rec fault e = subst (λ s. ∥ IsKnown fed s ∥₁) (sym e) ∣ tt ∣₁
+
+pub refuses-known : {T E : Type 0} (result : Result T E) (fed rec : ℕ) (fault : PacketFault) (old state : State) → Refuses old state rec fault result → ∥ IsKnown fed state ∥₁
+refuses-known result fed rec fault (Going flow) state r = known-here fed state rec fault (r.going flow refl).1
+refuses-known result fed rec fault (Refused first earlier) state r = known-here fed state first earlier (r.refused first earlier refl).1
+refuses-known result fed rec fault Spent state r = subst (λ s. ∥ IsKnown fed s ∥₁) (sym (r.spent refl).1) ∣ tt ∣₁
 
 -- what is known where the flow ends
 pub stands-known : (fed : ℕ) (state : State) (flow : Flow) → state ≡ Going flow → ∥ IsKnown fed state ∥₁ → ∥ ((packets : List FlowPacket) × FlowStandsFor flow packets) ∥₁

@@ -1,15 +1,21 @@
+-- for other crates
 pub mod Confirmed
-pub mod Feeding
-pub mod Fit
-pub mod Flows
-pub mod Going
-pub mod Judging
-pub mod SenderTypes
-pub mod Limits
-pub mod Lulls
-pub mod Metering
-pub mod Prefixes
-pub mod Rows
-pub mod Runs
-pub mod Verdicts
-pub mod Whole
+-- of this crate alone
+mod Banks
+mod Feeding
+mod Fit
+mod Flows
+mod Going
+mod HandWorked
+mod Judges
+mod Judging
+mod Limits
+mod Lulls
+mod Metering
+mod Prefixes
+mod Readings
+mod Rows
+mod Runs
+mod SenderTypes
+mod Verdicts
+mod Whole

@@ -1,10 +1,11 @@
--- How a packet that goes on in its flow changes the state.
-use Rattle.std.specs.Prelude.{◌≡◌, ℕ, Ok}
+-- How a packet changes the state of a judge.
+use Rattle.std.specs.Prelude.{◌≡◌, ℕ, IsErr, IsOk, Ok, Result}
+use Rattle.timing_base.specs.declared.packet.PacketFault.{PacketFault}
 use Rattle.timing_base.specs.declared.packet.Rtp.{Rtp}
 use Rattle.fail_interval.specs.Flowing.{Took}
 use Rattle.fail_interval.specs.declared.flow.Flow.{Flow}
 use Rattle.fail_interval.specs.declared.judge.State.{State}
-use Rattle.fail_interval.specs.declared.judge.State.TheVariants.{Going}
+use Rattle.fail_interval.specs.declared.judge.State.TheVariants.{Going, Refused, Spent}
 
 -- a flow without a fault went on with this packet, whatever its record
 pub record GoesOn (old new : State) (at : ℕ) (rtp : Rtp) : Type 0 where
@@ -15,3 +16,9 @@ pub record GoesOn (old new : State) (at : ℕ) (rtp : Rtp) : Type 0 where
   pub media : later.media ≡ flow.media
   pub tai : later.tai ≡ flow.tai
   pub goes : (rec_number : ℕ) → Took flow later (record { rec = rec_number; at = at; rtp = Ok rtp })
+
+-- a packet with this fault came: the flow's first is kept with its record
+pub record Refuses {T E : Type 0} (old new : State) (rec : ℕ) (fault : PacketFault) (result : Result T E) : Type 0 where
+  pub going : (flow : Flow) → old ≡ Going flow → IsOk result × (new ≡ Refused rec fault)
+  pub refused : (first : ℕ) (earlier : PacketFault) → old ≡ Refused first earlier → IsOk result × (new ≡ Refused first earlier)
+  pub spent : old ≡ Spent → IsErr result × (new ≡ Spent)

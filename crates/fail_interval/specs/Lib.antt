@@ -1,11 +1,15 @@
 -- what is promised
 pub mod Row
+pub mod Rows
 pub mod Fails
 pub mod Stands
+pub mod BankStands
+pub mod Found
 -- flows that are worked by hand
 pub mod Worked
 -- these only serve proofs
 pub mod Early
+pub mod Few
 pub mod Flowing
 pub mod Goings
 pub mod Groups
@@ -15,3 +19,4 @@ pub mod Meters
 pub mod Runs
 pub mod SoFar
 pub mod States
+pub mod Taken

@@ -6,7 +6,7 @@ ghost use Rattle.timing_base.specs.Flows.{first_fault_below};
 ghost use Rattle.timing_base.specs.declared.packet.FlowPacket.{FlowPacket};
 ghost use Rattle.timing_base.specs.declared.packet.Rtp.{Rtp as RtpValue};
 ghost use Rattle.timing_base.specs.Judged.{judged};
-ghost use Rattle.frame_group.specs.Placing.{cut_at};
+ghost use Rattle.frame_group.specs.Cuts.{cut_at};
 ghost use Rattle.timing_base.specs.Media.{Media as MediaValue};
 ghost use Rattle.fail_interval.specs.Row.{verdict_of};
 ghost use Rattle.fail_interval.specs.SoFar.{SoFar, in_head, so_far_next};
@@ -145,27 +145,6 @@ impl Flow {
         Ok(())
     }
 
-    /// Takes the next packet, or answers its fault. `Err` is want of memory.
-    pub fn feed(
-        &mut self,
-        rec: u64,
-        at: u64,
-        rtp: Result<Rtp, PacketFault>,
-    ) -> Result<Option<PacketFault>, OutOfMemory>
-        requires { ∥ ((packets : List FlowPacket) × CanGoOn self.old packets at) ∥₁ }
-        ensures media { self.new.media ≡ self.old.media }
-        ensures tai { self.new.tai ≡ self.old.tai }
-        ensures goes_on { result ≡ Ok None
-            → Took self.old self.new (record { rec = rec; at = at; rtp = rtp }) }
-        ensures ends { (fault : _) → result ≡ Ok (Some fault)
-            → EndsBy self.old (record { rec = rec; at = at; rtp = rtp }) fault }
-    {
-        match rtp {
-            Ok(rtp) => self.feed_read(rec, at, rtp),
-            Err(fault) => Ok(Some(fault)),
-        }
-    }
-
     /// Takes the next packet, which was read, where it goes on in a run with the timestamp of the packet before and no
     /// marker, as most do, and answers whether it does. Else nothing changes. `Err` is want of memory.
     #[inline(always)]
@@ -179,9 +158,9 @@ impl Flow {
     {
         match &mut self.open {
             Some(open) => {
-                let Some(_) = self.grouper.feed_on(at, rtp) else {
+                if !self.grouper.feed_on(at, rtp) {
                     return Ok(false);
-                };
+                }
                 let came = at + self.tai * 1_000_000_000;
                 open.judge.feed(self.alloc, &self.media, came, rtp.marker)?;
                 Ok(true)
@@ -191,12 +170,7 @@ impl Flow {
     }
 
     /// Takes the next packet, which was read, or answers its fault. `Err` is want of memory.
-    pub fn feed_read(
-        &mut self,
-        rec: u64,
-        at: u64,
-        rtp: Rtp,
-    ) -> Result<Option<PacketFault>, OutOfMemory>
+    pub fn feed(&mut self, rec: u64, at: u64, rtp: Rtp) -> Result<Option<PacketFault>, OutOfMemory>
         requires { ∥ ((packets : List FlowPacket) × CanGoOn self.old packets at) ∥₁ }
         ensures media { self.new.media ≡ self.old.media }
         ensures tai { self.new.tai ≡ self.old.tai }
@@ -205,18 +179,18 @@ impl Flow {
         ensures ends { (fault : _) → result ≡ Ok (Some fault)
             → EndsBy self.old (record { rec = rec; at = at; rtp = Ok rtp }) fault }
     {
-        let placed = match self.grouper.feed(at, rtp) {
-            Ok(placed) => placed,
+        let cut = match self.grouper.feed(at, rtp) {
+            Ok(cut) => cut,
             Err(fault) => return Ok(Some(fault)),
         };
         let stamp = at + self.tai * 1_000_000_000;
-        if placed.cut.is_none() {
+        if cut.is_none() {
             if let Some(open) = &mut self.open {
                 open.judge.feed(self.alloc, &self.media, stamp, rtp.marker)?;
                 return Ok(None);
             }
         }
-        self.begin(placed.cut, rec, stamp, rtp.number, rtp.marker)?;
+        self.begin(cut, rec, stamp, rtp.number, rtp.marker)?;
         Ok(None)
     }
 

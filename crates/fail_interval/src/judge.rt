@@ -24,9 +24,9 @@ enum State {
 
 impl State {
     ghost use Rattle.fail_interval.specs.Flowing.{CanGoOn};
-    ghost use Rattle.fail_interval.specs.Goings.{GoesOn};
+    ghost use Rattle.fail_interval.specs.Goings.{GoesOn, Refuses};
     ghost use Rattle.fail_interval.specs.declared.flow.Flow.{Flow as FlowValue};
-    ghost use Rattle.fail_interval.specs.declared.judge.State.TheVariants.{Going, Refused, Spent};
+    ghost use Rattle.fail_interval.specs.declared.judge.State.TheVariants.{Going, Spent};
 
     /// Takes the next packet, where it goes on in its flow as most do, and answers whether it does. Else nothing
     /// changes. `Err` is want of memory.
@@ -44,13 +44,20 @@ impl State {
         }
     }
 
-    /// The flow has a fault.
+    /// A packet has a fault: the flow's, where none before it has one. `Err` is want of memory, as before.
     #[cold]
     #[inline(never)]
-    fn refuse(&mut self, rec: u64, fault: PacketFault)
-        ensures { self.new ≡ Refused rec fault }
+    fn refuse(&mut self, rec: u64, fault: PacketFault) -> Result<(), OutOfMemory>
+        ensures { Refuses self.old self.new rec fault result }
     {
-        *self = State::Refused { rec, fault };
+        match self {
+            State::Going(_) => {
+                *self = State::Refused { rec, fault };
+                Ok(())
+            }
+            State::Refused { .. } => Ok(()),
+            State::Spent => Err(OutOfMemory),
+        }
     }
 
     /// Memory was refused.
@@ -114,7 +121,7 @@ impl FlowJudge {
         }
     }
 
-    /// The same for a packet that was read.
+    /// Takes the next packet, which was read.
     #[inline(always)]
     fn feed_read(&mut self, rec: u64, at: u64, rtp: Rtp) -> Result<(), OutOfMemory>
         requires stamp { IsStamp at }
@@ -145,7 +152,7 @@ impl FlowJudge {
         self.feed_other(rec, at, other)
     }
 
-    /// The same for one that may begin or end a group, or have a fault.
+    /// Takes the next packet, which was read and may begin or end a group, or have a fault.
     #[inline(never)]
     fn feed_other(&mut self, rec: u64, at: u64, rtp: Rtp) -> Result<(), OutOfMemory>
         requires stamp { IsStamp at }
@@ -155,17 +162,14 @@ impl FlowJudge {
     {
         self.fed += 1;
         let step = match &mut self.state {
-            State::Going(flow) => flow.feed_read(rec, at, rtp),
+            State::Going(flow) => flow.feed(rec, at, rtp),
             State::Refused { .. } => return Ok(()),
             State::Spent => return Err(OutOfMemory),
         };
         match step {
             Ok(fault) => match fault {
                 None => Ok(()),
-                Some(fault) => {
-                    self.state.refuse(rec, fault);
-                    Ok(())
-                }
+                Some(fault) => self.state.refuse(rec, fault),
             },
             Err(refused) => {
                 self.state.spend();
@@ -174,35 +178,16 @@ impl FlowJudge {
         }
     }
 
-    /// The same for a packet that couldn't be read.
-    #[cold]
-    #[inline(never)]
+    /// Takes the next packet, which couldn't be read: that is its fault.
+    #[inline(always)]
     fn feed_unread(&mut self, rec: u64, at: u64, fault: PacketFault) -> Result<(), OutOfMemory>
         requires stamp { IsStamp at }
-        requires reading { IsReading (Err fault) }
         requires few { count_fed self.old < 2 ^ 41 }
 
         ensures { Takes self.old self.new (record { rec = rec; at = at; rtp = Err fault }) result }
     {
         self.fed += 1;
-        let step = match &mut self.state {
-            State::Going(flow) => flow.feed(rec, at, Err(fault)),
-            State::Refused { .. } => return Ok(()),
-            State::Spent => return Err(OutOfMemory),
-        };
-        match step {
-            Ok(fault) => match fault {
-                None => Ok(()),
-                Some(found) => {
-                    self.state.refuse(rec, found);
-                    Ok(())
-                }
-            },
-            Err(refused) => {
-                self.state.spend();
-                Err(refused)
-            }
-        }
+        self.state.refuse(rec, fault)
     }
 
     /// The row of the flow, where it ends here.

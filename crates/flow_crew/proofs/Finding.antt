@@ -20,8 +20,8 @@ use Rattle.ruled_intake.specs.declared.passes.SendPass.{SendPass}
 use Rattle.ruled_intake.specs.declared.rule.Entry.{Entry}
 use Rattle.verdict_book.specs.declared.book.Book.{Book}
 use Rattle.verdict_book.specs.declared.book.Receipt.{Receipt}
-use Rattle.flow_bank.specs.Found.{AreFound}
-use Rattle.flow_bank.specs.Rows.{rows_of, rows_of_files, rows_over}
+use Rattle.fail_interval.specs.Found.{AreFound}
+use Rattle.fail_interval.specs.Rows.{rows_of, rows_of_files, rows_over}
 use Rattle.flow_intake.specs.Intakes.{HasSentAll, HasTold}
 use Rattle.flow_worker.specs.Kept.{is_in_file}
 use Rattle.flow_intake.specs.Messages.{of_file}

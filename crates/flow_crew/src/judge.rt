@@ -4,8 +4,8 @@ ghost use Rattle.std.specs.Prelude.{◌≡◌, ◌≤◌, if◌then◌else◌, �
 ghost use Rattle.timing_base.specs.Keys.{keys_of};
 ghost use Rattle.timing_base.specs.Targets.{HaveOwnTargets};
 ghost use Rattle.flow_crew.specs.Gathering.{AreGathered, CanGather};
-ghost use Rattle.flow_bank.specs.Found.{AreFound};
-ghost use Rattle.flow_bank.specs.Rows.{rows_over};
+ghost use Rattle.fail_interval.specs.Found.{AreFound};
+ghost use Rattle.fail_interval.specs.Rows.{rows_over};
 ghost use Rattle.flow_crew.specs.Judging.{AreBack, AreTexts, IsWhole, is_whole};
 ghost use Rattle.flow_crew.specs.Threads.{AreWorkJobs, AreWorked};
 ghost use Rattle.intake_crew.specs.Threads.{AreIntakeJobs, AreRead, IsAsked, setting_of};

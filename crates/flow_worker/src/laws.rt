@@ -4,7 +4,7 @@
 ghost use Rattle.std.specs.Prelude.{◌≡◌, ◌++◌, ◌∷◌, [], List, IsTrue, length, map, true, false};
 ghost use Rattle.timing_base.specs.declared.key.FlowKey.{FlowKey};
 ghost use Rattle.udp_rtp.specs.TwoFlows.{packet_at};
-ghost use Rattle.flow_bank.specs.Rows.{rows_of_files};
+ghost use Rattle.fail_interval.specs.Rows.{rows_of_files};
 ghost use Rattle.timing_base.specs.Keys.{key_of};
 ghost use Rattle.flow_intake.specs.Examples.{second_of_first, second_of_second, two_files, two_workers};
 ghost use Rattle.flow_worker.specs.Examples.{all_steps, early_steps, later_steps};

@@ -7,7 +7,7 @@ use Rattle.timing_base.specs.declared.packet.FlowPacket.{FlowPacket}
 use Rattle.timing_base.specs.declared.packet.PacketFault.{PacketFault}
 use Rattle.timing_base.specs.declared.packet.PacketFault.TheVariants.{PayloadType, SecondSource, NoMarker, SameStamp}
 use Rattle.timing_base.specs.declared.packet.Rtp.{Rtp}
-use Rattle.frame_group.specs.Placing.{cut_at}
+use Rattle.frame_group.specs.Cuts.{cut_at}
 use Rattle.frame_group.specs.Reads.{IsRead}
 
 -- what was read of the packet

@@ -1,17 +1,15 @@
 -- While no packet has a fault, each stands in a group of the right size.
-use Rattle.std.proofs.Common.{◌≡◌, ◌≤◌, ◌<◌, ◌+◌, ◌-◌, ℕ, zero, suc, Bool, true, false, List, [], ◌∷◌, ◌++◌, length, Option, Some, None, refl, ap, ◌∙◌, sym, arith, add-one, inl, inr}
-use Rattle.std.specs.Prelude.{◌==◌, if◌then◌else◌, slice_index}
-use Rattle.std.proofs.lemmas.Bool.Decides.{nat_tests}
+use Rattle.std.proofs.Common.{◌≡◌, ◌≤◌, ◌+◌, ◌-◌, ℕ, zero, suc, List, [], ◌∷◌, ◌++◌, length, Option, Some, None, refl, ap, ◌∙◌, sym, arith, add-one, inl, inr}
+use Rattle.std.specs.Prelude.{slice_index}
 use Rattle.std.proofs.lemmas.Bool.{cases_lt}
-use Rattle.timing_base.specs.Flows.{FirstFault, cuts, earlier_or, fault, first_fault_below, group_len, has_marker, last_place, markers, markers_before, place_in_group, run_start}
+use Rattle.timing_base.specs.Flows.{FirstFault, cuts, earlier_or, fault, first_fault_below, group_len, last_place, markers, markers_before, place_in_group, run_start}
 use Rattle.timing_base.specs.Grouped.{IsSized}
 use Rattle.timing_base.specs.declared.packet.FlowPacket.{FlowPacket}
 use Rattle.timing_base.specs.declared.packet.PacketFault.{PacketFault}
 use Rattle.timing_base.proofs.FirstFaults.{no_fault-at}
 use Rattle.timing_base.proofs.Places.{markers-here}
 use Rattle.timing_base.proofs.Sizes.{short_here, sized-enter, sized-next, sized-nil, small_here, whole_here}
-use Rattle.frame_group.specs.Sizes.{GroupsAreSized, IsOfSize, IsPlaceOfSize}
-use Rattle.frame_group.specs.declared.place.Place.TheVariants.{Head, Frame}
+use Rattle.frame_group.specs.Sizes.{GroupsAreSized, IsOfSize}
 
 none-before : (first : Option FirstFault) (n : ℕ) (here : Option PacketFault) → earlier_or first n here ≡ None → first ≡ None
 none-before None n here e = refl
@@ -30,10 +28,6 @@ sized-below packets pt (suc i) e =
 sized-at : (packets : List FlowPacket) (pt i : ℕ) → first_fault_below packets pt i ≡ None → IsSized i (markers_before packets i)
 sized-at packets pt i e = sized-enter packets i _ refl (sized-below packets pt i e)
 
-no_marks : (xs : List ℕ) → length xs ≡ 0 → xs ≡ []
-no_marks [] e = refl
-no_marks (x ∷ xs) e = absurd (omega arith)
-
 first-len : (marks : List ℕ) (i : ℕ) → length marks ≡ 1 → group_len (marks ++ i ∷ []) ≡ i - last_place marks
 first-len [] i e = absurd (omega arith)
 first-len (m ∷ []) i e = refl
@@ -44,41 +38,27 @@ last-one marks e = ap (λ n. slice_index marks (n - 1)) e
 
 -- packet i stands in a group
 of-size : (packets : List FlowPacket) (pt i : ℕ) → fault packets pt i ≡ None → IsSized i (markers_before packets i) → 1 ≤ length (markers_before packets i)
-    → IsOfSize packets i (length (markers_before packets i) - 1) (place_in_group (markers_before packets i) i - 1) (has_marker packets i)
+    → IsOfSize packets i (markers_before packets i) (place_in_group (markers_before packets i) i)
 of-size packets pt i e s some = record {
-  small = elim (cases_lt 1 (length (markers_before packets i))) as (λ _. place_in_group (markers_before packets i) i - 1 < 262144) [
+  small = elim (cases_lt 1 (length (markers_before packets i))) as (λ _. place_in_group (markers_before packets i) i ≤ 262144) [
     | inl two ↦ omega (arith, s.few two, short_here packets pt i e s two, s.later two)
     | inr one ↦
         let only : length (markers_before packets i) ≡ 1 = omega (arith, one, some) in
         omega (arith, small_here packets pt i e s only, last-one (markers_before packets i) only, s.begun some)
   ];
-  within = λ later. let two : 2 ≤ length (markers_before packets i) = omega (arith, later) in omega (arith, short_here packets pt i e s two, s.later two);
-  whole = λ later marked.
-      let two : 2 ≤ length (markers_before packets i) = omega (arith, later) in
-      omega (arith, whole_here packets pt i e s marked two, s.later two);
-  first = λ none marked.
-      let only : length (markers_before packets i) ≡ 1 = omega (arith, none, some) in
+  within = λ two. omega (arith, short_here packets pt i e s two, s.later two);
+  whole = λ two marked. omega (arith, whole_here packets pt i e s marked two, s.later two);
+  first = λ only marked.
       let here : group_len (markers packets (run_start packets i) (i + 1)) ≡ i - last_place (markers_before packets i) =
       ap group_len (markers-here packets i marked) ∙ first-len (markers_before packets i) i only in
       omega (arith, here, last-one (markers_before packets i) only, s.begun some);
 }
 
-some_marks : (n : ℕ) → (n == 0) ≡ false → 1 ≤ n
-some_marks n e = grind (arith, nat_tests)
-
-zero_marks : (n : ℕ) → (n == 0) ≡ true → n ≡ 0
-zero_marks n e = grind (arith, nat_tests)
-
-place-case : (packets : List FlowPacket) (pt i : ℕ) (b : Bool) → fault packets pt i ≡ None → IsSized i (markers_before packets i) → (length (markers_before packets i) == 0) ≡ b
-    → IsPlaceOfSize packets i (if b then Head else Frame (length (markers_before packets i) - 1) (place_in_group (markers_before packets i) i - 1) (has_marker packets i))
-place-case packets pt i true e s none = no_marks (markers_before packets i) (zero_marks (length (markers_before packets i)) none)
-place-case packets pt i false e s some = of-size packets pt i e s (some_marks (length (markers_before packets i)) some)
-
 -- the law
 pub place-sized : GroupsAreSized
-place-sized packets pt i e =
+place-sized packets pt i e some =
     let here : fault packets pt i ≡ None = no_fault-at packets pt (i + 1) i e (omega arith) in
     let next : i + 1 ≡ suc i = omega arith in
     let last : first_fault_below packets pt (suc i) ≡ None = ap (first_fault_below packets pt) (sym next) ∙ e in
     let before : first_fault_below packets pt i ≡ None = none-before (first_fault_below packets pt i) i (fault packets pt i) last in
-    place-case packets pt i (length (markers_before packets i) == 0) here (sized-at packets pt i before) refl
+    of-size packets pt i here (sized-at packets pt i before) some

@@ -8,14 +8,12 @@ use Rattle.timing_base.specs.declared.packet.PacketFault.{PacketFault}
 use Rattle.timing_base.specs.declared.packet.Rtp.{Rtp}
 use Rattle.timing_base.proofs.Places.{cuts-here, cuts-other, markers-here, markers-other, places-none, run_start-cut, run_start-other}
 use Rattle.frame_group.specs.Marks.{IsIn}
-use Rattle.frame_group.specs.Placing.{answer_at, cut_at, place_after, placed_at, unless_fault}
+use Rattle.frame_group.specs.Cuts.{answer_at, cut_at, unless_fault}
 use Rattle.frame_group.specs.Reads.{GoesAfter, IsRead}
 use Rattle.frame_group.specs.Stands.{Keeps, StandsBefore, StandsFor, count_fed, what}
 use Rattle.frame_group.specs.declared.before.Before.{Before}
 use Rattle.frame_group.specs.declared.group.Group.{Group}
 use Rattle.frame_group.specs.declared.grouper.Grouper.{Grouper}
-use Rattle.frame_group.specs.declared.place.Place.{Place}
-use Rattle.frame_group.specs.declared.place.Placed.{Placed}
 use Rattle.frame_group.proofs.Faults.{cut-none, cut-some}
 
 -- a run begins at a cut, with no marker before
@@ -60,34 +58,25 @@ what-next packets pt i =
     let next : i + 1 ≡ suc i = omega arith in
     ap (λ n. what (first_fault_below packets pt n)) next ∙ what-first (first_fault_below packets pt i) i (fault packets pt i)
 
-err-case : (first : Option FirstFault) (f : PacketFault) (placed : Placed) → what first ≡ Some f → unless_fault first placed ≡ Err f
-err-case None f placed e = cc
-err-case (Some first) f placed e = let same : first.fault ≡ f = cc in ap (λ (x : PacketFault). let r : Result Placed PacketFault = Err x in r) same
+err-case : (first : Option FirstFault) (f : PacketFault) (cut : Option ℕ) → what first ≡ Some f → unless_fault first cut ≡ Err f
+err-case None f cut e = cc
+err-case (Some first) f cut e = let same : first.fault ≡ f = cc in ap (λ (x : PacketFault). let r : Result (Option ℕ) PacketFault = Err x in r) same
 
-ok-case : (first : Option FirstFault) (placed : Placed) → what first ≡ None → unless_fault first placed ≡ Ok placed
-ok-case None placed e = refl
-ok-case (Some first) placed e = cc
+ok-case : (first : Option FirstFault) (cut : Option ℕ) → what first ≡ None → unless_fault first cut ≡ Ok cut
+ok-case None cut e = refl
+ok-case (Some first) cut e = cc
 
 -- a fault with the packet is told
 pub answer-err : (packets : List FlowPacket) (pt i : ℕ) (f : PacketFault) → what (first_fault_below packets pt (i + 1)) ≡ Some f → answer_at packets pt i ≡ Err f
-answer-err packets pt i f e = err-case (first_fault_below packets pt (i + 1)) f (placed_at packets i) e
+answer-err packets pt i f e = err-case (first_fault_below packets pt (i + 1)) f (cut_at packets i) e
 
--- else the place
-pub answer-ok : (packets : List FlowPacket) (pt i : ℕ) → what (first_fault_below packets pt (i + 1)) ≡ None → answer_at packets pt i ≡ Ok (placed_at packets i)
-answer-ok packets pt i e = ok-case (first_fault_below packets pt (i + 1)) (placed_at packets i) e
-
--- the place, by its parts
-pub answer-placed : (packets : List FlowPacket) (pt i : ℕ) (cut : Option ℕ) (place : Place)
+-- else the cut
+pub answer-ok : (packets : List FlowPacket) (pt i : ℕ) (cut : Option ℕ)
     → what (first_fault_below packets pt (i + 1)) ≡ None
     → cut ≡ cut_at packets i
-    → place ≡ place_after (markers_before packets i) packets i
-    → Ok record { cut = cut; place = place } ≡ answer_at packets pt i
-answer-placed packets pt i cut place e is stands =
-    let first : record { cut = cut; place = place } ≡ record { cut = cut_at packets i; place = place } =
-    ap (λ c. let p : Placed = record { cut = c; place = place } in p) is in
-    let both : record { cut = cut; place = place } ≡ placed_at packets i =
-    first ∙ ap (λ (q : Place). let p : Placed = record { cut = cut_at packets i; place = q } in p) stands in
-    ap (λ (p : Placed). let r : Result Placed PacketFault = Ok p in r) both ∙ sym (answer-ok packets pt i e)
+    → Ok cut ≡ answer_at packets pt i
+answer-ok packets pt i cut e is =
+    ap (λ (c : Option ℕ). let r : Result (Option ℕ) PacketFault = Ok c in r) is ∙ sym (ok-case (first_fault_below packets pt (i + 1)) (cut_at packets i) e)
 
 -- the packet that is fed comes after those before it
 pub read-seam : (packets rest : List FlowPacket) (rec at : ℕ) (r : Rtp) → IsRead (packets ++ record { rec = rec; at = at; rtp = Ok r } ∷ rest) (length packets) at r

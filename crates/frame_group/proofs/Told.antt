@@ -3,22 +3,23 @@ use Rattle.std.proofs.Common.{◌≡◌, ◌+◌, ℕ, List, Option, Some, None,
 use Rattle.timing_base.specs.Flows.{FirstFault, first_fault_below}
 use Rattle.timing_base.specs.declared.packet.FlowPacket.{FlowPacket}
 use Rattle.timing_base.specs.declared.packet.PacketFault.{PacketFault}
-use Rattle.frame_group.specs.Placing.{answer_at, placed_at, unless_fault}
+use Rattle.frame_group.specs.Cuts.{answer_at, cut_at, unless_fault}
 use Rattle.frame_group.specs.Stands.{what}
-use Rattle.frame_group.specs.declared.place.Placed.{Placed}
 
-ok-case : (first : Option FirstFault) (placed p : Placed) → unless_fault first placed ≡ Ok p → (first ≡ None) × (p ≡ placed)
-ok-case None placed p e = (refl, cc)
-ok-case (Some first) placed p e = cc
+ok-case : (first : Option FirstFault) (cut c : Option ℕ) → unless_fault first cut ≡ Ok c → (first ≡ None) × (c ≡ cut)
+ok-case None cut c e = (refl, cc)
+ok-case (Some first) cut c e = cc
 
-err-case : (first : Option FirstFault) (placed : Placed) (f : PacketFault) → unless_fault first placed ≡ Err f → what first ≡ Some f
-err-case None placed f e = cc
-err-case (Some first) placed f e = cc
+err-case : (first : Option FirstFault) (cut : Option ℕ) (f : PacketFault) → unless_fault first cut ≡ Err f → what first ≡ Some f
+err-case None cut f e = cc
+err-case (Some first) cut f e = cc
 
--- a place says that no packet up to this one has a fault
-pub ok-none : (packets : List FlowPacket) (pt i : ℕ) (p : Placed) → answer_at packets pt i ≡ Ok p → (first_fault_below packets pt (i + 1) ≡ None) × (p ≡ placed_at packets i)
-ok-none packets pt i p e = ok-case (first_fault_below packets pt (i + 1)) (placed_at packets i) p e
+-- an answer without a fault says that no packet up to this one has one
+pub ok-none : (packets : List FlowPacket) (pt i : ℕ) (cut : Option ℕ) → answer_at packets pt i ≡ Ok cut
+    → (first_fault_below packets pt (i + 1) ≡ None) × (cut ≡ cut_at packets i)
+ok-none packets pt i cut e = ok-case (first_fault_below packets pt (i + 1)) (cut_at packets i) cut e
 
 -- a fault is that of the least packet that has one
-pub err-what : (packets : List FlowPacket) (pt i : ℕ) (f : PacketFault) → answer_at packets pt i ≡ Err f → what (first_fault_below packets pt (i + 1)) ≡ Some f
-err-what packets pt i f e = err-case (first_fault_below packets pt (i + 1)) (placed_at packets i) f e
+pub err-what : (packets : List FlowPacket) (pt i : ℕ) (f : PacketFault) → answer_at packets pt i ≡ Err f
+    → what (first_fault_below packets pt (i + 1)) ≡ Some f
+err-what packets pt i f e = err-case (first_fault_below packets pt (i + 1)) (cut_at packets i) f e

@@ -1,5 +1,5 @@
 -- what is promised
-pub mod Placing
+pub mod Cuts
 pub mod Sizes
 pub mod Stands
 -- what a grouper keeps, of which `Stands` is made

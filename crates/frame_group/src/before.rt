@@ -4,14 +4,14 @@ ghost use Rattle.std.specs.Prelude.{◌≡◌, ◌≤◌, ◌<◌, ◌+◌, ◌^
 ghost use Rattle.timing_base.specs.declared.packet.FlowPacket.{FlowPacket};
 ghost use Rattle.timing_base.specs.declared.packet.PacketFault.TheVariants.{SecondSource, NoMarker, SameStamp};
 ghost use Rattle.timing_base.specs.Flows.{cuts, fault_if, first_of, is_cut, is_second_source, lacks_marker, order_fault, repeats_timestamp};
-ghost use Rattle.frame_group.specs.Placing.{cut_at};
+ghost use Rattle.frame_group.specs.Cuts.{cut_at};
 
 use timing_base::{PacketFault, Rtp};
 
-// The most cuts that a flow may have.
+/// The most cuts that a flow may have.
 const MOST_CUTS: u64 = 1024;
 
-// What a packet is compared with: the packet before it, and the source of the flow's first.
+/// What a packet is compared with: the packet before it, and the source of the flow's first.
 #[derive(Clone, Copy, Debug, PartialEq, Eq)]
 pub struct Before {
     pub at: u64,
@@ -24,7 +24,7 @@ pub struct Before {
 impl Before {
     ghost use Rattle.frame_group.specs.Reads.{IsRead, IsAfter, ComesAfter, GoesAfter};
 
-    // Goes on to the next packet, which goes on after the one before.
+    /// Goes on to the next packet, which goes on after the one before.
     #[inline(always)]
     pub fn go_on(before: &mut Option<Before>, at: u64, rtp: Rtp)
         requires { GoesAfter before.old rtp }
@@ -37,7 +37,7 @@ impl Before {
         }
     }
 
-    // The number that would have gone on, where a cut stands at the next packet.
+    /// The number that would have gone on, where a cut stands at the next packet.
     pub fn cut(&self, rtp: Rtp) -> Option<u32>
         ensures { (packets : List FlowPacket) (i at : ℕ) → IsAfter packets i self.now
             → IsRead packets i at rtp → result ≡ cut_at packets i }
@@ -50,7 +50,7 @@ impl Before {
         }
     }
 
-    // Whether the next packet has another source than the flow's first.
+    /// Whether the next packet has another source than the flow's first.
     fn is_second_source(&self, rtp: Rtp) -> bool
         ensures { (packets : List FlowPacket) (i at : ℕ) → IsAfter packets i self.now
             → IsRead packets i at rtp → result ≡ is_second_source packets i }
@@ -58,7 +58,7 @@ impl Before {
         rtp.ssrc != self.source
     }
 
-    // The fault of the next packet by its RTP timestamp, where no cut stands at it.
+    /// The fault of the next packet by its RTP timestamp, where no cut stands at it.
     fn timestamp_fault(&self, rtp: Rtp) -> Option<PacketFault>
         ensures { (packets : List FlowPacket) (i at : ℕ) → IsAfter packets i self.now
             → IsRead packets i at rtp → is_cut packets i ≡ false
@@ -76,8 +76,8 @@ impl Before {
         })
     }
 
-    // The fault of the next packet by the packet before: a gap too many, a stamp that goes back, or a
-    // frame or field that ends without the marker or goes on after it.
+    /// The fault of the next packet by the packet before: a gap too many, a stamp that goes back, or a
+    /// frame or field that ends without the marker or goes on after it.
     fn order_fault(&self, at: u64, rtp: Rtp, cut: Option<u32>, so_far: u64) -> Option<PacketFault>
         ensures { (packets : List FlowPacket) (i : ℕ) → IsAfter packets i self.now
             → IsRead packets i at rtp → cut ≡ cut_at packets i → so_far ≡ length (cuts packets i)
@@ -97,7 +97,7 @@ impl Before {
         }
     }
 
-    // The fault of the next packet by the packets before it.
+    /// The fault of the next packet by the packets before it.
     pub fn fault(&self, at: u64, rtp: Rtp, cut: Option<u32>, so_far: u64) -> Option<PacketFault>
         ensures { (packets : List FlowPacket) (i : ℕ) → IsAfter packets i self.now
             → IsRead packets i at rtp → cut ≡ cut_at packets i → so_far ≡ length (cuts packets i)

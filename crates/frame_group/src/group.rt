@@ -4,22 +4,20 @@ ghost use Rattle.std.specs.Prelude.{◌≡◌, ◌≤◌, ◌<◌, ◌+◌, ◌^
 ghost use Rattle.std.specs.Option.{ForSome};
 ghost use Rattle.timing_base.specs.declared.packet.FlowPacket.{FlowPacket};
 ghost use Rattle.timing_base.specs.Flows.{has_marker, markers_before, size_fault};
-ghost use Rattle.frame_group.specs.Placing.{IsInRange, place_after};
 
-use crate::place::Place;
 use timing_base::PacketFault;
 
-// The most packets that a group may have.
+/// The most packets that a group may have.
 const MOST_IN_GROUP: u32 = 262_144;
 
-// A group before one of its packets.
+/// A group before one of its packets.
 #[derive(Clone, Copy, Debug, PartialEq, Eq)]
 pub struct Group {
-    // The groups before it in its run.
+    /// The groups before it in its run.
     pub frame: u64,
-    // The packets that it has so far.
+    /// The packets that it has so far.
     pub place: u32,
-    // The most packets that it may have: those of the first group, which itself has only a limit.
+    /// The most packets that it may have: those of the first group, which itself has only a limit.
     pub most: u32,
     ghost within: { place ≤ most },
     ghost few: { most ≤ 262144 },
@@ -28,7 +26,7 @@ pub struct Group {
 impl Group {
     ghost use Rattle.frame_group.specs.Marks.{IsGroup, IsIn};
 
-    // The first group of a run, after the marker that begins it.
+    /// The first group of a run, after the marker that begins it.
     fn first() -> Group
         ensures is { (i : ℕ) → IsGroup (i ∷ []) (i + 1) result }
         ensures frame { result.frame ≡ 0 }
@@ -40,8 +38,8 @@ impl Group {
         }
     }
 
-    // The fault of the next packet: its group has another size than the first one, or is the first
-    // and gets too large.
+    /// The fault of the next packet: its group has another size than the first one, or is the first
+    /// and gets too large.
     fn fault(&self, last: bool) -> Option<PacketFault>
         ensures is { (packets : List FlowPacket) (i : ℕ)
             → IsGroup (markers_before packets i) i self.now → has_marker packets i ≡ last
@@ -65,7 +63,7 @@ impl Group {
         None
     }
 
-    // After the next packet, which may be the last of the group.
+    /// After the next packet, which may be the last of the group.
     fn after(self, last: bool) -> Group
         requires fits { self.place < self.most }
         requires few { self.frame < 2 ^ 62 }
@@ -90,7 +88,7 @@ impl Group {
         }
     }
 
-    // Goes on with the next packet, which isn't the last of the group.
+    /// Goes on with the next packet, which isn't the last of the group.
     #[inline(always)]
     pub fn go_on_in(group: &mut Option<Group>)
         requires fits { ForSome group.old (λ g. g.place < g.most) }
@@ -103,7 +101,7 @@ impl Group {
         }
     }
 
-    // The fault of the next packet by its group, if it stands in one.
+    /// The fault of the next packet by its group, if it stands in one.
     pub fn fault_in(group: Option<Group>, last: bool) -> Option<PacketFault>
         ensures is { (packets : List FlowPacket) (i : ℕ)
             → IsIn (markers_before packets i) i group → has_marker packets i ≡ last
@@ -116,24 +114,7 @@ impl Group {
         }
     }
 
-    // Where the next packet stands.
-    pub fn place_in(group: Option<Group>, last: bool) -> Place
-        requires fits { ForSome group (λ g. g.place < g.most) }
-        ensures is { (marks : List ℕ) (packets : List FlowPacket) (i : ℕ) → IsIn marks i group
-            → has_marker packets i ≡ last → result ≡ place_after marks packets i }
-        ensures in_range { (n : ℕ) → ForSome group (λ g. g.frame < n) → IsInRange n result }
-    {
-        match group {
-            None => Place::Head,
-            Some(group) => Place::Frame {
-                frame: group.frame,
-                place: group.place,
-                last,
-            },
-        }
-    }
-
-    // The group of the packet after the next one.
+    /// The group of the packet after the next one.
     pub fn after_in(group: Option<Group>, last: bool) -> Option<Group>
         requires fits { ForSome group (λ g. g.place < g.most) }
         requires few { ForSome group (λ g. g.frame < 2 ^ 62) }

@@ -5,11 +5,10 @@ ghost use Rattle.std.specs.Option.{ForSome};
 ghost use Rattle.timing_base.specs.declared.packet.FlowPacket.{FlowPacket};
 ghost use Rattle.timing_base.specs.Flows.{cuts, fault, fault_if, first_of, is_second_source, markers_before, order_fault};
 ghost use Rattle.timing_base.specs.declared.packet.PacketFault.TheVariants.{SecondSource};
-ghost use Rattle.frame_group.specs.Placing.{answer_at, cut_at, IsInRange};
+ghost use Rattle.frame_group.specs.Cuts.{answer_at, cut_at};
 
 use crate::before::Before;
 use crate::group::Group;
-use crate::place::{Place, Placed};
 use timing_base::{PacketFault, Rtp};
 
 /// What is kept of the packets of one flow between two of them.
@@ -20,7 +19,7 @@ pub struct Grouper {
     before: Option<Before>,
     cuts: u64,
     group: Option<Group>,
-    // The first fault of the flow: the other fields are then of no use.
+    /// The first fault of the flow: the other fields are then of no use.
     fault: Option<PacketFault>,
     ghost few_cuts: { cuts ≤ fed },
     ghost few_groups: { ForSome group (λ g. g.frame < fed) },
@@ -46,7 +45,7 @@ impl Grouper {
         }
     }
 
-    // The number that would have gone on, where a cut stands at the next packet.
+    /// The number that would have gone on, where a cut stands at the next packet.
     fn cut(&self, rtp: Rtp) -> Option<u32>
         ensures { (packets : List FlowPacket) (i at : ℕ) → Keeps packets i self.now
             → IsRead packets i at rtp → result ≡ cut_at packets i }
@@ -57,7 +56,7 @@ impl Grouper {
         }
     }
 
-    // The fault of the next packet by the packets before it, if there are any.
+    /// The fault of the next packet by the packets before it, if there are any.
     fn earlier_fault(&self, at: u64, rtp: Rtp, cut: Option<u32>) -> Option<PacketFault>
         ensures { (packets : List FlowPacket) (i : ℕ) → Keeps packets i self.now
             → IsRead packets i at rtp → cut ≡ cut_at packets i
@@ -70,7 +69,7 @@ impl Grouper {
         }
     }
 
-    // The fault of the next packet, which has this cut and stands in this group.
+    /// The fault of the next packet, which has this cut and stands in this group.
     fn fault_at(
         &self,
         at: u64,
@@ -93,7 +92,7 @@ impl Grouper {
         Group::fault_in(group, rtp.marker)
     }
 
-    // The group that the next packet stands in: at a cut a run begins.
+    /// The group that the next packet stands in: at a cut a run begins.
     fn group_at(&self, cut: Option<u32>) -> Option<Group>
         ensures is { (packets : List FlowPacket) (i : ℕ) → Keeps packets i self.now
             → cut ≡ cut_at packets i → IsIn (markers_before packets i) i result }
@@ -105,7 +104,7 @@ impl Grouper {
         }
     }
 
-    // What the packet after the next one is compared with.
+    /// What the packet after the next one is compared with.
     fn before_later(&self, at: u64, rtp: Rtp) -> Before
         ensures { (packets : List FlowPacket) (i : ℕ) → Keeps packets i self.now
             → IsRead packets i at rtp → IsAfter packets (i + 1) result }
@@ -123,7 +122,7 @@ impl Grouper {
         }
     }
 
-    // The cuts of the flow, with that of the next packet.
+    /// The cuts of the flow, with that of the next packet.
     fn cuts_with(&self, cut: Option<u32>) -> u64
         requires { self.now.fed < 2 ^ 41 }
         ensures are { (packets : List FlowPacket) (i : ℕ) → Keeps packets i self.now
@@ -136,7 +135,7 @@ impl Grouper {
         }
     }
 
-    // Goes past the next packet, which has this cut, stands in this group and has no fault.
+    /// Goes past the next packet, which has this cut, stands in this group and has no fault.
     fn pass(&mut self, at: u64, rtp: Rtp, cut: Option<u32>, group: Option<Group>)
         requires few { self.old.fed < 2 ^ 41 }
         requires fits { ForSome group (λ g. g.place < g.most) }
@@ -156,8 +155,8 @@ impl Grouper {
         self.group = Group::after_in(group, rtp.marker);
     }
 
-    // Whether the next packet goes on after the packet before, with its timestamp and no marker, and has no
-    // fault, as most do.
+    /// Whether the next packet goes on after the packet before, with its timestamp and no marker, and has no
+    /// fault, as most do.
     #[inline(always)]
     fn goes_on(&self, at: u64, rtp: Rtp) -> bool
         ensures cut { result ≡ true → (packets : List FlowPacket) (i stamp : ℕ)
@@ -180,7 +179,7 @@ impl Grouper {
         self.fault_at(at, rtp, None, self.group).is_none()
     }
 
-    // Goes past the next packet, which goes on so and has no fault.
+    /// Goes past the next packet, which goes on so and has no fault.
     #[inline(always)]
     fn go_on(&mut self, at: u64, rtp: Rtp)
         requires few { self.old.fed < 2 ^ 41 }
@@ -197,55 +196,52 @@ impl Grouper {
         self.fed += 1;
     }
 
-    /// Takes the next packet as [`Grouper::feed`] does, and answers where it stands, if it goes on after the
+    /// Takes the next packet as [`Grouper::feed`] does, and answers that it did, if it goes on after the
     /// packet before it, with the same timestamp and no marker, and has no fault, as most packets do. Else
     /// nothing changes: for callers that then go on with `feed`.
     #[inline(always)]
-    pub fn feed_on(&mut self, at: u64, rtp: Rtp) -> Option<Place>
+    pub fn feed_on(&mut self, at: u64, rtp: Rtp) -> bool
         requires few { count_fed self.old < 2 ^ 41 }
 
-        ensures other { result ≡ None → self.new ≡ self.old }
-        ensures fed { IfSome result (λ _. count_fed self.new ≡ count_fed self.old + 1) }
-        ensures unmarked { IfSome result (λ _. rtp.marker ≡ false) }
+        ensures other { result ≡ false → self.new ≡ self.old }
+        ensures fed { result ≡ true → count_fed self.new ≡ count_fed self.old + 1 }
+        ensures unmarked { result ≡ true → rtp.marker ≡ false }
 
-        // The packet's place in every flow that begins with the packets before it and goes on so: no gap
-        // stands before it.
-        ensures answer { IfSome result (λ place. (pt : ℕ) (packets rest : List FlowPacket) (rec : ℕ)
-            → StandsFor pt self.old packets
-            → Ok (record { cut = None; place = place }) ≡ answer_at
-            (packets ++ record { rec = rec; at = at; rtp = Ok rtp } ∷ rest) pt (length packets)) }
+        // No gap stands before the packet in any flow that begins with the packets before it and goes on
+        // so, and it has no fault.
+        ensures answer { result ≡ true → (pt : ℕ) (packets rest : List FlowPacket) (rec : ℕ)
+            → StandsFor pt self.old packets → Ok None ≡ answer_at
+            (packets ++ record { rec = rec; at = at; rtp = Ok rtp } ∷ rest) pt (length packets) }
 
         // Whatever packets the grouper stood for, it now stands for those and this one.
-        ensures stands { IfSome result (λ _. (pt : ℕ) (packets : List FlowPacket) (rec : ℕ)
+        ensures stands { result ≡ true → (pt : ℕ) (packets : List FlowPacket) (rec : ℕ)
             → StandsFor pt self.old packets
-            → StandsFor pt self.new (packets ++ record { rec = rec; at = at; rtp = Ok rtp } ∷ [])) }
+            → StandsFor pt self.new (packets ++ record { rec = rec; at = at; rtp = Ok rtp } ∷ []) }
     {
         if self.fault.is_some() || !self.goes_on(at, rtp) {
-            return None;
+            return false;
         }
-        let place = Group::place_in(self.group, rtp.marker);
         self.go_on(at, rtp);
-        Some(place)
+        true
     }
 
-    /// Takes the next packet of the flow, captured at `at` in nanoseconds, and answers where it stands,
-    /// or its fault: the first that holds, in the order of [`PacketFault`]. After a fault each later
-    /// packet is answered with that same fault.
+    /// Takes the next packet of the flow, captured at `at` in nanoseconds. Where a gap in the packet
+    /// numbers stands before it, the number that would have gone on is answered. `Err` is the packet's
+    /// fault: the first that holds, in the order of [`PacketFault`]. After a fault each later packet is
+    /// answered with that same fault.
     ///
     /// A packet that could not be read (`Short` or `Version`) is not fed, nor is any after it.
-    pub fn feed(&mut self, at: u64, rtp: Rtp) -> Result<Placed, PacketFault>
+    pub fn feed(&mut self, at: u64, rtp: Rtp) -> Result<Option<u32>, PacketFault>
         requires few { count_fed self.old < 2 ^ 41 }
 
         ensures fed { count_fed self.new ≡ count_fed self.old + 1 }
 
-        // The packet's place in every flow that begins with the packets before it and goes on so.
+        // The packet's cut, or its fault, in every flow that begins with the packets before it and goes
+        // on so.
         ensures answer { (pt : ℕ) (packets rest : List FlowPacket) (rec : ℕ)
             → StandsFor pt self.old packets
             → result ≡ answer_at
             (packets ++ record { rec = rec; at = at; rtp = Ok rtp } ∷ rest) pt (length packets) }
-
-        // What a caller may count on without knowing the packets before.
-        ensures in_range { IfOk result (λ placed. IsInRange (count_fed self.old) placed.place) }
 
         // Whatever packets the grouper stood for, it now stands for those and this one.
         ensures stands { (pt : ℕ) (packets : List FlowPacket) (rec : ℕ)
@@ -264,9 +260,6 @@ impl Grouper {
             return Err(fault);
         }
         self.pass(at, rtp, cut, group);
-        Ok(Placed {
-            cut,
-            place: Group::place_in(group, rtp.marker),
-        })
+        Ok(cut)
     }
 }

@@ -4,10 +4,9 @@
 ghost use Rattle.std.specs.Prelude.{◌≡◌, ◌++◌, ◌∷◌, [], None, Some, Ok, Err, true, false};
 ghost use Rattle.timing_base.specs.Examples.{sent, sent_by, two_groups, equal_low_halves};
 ghost use Rattle.timing_base.specs.Flows.{fault};
-ghost use Rattle.frame_group.specs.Placing.{answer_at};
+ghost use Rattle.frame_group.specs.Cuts.{answer_at};
 ghost use Rattle.frame_group.specs.Sizes.{GroupsAreSized};
 
-use crate::place::Place;
 use timing_base::PacketFault;
 
 /// While no packet of a flow has a fault, a group has at most 262,144 packets, and all groups of a run
@@ -16,47 +15,37 @@ pub fn groups_are_sized()
     ensures { GroupsAreSized }
 {}
 
-/// Worked by hand: a head of one packet, two groups of two, and a tail of one.
-pub fn places_by_hand()
-    ensures head { answer_at two_groups 96 0 ≡ Ok record { cut = None; place = Place.Head } }
-    ensures first { answer_at two_groups 96 1
-        ≡ Ok record { cut = None; place = Place.Frame 0 0 false } }
-    ensures last { answer_at two_groups 96 2
-        ≡ Ok record { cut = None; place = Place.Frame 0 1 true } }
-    ensures next { answer_at two_groups 96 3
-        ≡ Ok record { cut = None; place = Place.Frame 1 0 false } }
-    ensures next_last { answer_at two_groups 96 4
-        ≡ Ok record { cut = None; place = Place.Frame 1 1 true } }
-    ensures tail { answer_at two_groups 96 5
-        ≡ Ok record { cut = None; place = Place.Frame 2 0 false } }
+/// Worked by hand: a head of one packet, two groups of two, and a tail of one, with no gap and no fault.
+pub fn groups_by_hand()
+    ensures head { answer_at two_groups 96 0 ≡ Ok None }
+    ensures first { answer_at two_groups 96 1 ≡ Ok None }
+    ensures last { answer_at two_groups 96 2 ≡ Ok None }
+    ensures next { answer_at two_groups 96 3 ≡ Ok None }
+    ensures next_last { answer_at two_groups 96 4 ≡ Ok None }
+    ensures tail { answer_at two_groups 96 5 ≡ Ok None }
 
     // A head is as long as no marker has come, and its last packet has the marker.
-    ensures long_head { answer_at (sent 1 5 6 0 false ∷ sent 2 6 7 0 true ∷ []) 96 1
-        ≡ Ok record { cut = None; place = Place.Head } }
+    ensures long_head { answer_at (sent 1 5 6 0 false ∷ sent 2 6 7 0 true ∷ []) 96 1 ≡ Ok None }
 {}
 
-/// Worked by hand: a gap, its number, and the places after it.
+/// Worked by hand: a gap, and the number that would have gone on.
 pub fn cuts_by_hand()
-    ensures before { answer_at equal_low_halves 96 1
-        ≡ Ok record { cut = None; place = Place.Frame 0 0 false } }
-    ensures at { answer_at equal_low_halves 96 2
-        ≡ Ok record { cut = Some 8; place = Place.Head } }
-    ensures wraps { answer_at (sent 1 0 4294967295 0 true ∷ sent 2 0 0 1 true ∷ []) 96 1
-        ≡ Ok record { cut = None; place = Place.Frame 0 0 true } }
+    ensures before { answer_at equal_low_halves 96 1 ≡ Ok None }
+    ensures at { answer_at equal_low_halves 96 2 ≡ Ok (Some 8) }
+    ensures wraps { answer_at (sent 1 0 4294967295 0 true ∷ sent 2 0 0 1 true ∷ []) 96 1 ≡ Ok None }
     ensures wraps_not { answer_at (sent 1 0 4294967295 0 true ∷ sent 2 0 1 1 true ∷ []) 96 1
-        ≡ Ok record { cut = Some 0; place = Place.Head } }
+        ≡ Ok (Some 0) }
 
-    // Groups and places count anew after a gap, from its own first marker on.
+    // Groups count anew after a gap, from its own first marker on.
     ensures anew { answer_at (two_groups ++ (sent 7 70 13 104 true ∷ sent 8 80 14 105 false
-        ∷ sent 9 90 15 105 true ∷ [])) 96 8
-        ≡ Ok record { cut = None; place = Place.Frame 0 1 true } }
+        ∷ sent 9 90 15 105 true ∷ [])) 96 8 ≡ Ok None }
 {}
 
 /// Worked by hand: the first fault is told at its packet, and at each later one, though that has
-/// none or another. Before it places are told.
+/// none or another.
 pub fn faults_by_hand()
     ensures before { answer_at (sent 1 100 6 0 true ∷ sent 2 99 7 1 true ∷ []) 96 0
-        ≡ Ok record { cut = None; place = Place.Head } }
+        ≡ Ok None }
     ensures at { answer_at (sent 1 100 6 0 true ∷ sent 2 99 7 1 true ∷ []) 96 1
         ≡ Err (PacketFault.StampBack 100 99) }
     ensures after { answer_at (sent 1 100 6 0 true ∷ sent 2 99 7 1 true

@@ -8,7 +8,7 @@ use std::process::Abort;
 use timing_base::worked::reading;
 use timing_base::{PacketFault, Rtp};
 
-// A grouper, and how many packets it was fed.
+/// A grouper, and how many packets it was fed.
 #[derive(Clone, Copy)]
 struct Flow {
     grouper: Grouper,
@@ -24,8 +24,8 @@ impl Flow {
         }
     }
 
-    // Asserts what `feed` requires, since a proof does not follow the packets of a loop.
-    fn feed(&mut self, rt: &impl Abort, at: u64, rtp: Rtp) -> Result<Placed, PacketFault> {
+    /// Asserts what `feed` requires, since a proof does not follow the packets of a loop.
+    fn feed(&mut self, rt: &impl Abort, at: u64, rtp: Rtp) -> Result<Option<u32>, PacketFault> {
         assert!(rt; self.count < 1 << 41);
         let answer = self.grouper.feed(at, rtp);
         self.count += 1;
@@ -33,19 +33,7 @@ impl Flow {
     }
 }
 
-const IN_HEAD: Result<Placed, PacketFault> = Ok(Placed {
-    cut: None,
-    place: Place::Head,
-});
-
-fn in_group(frame: u64, place: u32, last: bool) -> Result<Placed, PacketFault> {
-    Ok(Placed {
-        cut: None,
-        place: Place::Frame { frame, place, last },
-    })
-}
-
-// When frame 0 of a capture begins whose head has this packet number, in nanoseconds.
+/// When frame 0 of a capture begins whose head has this packet number, in nanoseconds.
 fn start(number: u32) -> u64
     ensures some { 1000000 ≤ result }
     ensures few { result < 2 ^ 62 }
@@ -53,13 +41,13 @@ fn start(number: u32) -> u64
     (1_600_000_000 + u64::from(number % 1_000_000)) * 1_000_000_000
 }
 
-// Feeds a marked packet 1 ms before frame 0.
+/// Feeds a marked packet 1 ms before frame 0.
 fn feed_head(rt: &impl Abort, flow: &mut Flow, number: u32) {
     let answer = flow.feed(rt, start(number) - 1_000_000, reading(number, 0, true));
-    assert_eq!(rt; answer, IN_HEAD);
+    assert_eq!(rt; answer, Ok(None));
 }
 
-// Feeds so many packets after the head, numbers in order, in frames of 20 ms with 20 packets each.
+/// Feeds so many packets after the head, numbers in order, in frames of 20 ms with 20 packets each.
 fn feed_frames(rt: &impl Abort, flow: &mut Flow, number: u32, count: u32) {
     for j in 0..count {
         let at = start(number)
@@ -70,11 +58,7 @@ fn feed_frames(rt: &impl Abort, flow: &mut Flow, number: u32, count: u32) {
         let timestamp = (1 + j / 20).wrapping_mul(1800);
         let last = j % 20 == 19;
         let answer = flow.feed(rt, at, reading(next, timestamp, last));
-        assert_eq!(rt;
-            answer,
-            in_group(u64::from(j / 20), j % 20, last),
-            "packet {j}"
-        );
+        assert_eq!(rt; answer, Ok(None), "packet {j}");
     }
 }
 
@@ -103,7 +87,7 @@ fn second_source(rt: HostRuntime) {
 fn stamp_back(rt: HostRuntime) {
     let mut flow = Flow::new();
     let first = flow.feed(&rt, 1_599_999_999_999_000_000, reading(0, 0, true));
-    assert_eq!(rt; first, IN_HEAD);
+    assert_eq!(rt; first, Ok(None));
     let want = PacketFault::StampBack {
         before: 1_599_999_999_999_000_000,
         got: 1_599_999_999_998_999_999,
@@ -129,25 +113,17 @@ fn equal_low_halves(rt: HostRuntime) {
     feed_head(&rt, &mut flow, 6);
     feed_frames(&rt, &mut flow, 6, 1);
     let answer = flow.feed(&rt, start(6) + 1_724_000, reading(65_544, 1800, false));
-    let want = Placed {
-        cut: Some(8),
-        place: Place::Head,
-    };
-    assert_eq!(rt; answer, Ok(want));
+    assert_eq!(rt; answer, Ok(Some(8)));
 }
 
 #[test]
 fn too_many_gaps(rt: HostRuntime) {
     let mut flow = Flow::new();
-    assert_eq!(rt; flow.feed(&rt, start(0), reading(0, 0, false)), IN_HEAD);
+    assert_eq!(rt; flow.feed(&rt, start(0), reading(0, 0, false)), Ok(None));
     for j in 1..1025_u32 {
-        let want = Placed {
-            cut: Some(2 * j - 1),
-            place: Place::Head,
-        };
         assert_eq!(rt;
             flow.feed(&rt, start(0), reading(2 * j, 0, false)),
-            Ok(want),
+            Ok(Some(2 * j - 1)),
             "packet {j}"
         );
     }
@@ -164,10 +140,10 @@ fn too_many_gaps(rt: HostRuntime) {
 #[test]
 fn frame_too_large(rt: HostRuntime) {
     let mut flow = Flow::new();
-    assert_eq!(rt; flow.feed(&rt, start(0), reading(0, 0, true)), IN_HEAD);
+    assert_eq!(rt; flow.feed(&rt, start(0), reading(0, 0, true)), Ok(None));
     for j in 0..262_144_u32 {
         let answer = flow.feed(&rt, start(0), reading(j + 1, 1800, false));
-        assert_eq!(rt; answer, in_group(0, j, false), "packet {j}");
+        assert_eq!(rt; answer, Ok(None), "packet {j}");
     }
     let answer = flow.feed(&rt, start(0), reading(262_145, 1800, false));
     assert_eq!(rt; answer, Err(PacketFault::FrameTooLarge));

@@ -1,7 +1,7 @@
 ghost use Rattle.std.specs.Prelude.{◌≡◌, ◌≤◌, ◌^◌, None, IfOk};
 ghost use Rattle.pcap_reader.specs.Readers.{end_note, frame_count, most_of};
 
-use flow_bank::Bank;
+use fail_interval::Bank;
 use pcap_reader::{MOST, PcapReader, Taken, take_records};
 use std::alloc::{AllocError, Global};
 use std::test::Fail;

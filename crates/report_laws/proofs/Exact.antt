@@ -18,7 +18,7 @@ use Rattle.udp_rtp.specs.Flow.{flow}
 use Rattle.fail_interval.specs.Fails.{kind_verdict}
 use Rattle.fail_interval.specs.Row.{judged_values, row, run_of, run_verdict_of, verdict_of}
 use Rattle.fail_interval.proofs.Confirmed.{fail-confirms, keeps-pass, pass-keeps}
-use Rattle.flow_bank.specs.Rows.{rows_from, rows_of, rows_of_files, rows_over}
+use Rattle.fail_interval.specs.Rows.{rows_from, rows_of, rows_of_files, rows_over}
 use Rattle.report_laws.specs.Exact.{AreExact, IsExact, IsExactRow, TellRuns, TellsFlow, TellsRun}
 use Rattle.report_laws.specs.ReadBack.{AreBytes}
 use Rattle.report_laws.proofs.Small.{flow-grouped, joined-small, one-small}

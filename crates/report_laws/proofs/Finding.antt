@@ -17,7 +17,7 @@ use Rattle.pcap_reader.specs.Records.{AreRecords, Records}
 use Rattle.pcap_reader.proofs.Captures.{map-raised}
 use Rattle.udp_rtp.specs.Flow.{flow}
 use Rattle.fail_interval.specs.Row.{verdict_of}
-use Rattle.flow_bank.specs.Rows.{rows_from, rows_of, rows_of_files, rows_over}
+use Rattle.fail_interval.specs.Rows.{rows_from, rows_of, rows_of_files, rows_over}
 use Rattle.interval_checker.specs.Checked.{Says}
 use Rattle.timing_json.specs.Fails.{fails_of, verdict_fails}
 use Rattle.timing_json.specs.declared.reading.ReportProof.{ReportProof}

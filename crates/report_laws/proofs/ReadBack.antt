@@ -9,7 +9,7 @@ use Rattle.timing_base.specs.Media.{IsMedia, IsSession, Media}
 use Rattle.timing_base.specs.declared.capture.FileNote.{FileNote}
 use Rattle.timing_base.specs.declared.row.Row.{Row}
 use Rattle.pcap_reader.specs.Records.{AreRecords}
-use Rattle.flow_bank.specs.Rows.{rows_over}
+use Rattle.fail_interval.specs.Rows.{rows_over}
 use Rattle.timing_report.specs.Outcomes.{AreRowsOf}
 use Rattle.timing_report.specs.declared.status.Status.TheVariants as status
 use Rattle.timing_json.specs.Fails.{FitsVerdict, fails_of}

@@ -12,7 +12,7 @@ use Rattle.timing_base.specs.declared.row.Row.{Row}
 use Rattle.pcap_reader.specs.Records.{AreRecords}
 use Rattle.udp_rtp.specs.Flow.{flow}
 use Rattle.fail_interval.specs.Row.{row}
-use Rattle.flow_bank.specs.Rows.{rows_from, rows_of, rows_of_files, rows_over}
+use Rattle.fail_interval.specs.Rows.{rows_from, rows_of, rows_of_files, rows_over}
 use Rattle.timing_json.specs.Fails.{FitsVerdict}
 use Rattle.report_laws.specs.ReadBack.{AreBytes}
 use Rattle.report_laws.proofs.Small.{AreSmall, joined-small, one-small}

@@ -7,7 +7,7 @@ ghost use Rattle.timing_base.specs.Jobs.{CheckJob, IsCheckJob};
 ghost use Rattle.timing_base.specs.Media.{IsMedia, Media};
 ghost use Rattle.timing_base.specs.declared.capture.FileNote.{FileNote};
 ghost use Rattle.pcap_reader.specs.Records.{AreRecords};
-ghost use Rattle.flow_bank.specs.Rows.{rows_over};
+ghost use Rattle.fail_interval.specs.Rows.{rows_over};
 ghost use Rattle.timing_json.specs.Fails.{FitsVerdict, fails_of};
 ghost use Rattle.timing_json.specs.Json.{json_text};
 ghost use Rattle.timing_json.specs.Reading.{IsReport};

@@ -9,7 +9,7 @@ use Rattle.timing_base.specs.Targets.{HaveOwnTargets}
 use Rattle.timing_base.specs.declared.capture.FileNote.{FileNote}
 use Rattle.timing_base.specs.declared.row.Row.{Row}
 use Rattle.timing_outside.specs.Shelves.{StaysAs}
-use Rattle.flow_bank.specs.Found.{AreFound}
+use Rattle.fail_interval.specs.Found.{AreFound}
 use Rattle.pcapng_reader.specs.Classic.{classic, classic_texts}
 use Rattle.sdp_reader.specs.Session.{session}
 use Rattle.timing_report.specs.Outcomes.{status_of}

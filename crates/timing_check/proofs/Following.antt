@@ -19,7 +19,7 @@ use Rattle.timing_steps.specs.Ran.{IsAnswered}
 use Rattle.timing_steps.specs.declared.failure.Failure.{Failure}
 use Rattle.timing_steps.specs.declared.failure.Failure.TheVariants as failure
 use Rattle.timing_check.specs.Asked.{CheckInputRose, FollowsCheck}
-use Rattle.flow_bank.specs.Found.{AreFound}
+use Rattle.fail_interval.specs.Found.{AreFound}
 use Rattle.timing_check.specs.Report.{HasReport, printed, rows}
 use Rattle.timing_steps.proofs.Readings.{on-map}
 

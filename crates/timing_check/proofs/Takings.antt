@@ -15,12 +15,12 @@ use Rattle.pcap_reader.specs.declared.records.Taken.{Taken}
 use Rattle.pcap_reader.specs.Taken.{TakesFew}
 use Rattle.pcap_reader.proofs.Captures.{files-length, map-raised, records-push}
 use Rattle.pcap_reader.proofs.Lists.{some_by}
-use Rattle.flow_bank.specs.Rows.{rows_from, rows_of, rows_of_files}
-use Rattle.flow_bank.specs.Stands.{Feeds, IsFed, StandsFor}
-use Rattle.flow_bank.specs.declared.bank.Bank.{Bank}
+use Rattle.fail_interval.specs.Rows.{rows_from, rows_of, rows_of_files}
+use Rattle.fail_interval.specs.BankStands.{Feeds, IsFed, StandsFor}
+use Rattle.fail_interval.specs.declared.bank.Bank.{Bank}
 use Rattle.timing_report.specs.Outcomes.{AreOfSession}
 use Rattle.pcap_reader.specs.Records.{AreRecords}
-use Rattle.flow_bank.specs.Found.{AreFound}
+use Rattle.fail_interval.specs.Found.{AreFound}
 use Rattle.timing_steps.specs.Taken.{TakesText}
 use Rattle.timing_check.specs.Found.{AreJoined, FindsNext, JoinsNext}
 use Rattle.timing_check.specs.Report.{rows}

@@ -9,10 +9,10 @@ use Rattle.timing_base.specs.declared.row.Row.{Row}
 use Rattle.pcap_reader.specs.Records.{AreRecords, Records}
 use Rattle.pcapng_reader.specs.Classic.{classic_texts}
 use Rattle.sdp_reader.specs.Session.{session}
-use Rattle.flow_bank.specs.Found.{AreFound}
-use Rattle.flow_bank.specs.Rows.{rows_of}
-use Rattle.flow_bank.specs.Stands.{Feeds, StandsFor}
-use Rattle.flow_bank.specs.declared.bank.Bank.{Bank}
+use Rattle.fail_interval.specs.Found.{AreFound}
+use Rattle.fail_interval.specs.Rows.{rows_of}
+use Rattle.fail_interval.specs.BankStands.{Feeds, StandsFor}
+use Rattle.fail_interval.specs.declared.bank.Bank.{Bank}
 use Rattle.pcap_reader.specs.declared.records.Taken.{Taken}
 use Rattle.timing_report.specs.Outcomes.{AreOfSession}
 use Rattle.timing_report.specs.declared.status.Input.TheVariants as input

@@ -2,7 +2,7 @@
 
 ghost use Rattle.std.specs.Prelude.{◌≡◌, ◌≤◌, All, length};
 ghost use Rattle.timing_outside.specs.Shelves.{StaysAs};
-ghost use Rattle.flow_bank.specs.Rows.{rows_over};
+ghost use Rattle.fail_interval.specs.Rows.{rows_over};
 ghost use Rattle.pcapng_reader.specs.Sources.{faults_of, left_of, name_of};
 ghost use Rattle.timing_steps.specs.Answers.{seen_of};
 ghost use Rattle.timing_check.specs.Found.{IsJudged};

@@ -6,10 +6,10 @@ ghost use Rattle.timing_outside.specs.Shelves.{StaysAs};
 ghost use Rattle.timing_report.specs.Outcomes.{AreOfSession};
 ghost use Rattle.pcapng_reader.specs.Sources.{faults_of, left_of, name_of};
 ghost use Rattle.timing_steps.specs.Answers.{OnReadFault, seen_of};
-ghost use Rattle.flow_bank.specs.Rows.{rows_of_files};
+ghost use Rattle.fail_interval.specs.Rows.{rows_of_files};
 ghost use Rattle.timing_check.specs.Found.{FindsNext, IsJudged};
 
-use flow_bank::Bank;
+use fail_interval::Bank;
 use pcapng_reader::Classic;
 use std::alloc::Global;
 use timing_base::{FileNote, Media, Row};

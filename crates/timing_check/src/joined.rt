@@ -6,12 +6,12 @@ ghost use Rattle.timing_outside.specs.Causes.{Rose};
 ghost use Rattle.timing_outside.specs.Shelves.{StaysAs};
 ghost use Rattle.pcapng_reader.specs.Sources.{faults_of, left_of, name_of};
 ghost use Rattle.timing_steps.specs.Answers.{OnReadFault, seen_of};
-ghost use Rattle.flow_bank.specs.Rows.{rows_of};
-ghost use Rattle.flow_bank.specs.Stands.{IsFed, records};
+ghost use Rattle.fail_interval.specs.Rows.{rows_of};
+ghost use Rattle.fail_interval.specs.BankStands.{IsFed, records};
 ghost use Rattle.timing_check.specs.Found.{IsJudged, JoinsNext};
 
 use crate::captures::Found;
-use flow_bank::Bank;
+use fail_interval::Bank;
 use pcapng_reader::Classic;
 use std::alloc::Global;
 use timing_base::{FileNote, Media};

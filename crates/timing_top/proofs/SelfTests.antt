@@ -15,7 +15,7 @@ use Rattle.pcapng_reader.specs.declared.block.Order.TheVariants.{Big}
 use Rattle.pcap_reader.specs.Header.{header}
 use Rattle.pcap_reader.specs.Records.{AreRecords, Records}
 use Rattle.pcap_reader.proofs.Lists.{only_by, some_by}
-use Rattle.flow_bank.specs.Rows.{rows_of, rows_of_files, rows_over}
+use Rattle.fail_interval.specs.Rows.{rows_of, rows_of_files, rows_over}
 use Rattle.capture_gen.specs.Capture.{capture}
 use Rattle.capture_gen.specs.Heads.{file_head}
 use Rattle.capture_gen.specs.Sdp.{sdp_text}
@@ -25,7 +25,7 @@ use Rattle.timing_steps.specs.Answers.{Answer, AreTold, OnReadFault}
 use Rattle.timing_steps.specs.Fetched.{AreFetched}
 use Rattle.timing_steps.specs.declared.failure.Failure.{Failure}
 use Rattle.timing_steps.specs.declared.failure.Failure.TheVariants as failure
-use Rattle.flow_bank.specs.Found.{AreFound}
+use Rattle.fail_interval.specs.Found.{AreFound}
 use Rattle.timing_top.specs.SelfTest.{HasLine, HasLines, HasSelfTest, flaw_line}
 use Rattle.timing_check.proofs.Following.{fetched-same}
 

@@ -8,7 +8,7 @@ use Rattle.timing_base.specs.declared.capture.FileNote.{FileNote}
 use Rattle.timing_base.specs.declared.row.Row.{Row}
 use Rattle.sdp_reader.specs.Session.{session}
 use Rattle.pcap_reader.specs.Records.{Records}
-use Rattle.flow_bank.specs.Rows.{rows_of}
+use Rattle.fail_interval.specs.Rows.{rows_of}
 use Rattle.capture_gen.specs.Capture.{capture}
 use Rattle.capture_gen.specs.Sdp.{sdp_text}
 use Rattle.timing_report.specs.Outcomes.{status_of}

@@ -1,6 +1,6 @@
 use Rattle.std.proofs.Common.{rules, refl, ◌≡◌}
-use Rattle.flow_bank.specs.Rows.{rows_of_files}
-use Rattle.flow_bank.specs.Found.{AreFound}
+use Rattle.fail_interval.specs.Rows.{rows_of_files}
+use Rattle.fail_interval.specs.Found.{AreFound}
 use Rattle.pcapng_reader.specs.Classic.{classic_texts}
 use Rattle.pcapng_reader.specs.Sources.{faults_of, left_of, name_of}
 use Rattle.timing_steps.proofs.Readings.{fresh-tail, none-left, reading-all, reading-at, reading-next, reading-start, reading-stopped}

@@ -1,10 +1,10 @@
 use Rattle.std.proofs.Common.{◌≡◌, ◌+◌, ℕ, List, length}
 use Rattle.std.specs.Prelude.{All, IfOk}
 use Rattle.timing_outside.specs.Shelves.{StaysAs}
-use Rattle.flow_bank.specs.Rows.{rows_of_files}
+use Rattle.fail_interval.specs.Rows.{rows_of_files}
 use Rattle.timing_report.specs.Outcomes.{AreOfSession}
 use Rattle.timing_steps.specs.Fetched.{AreFetched, Reading}
-use Rattle.flow_bank.specs.Found.{AreFound}
+use Rattle.fail_interval.specs.Found.{AreFound}
 use Rattle.pcapng_reader.specs.Classic.{classic_texts}
 use Rattle.pcapng_reader.specs.Sources.{faults_of, left_of, name_of}
 use Rattle.timing_check.proofs.captures.judge_each.Given as goal

@@ -5,8 +5,8 @@ use Rattle.timing_base.specs.declared.capture.FileNote.{FileNote}
 use Rattle.timing_base.specs.declared.capture.FileNote.TheVariants.{Refused}
 use Rattle.timing_base.specs.declared.capture.PcapFault.TheVariants.{ReadFault}
 use Rattle.timing_base.specs.declared.row.Row.{Row}
-use Rattle.flow_bank.specs.Found.{AreFound}
-use Rattle.flow_bank.specs.Rows.{rows_over}
+use Rattle.fail_interval.specs.Found.{AreFound}
+use Rattle.fail_interval.specs.Rows.{rows_over}
 use Rattle.flow_crew.specs.Judging.{AreTexts}
 use Rattle.pcapng_reader.specs.Classic.{classic_texts}
 use Rattle.pcapng_reader.specs.Sources.{faults_of, left_of, name_of}

@@ -1,18 +1,43 @@
-use Rattle.std.proofs.Common.{◌≡◌, ◌++◌, ◌∷◌, Err, Result, length, subst, sym}
-use Rattle.fail_interval.specs.Flowing.{has_fault}
-use Rattle.timing_base.specs.declared.packet.Rtp.{Rtp}
-use Rattle.timing_base.specs.declared.packet.PacketFault.{PacketFault}
-use Rattle.fail_interval.proofs.Feeding.{unread-ends}
+use Rattle.std.proofs.Common.{◌≡◌, arith, ap, Err, Some, ◌∙◌, refl, ℕ}
+use Rattle.fail_interval.proofs.Feeding.{begins, ends, few-known, goes_on, none-of, seconds-known, some-of, stamp-known, take-known, with_parts}
 use Rattle.fail_interval.proofs.flow.Flow.feed.Goals as goal
+use Rattle.fail_interval.proofs.flow.Flow.feed.Goals.{then-is_none+in_default, else-is_none}
 
-pub returns-in-Ok-clause-ends : goal.returns-in-Ok-clause-ends
-returns-in-Ok-clause-ends c = λ fault e packets rest h.
-    subst (λ (r : Result Rtp PacketFault). has_fault (packets ++ record { rec = c.args.rec; at = c.args.at; rtp = r } ∷ rest) c.args.self.now.media.pt (length packets) fault) (sym c.in-Ok.is)
-    (c.feed_read.ensures.ends fault e packets rest h)
+pub feed-requires : goal.feed-requires
+feed-requires c = record { few = few-known _ _ c.requires }
 
 pub returns-in-Err-clause-ends : goal.returns-in-Err-clause-ends
 returns-in-Err-clause-ends c = λ fault e packets rest h.
     let same : fault ≡ c.in-Err.fault = cc in
-    let is : c.args.rtp ≡ Err fault = cc in
-    subst (λ (r : Result Rtp PacketFault). has_fault (packets ++ record { rec = c.args.rec; at = c.args.at; rtp = r } ∷ rest) c.args.self.now.media.pt (length packets) fault) (sym is)
-    (unread-ends c.args.self.now packets rest c.args.rec c.args.at fault h)
+    ends _ packets rest c.args.rec c.args.at c.args.rtp fault h (ap Err same ∙ c.in-Err.ensures.answer _ packets rest _ h.stands.grouper)
+
+pub overflow_mul-stamp : goal.overflow_mul-stamp
+overflow_mul-stamp c = omega (arith, seconds-known _ _ c.requires)
+
+pub overflow_add-stamp : goal.overflow_add-stamp
+overflow_add-stamp c = omega (arith, stamp-known _ _ c.requires, seconds-known _ _ c.requires)
+
+pub feed-requires-in-Some : goal.feed-requires-in-Some
+feed-requires-in-Some c =
+    take-known _ c.args.rec c.args.at c.args.rtp c.in-Ok.cut _ c.in-Some.is (none-of _ c.if-is_none.ensures)
+    (λ packets s rest. c.in-Ok.ensures.answer _ packets rest _ s) c.requires
+
+pub returns-in-Some-clause-goes_on : goal.returns-in-Some-clause-goes_on
+returns-in-Some-clause-goes_on c = λ _ packets h.
+    goes_on _ packets c.args.rec c.args.at c.args.rtp c.in-Ok.cut _ _ _ c.in-Some.is (none-of _ c.if-is_none.ensures)
+    (λ rest. c.in-Ok.ensures.answer _ packets rest _ h.stands.grouper) (c.in-Ok.ensures.stands _ packets _ h.stands.grouper) c.in_ok-feed.ensures h
+
+pub returns-clause-goes_on : goal.returns-clause-goes_on
+returns-clause-goes_on c = λ _ packets h.
+    begins c.args.self.now c.if-is_none.self c.begin.new.self packets c.args.rec c.args.at c.args.rtp c.in-Ok.cut c.feed.new.self
+    (elim c.if-is_none.branch as (λ _. c.if-is_none.self ≡ with_parts c.args.self.now c.feed.new.self c.args.self.now.open) [
+      | then-is_none+in_default w ↦ w.self-is
+      | else-is_none w ↦ w.self-is
+    ])
+    c.begin.ensures.media c.begin.ensures.tai c.begin.ensures.grouper c.in_ok-begin.ensures.room
+    (λ run e. elim c.if-is_none.branch as (λ _. (n : ℕ) × (c.in-Ok.cut ≡ Some n)) [
+      | then-is_none+in_default w ↦ absurd (w.in_default.not-Some run e)
+      | else-is_none w ↦ some-of _ w.if-is_none.ensures
+    ])
+    (λ rest. c.in-Ok.ensures.answer _ packets rest _ h.stands.grouper) (c.in-Ok.ensures.stands _ packets _ h.stands.grouper)
+    (λ all i so_far next. c.in_ok-begin.ensures.begins all i so_far c.args.rtp next refl refl) h

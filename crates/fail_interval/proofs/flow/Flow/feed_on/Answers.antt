@@ -1,5 +1,4 @@
 use Rattle.std.proofs.Common.{arith, None, refl}
-use Rattle.frame_group.specs.declared.place.Placed.{Placed}
 use Rattle.fail_interval.proofs.Feeding.{few-known, goes_on, seconds-known, stamp-known, take-known}
 use Rattle.fail_interval.proofs.flow.Flow.feed_on.Goals as goal
 
@@ -14,11 +13,10 @@ overflow_add-came c = omega (arith, stamp-known _ _ c.requires, seconds-known _ 
 
 pub feed-requires : goal.feed-requires
 feed-requires c =
-    let placed : Placed = record { cut = None; place = c.in-Some-feed_on.field-0 } in
-    take-known _ 0 c.args.at c.args.rtp placed _ c.in-Some.is refl (λ packets s rest. c.in-Some-feed_on.ensures.answer _ packets rest 0 s) c.requires
+    take-known _ 0 c.args.at c.args.rtp None _ c.in-Some.is refl (λ packets s rest. c.if-not-feed_on.ensures.answer refl _ packets rest 0 s) c.requires
 
 pub returns-in_ok-feed-in-Some-clause-goes_on : goal.returns-in_ok-feed-in-Some-clause-goes_on
 returns-in_ok-feed-in-Some-clause-goes_on c = λ _ rec_number packets h.
-    let placed : Placed = record { cut = None; place = c.in-Some-feed_on.field-0 } in
-    goes_on _ packets rec_number c.args.at c.args.rtp placed _ _ _ c.in-Some.is refl
-    (λ rest. c.in-Some-feed_on.ensures.answer _ packets rest rec_number h.stands.grouper) (c.in-Some-feed_on.ensures.stands _ packets rec_number h.stands.grouper) c.in_ok-feed-in-Some.ensures h
+    goes_on _ packets rec_number c.args.at c.args.rtp None _ _ _ c.in-Some.is refl
+    (λ rest. c.if-not-feed_on.ensures.answer refl _ packets rest rec_number h.stands.grouper)
+    (c.if-not-feed_on.ensures.stands refl _ packets rec_number h.stands.grouper) c.in_ok-feed-in-Some.ensures h

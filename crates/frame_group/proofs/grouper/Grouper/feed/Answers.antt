@@ -1,12 +1,9 @@
-use Rattle.std.proofs.Common.{◌≡◌, ◌+◌, ◌∷◌, ◌++◌, List, Ok, length, refl, ap, ◌∙◌, sym}
-use Rattle.timing_base.specs.Flows.{markers_before}
+use Rattle.std.proofs.Common.{◌≡◌, ◌+◌, ◌∷◌, ◌++◌, List, Ok, length, refl, ◌∙◌, sym}
 use Rattle.timing_base.specs.declared.packet.FlowPacket.{FlowPacket}
-use Rattle.timing_base.specs.declared.packet.Rtp.{Rtp}
 use Rattle.frame_group.specs.Stands.{Keeps}
-use Rattle.frame_group.specs.Placing.{cut_at}
+use Rattle.frame_group.specs.Cuts.{cut_at}
 use Rattle.frame_group.specs.Reads.{IsRead}
-use Rattle.frame_group.proofs.Faults.{rtp-is}
-use Rattle.frame_group.proofs.Steps.{answer-err, answer-placed, before-kept, read-seam, stands-fault, stands-next, told}
+use Rattle.frame_group.proofs.Steps.{answer-err, answer-ok, before-kept, read-seam, stands-fault, stands-next, told}
 use Rattle.frame_group.proofs.grouper.Grouper.feed.Goals as goal
 
 -- an earlier fault
@@ -49,11 +46,10 @@ returns-clause-answer c = λ pt packets rest rec s.
     let kept : Keeps all i c.args.self.now = (s.ahead (p ∷ rest)).kept c.in_default.is in
     let read : IsRead all i c.args.at c.args.rtp = read-seam packets rest rec c.args.at c.args.rtp in
     let cut : c.cut-cut.result ≡ cut_at all i = c.cut-cut.ensures all i c.args.at kept read in
-    answer-placed all pt i c.cut-cut.result c.place_in.result
+    answer-ok all pt i c.cut-cut.result
     (told pt packets rest rec c.args.at c.args.rtp c.args.self.now _ _ _ s c.in_default.is c.fault_at.ensures.is c.cut-cut.ensures c.group_at-group.ensures.is
     ∙ c.in_default-fault_at.is)
     cut
-    (c.place_in.ensures.is (markers_before all i) all i (c.group_at-group.ensures.is all i kept cut) (ap (λ (r : Rtp). r.marker) (rtp-is all i c.args.at c.args.rtp read)))
 
 pub returns-clause-stands : goal.returns-clause-stands
 returns-clause-stands c = λ pt packets rec s.
@@ -70,6 +66,3 @@ returns-clause-stands c = λ pt packets rec s.
           ∙ c.in_default-fault_at.is));
       kept = λ none. c.pass.ensures.keeps all i kept read cut (c.group_at-group.ensures.is all i kept cut);
     })
-
-pub returns-clause-in_range : goal.returns-clause-in_range
-returns-clause-in_range c = c.place_in.ensures.in_range c.args.self.now.fed c.group_at-group.ensures.few

@@ -1,5 +1,5 @@
 use Rattle.std.proofs.Common.{◌≡◌, ◌∙◌, None, ap, not, sym}
-use Rattle.frame_group.specs.Placing.{cut_at}
+use Rattle.frame_group.specs.Cuts.{cut_at}
 use Rattle.frame_group.proofs.Steps.{enters-run, no-cut, no-fault}
 use Rattle.frame_group.proofs.grouper.Grouper.goes_on.Goals as goal
 

@@ -1,0 +1,71 @@
+-- What one record more does to the judge of a media.
+use Rattle.std.proofs.Common.{◌≡◌, ℕ, Bool, true, false, if◌then◌else◌, List, [], ◌∷◌, ◌++◌, Some, None, sym, ap, ◌∙◌, subst}
+use Rattle.std.specs.Prelude.{Result, Ok, Err, IfOk, OnOk}
+use Rattle.timing_base.specs.Captures.{Record}
+use Rattle.timing_base.specs.Media.{Media}
+use Rattle.timing_base.specs.Targets.{target_of}
+use Rattle.timing_base.specs.declared.key.FlowKey.{FlowKey}
+use Rattle.timing_base.specs.declared.packet.FlowPacket.{FlowPacket}
+use Rattle.timing_base.specs.declared.packet.PacketFault.{PacketFault}
+use Rattle.timing_base.specs.declared.packet.Rtp.{Rtp}
+use Rattle.timing_base.specs.declared.target.Target.{Target}
+use Rattle.udp_rtp.specs.Flow.{datagram_packet, flow, flow_packet, is_same_target}
+use Rattle.udp_rtp.specs.Frames.{Datagram, datagram_of}
+use Rattle.udp_rtp.specs.Reading.{reading}
+use Rattle.udp_rtp.proofs.Flows.{flow-append_none, flow-append_some}
+use Rattle.fail_interval.specs.Stands.{StandsFor}
+use Rattle.timing_base.specs.Keys.{key_of}
+use Rattle.fail_interval.specs.Taken.{TakesRecord}
+use Rattle.fail_interval.specs.declared.media_judge.MediaJudge.{MediaJudge}
+
+-- the packet of a record
+packet_with : Record → Datagram → FlowPacket
+packet_with r d = record { rec = r.number; at = r.stamp; rtp = reading d.payload }
+
+-- a record with a datagram is a packet of the media's flow, or not, by its target alone
+packet_by : (m : Media) (r : Record) (d : Datagram) (target : Target) (b : Bool) → datagram_of r.bytes ≡ Some d → target ≡ target_of m → is_same_target d.target target ≡ b
+    → flow_packet m r ≡ (if b then Some (packet_with r d) else None)
+unfolding packet_with
+packet_by m r d target b is media same =
+    ap (datagram_packet m r.number r.stamp) is
+    ∙ ap (λ (x : Bool). if x then Some (packet_with r d) else None) (ap (is_same_target d.target) (sym media) ∙ same)
+
+-- a frame without a datagram goes to no media
+pub takes_nothing : (j : MediaJudge) (r : Record) → datagram_of r.bytes ≡ None → TakesRecord r j j
+takes_nothing j r is m file number tai items h = record {
+  target = h.target;
+  judge = subst (StandsFor m (key_of file number) tai j.judge) (sym (flow-append_none m items r (ap (datagram_packet m r.number r.stamp) is))) h.judge;
+}
+
+-- a datagram that goes elsewhere changes nothing
+pub takes_none : (j : MediaJudge) (r : Record) (d : Datagram) → datagram_of r.bytes ≡ Some d → is_same_target d.target j.target ≡ false → TakesRecord r j j
+takes_none j r d is other m file number tai items h = record {
+  target = h.target;
+  judge = subst (StandsFor m (key_of file number) tai j.judge) (sym (flow-append_none m items r (packet_by m r d j.target false is h.target other))) h.judge;
+}
+
+-- a datagram that goes to the media is fed
+pub takes_packet : (old new : MediaJudge) (r : Record) (d : Datagram) (rtp : Result Rtp PacketFault) → datagram_of r.bytes ≡ Some d → is_same_target d.target old.target ≡ true
+    → new.target ≡ old.target → rtp ≡ reading d.payload
+    → ((m : Media) (key : FlowKey) (tai : ℕ) (packets : List FlowPacket) → StandsFor m key tai old.judge packets
+    → StandsFor m key tai new.judge (packets ++ record { rec = r.number; at = r.stamp; rtp = rtp } ∷ []))
+    → TakesRecord r old new
+unfolding packet_with
+takes_packet old new r d rtp is same target read feeds m file number tai items h =
+    let packet : FlowPacket = record { rec = r.number; at = r.stamp; rtp = rtp } in
+    let kept : flow_packet m r ≡ Some packet =
+    packet_by m r d old.target true is h.target same ∙ ap (λ (x : Result Rtp PacketFault). Some (record { rec = r.number; at = r.stamp; rtp = x })) (sym read) in
+    record {
+      target = target ∙ h.target;
+      judge = subst (StandsFor m (key_of file number) tai new.judge) (sym (flow-append_some m items r packet kept)) (feeds m (key_of file number) tai (flow items m) h.judge);
+    }
+
+-- where it could be fed
+pub takes_packet_if : {T E : Type 0} (result : Result T E) (old new : MediaJudge) (n stamp : ℕ) (d : Datagram) (rtp : Result Rtp PacketFault) → is_same_target d.target old.target ≡ true
+    → new.target ≡ old.target → rtp ≡ reading d.payload
+    → ((m : Media) (key : FlowKey) (tai : ℕ) (packets : List FlowPacket) → StandsFor m key tai old.judge packets
+    → OnOk result (StandsFor m key tai new.judge (packets ++ record { rec = n; at = stamp; rtp = rtp } ∷ [])))
+    → IfOk result (λ _. (bytes : List ℕ) → datagram_of bytes ≡ Some d → TakesRecord (record { number = n; stamp = stamp; bytes = bytes }) old new)
+takes_packet_if (Ok x) old new n stamp d rtp same target read feeds = λ bytes is.
+    takes_packet old new record { number = n; stamp = stamp; bytes = bytes } d rtp is same target read feeds
+takes_packet_if (Err e) old new n stamp d rtp same target read feeds = tt

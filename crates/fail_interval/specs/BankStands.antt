@@ -1,0 +1,56 @@
+-- What a bank of judges says of the records that it was fed: each judge was fed the flow of its media. Media count
+-- from 0.
+use Rattle.std.specs.Prelude.{◌≡◌, ◌≤◌, ◌+◌, ◌^◌, ℕ, ⊤, List, [], ◌∷◌, ◌++◌}
+use Rattle.std.proofs.Common.{arith, subst, sym, append_assoc, append-nil}
+use Rattle.timing_base.specs.Captures.{Record}
+use Rattle.timing_base.specs.Media.{Media}
+use Rattle.timing_base.specs.Targets.{target_of}
+use Rattle.udp_rtp.specs.Flow.{flow}
+use Rattle.fail_interval.specs.Stands.{StandsFor as JudgeStandsFor}
+use Rattle.timing_base.specs.Keys.{key_of}
+use Rattle.fail_interval.specs.declared.bank.Bank.{Bank}
+use Rattle.fail_interval.specs.declared.media_judge.MediaJudge.{MediaJudge}
+
+-- the judge is that of this media, and was fed its flow of these records
+pub record IsJudgeOf (m : Media) (file number tai : ℕ) (j : MediaJudge) (items : List Record) : Type 0 where
+  pub target : j.target ≡ target_of m
+  pub judge : JudgeStandsFor m (key_of file number) tai j.judge (flow items m)
+
+-- the judges are those of these media, the first of them with this number
+abbrev pub AreJudgesOf : (tai file number : ℕ) → List Media → List MediaJudge → List Record → Type 0
+AreJudgesOf tai file number [] [] items = ⊤
+AreJudgesOf tai file number [] (j ∷ js) items = ⊥
+AreJudgesOf tai file number (m ∷ ms) [] items = ⊥
+AreJudgesOf tai file number (m ∷ ms) (j ∷ js) items = IsJudgeOf m file number tai j items × AreJudgesOf tai file (number + 1) ms js items
+
+-- the bank was fed these records of one file and no others
+abbrev pub StandsFor : List Media → (file tai : ℕ) → Bank → List Record → Type 0
+StandsFor media file tai bank items = AreJudgesOf tai file 0 media bank.judges.items items
+
+-- whatever records the bank was fed, it was then fed these too, and no others
+abbrev pub Feeds : (old new : Bank) → List Record → Type 0
+Feeds old new more = (media : List Media) (file tai : ℕ) (items : List Record) → StandsFor media file tai old items
+    → StandsFor media file tai new (items ++ more)
+
+-- no record, and some records and then others
+pub feeds_none : (bank : Bank) → Feeds bank bank []
+feeds_none bank media file tai items h = subst (StandsFor media file tai bank) (sym (append-nil items)) h
+
+pub feeds_more : (old mid new : Bank) (a b : List Record) → Feeds old mid a → Feeds mid new b → Feeds old new (a ++ b)
+feeds_more old mid new a b first second media file tai items h =
+    subst (StandsFor media file tai new) (append_assoc items a b) (second media file tai (items ++ a) (first media file tai items h))
+
+-- the records that were taken
+abbrev pub records : Bank → ℕ
+records bank = bank.records
+
+-- it has room for so many records more
+abbrev pub HasRoom : (number count : ℕ) → Bank → Type 0
+HasRoom number count bank = records bank + count ≤ 2 ^ 41
+
+pub room_less : (number few many : ℕ) (bank : Bank) → few ≤ many → HasRoom number many bank → HasRoom number few bank
+room_less number few many bank less room = omega (arith, less, room)
+
+-- the bank was fed some records, and no others
+abbrev pub IsFed : (old new : Bank) → Type 0
+IsFed old new = (more : List Record) × Feeds old new more

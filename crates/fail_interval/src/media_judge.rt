@@ -1,0 +1,68 @@
+//! The judge of one media.
+
+ghost use Rattle.std.specs.Prelude.{◌≡◌, ◌≤◌, ◌<◌, ◌+◌, ◌^◌, [], Some, ℕ, List, IfOk};
+ghost use Rattle.timing_base.specs.Captures.{IsStamp, Record};
+ghost use Rattle.timing_base.specs.Media.{Media as MediaValue};
+ghost use Rattle.udp_rtp.specs.Flow.{flow};
+ghost use Rattle.udp_rtp.specs.Frames.{datagram_of};
+ghost use Rattle.fail_interval.specs.Row.{row};
+ghost use Rattle.fail_interval.specs.Stands.{count_fed};
+ghost use Rattle.timing_base.specs.Keys.{key_of};
+
+use crate::judge::FlowJudge;
+use std::alloc::{AllocError as OutOfMemory, Global};
+use timing_base::{FlowKey, Media, Row, Target};
+use udp_rtp::{Datagram, read_rtp};
+
+/// A media's target, and the judge of its flow.
+#[derive(Drop)]
+pub struct MediaJudge {
+    pub target: Target,
+    pub judge: FlowJudge,
+}
+
+impl MediaJudge {
+    ghost use Rattle.fail_interval.specs.BankStands.{IsJudgeOf};
+    ghost use Rattle.fail_interval.specs.Taken.{TakesRecord};
+
+    /// The judge of this media, which has this number, in a file.
+    pub fn new(alloc: Global, media: &Media, file: u32, number: u32, tai: u64) -> MediaJudge
+        requires { tai ≤ 1000 }
+        ensures stands { IsJudgeOf media.now file number tai result [] }
+        ensures fed { count_fed result.judge ≡ 0 }
+    {
+        let key = FlowKey {
+            file,
+            media: number,
+        };
+        MediaJudge {
+            target: media.target(),
+            judge: FlowJudge::new(alloc, media, key, tai),
+        }
+    }
+
+    /// Takes the datagram of a record, where it goes to this media.
+    #[inline(always)]
+    pub fn take(&mut self, rec: u64, at: u64, datagram: &Datagram<'_>) -> Result<(), OutOfMemory>
+        requires stamp { IsStamp at }
+        requires few { count_fed self.old.judge < 2 ^ 41 }
+        ensures fed { count_fed self.new.judge ≤ count_fed self.old.judge + 1 }
+        ensures stands { IfOk result (λ _. (bytes : List ℕ) → datagram_of bytes ≡ Some datagram.now
+            → TakesRecord (record { number = rec; stamp = at; bytes = bytes }) self.old self.new) }
+    {
+        if datagram.target != self.target {
+            return Ok(());
+        }
+        self.judge.feed(rec, at, read_rtp(datagram.payload))
+    }
+
+    /// The row of the flow.
+    pub fn finish(self) -> Row
+        ensures row { (m : MediaValue) (file number tai : ℕ) (items : List Record)
+            → IsJudgeOf m file number tai self items
+            → result ≡ row (flow items m) (key_of file number) m tai }
+    {
+        let MediaJudge { target: _, judge } = self;
+        judge.finish()
+    }
+}

@@ -1,4 +1,0 @@
-mod Readings
-mod Judges
-mod Banks
-mod HandWorked
