@@ -5,7 +5,7 @@ use std::alloc::{AllocError, Global};
 use std::process::Abort;
 use std::test::Fail;
 use timing_base::{FileNote, PcapFault};
-use timing_examples::source_of;
+use capture_gen::examples::source_of;
 use timing_outside::{MemorySource, OpenFault};
 
 const SECOND: u64 = 1_000_000_000;

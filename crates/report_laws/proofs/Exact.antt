@@ -19,9 +19,9 @@ use Rattle.fail_interval.specs.Fails.{kind_verdict}
 use Rattle.fail_interval.specs.Row.{judged_values, row, run_of, run_verdict_of, verdict_of}
 use Rattle.fail_interval.proofs.Confirmed.{fail-confirms, keeps-pass, pass-keeps}
 use Rattle.fail_interval.specs.Rows.{rows_from, rows_of, rows_of_files, rows_over}
-use Rattle.report_laws.specs.Exact.{AreExact, IsExact, IsExactRow, TellRuns, TellsFlow, TellsRun}
-use Rattle.report_laws.specs.ReadBack.{AreBytes}
-use Rattle.report_laws.proofs.Small.{flow-grouped, joined-small, one-small}
+use Rattle.timing_top.specs.Exact.{AreExact, IsExact, IsExactRow, TellRuns, TellsFlow, TellsRun}
+use Rattle.timing_top.specs.ReadBack.{AreBytes}
+use Rattle.timing_top.proofs.Small.{flow-grouped, joined-small, one-small}
 
 -- the verdicts on a judged run
 kinds-exact : (m : Media) (run : JudgedRun) → IsMedia m → IsGrouped run → AreExact m run (judged_values m run).kinds

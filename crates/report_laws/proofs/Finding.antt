@@ -23,9 +23,9 @@ use Rattle.timing_json.specs.Fails.{fails_of, verdict_fails}
 use Rattle.timing_json.specs.declared.reading.ReportProof.{ReportProof}
 use Rattle.timing_verify.specs.Asked.{FindsOf, media_for}
 use Rattle.timing_verify.specs.Findings.{Finds}
-use Rattle.report_laws.specs.ReadBack.{AreBytes}
-use Rattle.report_laws.proofs.Confirming.{IsOfFlow, flow-of}
-use Rattle.report_laws.proofs.Small.{flow-grouped, joined-small, one-small}
+use Rattle.timing_top.specs.ReadBack.{AreBytes}
+use Rattle.timing_top.proofs.Confirming.{IsOfFlow, flow-of}
+use Rattle.timing_top.proofs.Small.{flow-grouped, joined-small, one-small}
 
 -- a fail of one of these media in this file, which its records confirm
 record IsInFile (media : List Media) (tai file : ℕ) (items : List Record) (c : ReportProof) : Type 0 where

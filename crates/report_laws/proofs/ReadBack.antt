@@ -20,9 +20,9 @@ use Rattle.timing_json.proofs.Back.{read-back}
 use Rattle.timing_steps.specs.Answers.{Answer}
 use Rattle.timing_verify.specs.Asked.{HasReported}
 use Rattle.timing_verify.proofs.Unique.{confirmed-status}
-use Rattle.report_laws.specs.ReadBack.{IsReadable, reading_back}
-use Rattle.report_laws.proofs.Finding.{IsConfirmed, confirmed-rows}
-use Rattle.report_laws.proofs.Rows.{keys-over, records-length, rows-fit}
+use Rattle.timing_top.specs.ReadBack.{IsReadable, reading_back}
+use Rattle.timing_top.proofs.Finding.{IsConfirmed, confirmed-rows}
+use Rattle.timing_top.proofs.Rows.{keys-over, records-length, rows-fit}
 
 -- what is read back of the report of a job is its fails
 pub report-told : (job : CheckJob) (media : List Media) (text : List ℕ → List ℕ) (files : List (List Record)) (notes : List FileNote) → IsReadable job media text

@@ -11,10 +11,10 @@ use Rattle.timing_json.specs.Reading.{IsReport}
 use Rattle.timing_json.specs.declared.reading.ReportProof.{ReportProof}
 use Rattle.timing_steps.specs.Answers.{Answer}
 use Rattle.timing_verify.specs.Asked.{HasReported}
-use Rattle.timing_check.specs.Report.{HasReport, rows}
-use Rattle.report_laws.specs.ReadBack.{IsReadable, reading_back}
-use Rattle.report_laws.proofs.Finding.{IsConfirmed}
-use Rattle.report_laws.proofs.ReadBack.{report-confirmed, report-status, report-told}
+use Rattle.timing_top.specs.Report.{HasReport, rows}
+use Rattle.timing_top.specs.ReadBack.{IsReadable, reading_back}
+use Rattle.timing_top.proofs.Finding.{IsConfirmed}
+use Rattle.timing_top.proofs.ReadBack.{report-confirmed, report-status, report-told}
 
 -- a job that asks for JSON prints it
 prints-json : (job : CheckJob) (media : List Media) (texts : List (List ℕ)) (answer : Answer) → job.json ≡ true → (h : HasReport job media texts answer)

@@ -14,9 +14,9 @@ use Rattle.udp_rtp.specs.Flow.{flow}
 use Rattle.fail_interval.specs.Row.{row}
 use Rattle.fail_interval.specs.Rows.{rows_from, rows_of, rows_of_files, rows_over}
 use Rattle.timing_json.specs.Fails.{FitsVerdict}
-use Rattle.report_laws.specs.ReadBack.{AreBytes}
-use Rattle.report_laws.proofs.Small.{AreSmall, joined-small, one-small}
-use Rattle.report_laws.proofs.Words.{flow-fits}
+use Rattle.timing_top.specs.ReadBack.{AreBytes}
+use Rattle.timing_top.proofs.Small.{AreSmall, joined-small, one-small}
+use Rattle.timing_top.proofs.Words.{flow-fits}
 
 abbrev key : Row → FlowKey
 key r = r.key

@@ -24,7 +24,7 @@ use Rattle.pcap_reader.specs.declared.layout.Order.{Order}
 use Rattle.pcap_reader.specs.declared.layout.Order.TheVariants.{Big, Little}
 use Rattle.udp_rtp.specs.Flow.{datagram_packet, flow, flow_packet}
 use Rattle.udp_rtp.specs.Frames.{Datagram, datagram_of}
-use Rattle.report_laws.specs.ReadBack.{AreBytes}
+use Rattle.timing_top.specs.ReadBack.{AreBytes}
 
 -- a place of a text has a byte, or reads 0 past the end
 pub byte-at : (text : List ℕ) (i : ℕ) → AreBytes text → slice_index text i < 256

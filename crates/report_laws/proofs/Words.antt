@@ -38,8 +38,8 @@ use Rattle.fail_interval.specs.Row.{judged_values, run_of, run_verdict_of, verdi
 use Rattle.fail_interval.proofs.Confirmed.{fail-confirms}
 use Rattle.timing_json.specs.Fails.{AreWords, FitsJudged, FitsKind, FitsRun, FitsRunVerdict, FitsVerdict, IsWord}
 use Rattle.timing_json.proofs.Limits.{c_max_small, vrx_full_small}
-use Rattle.report_laws.specs.ReadBack.{AreBytes}
-use Rattle.report_laws.proofs.Small.{AreSmall, IsSmall, byte-at, cons-all, flow-few, flow-stamped, if-some}
+use Rattle.timing_top.specs.ReadBack.{AreBytes}
+use Rattle.timing_top.proofs.Small.{AreSmall, IsSmall, byte-at, cons-all, flow-few, flow-stamped, if-some}
 
 -- the numbers that a fault tells of a gap
 abbrev FitsFault : PacketFault → Type 0

@@ -15,9 +15,9 @@ ghost use Rattle.timing_json.specs.declared.reading.ReportProof.{ReportProof};
 ghost use Rattle.timing_report.specs.declared.status.Status.TheVariants as status;
 ghost use Rattle.timing_steps.specs.Answers.{Answer};
 ghost use Rattle.timing_verify.specs.Asked.{FindsOf, HasReported, media_for};
-ghost use Rattle.timing_check.specs.Report.{HasReport, rows};
-ghost use Rattle.report_laws.specs.Exact.{IsExactRow};
-ghost use Rattle.report_laws.specs.ReadBack.{AreBytes, IsReadable, reading_back};
+ghost use Rattle.timing_top.specs.Report.{HasReport, rows};
+ghost use Rattle.timing_top.specs.Exact.{IsExactRow};
+ghost use Rattle.timing_top.specs.ReadBack.{AreBytes, IsReadable, reading_back};
 
 /// A sender type passes in a report exactly where no interval of judged packets has more than C_MAX, less
 /// the drain ticks in it, and at every instant the receiver buffer holds between nothing and VRX_FULL; each fail

@@ -20,11 +20,11 @@ use Rattle.timing_steps.specs.declared.failure.Failure.{Failure}
 use Rattle.timing_steps.specs.declared.failure.Failure.TheVariants as failure
 use Rattle.timing_steps.proofs.Classics.{told-classic}
 use Rattle.timing_steps.proofs.Readings.{fetched-fresh, fetched-length}
-use Rattle.timing_check.specs.Asked.{CheckInputRose, FollowsCheck}
-use Rattle.timing_check.specs.Found.{IsJudged, IsOpened}
-use Rattle.timing_check.specs.Report.{printed, rows}
-use Rattle.timing_check.specs.declared.captures.Found.{Found}
-use Rattle.timing_check.proofs.Following.{capture-earlier, fetched-same, follows-failed, follows-report, input-rose, there-before, told-same}
+use Rattle.timing_top.specs.Asked.{CheckInputRose, FollowsCheck}
+use Rattle.timing_top.specs.Found.{IsJudged, IsOpened}
+use Rattle.timing_top.specs.Report.{printed, rows}
+use Rattle.timing_top.specs.declared.captures.Found.{Found}
+use Rattle.timing_top.proofs.Following.{capture-earlier, fetched-same, follows-failed, follows-report, input-rose, there-before, told-same}
 
 -- the shelf: its texts, the names that it lacks, its counts of faults; and the sources: their names, what they have left,
 -- their counts of faults

@@ -5,7 +5,7 @@ use Rattle.timing_base.specs.Media.{Media}
 use Rattle.pcap_reader.proofs.Captures.{only-records, some-records}
 use Rattle.timing_report.specs.Outcomes.{status_of}
 use Rattle.timing_steps.specs.Answers.{Answer}
-use Rattle.timing_check.specs.Report.{HasReport, printed, rows}
+use Rattle.timing_top.specs.Report.{HasReport, printed, rows}
 
 -- there is one
 pub some-report : (job : CheckJob) (media : List Media) (texts : List (List ℕ)) → (answer : Answer) × HasReport job media texts answer

@@ -22,8 +22,8 @@ use Rattle.timing_report.specs.Outcomes.{AreOfSession}
 use Rattle.pcap_reader.specs.Records.{AreRecords}
 use Rattle.fail_interval.specs.Found.{AreFound}
 use Rattle.timing_steps.specs.Taken.{TakesText}
-use Rattle.timing_check.specs.Found.{AreJoined, FindsNext, JoinsNext}
-use Rattle.timing_check.specs.Report.{rows}
+use Rattle.timing_top.specs.Found.{AreJoined, FindsNext, JoinsNext}
+use Rattle.timing_top.specs.Report.{rows}
 
 -- of few records or many, the bank was fed those and no others
 pub fed-few : (most : ℕ) (old new : Bank) → TakesFew Feeds most old new → IsFed old new

@@ -5,7 +5,7 @@ use Rattle.timing_report.specs.declared.status.Input.{Input}
 use Rattle.timing_report.specs.declared.status.Input.TheVariants as input
 use Rattle.timing_steps.specs.Answers.{Answer, CaptureRose, Gives, HasRisen, Inputs, ReadsCaptures, ReadsSession, Yields}
 use Rattle.timing_steps.specs.declared.failure.Failure.{Failure}
-use Rattle.timing_check.specs.Report.{HasReport}
+use Rattle.timing_top.specs.Report.{HasReport}
 
 -- `check`: the description, then the captures, then their report
 abbrev pub FollowsCheck : CheckJob → Inputs → Result Answer Failure → Type 0

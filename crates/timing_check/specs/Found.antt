@@ -20,7 +20,7 @@ use Rattle.timing_steps.specs.Answers.{AreThere, AreTold, CaptureRose, Inputs, O
 use Rattle.timing_steps.specs.Fetched.{AreFetched}
 use Rattle.timing_steps.specs.Taken.{TakesText}
 use Rattle.timing_steps.specs.declared.failure.Failure.{Failure}
-use Rattle.timing_check.specs.declared.captures.Found.{Found}
+use Rattle.timing_top.specs.declared.captures.Found.{Found}
 
 -- the description of a job is there and was read as the session of these media, and these are the sources of its captures,
 -- each whole and without a fault

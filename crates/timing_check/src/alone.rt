@@ -5,7 +5,7 @@ ghost use Rattle.timing_outside.specs.Shelves.{StaysAs};
 ghost use Rattle.fail_interval.specs.Rows.{rows_over};
 ghost use Rattle.pcapng_reader.specs.Sources.{faults_of, left_of, name_of};
 ghost use Rattle.timing_steps.specs.Answers.{seen_of};
-ghost use Rattle.timing_check.specs.Found.{IsJudged};
+ghost use Rattle.timing_top.specs.Found.{IsJudged};
 
 use crate::captures::{Found, judge_each};
 use crate::joined::judge_joined;

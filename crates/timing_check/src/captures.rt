@@ -7,7 +7,7 @@ ghost use Rattle.timing_report.specs.Outcomes.{AreOfSession};
 ghost use Rattle.pcapng_reader.specs.Sources.{faults_of, left_of, name_of};
 ghost use Rattle.timing_steps.specs.Answers.{OnReadFault, seen_of};
 ghost use Rattle.fail_interval.specs.Rows.{rows_of_files};
-ghost use Rattle.timing_check.specs.Found.{FindsNext, IsJudged};
+ghost use Rattle.timing_top.specs.Found.{FindsNext, IsJudged};
 
 use fail_interval::Bank;
 use pcapng_reader::Classic;

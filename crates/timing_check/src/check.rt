@@ -6,9 +6,9 @@ ghost use Rattle.timing_report.specs.Outcomes.{AreOfSession, status_of};
 ghost use Rattle.pcapng_reader.specs.Sources.{faults_of, left_of, name_of};
 ghost use Rattle.timing_steps.specs.Answers.{OnReadFault, seen_of};
 ghost use Rattle.timing_steps.specs.Ran.{HasCause, IsAnswered, Ran, output_of};
-ghost use Rattle.timing_check.specs.Asked.{CheckInputRose, FollowsCheck};
-ghost use Rattle.timing_check.specs.Found.{IsOpened};
-ghost use Rattle.timing_check.specs.Report.{printed};
+ghost use Rattle.timing_top.specs.Asked.{CheckInputRose, FollowsCheck};
+ghost use Rattle.timing_top.specs.Found.{IsOpened};
+ghost use Rattle.timing_top.specs.Report.{printed};
 
 use crate::alone::judge_alone;
 use crate::captures::Found;

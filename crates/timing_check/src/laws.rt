@@ -5,7 +5,7 @@ ghost use Rattle.std.specs.Prelude.{◌≡◌, ℕ, List};
 ghost use Rattle.timing_base.specs.Jobs.{CheckJob};
 ghost use Rattle.timing_base.specs.Media.{Media};
 ghost use Rattle.timing_steps.specs.Answers.{Answer};
-ghost use Rattle.timing_check.specs.Report.{HasReport};
+ghost use Rattle.timing_top.specs.Report.{HasReport};
 
 /// Texts have one report: there is one, and there are not two.
 pub fn one_report()

@@ -47,7 +47,7 @@ pub const BEFORE: Packet = Packet {
 };
 
 impl Spread {
-    ghost use Rattle.timing_examples.specs.Spreads.{instant, packet_at};
+    ghost use Rattle.capture_gen.specs.Spreads.{instant, packet_at};
 
     /// When a packet of a group comes, in nanoseconds since 1970-01-01 00:00:00.
     fn instant(&self, group: u8, place: u8) -> u64

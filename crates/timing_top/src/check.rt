@@ -2,7 +2,7 @@
 
 ghost use Rattle.std.specs.Prelude.{◌≡◌, ◌≤◌};
 ghost use Rattle.timing_outside.specs.Shelves.{StaysAs};
-ghost use Rattle.timing_check.specs.Asked.{CheckInputRose, FollowsCheck};
+ghost use Rattle.timing_top.specs.Asked.{CheckInputRose, FollowsCheck};
 ghost use Rattle.timing_steps.specs.Answers.{seen_of};
 ghost use Rattle.timing_steps.specs.Ran.{HasCause, Ran, output_of};
 
@@ -11,7 +11,7 @@ use std::alloc::Global;
 use std::sync::Wait;
 use std::thread::Threads;
 use timing_base::CheckJob;
-use timing_check::{Opened, open, report_on};
+use timing_top::{Opened, open, report_on};
 use timing_outside::{Gate, Shelf, Sink};
 use timing_report::Status;
 use timing_steps::{Answer, Failure, conclude};

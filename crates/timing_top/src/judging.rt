@@ -6,7 +6,7 @@ ghost use Rattle.timing_outside.specs.Shelves.{StaysAs};
 ghost use Rattle.fail_interval.specs.Rows.{rows_over};
 ghost use Rattle.pcapng_reader.specs.Sources.{faults_of, left_of, name_of};
 ghost use Rattle.timing_steps.specs.Answers.{seen_of};
-ghost use Rattle.timing_check.specs.Found.{IsJudged};
+ghost use Rattle.timing_top.specs.Found.{IsJudged};
 
 use crate::many::judge_many;
 use pcapng_reader::Classic;
@@ -14,7 +14,7 @@ use std::alloc::Global;
 use std::sync::Wait;
 use std::thread::Threads;
 use timing_base::Media;
-use timing_check::{Found, judge_alone};
+use timing_top::{Found, judge_alone};
 use timing_outside::{Gate, Shelf};
 use timing_steps::Failure;
 

@@ -8,7 +8,7 @@ ghost use Rattle.timing_outside.specs.Shelves.{StaysAs};
 ghost use Rattle.fail_interval.specs.Rows.{rows_over};
 ghost use Rattle.pcapng_reader.specs.Sources.{faults_of, left_of, name_of};
 ghost use Rattle.timing_steps.specs.Answers.{seen_of};
-ghost use Rattle.timing_check.specs.Found.{IsJudged};
+ghost use Rattle.timing_top.specs.Found.{IsJudged};
 
 use flow_crew::{Judged, judge_files};
 use pcapng_reader::Classic;
@@ -16,7 +16,7 @@ use std::alloc::Global;
 use std::sync::Wait;
 use std::thread::Threads;
 use timing_base::{FileNote, Media, PcapFault};
-use timing_check::Found;
+use timing_top::Found;
 use timing_outside::{Gate, Shelf};
 use timing_report::Input;
 use timing_steps::{Failure, give_back_all};

@@ -17,7 +17,7 @@ use std::alloc::{AllocError as OutOfMemory, Global};
 use std::sync::Wait;
 use std::thread::Threads;
 use timing_base::{FileName, Session};
-use timing_check::Found;
+use timing_top::Found;
 use timing_outside::{Gate, MemorySink, SteadyShelf};
 use timing_report::{Status, status_of, verdict_of};
 use timing_steps::{Answer, Failure, fetch_captures, fetch_session};

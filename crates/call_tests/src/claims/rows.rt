@@ -8,7 +8,7 @@ use std::alloc::{AllocError, Global};
 use std::process::Abort;
 use std::test::Fail;
 use timing_base::{Broken, FailProof, Kind, VerifyJob};
-use timing_examples::{NARROW, Spread, described, three_media, usual_equipment};
+use capture_gen::examples::{NARROW, Spread, described, three_media, usual_equipment};
 use timing_outside::MemoryShelf;
 use timing_report::Status;
 

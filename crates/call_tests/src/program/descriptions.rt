@@ -8,7 +8,7 @@ use std::str;
 use std::sync::Wait;
 use std::test::Fail;
 use std::thread::Threads;
-use timing_examples::{MEDIA, described};
+use capture_gen::examples::{MEDIA, described};
 use timing_report::Status;
 
 // The answer on a description of no bytes.

@@ -2,7 +2,7 @@
 
 use super::{ABSENT, CHECK, ends, made, over, part, passes};
 use std::test::Fail;
-use timing_examples::{MICROS, NANOS, NARROW, SECTION, Spread, as_pcapng, push_packet};
+use capture_gen::examples::{MICROS, NANOS, NARROW, SECTION, Spread, as_pcapng, push_packet};
 use timing_report::Status;
 
 #[test]

@@ -2,7 +2,7 @@
 
 use super::{CHECK_TWO, HEADER, LINEAR, NARROW, ends, made, over, part, runs, shelf_of};
 use std::test::Fail;
-use timing_examples::three_media;
+use capture_gen::examples::three_media;
 use timing_report::Status;
 
 #[test]

@@ -8,7 +8,7 @@ use std::process::Abort;
 use std::sync::Wait;
 use std::test::Fail;
 use std::thread::Threads;
-use timing_examples::{NARROW, Spread, described};
+use capture_gen::examples::{NARROW, Spread, described};
 use timing_outside::{MemorySink, NoGate};
 use timing_report::Status;
 use timing_top::run;

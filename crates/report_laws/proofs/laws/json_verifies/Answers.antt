@@ -1,5 +1,5 @@
-use Rattle.report_laws.proofs.ReadBack.{report-status, report-told}
-use Rattle.report_laws.proofs.laws.json_verifies.Goals as goal
+use Rattle.timing_top.proofs.ReadBack.{report-status, report-told}
+use Rattle.timing_top.proofs.laws.json_verifies.Goals as goal
 
 pub returns-clause-told : goal.returns-clause-told
 returns-clause-told c = report-told

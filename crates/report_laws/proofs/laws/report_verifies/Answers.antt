@@ -1,5 +1,5 @@
-use Rattle.report_laws.proofs.Reports.{answer-confirmed, answer-status, answer-told}
-use Rattle.report_laws.proofs.laws.report_verifies.Goals as goal
+use Rattle.timing_top.proofs.Reports.{answer-confirmed, answer-status, answer-told}
+use Rattle.timing_top.proofs.laws.report_verifies.Goals as goal
 
 pub returns-clause-told : goal.returns-clause-told
 returns-clause-told c = answer-told

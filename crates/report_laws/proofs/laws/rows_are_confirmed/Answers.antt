@@ -1,5 +1,5 @@
-use Rattle.report_laws.proofs.ReadBack.{report-confirmed}
-use Rattle.report_laws.proofs.laws.rows_are_confirmed.Goals as goal
+use Rattle.timing_top.proofs.ReadBack.{report-confirmed}
+use Rattle.timing_top.proofs.laws.rows_are_confirmed.Goals as goal
 
 pub returns : goal.returns
 returns c = report-confirmed

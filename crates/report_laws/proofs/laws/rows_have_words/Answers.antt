@@ -1,8 +1,8 @@
 use Rattle.std.proofs.Common.{◌≤◌, length, arith}
 use Rattle.std.proofs.lemmas.List.{length-map}
 use Rattle.std.specs.Prelude.{map}
-use Rattle.report_laws.proofs.Rows.{rows-fit}
-use Rattle.report_laws.proofs.laws.rows_have_words.Goals as goal
+use Rattle.timing_top.proofs.Rows.{rows-fit}
+use Rattle.timing_top.proofs.laws.rows_have_words.Goals as goal
 
 pub returns : goal.returns
 returns c = λ job media text files notes is records.

@@ -5,8 +5,8 @@ use Rattle.pcapng_reader.specs.Classic.{classic_texts}
 use Rattle.pcapng_reader.specs.Sources.{faults_of, left_of, name_of}
 use Rattle.timing_steps.proofs.Readings.{fresh-tail, none-left, reading-all, reading-at, reading-next, reading-start, reading-stopped}
 use Rattle.timing_steps.proofs.Seeing.{stays-then}
-use Rattle.timing_check.proofs.Takings.{found-if_read, found-none}
-use Rattle.timing_check.proofs.captures.judge_each.Goals as goal
+use Rattle.timing_top.proofs.Takings.{found-if_read, found-none}
+use Rattle.timing_top.proofs.captures.judge_each.Goals as goal
 
 pub loop-source-init : goal.loop-source-init
 loop-source-init g c = record {

@@ -7,7 +7,7 @@ use Rattle.timing_steps.specs.Fetched.{AreFetched, Reading}
 use Rattle.fail_interval.specs.Found.{AreFound}
 use Rattle.pcapng_reader.specs.Classic.{classic_texts}
 use Rattle.pcapng_reader.specs.Sources.{faults_of, left_of, name_of}
-use Rattle.timing_check.proofs.captures.judge_each.Given as goal
+use Rattle.timing_top.proofs.captures.judge_each.Given as goal
 
 abbrev pub invariant-loop-source : goal.invariant-loop-source
 invariant-loop-source g l = record {

@@ -1,7 +1,7 @@
 use Rattle.std.proofs.Common.{rules, ℕ, [], subst}
-use Rattle.timing_check.specs.Found.{FindsNext}
-use Rattle.timing_check.proofs.Takings.{finds-next, rows-of_session}
-use Rattle.timing_check.proofs.captures.judge_next.Goals as goal
+use Rattle.timing_top.specs.Found.{FindsNext}
+use Rattle.timing_top.proofs.Takings.{finds-next, rows-of_session}
+use Rattle.timing_top.proofs.captures.judge_next.Goals as goal
 
 pub returns-clause-told : goal.returns-clause-told
 returns-clause-told g c = λ text whole.

@@ -2,10 +2,10 @@ use Rattle.std.proofs.Common.{rules, ◌≡◌, Err, sym, subst}
 use Rattle.pcapng_reader.specs.Sources.{faults_of, left_of, name_of}
 use Rattle.timing_steps.specs.Answers.{seen_of}
 use Rattle.timing_steps.specs.Ran.{HasCause}
-use Rattle.timing_check.specs.Asked.{CheckInputRose, FollowsCheck}
-use Rattle.timing_check.specs.Found.{IsOpened}
-use Rattle.timing_check.proofs.Begun.{failed-follows, failed-rose, report-follows}
-use Rattle.timing_check.proofs.check.answer_check.Goals as goal
+use Rattle.timing_top.specs.Asked.{CheckInputRose, FollowsCheck}
+use Rattle.timing_top.specs.Found.{IsOpened}
+use Rattle.timing_top.proofs.Begun.{failed-follows, failed-rose, report-follows}
+use Rattle.timing_top.proofs.check.answer_check.Goals as goal
 
 pub returns-in_err-found-in-Ok-clause-follows : goal.returns-in_err-found-in-Ok-clause-follows
 returns-in_err-found-in-Ok-clause-follows g c =

@@ -1,7 +1,7 @@
 use Rattle.std.proofs.Common.{rules, ◌∙◌}
 use Rattle.pcapng_reader.specs.Sources.{faults_of, left_of, name_of}
-use Rattle.timing_check.proofs.Begun.{is-opened}
-use Rattle.timing_check.proofs.check.open.Goals as goal
+use Rattle.timing_top.proofs.Begun.{is-opened}
+use Rattle.timing_top.proofs.check.open.Goals as goal
 
 pub returns-in_ok-sources-in-Ok-clause-opened : goal.returns-in_ok-sources-in-Ok-clause-opened
 returns-in_ok-sources-in-Ok-clause-opened g c =

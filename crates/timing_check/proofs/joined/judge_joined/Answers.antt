@@ -4,11 +4,11 @@ use Rattle.timing_base.specs.Captures.{Record}
 use Rattle.fail_interval.specs.BankStands.{IsFed, StandsFor}
 use Rattle.pcapng_reader.specs.Classic.{classic_texts}
 use Rattle.pcapng_reader.specs.Sources.{faults_of, left_of, name_of}
-use Rattle.timing_check.specs.Found.{AreJoined}
+use Rattle.timing_top.specs.Found.{AreJoined}
 use Rattle.timing_steps.proofs.Readings.{fresh-tail, if_ok-at, if_ok-map, none-left, reading-all, reading-at, reading-next, reading-start, reading-stopped}
 use Rattle.timing_steps.proofs.Seeing.{stays-then}
-use Rattle.timing_check.proofs.Takings.{found-joined, joined-if_read, joined-none, rows-alone, rows-of_session}
-use Rattle.timing_check.proofs.joined.judge_joined.Goals as goal
+use Rattle.timing_top.proofs.Takings.{found-joined, joined-if_read, joined-none, rows-alone, rows-of_session}
+use Rattle.timing_top.proofs.joined.judge_joined.Goals as goal
 
 pub loop-source-init : goal.loop-source-init
 loop-source-init g c = record {

@@ -6,8 +6,8 @@ use Rattle.fail_interval.specs.BankStands.{StandsFor, records}
 use Rattle.timing_steps.specs.Fetched.{AreFetched, Reading}
 use Rattle.pcapng_reader.specs.Classic.{classic_texts}
 use Rattle.pcapng_reader.specs.Sources.{faults_of, left_of, name_of}
-use Rattle.timing_check.specs.Found.{AreJoined}
-use Rattle.timing_check.proofs.joined.judge_joined.Given as goal
+use Rattle.timing_top.specs.Found.{AreJoined}
+use Rattle.timing_top.proofs.joined.judge_joined.Given as goal
 
 abbrev pub invariant-loop-source : goal.invariant-loop-source
 invariant-loop-source g l = record {

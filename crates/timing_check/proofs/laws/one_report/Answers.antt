@@ -1,5 +1,5 @@
-use Rattle.timing_check.proofs.Reports.{only-report, some-report}
-use Rattle.timing_check.proofs.laws.one_report.Goals as goal
+use Rattle.timing_top.proofs.Reports.{only-report, some-report}
+use Rattle.timing_top.proofs.laws.one_report.Goals as goal
 
 pub returns-clause-some : goal.returns-clause-some
 returns-clause-some c = some-report
