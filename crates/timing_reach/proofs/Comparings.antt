@@ -21,13 +21,13 @@ use Rattle.timing_steps.specs.declared.failure.Failure.{Failure}
 use Rattle.timing_steps.specs.declared.failure.Failure.TheVariants as failure
 use Rattle.timing_steps.proofs.Seeing.{rose-within}
 use Rattle.udp_rtp.specs.Flow.{flow}
-use Rattle.timing_reach.specs.Added.{Adds, taken_of}
-use Rattle.timing_reach.specs.Comparing.{AreCompared, ComparesNext, IsComparedIn}
-use Rattle.timing_reach.specs.Pairs.{PairsOn, taken-none}
+use Rattle.timing_reach.specs.skew.Added.{Adds, taken_of}
+use Rattle.timing_reach.specs.skew.Comparing.{AreCompared, ComparesNext, IsComparedIn}
+use Rattle.timing_reach.specs.skew.Pairs.{PairsOn, taken-none}
 use Rattle.timing_reach.specs.Skewed.{first_of, last_of}
-use Rattle.timing_reach.specs.declared.compare.Compared.{Compared}
-use Rattle.timing_reach.specs.declared.compare.Comparing.{Comparing}
-use Rattle.timing_reach.specs.declared.pairing.Pairing.{Pairing}
+use Rattle.timing_reach.specs.declared.skew.compare.Compared.{Compared}
+use Rattle.timing_reach.specs.declared.skew.compare.Comparing.{Comparing}
+use Rattle.timing_reach.specs.declared.skew.pairing.Pairing.{Pairing}
 use Rattle.timing_reach.proofs.Takings.{fed-alone}
 
 eqb-other : (x y : ℕ) → x ≢ y → (x == y) ≡ false

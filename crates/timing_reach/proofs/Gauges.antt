@@ -11,10 +11,10 @@ use Rattle.timing_base.specs.Media.{Media}
 use Rattle.timing_base.specs.declared.packet.FlowPacket.{FlowPacket}
 use Rattle.sender_params.specs.declared.params.Params.{Params}
 use Rattle.sender_params.specs.Reads.{anchor_of}
-use Rattle.timing_reach.specs.Gauging.{AreFed, IsGauged, Puts, gauged}
+use Rattle.timing_reach.specs.window.Gauging.{AreFed, IsGauged, Puts, gauged}
 use Rattle.timing_reach.specs.Windows.{AreWindowsOf}
-use Rattle.timing_reach.specs.declared.windows.Windows.{Windows}
-use Rattle.timing_reach.specs.declared.gauge.Gauge.{Gauge}
+use Rattle.timing_reach.specs.declared.window.windows.Windows.{Windows}
+use Rattle.timing_reach.specs.declared.window.gauge.Gauge.{Gauge}
 
 -- all of a list
 take-all : {X : Type 0} (n : ℕ) (xs : List X) → length xs ≤ n → take n xs ≡ xs

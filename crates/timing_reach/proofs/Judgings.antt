@@ -17,8 +17,8 @@ use Rattle.timing_base.specs.declared.row.Verdict.TheVariants as verdict
 use Rattle.timing_base.proofs.Grouped.{judged-grouped}
 use Rattle.fail_interval.specs.Row.{judged_values, verdict_of}
 use Rattle.sender_params.specs.Ticks.{NeverFall}
-use Rattle.timing_reach.specs.Gauging.{gauged}
-use Rattle.timing_reach.specs.Opening.{OpensBy}
+use Rattle.timing_reach.specs.window.Gauging.{gauged}
+use Rattle.timing_reach.specs.judged.Opening.{OpensBy}
 use Rattle.timing_reach.proofs.Gauges.{gauged-all}
 
 -- of one run

@@ -13,11 +13,11 @@ use Rattle.timing_base.specs.Judged.{stamp_of}
 use Rattle.timing_base.specs.Media.{Media}
 use Rattle.timing_base.specs.declared.media.Kind.{Kind}
 use Rattle.timing_base.specs.declared.packet.FlowPacket.{FlowPacket}
-use Rattle.timing_reach.specs.Leaving.{HasGiven, IsFit, IsLast, Part, Shapes, Stays, Takes, Turns, stamps_in}
+use Rattle.timing_reach.specs.shape.Leaving.{HasGiven, IsFit, IsLast, Part, Shapes, Stays, Takes, Turns, stamps_in}
 use Rattle.timing_reach.specs.Shapes.{IsLate, LeaveInTime, end_of}
-use Rattle.timing_reach.specs.declared.leaver.Leaver.{Leaver}
-use Rattle.timing_reach.specs.declared.leaver.Turn.{Turn}
-use Rattle.timing_reach.specs.declared.leaver.Turn.TheVariants as turn
+use Rattle.timing_reach.specs.declared.shape.leaver.Leaver.{Leaver}
+use Rattle.timing_reach.specs.declared.shape.leaver.Turn.{Turn}
+use Rattle.timing_reach.specs.declared.shape.leaver.Turn.TheVariants as turn
 use Rattle.timing_reach.proofs.Gauges.{gauged-behind, gauged-more, gauged-none}
 use Rattle.timing_reach.proofs.Listings.{late-last}
 

@@ -6,7 +6,7 @@ use Rattle.std.proofs.Math.Seq.{get_or-append_seam}
 use Rattle.timing_base.specs.Flows.{has_marker, markers, no_packet, packet, places, read_or_zeros}
 use Rattle.timing_base.specs.declared.packet.FlowPacket.{FlowPacket}
 use Rattle.timing_base.proofs.Places.{places-here, places-other}
-use Rattle.timing_reach.specs.Opening.{OpensBy}
+use Rattle.timing_reach.specs.judged.Opening.{OpensBy}
 
 -- places go by what the test says below the end
 places-same : (test other : ℕ → Bool) (from n : ℕ) → ((k : ℕ) → k < n → test k ≡ other k) → places test from n ≡ places other from n

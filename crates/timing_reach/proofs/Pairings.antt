@@ -5,9 +5,9 @@ use Rattle.timing_base.specs.Captures.{Record}
 use Rattle.timing_base.specs.declared.packet.FlowPacket.{FlowPacket}
 use Rattle.path_skew.specs.Stands.{StandsFor}
 use Rattle.path_skew.specs.declared.skew.Skew.{Skew}
-use Rattle.timing_reach.specs.Added.{Adds, taken_of}
-use Rattle.timing_reach.specs.Pairs.{IsSamePair, PairsOn}
-use Rattle.timing_reach.specs.declared.pairing.Pairing.{Pairing}
+use Rattle.timing_reach.specs.skew.Added.{Adds, taken_of}
+use Rattle.timing_reach.specs.skew.Pairs.{IsSamePair, PairsOn}
+use Rattle.timing_reach.specs.declared.skew.pairing.Pairing.{Pairing}
 
 -- to one flow, and then to the other
 pub adds-both : {T E : Type 0} (result : Result T E) (old mid new : Skew) (f g : List FlowPacket) → Adds old mid f [] → IfOk result (λ _. Adds mid new [] g) → IfOk result (λ _. Adds old new f g)

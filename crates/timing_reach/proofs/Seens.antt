@@ -23,14 +23,14 @@ use Rattle.timing_report.specs.declared.status.Status.TheVariants as status
 use Rattle.timing_steps.specs.Answers.{Answer}
 use Rattle.timing_steps.specs.Taken.{TakesText}
 use Rattle.timing_reach.specs.Asked.{HasWindow, OnFlow, OnRun, not_judged}
-use Rattle.timing_reach.specs.Gauging.{GaugesOn, IsGauged, gauged}
-use Rattle.timing_reach.specs.Opening.{IsOpening}
-use Rattle.timing_reach.specs.Readings.{IsJudging, IsSeen, IsSeenIn, JudgesOn}
+use Rattle.timing_reach.specs.window.Gauging.{GaugesOn, IsGauged, gauged}
+use Rattle.timing_reach.specs.judged.Opening.{IsOpening}
+use Rattle.timing_reach.specs.judged.Readings.{IsJudging, IsSeen, IsSeenIn, JudgesOn}
 use Rattle.timing_reach.specs.Windows.{AreWindowsOf, HasLines, windows_text}
-use Rattle.timing_reach.specs.declared.gauge.Gauge.{Gauge}
-use Rattle.timing_reach.specs.declared.judging.Judging.{Judging}
-use Rattle.timing_reach.specs.declared.seen.Seen.{Seen}
-use Rattle.timing_reach.specs.declared.windows.Windows.{Windows}
+use Rattle.timing_reach.specs.declared.window.gauge.Gauge.{Gauge}
+use Rattle.timing_reach.specs.declared.judged.judging.Judging.{Judging}
+use Rattle.timing_reach.specs.declared.judged.seen.Seen.{Seen}
+use Rattle.timing_reach.specs.declared.window.windows.Windows.{Windows}
 use Rattle.timing_reach.proofs.Gauges.{one-packet}
 use Rattle.timing_reach.proofs.Judgings.{judged-few, judged-of, one-run, within-run}
 use Rattle.timing_reach.proofs.Packets.{flow-few}

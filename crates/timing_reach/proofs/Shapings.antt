@@ -24,17 +24,17 @@ use Rattle.timing_report.specs.declared.status.Status.TheVariants as status
 use Rattle.timing_steps.specs.Answers.{Answer}
 use Rattle.timing_steps.specs.Taken.{TakesText}
 use Rattle.timing_reach.specs.Asked.{OnFlow, OnRun}
-use Rattle.timing_reach.specs.Gauging.{gauged}
-use Rattle.timing_reach.specs.Readings.{IsSeenIn}
-use Rattle.timing_reach.specs.declared.seen.Seen.{Seen}
+use Rattle.timing_reach.specs.window.Gauging.{gauged}
+use Rattle.timing_reach.specs.judged.Readings.{IsSeenIn}
+use Rattle.timing_reach.specs.declared.judged.seen.Seen.{Seen}
 use Rattle.udp_rtp.specs.Flow.{flow, flow_packet}
-use Rattle.timing_reach.specs.Leaving.{HasGiven, HasLeft, IsFit, IsPartOf, Part, Takes, stamps_in}
+use Rattle.timing_reach.specs.shape.Leaving.{HasGiven, HasLeft, IsFit, IsPartOf, Part, Takes, stamps_in}
 use Rattle.timing_reach.specs.Shapes.{AreBounds, HasShape, IsLate, IsList, LeaveInTime, Prints, delays, delays_line, end_of, flow_records, greatest, not_shaped, packet_line, packet_lines, shaped_capture}
-use Rattle.timing_reach.specs.Shaping.{Copies, Ends, HasMade, IsGoing, IsListed, IsShaping, OnLate, Passes, ShapesOn, Tells}
-use Rattle.timing_reach.specs.declared.delays.Delays.{Delays}
-use Rattle.timing_reach.specs.declared.leaver.Leaver.{Leaver}
-use Rattle.timing_reach.specs.declared.leaver.Turn.TheVariants as turn
-use Rattle.timing_reach.specs.declared.shaping.Shaping.{Shaping}
+use Rattle.timing_reach.specs.shape.Shaping.{Copies, Ends, HasMade, IsGoing, IsListed, IsShaping, OnLate, Passes, ShapesOn, Tells}
+use Rattle.timing_reach.specs.declared.shape.delays.Delays.{Delays}
+use Rattle.timing_reach.specs.declared.shape.leaver.Leaver.{Leaver}
+use Rattle.timing_reach.specs.declared.shape.leaver.Turn.TheVariants as turn
+use Rattle.timing_reach.specs.declared.shape.shaping.Shaping.{Shaping}
 use Rattle.timing_reach.proofs.Copies.{capture-beside, capture-judged, record_at}
 use Rattle.timing_reach.proofs.Gauges.{gauged-none}
 use Rattle.timing_reach.proofs.Leavings.{length-stamps, retold}

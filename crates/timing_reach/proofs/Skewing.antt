@@ -9,9 +9,9 @@ use Rattle.timing_steps.specs.Answers.{Answer, AreThere, AreTold, Gives, Inputs,
 use Rattle.timing_steps.specs.declared.failure.Failure.{Failure}
 use Rattle.timing_steps.proofs.Classics.{told-classic}
 use Rattle.timing_steps.proofs.Seeing.{Sees, captures-seen, follows-session, yields-on}
-use Rattle.timing_reach.specs.Comparing.{IsComparedIn}
+use Rattle.timing_reach.specs.skew.Comparing.{IsComparedIn}
 use Rattle.timing_reach.specs.Skewed.{HasSkew, ReadsPair, skewed}
-use Rattle.timing_reach.specs.declared.compare.Compared.{Compared}
+use Rattle.timing_reach.specs.declared.skew.compare.Compared.{Compared}
 
 -- the answer on what was found
 has-skew : (job : SkewJob) (a b : Media) (texts : List (List ℕ)) (c : Compared) (answer : Answer) → IsComparedIn texts a b c → answer ≡ skewed job c.notes.items c.row → HasSkew job a b texts answer

@@ -18,7 +18,7 @@ use Rattle.timing_steps.specs.Answers.{Answer}
 use Rattle.timing_reach.specs.Asked.{HasWindow, OnFlow, OnRun, not_judged}
 use Rattle.timing_reach.specs.Skewed.{HasSkew, first_of, last_of, skewed}
 use Rattle.timing_reach.specs.Windows.{AreWindowsOf, HasLines, windows_text}
-use Rattle.timing_reach.specs.declared.windows.Windows.{Windows}
+use Rattle.timing_reach.specs.declared.window.windows.Windows.{Windows}
 use Rattle.timing_reach.proofs.RunSizes.{HasSize, RunHasSize, judged-size}
 
 -- of a run

@@ -1,5 +1,11 @@
 //! `shape`: a flow whose packets leave as early as the limits of a sender type allow.
 
+mod copy;
+mod delays;
+mod leaver;
+mod shaping;
+mod words;
+
 ghost use Rattle.std.specs.Prelude.{◌≡◌, ◌≤◌, ◌^◌, ℕ, List, Some, IfOk, IfErr, slice_get};
 ghost use Rattle.timing_base.specs.Verdicts.{Judged as JudgedValue};
 ghost use Rattle.timing_base.specs.declared.row.Verdict.TheVariants as verdict;
@@ -10,13 +16,13 @@ ghost use Rattle.timing_steps.specs.Answers.{Gives, OnReadFault, Yields, seen_of
 ghost use Rattle.timing_steps.specs.Ran.{HasCause, IsAnswered, Ran, output_of};
 ghost use Rattle.timing_reach.specs.Asked.{FlowInputRose, ReadsCapture, ReadsFlow};
 ghost use Rattle.timing_reach.specs.Shaped.{FollowsShape, HasShapeIn};
-ghost use Rattle.timing_reach.specs.Readings.{IsSeenIn};
+ghost use Rattle.timing_reach.specs.judged.Readings.{IsSeenIn};
 
-use crate::judging::judge_flow;
-use crate::leaver::Leaver;
-use crate::seen::Seen;
-use crate::shaping::shape_flow;
-use crate::words::{no_such_media, not_judged};
+use crate::judged::judging::judge_flow;
+use crate::shape::leaver::Leaver;
+use crate::judged::seen::Seen;
+use crate::shape::shaping::shape_flow;
+use crate::judged::words::{no_such_media, not_judged};
 use std::alloc::Global;
 use timing_base::{Media, ShapeJob, Verdict};
 use timing_outside::{Shelf, Sink};

@@ -1,14 +1,18 @@
 //! `skew`: how far two flows with the same packets lie apart.
 
+mod compare;
+mod pairing;
+mod words;
+
 ghost use Rattle.std.specs.Prelude.{Some, slice_get};
 ghost use Rattle.timing_outside.specs.Shelves.{StaysAs};
 ghost use Rattle.timing_steps.specs.Answers.{Gives, ReadsCaptures, Yields, seen_of};
 ghost use Rattle.timing_steps.specs.Ran.{HasCause, Ran, output_of};
 ghost use Rattle.timing_reach.specs.Skewed.{FollowsSkew, HasSkew, ReadsPair, SkewInputRose};
 
-use crate::compare::compare;
-use crate::pair_words::skewed;
-use crate::words::no_such_media;
+use crate::skew::compare::compare;
+use crate::skew::words::skewed;
+use crate::judged::words::no_such_media;
 use std::alloc::Global;
 use timing_base::{Media, SkewJob};
 use timing_outside::{Shelf, Sink};

@@ -1,5 +1,9 @@
 //! `window`: which offsets would keep the buffer of a flow.
 
+mod gauge;
+mod meters;
+pub mod windows;
+
 ghost use Rattle.std.specs.Prelude.{◌≡◌, ◌≤◌, ◌^◌, ℕ, List, Some, IfOk, IfErr, slice_get};
 ghost use Rattle.timing_base.specs.Verdicts.{Judged as JudgedValue};
 ghost use Rattle.timing_base.specs.declared.row.Verdict.TheVariants as verdict;
@@ -9,13 +13,13 @@ ghost use Rattle.pcapng_reader.specs.Classic.{classic_texts};
 ghost use Rattle.timing_steps.specs.Answers.{Gives, OnReadFault, Yields, seen_of};
 ghost use Rattle.timing_steps.specs.Ran.{HasCause, IsAnswered, Ran, output_of};
 ghost use Rattle.timing_reach.specs.Asked.{FlowInputRose, FollowsWindow, HasWindow, ReadsCapture, ReadsFlow};
-ghost use Rattle.timing_reach.specs.Readings.{IsSeenIn};
+ghost use Rattle.timing_reach.specs.judged.Readings.{IsSeenIn};
 
-use crate::gauge::measure_flow;
-use crate::judging::judge_flow;
-use crate::seen::Seen;
-use crate::windows::windowed;
-use crate::words::{no_such_media, not_judged};
+use crate::window::gauge::measure_flow;
+use crate::judged::judging::judge_flow;
+use crate::judged::seen::Seen;
+use crate::window::windows::windowed;
+use crate::judged::words::{no_such_media, not_judged};
 use std::alloc::Global;
 use timing_base::{FlowJob, Media, Verdict};
 use timing_outside::{Shelf, Sink};

@@ -9,7 +9,7 @@ use Rattle.timing_report.proofs.Numerals.{numerals}
 use Rattle.timing_report.specs.declared.status.Status.TheVariants as status
 use Rattle.timing_reach.specs.Windows.{AreWindowsOf, HasLines, windows_text}
 use Rattle.timing_reach.specs.Worked.{bound_at, from_to, narrow_frame}
-use Rattle.timing_reach.specs.declared.windows.Windows.{Windows}
+use Rattle.timing_reach.specs.declared.window.windows.Windows.{Windows}
 use Rattle.timing_reach.proofs.Unique.{lines-once}
 use Rattle.timing_reach.proofs.laws.narrow_by_hand.Goals as goal
 

@@ -2,7 +2,7 @@ use Rattle.std.proofs.Common.{rules, ◌≡◌, ℕ, List, Some, subst}
 use Rattle.pcapng_reader.specs.Classic.{classic_texts}
 use Rattle.timing_base.specs.Jobs.{FlowJob}
 use Rattle.timing_steps.specs.Answers.{seen_of}
-use Rattle.timing_reach.specs.Readings.{IsSeenIn}
+use Rattle.timing_reach.specs.judged.Readings.{IsSeenIn}
 use Rattle.timing_reach.specs.Shaped.{HasShapeIn}
 use Rattle.timing_reach.proofs.Following.{capture-cause, cause-after, reads-twice}
 use Rattle.timing_reach.proofs.shape.answer_on.Goals as goal

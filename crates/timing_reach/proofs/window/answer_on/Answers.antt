@@ -1,6 +1,6 @@
 use Rattle.timing_steps.specs.Answers.{seen_of}
 use Rattle.timing_reach.specs.Asked.{HasWindow}
-use Rattle.timing_reach.specs.Readings.{IsSeenIn}
+use Rattle.timing_reach.specs.judged.Readings.{IsSeenIn}
 use Rattle.timing_reach.proofs.Following.{capture-cause, cause-after, reads-twice}
 use Rattle.timing_reach.proofs.window.answer_on.Goals as goal
 
