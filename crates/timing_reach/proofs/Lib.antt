@@ -12,7 +12,9 @@ mod Listings
 mod Copies
 pub mod OneShape
 mod Leavings
+mod ShapeFronts
 mod Shapings
+mod ShapeEnds
 mod Pairings
 mod Comparings
 mod Skewing

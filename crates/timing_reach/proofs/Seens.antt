@@ -12,21 +12,19 @@ use Rattle.timing_base.specs.declared.row.Verdict.{Verdict}
 use Rattle.timing_base.specs.declared.row.Verdict.TheVariants as verdict
 use Rattle.fail_interval.specs.Row.{judged_values, verdict_of}
 use Rattle.fail_interval.specs.Stands.{StandsFor}
-use Rattle.pcap_reader.specs.Header.{header}
 use Rattle.pcap_reader.specs.Records.{Records}
 use Rattle.pcap_reader.specs.Taken.{TakesFew}
 use Rattle.pcap_reader.specs.declared.records.Taken.{Taken}
-use Rattle.pcap_reader.proofs.Lists.{only_by}
 use Rattle.sender_params.specs.Reads.{anchor_of}
 use Rattle.udp_rtp.specs.Flow.{flow, flow_packet}
-use Rattle.timing_report.specs.declared.status.Status.TheVariants as status
 use Rattle.timing_steps.specs.Answers.{Answer}
 use Rattle.timing_steps.specs.Taken.{TakesText}
-use Rattle.timing_reach.specs.Asked.{HasWindow, OnFlow, OnRun, not_judged}
-use Rattle.timing_reach.specs.window.Gauging.{GaugesOn, IsGauged, gauged}
+use Rattle.timing_reach.specs.Asked.{OnFlow, OnRun, not_judged}
+use Rattle.timing_reach.specs.judged.Runs.{IsFound, gauged}
+use Rattle.timing_reach.specs.window.Gauging.{GaugesOn, IsGauged}
 use Rattle.timing_reach.specs.judged.Opening.{IsOpening}
 use Rattle.timing_reach.specs.judged.Readings.{IsJudging, IsSeen, IsSeenIn, JudgesOn}
-use Rattle.timing_reach.specs.Windows.{AreWindowsOf, HasLines, windows_text}
+use Rattle.timing_reach.specs.Windows.{AreWindowsOf}
 use Rattle.timing_reach.specs.declared.window.gauge.Gauge.{Gauge}
 use Rattle.timing_reach.specs.declared.judged.judging.Judging.{Judging}
 use Rattle.timing_reach.specs.declared.judged.seen.Seen.{Seen}
@@ -37,9 +35,11 @@ use Rattle.timing_reach.proofs.Packets.{flow-few}
 use Rattle.timing_reach.proofs.Takings.{fed-alone}
 
 -- a packet of the flow was passed to the judge
-pub judges-packet : {T E : Type 0} (result : Result T E) (old new : Judging) (r : Record) (p : FlowPacket) → flow_packet old.media r ≡ Some p → new.media ≡ old.media
+pub judges-packet : {T E : Type 0} (result : Result T E) (old new : Judging) (r : Record) (p : FlowPacket) → flow_packet old.media r ≡ Some p
+    → new.media ≡ old.media
     → ((packets : List FlowPacket) → IsOpening packets old.opening → IsOpening (packets ++ p ∷ []) new.opening)
-    → ((m : Media) (key : FlowKey) (tai : ℕ) (packets : List FlowPacket) → StandsFor m key tai old.judge packets → OnOk result (StandsFor m key tai new.judge (packets ++ p ∷ [])))
+    → ((m : Media) (key : FlowKey) (tai : ℕ) (packets : List FlowPacket) → StandsFor m key tai old.judge packets
+    → OnOk result (StandsFor m key tai new.judge (packets ++ p ∷ [])))
     → IfOk result (λ _. JudgesOn old new (r ∷ []))
 judges-packet (Ok x) old new r p e media opens feeds = λ m key tai packets h.
     one-packet (IsJudging m key tai new) packets (Some p) (flow_packet m r) (ap (λ (x : Media). flow_packet x r) (sym h.media) ∙ e)
@@ -48,7 +48,8 @@ judges-packet (Err e) old new r p is media opens feeds = tt
 
 -- the records of a text were passed
 pub seen-in : (text : List ℕ) (m : Media) (key : FlowKey) (tai : ℕ) (old new : Judging) (read : Taken) (seen : Seen) → IsJudging m key tai old []
-    → TakesText JudgesOn text 0 old new read → ((packets : List FlowPacket) → IsJudging m key tai new packets → IsSeen m tai packets seen) → IsSeenIn m tai text seen
+    → TakesText JudgesOn text 0 old new read → ((packets : List FlowPacket) → IsJudging m key tai new packets → IsSeen m tai packets seen)
+    → IsSeenIn m tai text seen
 seen-in text m key tai old new read seen start t finish = record {
   items = t.items;
   note = read.note;
@@ -58,7 +59,8 @@ seen-in text m key tai old new read seen start t finish = record {
 
 -- few records were passed
 pub seen-few : (m : Media) (key : FlowKey) (tai most : ℕ) (old new : Judging) (seen : Seen) (j : Judged) → IsJudging m key tai old []
-    → TakesFew JudgesOn most old new → ((packets : List FlowPacket) → IsJudging m key tai new packets → IsSeen m tai packets seen) → seen.verdict ≡ verdict.Judged j → j.packets ≤ most
+    → TakesFew JudgesOn most old new → ((packets : List FlowPacket) → IsJudging m key tai new packets → IsSeen m tai packets seen)
+    → seen.verdict ≡ verdict.Judged j → j.packets ≤ most
 seen-few m key tai most old new seen j start t finish is =
     let packets = flow t.items m in
     let s = finish packets (t.taken m key tai [] start) in
@@ -66,40 +68,42 @@ seen-few m key tai most old new seen j start t finish is =
     let few = judged-few m j packets tai run.0 (one-run packets m.pt tai run.0 run.1) run.2 in
     omega (arith, few, flow-few m t.items, t.few)
 
--- the records of a text were measured, whose flow was judged so
-pub measured : (text : List ℕ) (m : Media) (tai first : ℕ) (j : Judged) (run : JudgedRun) (old new : Gauge) (items : List Record) (note : FileNote) (read : Taken) (w : Windows)
-    → IsGauged m j.n tai (anchor_of m (first + tai * 10 ^ 9)) j.head j.packets old [] → TakesText GaugesOn text 0 old new read → Records text (2 ^ 40) items note
-    → judged (flow items m) m.pt tai ≡ in_one_run (whole_frames run) → j ≡ judged_values m run → slice_index run.stamps 0 ≡ first + tai * 10 ^ 9
-    → ((m : Media) (n tai head count : ℕ) (packets : List FlowPacket) (stamps : List ℕ) → IsGauged m n tai (anchor_of m (slice_index stamps 0)) head count new packets
+-- the records of a flow were measured that is judged in this run
+pub measured : (m : Media) (tai first : ℕ) (j : Judged) (run : JudgedRun) (old new : Gauge) (items : List Record) (w : Windows)
+    → IsGauged m j.n tai (anchor_of m (first + tai * 10 ^ 9)) j.head j.packets old [] → GaugesOn old new items → IsFound m tai first j items run
+    → ((m : Media) (n tai head count : ℕ) (packets : List FlowPacket) (stamps : List ℕ)
+    → IsGauged m n tai (anchor_of m (slice_index stamps 0)) head count new packets
     → count ≤ length packets - head → gauged tai head count packets ≡ stamps → AreWindowsOf m n stamps w)
     → AreWindowsOf m run.n run.stamps w
-measured text m tai first j run old new items note read w start t records is values opens finish =
+measured m tai first j run old new items w start on found finish =
     let packets = flow items m in
-    let same : t.items ≡ items = (only_by (header text) (2 ^ 40) text t.items items read.note note t.records records).0 in
-    let within = within-run packets tai run (one-run packets m.pt tai run is) in
+    let within = within-run packets tai run (one-run packets m.pt tai run found.judged_is) in
     let at_start : IsGauged m run.n tai (anchor_of m (slice_index run.stamps 0)) run.head (length run.stamps) old [] =
-    subst (λ (x : Judged). IsGauged m x.n tai (anchor_of m (slice_index run.stamps 0)) x.head x.packets old []) values
-    (subst (λ (a : ℕ). IsGauged m j.n tai (anchor_of m a) j.head j.packets old []) (sym opens) start) in
+    subst (λ (x : Judged). IsGauged m x.n tai (anchor_of m (slice_index run.stamps 0)) x.head x.packets old []) found.values
+    (subst (λ (a : ℕ). IsGauged m j.n tai (anchor_of m a) j.head j.packets old []) (sym found.opens) start) in
     finish m run.n tai run.head (length run.stamps) packets run.stamps
-    (subst (λ (l : List Record). IsGauged m run.n tai (anchor_of m (slice_index run.stamps 0)) run.head (length run.stamps) new (flow l m)) same
-    (fed-alone GaugesOn text old new read t m run.n tai (anchor_of m (slice_index run.stamps 0)) run.head (length run.stamps) [] at_start)) within.few within.gauged_is
+    (on m run.n tai (anchor_of m (slice_index run.stamps 0)) run.head (length run.stamps) [] at_start) within.few within.gauged_is
 
--- the answer on a flow that is judged in one run, and on any other
-pub lines-on : (text : List ℕ) (m : Media) (tai : ℕ) (seen : Seen) (j : Judged) (w : Windows) (answer : Answer) → seen.verdict ≡ verdict.Judged j → IsSeenIn m tai text seen
-    → ((items : List Record) (note : FileNote) (run : JudgedRun) → Records text (2 ^ 40) items note → judged (flow items m) m.pt tai ≡ in_one_run (whole_frames run) → j ≡ judged_values m run
-    → slice_index run.stamps 0 ≡ seen.first + tai * 10 ^ 9 → AreWindowsOf m run.n run.stamps w)
-    → answer ≡ record { text = windows_text w; status = status.Pass } → HasWindow tai m text answer
-lines-on text m tai seen j w answer is s measure e =
+-- the answer on a flow that is judged in one run
+pub run-on : (text : List ℕ) (m : Media) (tai : ℕ) (next : List Record → JudgedRun → Answer → Type 0) (seen : Seen) (j : Judged) (answer : Answer)
+    → seen.verdict ≡ verdict.Judged j → IsSeenIn m tai text seen
+    → ((items : List Record) (note : FileNote) (run : JudgedRun) → Records text (2 ^ 40) items note → IsFound m tai seen.first j items run
+    → next items run answer)
+    → OnFlow tai m next text answer
+run-on text m tai next seen j answer is s looked =
     let run = judged-of m j (judged (flow s.items m) m.pt tai) seen.verdict s.seen_is.verdict_is is in
-    let windows = measure s.items s.note run.0 s.records run.1 (sym run.2) (s.seen_is.first run.0 run.1) in
+    let found : IsFound m tai seen.first j s.items run.0 =
+    record { judged_is = run.1; values = sym run.2; opens = s.seen_is.first run.0 run.1; ordered = s.seen_is.ordered run.0 run.1 } in
     record {
       items = s.items;
       note = s.note;
       records = s.records;
-      on_run = subst (λ v. OnRun m (HasLines m) v answer) (sym run.1) (record { windows = w; are = windows; answer_is = e });
+      on_run = subst (λ v. OnRun m (next s.items) v answer) (sym run.1) (looked s.items s.note run.0 s.records found);
     }
 
-not-run : (m : Media) (next : JudgedRun → Answer → Type 0) (v : FlowVerdict) (answer : Answer) → ((j : Judged) → verdict_of m v ≡ verdict.Judged j → ⊥) → answer ≡ not_judged m (verdict_of m v) → OnRun m next v answer
+-- the answer on any other flow
+not-run : (m : Media) (next : JudgedRun → Answer → Type 0) (v : FlowVerdict) (answer : Answer) → ((j : Judged) → verdict_of m v ≡ verdict.Judged j → ⊥)
+    → answer ≡ not_judged m (verdict_of m v) → OnRun m next v answer
 not-run m next absent answer other e = e
 not-run m next (refused rec fault) answer other e = e
 not-run m next (gap rec expected got) answer other e = e
@@ -107,7 +111,8 @@ not-run m next (in_one_run (no_whole_frame head)) answer other e = e
 not-run m next (in_one_run (whole_frames run)) answer other e = absurd (other (judged_values m run) refl)
 not-run m next (in_runs runs) answer other e = e
 
-pub told-on : (text : List ℕ) (m : Media) (tai : ℕ) (next : List Record → JudgedRun → Answer → Type 0) (seen : Seen) (v : Verdict) (answer : Answer) → v ≡ seen.verdict → ((j : Judged) → seen.verdict ≡ verdict.Judged j → ⊥) → IsSeenIn m tai text seen
+pub told-on : (text : List ℕ) (m : Media) (tai : ℕ) (next : List Record → JudgedRun → Answer → Type 0) (seen : Seen) (v : Verdict) (answer : Answer)
+    → v ≡ seen.verdict → ((j : Judged) → seen.verdict ≡ verdict.Judged j → ⊥) → IsSeenIn m tai text seen
     → answer ≡ not_judged m v → OnFlow tai m next text answer
 told-on text m tai next seen v answer is other s e =
     let same : v ≡ verdict_of m (judged (flow s.items m) m.pt tai) = is ∙ s.seen_is.verdict_is in

@@ -1,7 +1,12 @@
 //! A flow is judged first, and where that comes to one run of whole frames, its capture is read again.
 
+mod answers;
 pub mod captures;
-pub mod judging;
+mod judging;
+pub mod look;
 mod opening;
-pub mod seen;
+mod seen;
 pub mod words;
+
+pub use answers::answer_flow;
+pub use look::Look;

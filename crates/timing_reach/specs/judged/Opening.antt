@@ -8,7 +8,8 @@ use Rattle.timing_reach.specs.declared.judged.opening.Opening.{Opening}
 abbrev pub OpensBy : List FlowPacket → Bool → Option ℕ → Type 0
 OpensBy packets false None = markers packets 0 (length packets) ≡ []
 OpensBy packets true None = (i : ℕ) × (length packets ≡ i + 1) × (markers packets 0 (length packets) ≡ i ∷ [])
-OpensBy packets marked (Some at) = (i : ℕ) × (later : List ℕ) × (i + 1 < length packets) × (markers packets 0 (length packets) ≡ i ∷ later)
+OpensBy packets marked (Some at) =
+    (i : ℕ) × (later : List ℕ) × (i + 1 < length packets) × (markers packets 0 (length packets) ≡ i ∷ later)
     × ((packet packets (i + 1)).at ≡ at)
 
 -- these packets were passed

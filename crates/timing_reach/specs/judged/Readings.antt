@@ -29,7 +29,8 @@ count_judged j = count_fed j.judge
 
 -- whatever packets were passed, the flow of these records was passed then, and nothing else
 abbrev pub JudgesOn : (old new : Judging) → List Record → Type 0
-JudgesOn old new more = (m : Media) (key : FlowKey) (tai : ℕ) (packets : List FlowPacket) → IsJudging m key tai old packets
+JudgesOn old new more =
+    (m : Media) (key : FlowKey) (tai : ℕ) (packets : List FlowPacket) → IsJudging m key tai old packets
     → IsJudging m key tai new (packets ++ flow more m)
 
 -- no record, and some records and then others
@@ -38,17 +39,19 @@ judges_none x m key tai packets h = subst (IsJudging m key tai x) (sym (append-n
 
 pub judges_more : (x y z : Judging) (a b : List Record) → JudgesOn x y a → JudgesOn y z b → JudgesOn x z (a ++ b)
 judges_more x y z a b first second m key tai packets h =
-    subst (IsJudging m key tai z) (append_assoc packets (flow a m) (flow b m) ∙ ap (λ l. packets ++ l) (sym (filter_map-append (flow_packet m) a b)))
+    subst (IsJudging m key tai z) (append_assoc packets (flow a m) (flow b m)
+    ∙ ap (λ l. packets ++ l) (sym (filter_map-append (flow_packet m) a b)))
     (second m key tai (packets ++ flow a m) (first m key tai packets h))
 
 -- what is found where these packets are the flow: its verdict, and where it is judged in one run the stamp of the first
 -- judged packet, before the seconds are added; the stamps of the run never fall
 pub record IsSeen (m : Media) (tai : ℕ) (packets : List FlowPacket) (seen : Seen) : Type 0 where
   pub verdict_is : seen.verdict ≡ verdict_of m (judged packets m.pt tai)
-  pub first : (run : JudgedRun) → judged packets m.pt tai ≡ in_one_run (whole_frames run) → slice_index run.stamps 0 ≡ seen.first + tai * 10 ^ 9
+  pub first : (run : JudgedRun) → judged packets m.pt tai ≡ in_one_run (whole_frames run)
+      → slice_index run.stamps 0 ≡ seen.first + tai * 10 ^ 9
   pub ordered : (run : JudgedRun) → judged packets m.pt tai ≡ in_one_run (whole_frames run) → NeverFall run.stamps
 
--- the same of the flow of a media in a capture of this text
+-- what is found of the flow of a media in a capture of this text
 pub record IsSeenIn (m : Media) (tai : ℕ) (text : List ℕ) (seen : Seen) : Type 0 where
   pub items : List Record
   pub note : FileNote

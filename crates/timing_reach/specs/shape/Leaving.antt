@@ -1,4 +1,5 @@
--- What a `Leaver` says of the packets that it was given. Packets count from 0; stamps and departures are nanoseconds of TAI.
+-- What a `Leaver` says of the packets that it was given. Packets count from 0; stamps and departures are nanoseconds of
+-- TAI.
 use Rattle.std.specs.Prelude.{◌≡◌, ◌<◌, ◌+◌, ◌-◌, ◌*◌, ◌^◌, ℕ, List, [], ◌∷◌, ◌++◌, length, slice_index}
 use Rattle.flow_shaper.specs.Bounds.{BoundAt}
 use Rattle.flow_shaper.specs.Stands.{NoneInTime, StandsFor}
@@ -9,17 +10,18 @@ use Rattle.sender_params.specs.declared.params.Params.{Params}
 use Rattle.timing_base.specs.Captures.{Record}
 use Rattle.timing_base.specs.Judged.{JudgedRun, in_one_run, judged, whole_frames}
 use Rattle.timing_base.specs.Media.{Media}
+use Rattle.timing_base.specs.Verdicts.{Judged}
 use Rattle.timing_base.specs.declared.media.Kind.{Kind}
 use Rattle.timing_base.specs.declared.packet.FlowPacket.{FlowPacket}
 use Rattle.udp_rtp.specs.Flow.{flow}
-use Rattle.timing_reach.specs.window.Gauging.{gauged}
+use Rattle.timing_reach.specs.judged.Runs.{gauged}
 use Rattle.timing_reach.specs.Shapes.{IsLate, end_of}
 use Rattle.timing_reach.specs.declared.shape.leaver.Leaver.{Leaver}
 use Rattle.timing_reach.specs.declared.shape.leaver.Turn.{Turn}
 use Rattle.timing_reach.specs.declared.shape.leaver.Turn.TheVariants as turn
 
--- which packets of a flow are shaped, and for which sender type: `count` of them behind the first `head`, the first of which
--- came at `origin`
+-- which packets of a flow are shaped, and for which sender type: `count` of them behind the first `head`, the first of
+-- which came at `origin`
 pub record Part : Type 0 where
   pub media : Media
   pub n : ℕ
@@ -28,6 +30,19 @@ pub record Part : Type 0 where
   pub origin : ℕ
   pub head : ℕ
   pub count : ℕ
+
+-- the judged packets of a flow that was judged so; the first of them came at `first`, as the capture has it
+abbrev pub part_of : Media → Kind → (tai first : ℕ) → Judged → Part
+part_of m kind tai first j =
+    record {
+      media = m;
+      n = j.n;
+      kind = kind;
+      tai = tai;
+      origin = first + tai * 10 ^ 9;
+      head = j.head;
+      count = j.packets;
+    }
 
 -- the part is the judged packets of a run, which is the flow of these records
 pub record IsPartOf (w : Part) (items : List Record) (run : JudgedRun) : Type 0 where
@@ -88,11 +103,13 @@ Counts old new (turn.Leaves packet stamp d) = (new.due + 1 ≡ old.due) × (d.at
 Counts old new (turn.Late late) = new.due + 1 ≡ old.due
 
 -- a packet of the part left
-pub record HasLeft (w : Part) (packets : List FlowPacket) (p : FlowPacket) (departures : List ℕ) (packet stamp : ℕ) (d : Departure) : Type 0 where
+pub record HasLeft (w : Part) (packets : List FlowPacket) (p : FlowPacket) (departures : List ℕ) (packet stamp : ℕ)
+    (d : Departure) : Type 0 where
   pub stamps_are : stamps_in w (packets ++ p ∷ []) ≡ stamps_in w packets ++ stamp ∷ []
   pub packet_is : packet ≡ length (stamps_in w packets)
   pub place : length packets ≡ w.head + packet
-  pub bound : BoundAt w.media w.n w.kind (stamps_in w packets ++ stamp ∷ []) (departures ++ d.at ∷ []) (length (stamps_in w packets)) d.bound
+  pub bound : BoundAt w.media w.n w.kind (stamps_in w packets ++ stamp ∷ []) (departures ++ d.at ∷ [])
+      (length (stamps_in w packets)) d.bound
 
 -- what became of a packet behind these
 abbrev pub Turns : Part → (new : Leaver) → List FlowPacket → FlowPacket → (departures : List ℕ) → Turn → Type 0
@@ -106,4 +123,5 @@ Turns w new packets p departures (turn.Late late) =
 -- whatever packets were given, this one was given then
 abbrev pub Takes : (at : ℕ) → (old new : Leaver) → Turn → Type 0
 Takes at old new turned = (w : Part) (packets : List FlowPacket) (p : FlowPacket) (departures : List ℕ) → p.at ≡ at
-    → IsFit w.origin (stamps_in w (packets ++ p ∷ [])) → HasGiven w old packets departures → Turns w new packets p departures turned
+    → IsFit w.origin (stamps_in w (packets ++ p ∷ [])) → HasGiven w old packets departures
+    → Turns w new packets p departures turned

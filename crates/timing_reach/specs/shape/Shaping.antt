@@ -1,5 +1,29 @@
 -- What the second reading of a flow that is shaped makes of it. Packets count from 0.
-use Rattle.std.specs.Prelude.{◌≡◌, ◌≤◌, ◌-◌, ◌*◌, ◌^◌, ◌+◌, ℕ, Bool, true, false, cond, max, nat_lt, List, [], ◌∷◌, ◌++◌, length, slice_index, Option, Some, None, string_bytes}
+use Rattle.std.specs.Prelude.{
+  ◌≡◌,
+  ◌≤◌,
+  ◌-◌,
+  ◌*◌,
+  ◌^◌,
+  ◌+◌,
+  ℕ,
+  Bool,
+  true,
+  false,
+  cond,
+  max,
+  nat_lt,
+  List,
+  [],
+  ◌∷◌,
+  ◌++◌,
+  length,
+  slice_index,
+  Option,
+  Some,
+  None,
+  string_bytes,
+}
 use Rattle.std.specs.List.{count_by}
 use Rattle.std.proofs.Common.{sym, subst, append-nil, append_assoc, ap, ◌∙◌}
 use Rattle.std.proofs.lemmas.List.Elements.{filter-append, filter_map-append}
@@ -11,7 +35,17 @@ use Rattle.timing_base.specs.Captures.{Record}
 use Rattle.timing_base.specs.Judged.{JudgedRun}
 use Rattle.timing_base.specs.declared.packet.FlowPacket.{FlowPacket}
 use Rattle.timing_reach.specs.shape.Leaving.{HasGiven, IsFit, Part, stamps_in}
-use Rattle.timing_reach.specs.Shapes.{AreBounds, IsLate, delays, end_of, flow_records, greatest, packet_line, packet_lines, shaped_capture}
+use Rattle.timing_reach.specs.Shapes.{
+  AreBounds,
+  IsLate,
+  delays,
+  end_of,
+  flow_records,
+  greatest,
+  packet_line,
+  packet_lines,
+  shaped_capture,
+}
 use Rattle.timing_reach.specs.declared.shape.delays.Delays.{Delays}
 use Rattle.timing_reach.specs.declared.shape.shaping.Shaping.{Shaping}
 use Rattle.udp_rtp.specs.Flow.{flow, flow_packet}
@@ -30,7 +64,8 @@ HasMade true w s stamps records departures = IsListed w stamps departures s.dela
 HasMade false w s stamps records departures = s.bytes.items ≡ shaped_capture w.tai w.head departures records
 
 -- no packet of these is late
-pub record IsGoing (w : Part) (list : Bool) (s : Shaping) (packets : List FlowPacket) (records : List Record) : Type 0 where
+pub record IsGoing (w : Part) (list : Bool) (s : Shaping) (packets : List FlowPacket)
+    (records : List Record) : Type 0 where
   pub departures : List ℕ
   pub given : HasGiven w s.leaver packets departures
   pub left : s.left ≡ slice_index departures (length departures - 1) - w.tai * 10 ^ 9
@@ -42,14 +77,17 @@ OnLate None going late = going
 OnLate (Some l) going late = late l.packet
 
 -- the packets with these records were passed, and no others
-pub record IsShaping (w : Part) (list : Bool) (s : Shaping) (packets : List FlowPacket) (records : List Record) : Type 0 where
+pub record IsShaping (w : Part) (list : Bool) (s : Shaping) (packets : List FlowPacket)
+    (records : List Record) : Type 0 where
   pub each : length records ≡ length packets
   pub state : IsFit w.origin (stamps_in w packets)
-      → OnLate s.late (IsGoing w list s packets records) (IsLate w.media w.n w.kind (end_of w.tai) (stamps_in w packets))
+      → OnLate s.late (IsGoing w list s packets records) (IsLate w.media w.n w.kind (end_of w.tai)
+      (stamps_in w packets))
 
 -- whatever packets were passed, this one was passed then
 abbrev pub Passes : (at : ℕ) → (frame : List ℕ) → (old new : Shaping) → Type 0
-Passes at frame old new = (w : Part) (list : Bool) (packets : List FlowPacket) (records : List Record) (p : FlowPacket) (r : Record)
+Passes at frame old new =
+    (w : Part) (list : Bool) (packets : List FlowPacket) (records : List Record) (p : FlowPacket) (r : Record)
     → p.at ≡ at → r.stamp ≡ at → r.bytes ≡ frame → old.late ≡ None
     → IsShaping w list old packets records → IsShaping w list new (packets ++ p ∷ []) (records ++ r ∷ [])
 
@@ -79,11 +117,13 @@ pub record Copies (at : ℕ) (frame : List ℕ) (old new : Shaping) : Type 0 whe
 
 -- whatever packets were passed, the flow of these records was passed then, and nothing else
 abbrev pub ShapesOn : (old new : Shaping) → List Record → Type 0
-ShapesOn old new more = (w : Part) (list : Bool) (packets : List FlowPacket) (records : List Record) → IsShaping w list old packets records
+ShapesOn old new more =
+    (w : Part) (list : Bool) (packets : List FlowPacket) (records : List Record) → IsShaping w list old packets records
     → IsShaping w list new (packets ++ flow more w.media) (records ++ flow_records w.media more)
 
 -- all packets were passed, so many judged ones among them, which are this run
-pub record Ends (w : Part) (list : Bool) (s : Shaping) (passed : List FlowPacket) (items : List Record) (run : JudgedRun) (packets : ℕ) : Type 0 where
+pub record Ends (w : Part) (list : Bool) (s : Shaping) (passed : List FlowPacket) (items : List Record)
+    (run : JudgedRun) (packets : ℕ) : Type 0 where
   pub shaping : IsShaping w list s passed (flow_records w.media items)
   pub group : w.n ≡ run.n
   pub head : w.head ≡ run.head
@@ -95,12 +135,15 @@ pub record Ends (w : Part) (list : Bool) (s : Shaping) (passed : List FlowPacket
 -- no record, and some records and then others
 pub shapes_none : (x : Shaping) → ShapesOn x x []
 shapes_none x w list packets records h =
-    subst (λ l. IsShaping w list x l (records ++ [])) (sym (append-nil packets)) (subst (IsShaping w list x packets) (sym (append-nil records)) h)
+    subst (λ l. IsShaping w list x l (records ++ [])) (sym (append-nil packets))
+    (subst (IsShaping w list x packets) (sym (append-nil records)) h)
 
 pub shapes_more : (x y z : Shaping) (a b : List Record) → ShapesOn x y a → ShapesOn y z b → ShapesOn x z (a ++ b)
 shapes_more x y z a b first second w list packets records h =
     let m = w.media in
-    subst (λ l. IsShaping w list z l (records ++ flow_records m (a ++ b))) (append_assoc packets (flow a m) (flow b m) ∙ ap (λ l. packets ++ l) (sym (filter_map-append (flow_packet m) a b)))
+    subst (λ l. IsShaping w list z l (records ++ flow_records m (a ++ b)))
+    (append_assoc packets (flow a m) (flow b m) ∙ ap (λ l. packets ++ l)
+    (sym (filter_map-append (flow_packet m) a b)))
     (subst (IsShaping w list z ((packets ++ flow a m) ++ flow b m))
     (append_assoc records (flow_records m a) (flow_records m b) ∙ ap (λ l. records ++ l) (sym (filter-append _ a b)))
     (second w list (packets ++ flow a m) (records ++ flow_records m a) (first w list packets records h)))

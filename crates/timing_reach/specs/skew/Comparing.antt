@@ -20,10 +20,11 @@ pub record ComparesNext (text : List ℕ) (count : ℕ) (old new : Comparing) : 
   pub notes : new.notes.items ≡ old.notes.items ++ note ∷ []
   pub first : new.pairing.first ≡ old.pairing.first
   pub second : new.pairing.second ≡ old.pairing.second
-  pub adds : Adds old.pairing.skew new.pairing.skew (taken_of (length old.notes.items == 0) old.pairing.first items) (taken_of (length old.notes.items + 1 == count) old.pairing.second items)
+  pub adds : Adds old.pairing.skew new.pairing.skew (taken_of (length old.notes.items == 0) old.pairing.first items)
+      (taken_of (length old.notes.items + 1 == count) old.pairing.second items)
 
--- captures of these texts were read, of so many: the first flow is of the first of them, and the second of the last, where that
--- was read
+-- captures of these texts were read, of so many: the first flow is of the first of them, and the second of the last,
+-- where that was read
 pub record AreCompared (texts : List (List ℕ)) (a b : Media) (count : ℕ) (c : Comparing) : Type 0 where
   pub files : List (List Record)
   pub records : AreRecords texts files c.notes.items

@@ -20,7 +20,8 @@ pub record IsSamePair (old new : Pairing) : Type 0 where
 -- these records and no others were taken
 pub record PairsOn (old new : Pairing) (more : List Record) : Type 0 where
   pub same : IsSamePair old new
-  pub adds : Adds old.skew new.skew (taken_of old.takes_first old.first more) (taken_of old.takes_second old.second more)
+  pub adds : Adds old.skew new.skew (taken_of old.takes_first old.first more)
+      (taken_of old.takes_second old.second more)
 
 -- the most packets that one flow has
 abbrev pub pair_given : Pairing → ℕ
@@ -54,7 +55,8 @@ same-more x y z h k = record {
   takes_second = k.takes_second ∙ h.takes_second;
 }
 
-added-more : (b c : Bool) (m n : Media) (f : List FlowPacket) (x y : List Record) → c ≡ b → n ≡ m → (f ++ taken_of b m x) ++ taken_of c n y ≡ f ++ taken_of b m (x ++ y)
+added-more : (b c : Bool) (m n : Media) (f : List FlowPacket) (x y : List Record) → c ≡ b → n ≡ m
+    → (f ++ taken_of b m x) ++ taken_of c n y ≡ f ++ taken_of b m (x ++ y)
 added-more b c m n f x y e is =
     ap (λ t. (f ++ taken_of b m x) ++ taken_of t n y) e ∙ ap (λ t. (f ++ taken_of b m x) ++ taken_of b t y) is
     ∙ append_assoc f (taken_of b m x) (taken_of b m y) ∙ ap (λ l. f ++ l) (taken-more b m x y)
@@ -63,7 +65,9 @@ pub pairs_more : (x y z : Pairing) (a b : List Record) → PairsOn x y a → Pai
 pairs_more x y z a b h k = record {
   same = same-more x y z h.same k.same;
   adds = λ f g stood.
-      subst (λ l. StandsFor z.skew l (g ++ taken_of x.takes_second x.second (a ++ b))) (added-more x.takes_first y.takes_first x.first y.first f a b h.same.takes_first h.same.first)
-      (subst (λ l. StandsFor z.skew ((f ++ taken_of x.takes_first x.first a) ++ taken_of y.takes_first y.first b) l) (added-more x.takes_second y.takes_second x.second y.second g a b h.same.takes_second h.same.second)
+      subst (λ l. StandsFor z.skew l (g ++ taken_of x.takes_second x.second (a ++ b)))
+      (added-more x.takes_first y.takes_first x.first y.first f a b h.same.takes_first h.same.first)
+      (subst (λ l. StandsFor z.skew ((f ++ taken_of x.takes_first x.first a) ++ taken_of y.takes_first y.first b) l)
+      (added-more x.takes_second y.takes_second x.second y.second g a b h.same.takes_second h.same.second)
       (k.adds (f ++ taken_of x.takes_first x.first a) (g ++ taken_of x.takes_second x.second a) (h.adds f g stood)));
 }

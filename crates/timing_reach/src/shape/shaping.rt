@@ -1,19 +1,12 @@
-//! The second reading of a flow that is shaped: its judged packets leave as planned, and what is printed
-//! of them is made.
+//! The judged packets of a flow leave as planned, and what is printed of them is made.
 
-ghost use Rattle.std.specs.Prelude.{◌≡◌, ◌≤◌, ◌<◌, ◌+◌, ◌-◌, ◌*◌, ◌^◌, [], ℕ, List, None, Some, IfOk, IfErr, length};
+ghost use Rattle.std.specs.Prelude.{◌≡◌, ◌≤◌, ◌<◌, ◌+◌, ◌*◌, ◌^◌, [], List, None, Some, IfOk, length};
 ghost use Rattle.timing_base.specs.Captures.{IsStamp, Record};
 ghost use Rattle.timing_base.specs.Judged.{JudgedRun};
-ghost use Rattle.pcap_reader.specs.Records.{Records};
-ghost use Rattle.pcapng_reader.specs.Classic.{classic_texts};
-ghost use Rattle.timing_outside.specs.Causes.{Rose};
-ghost use Rattle.timing_outside.specs.Shelves.{StaysAs};
-ghost use Rattle.timing_steps.specs.Answers.{OnReadFault};
 ghost use Rattle.timing_steps.specs.Ran.{IsAnswered};
-ghost use Rattle.timing_reach.specs.shape.Leaving.{HasGiven, IsPartOf, Part};
+ghost use Rattle.timing_reach.specs.shape.Leaving.{HasGiven, Part};
 ghost use Rattle.timing_reach.specs.Shapes.{HasShape};
 
-use crate::judged::captures::take_capture;
 use crate::shape::copy::{add_record, begin};
 use crate::shape::delays::Delays;
 use crate::shape::leaver::{Leaver, Turn};
@@ -21,10 +14,8 @@ use crate::shape::words::not_shaped;
 use flow_shaper::{Departure, Late};
 use pcap_reader::Taker;
 use std::alloc::{AllocError as OutOfMemory, Global};
-use timing_base::FlowJob;
-use timing_outside::Shelf;
-use timing_report::{Input, Status};
-use timing_steps::{Answer, Failure};
+use timing_report::Status;
+use timing_steps::Answer;
 use udp_rtp::packet_of;
 
 /// What is made of a flow that is shaped, as far as the flow has come.
@@ -50,7 +41,7 @@ impl Shaping {
     ghost use Rattle.timing_reach.specs.declared.shape.leaver.Leaver.{Leaver};
 
     /// Before the first record.
-    fn new(alloc: Global, leaver: Leaver, list: bool) -> Result<Shaping, OutOfMemory>
+    pub fn new(alloc: Global, leaver: Leaver, list: bool) -> Result<Shaping, OutOfMemory>
         requires { leaver.due ≤ 2 ^ 40 }
         ensures { IfOk result (λ s. (w : Part) → HasGiven w leaver [] [] → IsShaping w list s [] []) }
     {
@@ -142,7 +133,7 @@ impl Shaping {
     }
 
     /// The answer on so many judged packets.
-    fn finish(mut self, alloc: Global, packets: u64) -> Result<Answer, OutOfMemory>
+    pub fn finish(mut self, alloc: Global, packets: u64) -> Result<Answer, OutOfMemory>
         ensures answers { IfOk result (λ answer. IsAnswered answer.status) }
         ensures shape { IfOk result (λ answer. (w : Part) (list : _) (passed : List _) (items : List Record)
             (run : JudgedRun) → Ends w list self passed items run packets
@@ -191,29 +182,4 @@ impl Taker for Shaping {
             Some(packet) => self.pass(packet.at, frame),
         }
     }
-}
-
-/// Reads the flow of a job for the second time, of which this is known. Answers what is printed of its
-/// packets, where they leave as planned.
-pub fn shape_flow<H: Shelf>(
-    alloc: Global,
-    job: &FlowJob,
-    shelf: &mut H,
-    leaver: Leaver,
-    list: bool,
-) -> Result<Answer, Failure>
-    requires { leaver.due ≤ 2 ^ 36 }
-    ensures told { IfOk result (λ answer. (w : Part) (text : List ℕ) (items : List Record) (note : _)
-        (run : JudgedRun) → classic_texts (H.text shelf.old) job.now.capture ≡ Some text
-        → Records text (2 ^ 40) items note → HasGiven w leaver [] [] → IsPartOf w items run
-        → HasShape list w.tai w.kind w.media items run answer) }
-    ensures answers { IfOk result (λ answer. IsAnswered answer.status) }
-    ensures cause { IfErr result (λ e. OnReadFault e (λ i. (i ≡ Input.Capture 0)
-        × Rose (H.faults shelf.old job.now.capture) (H.faults shelf.new job.now.capture))) }
-    ensures stays { StaysAs H.text H.lacks H.faults shelf.old shelf.new }
-{
-    let packets = leaver.due;
-    let mut shaping = Shaping::new(alloc, leaver, list)?;
-    take_capture(alloc, shelf, job.capture.as_str(), &mut shaping)?;
-    Ok(shaping.finish(alloc, packets)?)
 }

@@ -122,7 +122,7 @@ fn put_first(skew: &mut Skew, packet: Option<FlowPacket>) -> Result<(), OutOfMem
     }
 }
 
-/// The same of the second flow.
+/// Puts a packet into the second flow, where there is one.
 #[inline(always)]
 fn put_second(skew: &mut Skew, packet: Option<FlowPacket>) -> Result<(), OutOfMemory>
     requires stamp { ForSome packet (λ packet. IsStamp packet.at) }

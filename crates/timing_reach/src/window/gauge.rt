@@ -1,28 +1,16 @@
-//! The second reading of a flow: its judged packets are measured.
+//! The judged packets of a flow are measured.
 
-ghost use Rattle.std.specs.Prelude.{◌≡◌, ◌≤◌, ◌<◌, ◌+◌, ◌-◌, ◌*◌, ◌^◌, [], ℕ, List, Some, IfOk, IfErr, length, slice_index};
-ghost use Rattle.timing_base.specs.Captures.{IsStamp, Record};
-ghost use Rattle.timing_base.specs.Judged.{JudgedRun, in_one_run, judged as judged_of, whole_frames};
-ghost use Rattle.fail_interval.specs.Row.{judged_values};
-ghost use Rattle.pcap_reader.specs.Records.{Records};
-ghost use Rattle.pcapng_reader.specs.Classic.{classic_texts};
+ghost use Rattle.std.specs.Prelude.{◌≡◌, ◌≤◌, ◌<◌, ◌+◌, ◌-◌, ◌*◌, ◌^◌, [], ℕ, List, length, slice_index};
+ghost use Rattle.timing_base.specs.Captures.{IsStamp};
 ghost use Rattle.sender_params.specs.Reads.{anchor_of};
-ghost use Rattle.timing_outside.specs.Causes.{Rose};
-ghost use Rattle.timing_outside.specs.Shelves.{StaysAs};
-ghost use Rattle.timing_steps.specs.Answers.{OnReadFault};
 ghost use Rattle.timing_reach.specs.Windows.{AreWindowsOf};
-ghost use Rattle.udp_rtp.specs.Flow.{flow};
 
-use crate::judged::captures::take_capture;
-use crate::window::meters::Meters;
+use crate::window::meters::WindowMeters;
 use crate::window::windows::Windows;
 use pcap_reader::Taker;
 use sender_params::Params;
-use std::alloc::{AllocError as OutOfMemory, Global};
-use timing_base::{FlowJob, Judged, Media};
-use timing_outside::Shelf;
-use timing_report::Input;
-use timing_steps::Failure;
+use std::alloc::AllocError as OutOfMemory;
+use timing_base::{Judged, Media};
 use udp_rtp::packet_of;
 
 /// The meters of a flow, and which of its packets are still to come.
@@ -37,18 +25,19 @@ pub struct Gauge {
     pub due: u64,
     /// The stamp of the packet before, or of the first one, in nanoseconds of TAI.
     pub last: u64,
-    pub meters: Meters,
+    pub meters: WindowMeters,
     ghost added_small: { added ≤ 10 ^ 12 },
     ghost last_early: { last < 2 ^ 62 },
     ghost few: { meters.narrow.seen + due ≤ 2 ^ 40 },
 }
 
 impl Gauge {
-    ghost use Rattle.timing_reach.specs.window.Gauging.{IsGauged, Passes, Puts, gauged};
+    ghost use Rattle.timing_reach.specs.judged.Runs.{gauged};
+    ghost use Rattle.timing_reach.specs.window.Gauging.{IsGauged, Passes, Puts};
 
     /// The meters before the first record, of a flow that was judged so. Its first judged packet came at
     /// `first`, in nanoseconds, as the capture has it.
-    fn new(media: &Media, judged: &Judged, first: u64, tai: u64) -> Gauge
+    pub fn new(media: &Media, judged: &Judged, first: u64, tai: u64) -> Gauge
         requires tai { tai ≤ 1000 }
         requires first { IsStamp first }
         requires few { judged.now.packets ≤ 2 ^ 36 }
@@ -64,7 +53,7 @@ impl Gauge {
             ahead: judged.head,
             due: judged.packets,
             last,
-            meters: Meters::new(&params, params.anchor(last)),
+            meters: WindowMeters::new(&params, params.anchor(last)),
         }
     }
 
@@ -105,7 +94,7 @@ impl Gauge {
     }
 
     /// The windows of the judged packets.
-    fn finish(mut self) -> Windows
+    pub fn finish(mut self) -> Windows
         ensures { (m : _) (n tai head count : ℕ) (packets : List _) (stamps : List ℕ)
             → IsGauged m n tai (anchor_of m (slice_index stamps 0)) head count self packets
             → count ≤ length packets - head → gauged tai head count packets ≡ stamps
@@ -134,33 +123,4 @@ impl Taker for Gauge {
         }
         Ok(())
     }
-}
-
-/// Reads the flow of a job for the second time, which was judged so in one run; its first judged packet
-/// came at `first`, in nanoseconds, as the capture has it. Answers the windows of the judged packets.
-pub fn measure_flow<H: Shelf>(
-    alloc: Global,
-    job: &FlowJob,
-    shelf: &mut H,
-    media: &Media,
-    judged: &Judged,
-    first: u64,
-) -> Result<Windows, Failure>
-    requires first { IsStamp first }
-    requires few { judged.now.packets ≤ 2 ^ 36 }
-    ensures told { IfOk result (λ windows. (text : List ℕ) (items : List Record) (note : _)
-        (run : JudgedRun) → classic_texts (H.text shelf.old) job.now.capture ≡ Some text
-        → Records text (2 ^ 40) items note
-        → judged_of (flow items media.now) media.now.pt job.now.tai ≡ in_one_run (whole_frames run)
-        → judged.now ≡ judged_values media.now run
-        → slice_index run.stamps 0 ≡ first + job.now.tai * 10 ^ 9
-        → AreWindowsOf media.now run.n run.stamps windows) }
-    ensures cause { IfErr result (λ e. OnReadFault e (λ i. (i ≡ Input.Capture 0)
-        × Rose (H.faults shelf.old job.now.capture) (H.faults shelf.new job.now.capture))) }
-    ensures there { IfOk result (λ _. ¬ H.lacks shelf.old job.now.capture) }
-    ensures stays { StaysAs H.text H.lacks H.faults shelf.old shelf.new }
-{
-    let mut gauge = Gauge::new(media, judged, first, job.tai);
-    take_capture(alloc, shelf, job.capture.as_str(), &mut gauge)?;
-    Ok(gauge.finish())
 }

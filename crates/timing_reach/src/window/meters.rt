@@ -11,7 +11,7 @@ use timing_base::Kind;
 
 /// The windows of the packets so far of one flow, for each sender type.
 #[derive(Clone, Copy, Debug, PartialEq, Eq)]
-pub struct Meters {
+pub struct WindowMeters {
     pub narrow: WindowMeter,
     pub narrow_linear: WindowMeter,
     pub wide: WindowMeter,
@@ -19,19 +19,19 @@ pub struct Meters {
     ghost same_wide: { wide.seen ≡ narrow.seen },
 }
 
-impl Meters {
+impl WindowMeters {
     ghost use Rattle.sender_params.specs.declared.params.Params.{Params};
     ghost use Rattle.timing_reach.specs.window.Gauging.{AreFed, count_seen};
     ghost use Rattle.timing_reach.specs.Windows.{AreWindowsOf};
 
     /// The meters of a flow whose first packet is of group `n0`, before that packet.
-    pub fn new(params: &Params, n0: i128) -> Meters
+    pub fn new(params: &Params, n0: i128) -> WindowMeters
         requires low { negsuc 479 ≤ℤ n0 }
         requires high { n0 ≤ℤ pos (2 ^ 42) }
         ensures seen { count_seen result ≡ 0 }
         ensures stands { AreFed params.now n0 result [] }
     {
-        Meters {
+        WindowMeters {
             narrow: WindowMeter::new(params, Kind::N, n0),
             narrow_linear: WindowMeter::new(params, Kind::NL, n0),
             wide: WindowMeter::new(params, Kind::W, n0),

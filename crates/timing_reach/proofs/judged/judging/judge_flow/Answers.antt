@@ -10,8 +10,10 @@ pub returns-clause-told : goal.returns-clause-told
 returns-clause-told g c = λ text whole.
     let same : c.job.inside.tai ≡ c.args.job.now.tai = search rules in
     subst (λ (x : ℕ). IsSeenIn c.args.media.now x text c.finish.result) same
-    (seen-in text c.args.media.now _ c.job.inside.tai c.new-judging.result c.take_capture.new.taker c.in_ok-take_capture.field-0 c.finish.result c.new-judging.ensures.stands
-    (c.in_ok-take_capture.ensures.told text (search rules)) (λ packets h. c.finish.ensures c.args.media.now _ c.job.inside.tai packets c.job.invariant.tai_most h))
+    (seen-in text c.args.media.now _ c.job.inside.tai c.new-judging.result c.take_capture.new.taker c.in_ok-take_capture.field-0 c.finish.result
+    c.new-judging.ensures.stands
+    (c.in_ok-take_capture.ensures.told text (search rules)) (λ packets h. c.finish.ensures c.args.media.now _ c.job.inside.tai packets c.job.invariant.tai_most
+    h))
 
 pub returns-clause-few : goal.returns-clause-few
 returns-clause-few g c = λ judged is.

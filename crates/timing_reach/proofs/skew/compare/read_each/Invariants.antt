@@ -14,7 +14,8 @@ invariant-loop-source g l =
     let faults = faults_of g.H.Source.Source.faults in
     record {
       reading : (texts : List ℕ → Option (List ℕ)) (names : List (List ℕ)) → AreFetched name left faults texts names l.fn.sources.items
-          → Reading name left faults texts (g.H.Shelf.faults l.fn.shelf) (g.H.Shelf.faults l.shelf) names l.source-iterator.rest.items l.outcome (length l.comparing.notes.items) (λ read. AreCompared read l.first l.second l.count l.comparing);
+          → Reading name left faults texts (g.H.Shelf.faults l.fn.shelf) (g.H.Shelf.faults l.shelf) names l.source-iterator.rest.items l.outcome
+          (length l.comparing.notes.items) (λ read. AreCompared read l.first l.second l.count l.comparing);
       fresh : All (λ source. faults source ≡ 0) l.source-iterator.rest.items;
       count : IfOk l.outcome (λ _. length l.comparing.notes.items + length l.source-iterator.rest.items ≡ l.count);
       given : IfOk l.outcome (λ _. pair_given l.comparing.pairing ≤ length l.comparing.notes.items * 2 ^ 36);

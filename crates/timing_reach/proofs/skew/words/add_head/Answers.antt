@@ -14,14 +14,17 @@ pub overflow_add-second : goal.overflow_add-second
 overflow_add-second c = omega (arith, c.from-2.ensures, c.job.invariant.pair_few)
 
 -- the numbers that were written are those of the job
-head-is : {T E : Type 0} (result : Result T E) (text old : List ℕ) (job : SkewJob) (first count second : ℕ) → first ≡ job.media → count ≡ length job.captures → second ≡ job.pair
-    → OnOk result (text ≡ old ++ (codes "pair 1." ++ (decimal (first + 1) ++ (codes " " ++ (decimal count ++ (codes "." ++ (decimal (second + 1) ++ codes ": ")))))))
+head-is : {T E : Type 0} (result : Result T E) (text old : List ℕ) (job : SkewJob) (first count second : ℕ) → first ≡ job.media → count ≡ length job.captures
+    → second ≡ job.pair
+    → OnOk result (text ≡ old ++ (codes "pair 1." ++ (decimal (first + 1) ++ (codes " "
+    ++ (decimal count ++ (codes "." ++ (decimal (second + 1) ++ codes ": ")))))))
     → IfOk result (λ _. text ≡ old ++ pair_head job)
 head-is (Ok x) text old job first count second a b c h = rw (a, b, c) at h
 head-is (Err e) text old job first count second a b c h = tt
 
 pub returns : goal.returns
 returns c =
-    head-is c.write.result (string_bytes c.write.new.self) (string_bytes c.args.text.now) c.args.job.now c.from.result (length c.as_slice.result.now) c.from-2.result
+    head-is c.write.result (string_bytes c.write.new.self) (string_bytes c.args.text.now) c.args.job.now c.from.result (length c.as_slice.result.now)
+    c.from-2.result
     (c.from.ensures ∙ ap (λ (job : SkewJob). job.media) c.job.view_is) (ap length (c.as_slice.ensures ∙ ap (λ (job : SkewJob). job.captures) c.job.view_is))
     (c.from-2.ensures ∙ ap (λ (job : SkewJob). job.pair) c.job.view_is) c.write.ensures.bytes

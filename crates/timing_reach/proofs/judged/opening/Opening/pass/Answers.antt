@@ -9,4 +9,5 @@ returns-then-self c = λ packets h. opens-next packets c.args.packet.now c.args.
 
 pub returns-else-self : goal.returns-else-self
 returns-else-self c = λ packets h.
-    opens-before packets c.args.packet.now c.args.self.now.is_marked c.is_last_of_group-self.result c.args.self.now.first c.in-None.is c.if-self.false c.is_last_of_group-self.ensures h
+    opens-before packets c.args.packet.now c.args.self.now.is_marked c.is_last_of_group-self.result c.args.self.now.first c.in-None.is c.if-self.false
+    c.is_last_of_group-self.ensures h

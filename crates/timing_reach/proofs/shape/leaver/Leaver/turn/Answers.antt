@@ -7,4 +7,5 @@ returns-then-self-eq0-clause-takes c = takes-behind c.args.at c.args.self.now (o
 
 pub returns-clause-takes : goal.returns-clause-takes
 returns-clause-takes c =
-    takes-judged c.args.at c.args.self.now c.leave.new.self c.leave.result (omega (arith, c.if-self-gt0.false)) (omega (arith, c.if-self-eq0.false)) c.leave.ensures.stays c.leave.ensures.ahead c.leave.ensures.due c.leave.ensures.shapes
+    takes-judged c.args.at c.args.self.now c.leave.new.self c.leave.result (omega (arith, c.if-self-gt0.false))
+    (omega (arith, c.if-self-eq0.false)) c.leave.ensures.stays c.leave.ensures.ahead c.leave.ensures.due c.leave.ensures.shapes

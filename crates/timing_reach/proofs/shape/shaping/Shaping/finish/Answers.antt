@@ -1,4 +1,5 @@
-use Rattle.timing_reach.proofs.Shapings.{ends-copied, ends-filled, ends-late, ends-listed, if-ok}
+use Rattle.timing_reach.proofs.ShapeEnds.{ends-copied, ends-filled, ends-late, ends-listed}
+use Rattle.timing_reach.proofs.Takings.{if-ok}
 use Rattle.std.proofs.Common.{refl}
 use Rattle.timing_reach.proofs.shape.shaping.Shaping.finish.Goals as goal
 

@@ -4,7 +4,8 @@ use Rattle.timing_reach.proofs.window.gauge.Gauge.pass.Goals as goal
 
 pub returns-then-self-gt0-2 : goal.returns-then-self-gt0-2
 returns-then-self-gt0-2 c = λ m n tai anchor head count packets p is h.
-    passes-judged c.args.self.now c.put.new.self c.args.at m n tai anchor head count packets p (omega (arith, c.if-self-gt0.false)) (omega (arith, c.if-self-gt0-2.true)) c.put.ensures is h
+    passes-judged c.args.self.now c.put.new.self c.args.at m n tai anchor head count packets p (omega (arith, c.if-self-gt0.false))
+    (omega (arith, c.if-self-gt0-2.true)) c.put.ensures is h
 
 pub returns-else-self-gt0-2 : goal.returns-else-self-gt0-2
 returns-else-self-gt0-2 c = λ m n tai anchor head count packets p is h.

@@ -4,7 +4,7 @@ use Rattle.std.specs.Int.{w128}
 use Rattle.std.proofs.lemmas.Int.{ints, to_z-of_z}
 use Rattle.timing_base.specs.declared.media.Kind.TheVariants.{N, NL, W}
 use Rattle.offset_window.specs.Stands.{StandsFor}
-use Rattle.timing_reach.proofs.window.meters.Meters.new.Goals as goal
+use Rattle.timing_reach.proofs.window.meters.WindowMeters.new.Goals as goal
 
 pub returns-clause-stands : goal.returns-clause-stands
 returns-clause-stands c =

@@ -1,4 +1,4 @@
-use Rattle.timing_reach.proofs.window.meters.Meters.feed.Goals as goal
+use Rattle.timing_reach.proofs.window.meters.WindowMeters.feed.Goals as goal
 
 pub returns-clause-stands : goal.returns-clause-stands
 returns-clause-stands c = λ n0 stamps h. record {

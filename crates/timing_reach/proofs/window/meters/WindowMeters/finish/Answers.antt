@@ -1,4 +1,4 @@
-use Rattle.timing_reach.proofs.window.meters.Meters.finish.Goals as goal
+use Rattle.timing_reach.proofs.window.meters.WindowMeters.finish.Goals as goal
 
 pub returns : goal.returns
 returns c = λ params stamps h. record {
