@@ -68,19 +68,20 @@ cause-after (Err failure.OutOfMemory) a b c h cause = tt
 
 -- the flow was judged and then looked into, in two parts of the run
 pub reads-twice : (i : Inputs) (mid : List ℕ → Option (List ℕ)) (between : List ℕ → ℕ) (outcome : Result Answer Failure) (name : List ℕ)
-    (Seen : List ℕ → Type 0) (next : List ℕ → Answer → Type 0)
-    → ((n : List ℕ) → mid n ≡ i.texts n) → ((n : List ℕ) → i.before n ≤ between n) → ((text : List ℕ) → classic_texts i.texts name ≡ Some text → Seen text)
+    (Known : List ℕ → Type 0) (next : List ℕ → Answer → Type 0)
+    → ((n : List ℕ) → mid n ≡ i.texts n) → ((n : List ℕ) → i.before n ≤ between n) → ((text : List ℕ) → classic_texts i.texts name ≡ Some text → Known text)
     → ¬ i.lacks name
-    → IfOk outcome (λ answer. (text : List ℕ) → classic_texts mid name ≡ Some text → Seen text → next text answer)
+    → IfOk outcome (λ answer. (text : List ℕ) → classic_texts mid name ≡ Some text → Known text → next text answer)
     → IfErr outcome (λ e. OnReadFault e (λ x. (x ≡ input.Capture 0) × Rose (between name) (i.now name)))
     → Yields outcome (ReadsCapture i outcome name (λ text. Gives outcome (next text)))
-reads-twice i mid between outcome name Seen next texts earlier seen there told cause =
+reads-twice i mid between outcome name Known next texts earlier known there told cause =
     reads-capture i outcome name next (on-answer outcome told) (there-too outcome)
     (cause-after outcome (i.before name) (between name) (i.now name) (earlier name) cause)
   where
-    on-answer : (outcome : Result Answer Failure) → IfOk outcome (λ answer. (text : List ℕ) → classic_texts mid name ≡ Some text → Seen text → next text answer)
+    on-answer : (outcome : Result Answer Failure) → IfOk outcome (λ answer. (text : List ℕ) → classic_texts mid name ≡ Some text → Known text
+        → next text answer)
         → IfOk outcome (λ answer. (text : List ℕ) → classic_texts i.texts name ≡ Some text → next text answer)
-    on-answer (Ok answer) h = λ text t. h text (ap (option_map classic) (texts name) ∙ t) (seen text t)
+    on-answer (Ok answer) h = λ text t. h text (ap (option_map classic) (texts name) ∙ t) (known text t)
     on-answer (Err e) h = tt
 
     there-too : (outcome : Result Answer Failure) → IfOk outcome (λ _. ¬ i.lacks name)

@@ -5,7 +5,7 @@ mod Packets
 mod Judgings
 mod RunSizes
 pub mod SomeShape
-mod Seens
+mod Judgments
 mod Following
 pub mod Unique
 mod Listings

@@ -50,7 +50,7 @@ use Rattle.timing_base.specs.declared.media.Kind.{Kind}
 use Rattle.timing_base.specs.declared.packet.FlowPacket.{FlowPacket}
 use Rattle.timing_report.specs.declared.status.Status.TheVariants as status
 use Rattle.timing_steps.specs.Answers.{Answer}
-use Rattle.timing_reach.specs.judged.Runs.{IsFound, gauged}
+use Rattle.timing_reach.specs.judged.Runs.{IsRunOf, gauged}
 use Rattle.udp_rtp.specs.Flow.{flow, flow_packet}
 use Rattle.timing_reach.specs.shape.Leaving.{HasGiven, HasLeft, IsFit, IsPartOf, Part, Takes, part_of, stamps_in}
 use Rattle.timing_reach.specs.Shapes.{
@@ -190,7 +190,7 @@ ends-copied w list t passed items run packets answer none is e h =
     })
 
 -- the part that was judged so
-part-found : (m : Media) (kind : Kind) (tai first : ℕ) (j : Judged) (items : List Record) (run : JudgedRun) → IsFound m tai first j items run
+part-found : (m : Media) (kind : Kind) (tai first : ℕ) (j : Judged) (items : List Record) (run : JudgedRun) → IsRunOf m tai first j items run
     → IsPartOf (part_of m kind tai first j) items run
 part-found m kind tai first j items run found = record {
   judged_is = found.judged_is;
@@ -204,7 +204,7 @@ part-found m kind tai first j items run found = record {
 -- all packets of a flow were passed that is judged in this run
 pub shaped-in : (m : Media) (kind : Kind) (list : Bool) (tai first : ℕ) (j : Judged) (old new : Shaping) (items : List Record) (run : JudgedRun)
     → IsShaping (part_of m kind tai first j) list old [] []
-    → ShapesOn old new items → IsFound m tai first j items run → Ends (part_of m kind tai first j) list new (flow items m) items run j.packets
+    → ShapesOn old new items → IsRunOf m tai first j items run → Ends (part_of m kind tai first j) list new (flow items m) items run j.packets
 shaped-in m kind list tai first j old new items run start on found =
     let w = part_of m kind tai first j in
     let passed = flow items m in

@@ -50,7 +50,7 @@ use Rattle.timing_base.specs.declared.media.Kind.{Kind}
 use Rattle.timing_base.specs.declared.packet.FlowPacket.{FlowPacket}
 use Rattle.timing_report.specs.declared.status.Status.TheVariants as status
 use Rattle.timing_steps.specs.Answers.{Answer}
-use Rattle.timing_reach.specs.judged.Runs.{IsFound, gauged}
+use Rattle.timing_reach.specs.judged.Runs.{IsRunOf, gauged}
 use Rattle.udp_rtp.specs.Flow.{flow, flow_packet}
 use Rattle.timing_reach.specs.shape.Leaving.{HasGiven, HasLeft, IsFit, IsPartOf, Part, Takes, part_of, stamps_in}
 use Rattle.timing_reach.specs.Shapes.{

@@ -3,9 +3,9 @@
 mod answers;
 pub mod captures;
 mod judging;
+mod judgment;
 pub mod look;
 mod opening;
-mod seen;
 pub mod words;
 
 pub use answers::answer_flow;

@@ -15,7 +15,7 @@ use Rattle.sender_params.specs.Ticks.{NeverFall}
 use Rattle.udp_rtp.specs.Flow.{flow, flow_packet}
 use Rattle.timing_reach.specs.judged.Opening.{IsOpening}
 use Rattle.timing_reach.specs.declared.judged.judging.Judging.{Judging}
-use Rattle.timing_reach.specs.declared.judged.seen.Seen.{Seen}
+use Rattle.timing_reach.specs.declared.judged.judgment.Judgment.{Judgment}
 
 -- the packets were passed to the judge of this media, and no others
 pub record IsJudging (m : Media) (key : FlowKey) (tai : ℕ) (j : Judging) (packets : List FlowPacket) : Type 0 where
@@ -45,15 +45,15 @@ judges_more x y z a b first second m key tai packets h =
 
 -- what is found where these packets are the flow: its verdict, and where it is judged in one run the stamp of the first
 -- judged packet, before the seconds are added; the stamps of the run never fall
-pub record IsSeen (m : Media) (tai : ℕ) (packets : List FlowPacket) (seen : Seen) : Type 0 where
-  pub verdict_is : seen.verdict ≡ verdict_of m (judged packets m.pt tai)
+pub record IsJudgment (m : Media) (tai : ℕ) (packets : List FlowPacket) (judgment : Judgment) : Type 0 where
+  pub verdict_is : judgment.verdict ≡ verdict_of m (judged packets m.pt tai)
   pub first : (run : JudgedRun) → judged packets m.pt tai ≡ in_one_run (whole_frames run)
-      → slice_index run.stamps 0 ≡ seen.first + tai * 10 ^ 9
+      → slice_index run.stamps 0 ≡ judgment.first + tai * 10 ^ 9
   pub ordered : (run : JudgedRun) → judged packets m.pt tai ≡ in_one_run (whole_frames run) → NeverFall run.stamps
 
 -- what is found of the flow of a media in a capture of this text
-pub record IsSeenIn (m : Media) (tai : ℕ) (text : List ℕ) (seen : Seen) : Type 0 where
+pub record IsJudgmentIn (m : Media) (tai : ℕ) (text : List ℕ) (judgment : Judgment) : Type 0 where
   pub items : List Record
   pub note : FileNote
   pub records : Records text (2 ^ 40) items note
-  pub seen_is : IsSeen m tai (flow items m) seen
+  pub judgment_is : IsJudgment m tai (flow items m) judgment

@@ -15,7 +15,7 @@ gauged tai head count packets = map (stamp_of tai) (take count (drop head packet
 
 -- the flow of these records is judged in this run, which has these values; its first judged packet came at `first`,
 -- before the seconds are added
-pub record IsFound (m : Media) (tai first : ℕ) (j : Judged) (items : List Record) (run : JudgedRun) : Type 0 where
+pub record IsRunOf (m : Media) (tai first : ℕ) (j : Judged) (items : List Record) (run : JudgedRun) : Type 0 where
   pub judged_is : judged (flow items m) m.pt tai ≡ in_one_run (whole_frames run)
   pub values : j ≡ judged_values m run
   pub opens : slice_index run.stamps 0 ≡ first + tai * 10 ^ 9

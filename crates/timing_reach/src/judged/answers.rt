@@ -12,13 +12,13 @@ ghost use Rattle.timing_outside.specs.Shelves.{StaysAs};
 ghost use Rattle.timing_steps.specs.Answers.{Gives, OnReadFault, ReadsSession, Yields, seen_of};
 ghost use Rattle.timing_steps.specs.Ran.{HasCause, IsAnswered};
 ghost use Rattle.timing_reach.specs.Asked.{FlowInputRose, OnFlow, ReadsCapture, ReadsFlow};
-ghost use Rattle.timing_reach.specs.judged.Readings.{IsSeenIn};
-ghost use Rattle.timing_reach.specs.judged.Runs.{IsFound};
+ghost use Rattle.timing_reach.specs.judged.Readings.{IsJudgmentIn};
+ghost use Rattle.timing_reach.specs.judged.Runs.{IsRunOf};
 
 use crate::judged::captures::take_capture;
 use crate::judged::judging::judge_flow;
+use crate::judged::judgment::Judgment;
 use crate::judged::look::Look;
-use crate::judged::seen::Seen;
 use crate::judged::words::{no_such_media, not_judged};
 use std::alloc::Global;
 use timing_base::{FlowJob, Judged, Media, Verdict};
@@ -42,7 +42,7 @@ fn look_again<L: Look, H: Shelf>(
     ensures told { IfOk result (λ answer. (text : List ℕ) (items : List Record) (note : _)
         (run : JudgedRun) → classic_texts (H.text shelf.old) job.now.capture ≡ Some text
         → Records text (2 ^ 40) items note
-        → IsFound media.now job.now.tai first judged.now items run
+        → IsRunOf media.now job.now.tai first judged.now items run
         → L.answers look.now job.now.tai media.now items run answer) }
     ensures answers { IfOk result (λ answer. IsAnswered answer.status) }
     ensures cause { IfErr result (λ e. OnReadFault e (λ i. (i ≡ Input.Capture 0)
@@ -61,22 +61,22 @@ fn answer_seen<L: Look, H: Shelf>(
     look: &L,
     shelf: &mut H,
     media: &Media,
-    seen: &Seen,
+    judgment: &Judgment,
 ) -> Result<Answer, Failure>
-    requires few { (judged : JudgedValue) → seen.now.verdict ≡ verdict.Judged judged
+    requires few { (judged : JudgedValue) → judgment.now.verdict ≡ verdict.Judged judged
         → judged.packets ≤ 2 ^ 36 }
     ensures told { IfOk result (λ answer. (text : List ℕ)
         → classic_texts (H.text shelf.old) job.now.capture ≡ Some text
-        → IsSeenIn media.now job.now.tai text seen.now
+        → IsJudgmentIn media.now job.now.tai text judgment.now
         → OnFlow job.now.tai media.now (L.answers look.now job.now.tai media.now) text answer) }
     ensures answers { IfOk result (λ answer. IsAnswered answer.status) }
     ensures cause { IfErr result (λ e. OnReadFault e (λ i. (i ≡ Input.Capture 0)
         × Rose (H.faults shelf.old job.now.capture) (H.faults shelf.new job.now.capture))) }
     ensures stays { StaysAs H.text H.lacks H.faults shelf.old shelf.new }
 {
-    match &seen.verdict {
+    match &judgment.verdict {
         Verdict::Judged(judged) => {
-            look_again(alloc, job, look, shelf, media, judged, seen.first)
+            look_again(alloc, job, look, shelf, media, judged, judgment.first)
         }
         verdict => Ok(not_judged(alloc, media, verdict)?),
     }
@@ -97,8 +97,8 @@ fn answer_on<L: Look, H: Shelf>(
         (FlowInputRose job.now (seen_of H.text H.lacks H.faults shelf.old shelf.new)) }
     ensures stays { StaysAs H.text H.lacks H.faults shelf.old shelf.new }
 {
-    let seen = judge_flow(alloc, job, shelf, media)?;
-    answer_seen(alloc, job, look, shelf, media, &seen)
+    let judgment = judge_flow(alloc, job, shelf, media)?;
+    answer_seen(alloc, job, look, shelf, media, &judgment)
 }
 
 /// The answer over a session of these media.

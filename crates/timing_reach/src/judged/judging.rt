@@ -10,8 +10,8 @@ ghost use Rattle.pcapng_reader.specs.Classic.{classic_texts};
 ghost use Rattle.timing_steps.specs.Answers.{OnReadFault};
 
 use crate::judged::captures::take_capture;
+use crate::judged::judgment::Judgment;
 use crate::judged::opening::Opening;
-use crate::judged::seen::Seen;
 use fail_interval::FlowJudge;
 use pcap_reader::Taker;
 use std::alloc::{AllocError as OutOfMemory, Global};
@@ -30,7 +30,7 @@ pub struct Judging {
 }
 
 impl Judging {
-    ghost use Rattle.timing_reach.specs.judged.Readings.{IsJudging, IsSeen, count_judged};
+    ghost use Rattle.timing_reach.specs.judged.Readings.{IsJudging, IsJudgment, count_judged};
 
     /// The judge of this media before the first record. `tai` seconds are added to the stamps.
     fn new(alloc: Global, media: &Media, number: u32, tai: u64) -> Judging
@@ -50,17 +50,17 @@ impl Judging {
     }
 
     /// What comes of the flow, where it ends here.
-    fn finish(self) -> Seen
+    fn finish(self) -> Judgment
         requires { count_judged self < 2 ^ 41 }
         ensures { (media : _) (key : KeyValue) (tai : ℕ) (packets : List _) → tai ≤ 1000
-            → IsJudging media key tai self packets → IsSeen media tai packets result }
+            → IsJudging media key tai self packets → IsJudgment media tai packets result }
     {
         let Judging {
             media: _,
             judge,
             opening,
         } = self;
-        Seen {
+        Judgment {
             verdict: judge.finish().verdict,
             first: opening.stamp(),
         }
@@ -90,7 +90,7 @@ impl Taker for Judging {
     }
 }
 
-ghost use Rattle.timing_reach.specs.judged.Readings.{IsSeenIn};
+ghost use Rattle.timing_reach.specs.judged.Readings.{IsJudgmentIn};
 
 /// Reads the flow of a job for the first time.
 pub fn judge_flow<H: Shelf>(
@@ -98,12 +98,12 @@ pub fn judge_flow<H: Shelf>(
     job: &FlowJob,
     shelf: &mut H,
     media: &Media,
-) -> Result<Seen, Failure>
-    ensures told { IfOk result (λ seen. (text : List ℕ)
+) -> Result<Judgment, Failure>
+    ensures told { IfOk result (λ judgment. (text : List ℕ)
         → classic_texts (H.text shelf.old) job.now.capture ≡ Some text
-        → IsSeenIn media.now job.now.tai text seen) }
-    ensures few { IfOk result (λ seen. (judged : JudgedValue)
-        → seen.verdict ≡ verdict.Judged judged → judged.packets ≤ 2 ^ 36) }
+        → IsJudgmentIn media.now job.now.tai text judgment) }
+    ensures few { IfOk result (λ judgment. (judged : JudgedValue)
+        → judgment.verdict ≡ verdict.Judged judged → judged.packets ≤ 2 ^ 36) }
     ensures cause { IfErr result (λ e. OnReadFault e (λ i. (i ≡ Input.Capture 0)
         × Rose (H.faults shelf.old job.now.capture) (H.faults shelf.new job.now.capture))) }
     ensures there { IfOk result (λ _. ¬ H.lacks shelf.old job.now.capture) }

@@ -7,7 +7,7 @@ ghost use Rattle.timing_base.specs.Media.{Media as MediaValue};
 ghost use Rattle.timing_base.specs.Verdicts.{Judged as JudgedValue};
 ghost use Rattle.timing_steps.specs.Answers.{Answer as AnswerValue};
 ghost use Rattle.timing_steps.specs.Ran.{IsAnswered};
-ghost use Rattle.timing_reach.specs.judged.Runs.{IsFound};
+ghost use Rattle.timing_reach.specs.judged.Runs.{IsRunOf};
 
 use pcap_reader::Taker;
 use std::alloc::{AllocError as OutOfMemory, Global};
@@ -53,6 +53,6 @@ pub trait Look {
         ensures answers { IfOk result (λ answer. (tai : ℕ) (media : MediaValue) (first : ℕ)
             (begun : Self.Meter) (items : List Record) (run : JudgedRun)
             → fresh self.now tai media judged.now first begun → Self.Meter.takes begun meter items
-            → IsFound media tai first judged.now items run
+            → IsRunOf media tai first judged.now items run
             → answers self.now tai media items run answer) };
 }

@@ -2,7 +2,7 @@ use Rattle.std.proofs.Common.{◌∙◌, refl, sym, arith}
 use Rattle.timing_base.specs.Captures.{Record}
 use Rattle.timing_reach.specs.declared.judged.judging.Judging.{Judging}
 use Rattle.timing_reach.proofs.Packets.{packet-of}
-use Rattle.timing_reach.proofs.Seens.{judges-packet}
+use Rattle.timing_reach.proofs.Judgments.{judges-packet}
 use Rattle.timing_reach.proofs.judged.judging.JudgingTaker.take.Goals as goal
 
 pub pass-requires : goal.pass-requires

@@ -1,12 +1,12 @@
-//! What a first reading of a flow finds.
+//! What the first reading of a flow comes to.
 
 ghost use Rattle.timing_base.specs.Captures.{IsStamp};
 
 use timing_base::Verdict;
 
-/// What a first reading found.
+/// What the first reading of a flow came to.
 #[derive(Drop)]
-pub struct Seen {
+pub struct Judgment {
     pub verdict: Verdict,
     /// The stamp of the first judged packet, in nanoseconds, as the capture has it; 0 where there is
     /// none.
