@@ -1,6 +1,34 @@
 -- One packet more of a flow that is written as a capture.
 use Rattle.std.specs.Prelude.{slice_index, nat_lt, if◌then◌else◌, max}
-use Rattle.std.proofs.Common.{◌≡◌, ◌≤◌, ◌<◌, ◌+◌, ◌-◌, ◌*◌, ◌^◌, ℕ, suc, Bool, true, false, List, [], ◌∷◌, ◌++◌, length, refl, arith, ap, ◌∙◌, sym, inl, inr, append-nil, append_assoc, length-append}
+use Rattle.std.proofs.Common.{
+  ◌≡◌,
+  ◌≤◌,
+  ◌<◌,
+  ◌+◌,
+  ◌-◌,
+  ◌*◌,
+  ◌^◌,
+  ℕ,
+  suc,
+  Bool,
+  true,
+  false,
+  List,
+  [],
+  ◌∷◌,
+  ◌++◌,
+  length,
+  refl,
+  arith,
+  ap,
+  ◌∙◌,
+  sym,
+  inl,
+  inr,
+  append-nil,
+  append_assoc,
+  length-append,
+}
 use Rattle.std.proofs.Math.Seq.{get_or-append_seam}
 use Rattle.std.proofs.lemmas.Bool.{cases_lt}
 use Rattle.std.proofs.lemmas.Bool.Decides.{nat_tests}
@@ -13,7 +41,8 @@ use Rattle.timing_reach.specs.Shapes.{leaves_at, records_text, shaped_capture}
 abbrev pub record_at : ℕ → Record → List ℕ
 record_at at r = record_head at (length r.bytes) ++ r.bytes
 
-records-more : (leaves : ℕ → ℕ → ℕ) (k : ℕ) (rs : List Record) (r : Record) → records_text leaves k (rs ++ r ∷ []) ≡ records_text leaves k rs ++ record_at (leaves (k + length rs) r.stamp) r
+records-more : (leaves : ℕ → ℕ → ℕ) (k : ℕ) (rs : List Record) (r : Record)
+    → records_text leaves k (rs ++ r ∷ []) ≡ records_text leaves k rs ++ record_at (leaves (k + length rs) r.stamp) r
 records-more leaves k [] r =
     let here : k ≡ k + 0 = omega arith in
     ap (λ l. record_head (leaves k r.stamp) (length r.bytes) ++ l) (append-nil r.bytes) ∙ ap (λ i. record_at (leaves i r.stamp) r) here
@@ -25,27 +54,33 @@ records-more leaves k (x ∷ xs) r =
     ap (λ l. head ++ (x.bytes ++ l)) (records-more leaves (k + 1) xs r ∙ ap (λ i. rest ++ record_at (leaves i r.stamp) r) count)
     ∙ ap (λ l. head ++ l) (sym (append_assoc x.bytes rest last)) ∙ sym (append_assoc head (x.bytes ++ rest) last)
 
-records-same : (leaves also : ℕ → ℕ → ℕ) (k : ℕ) (rs : List Record) → ((j stamp : ℕ) → j < k + length rs → leaves j stamp ≡ also j stamp) → records_text leaves k rs ≡ records_text also k rs
+records-same : (leaves also : ℕ → ℕ → ℕ) (k : ℕ) (rs : List Record) → ((j stamp : ℕ) → j < k + length rs → leaves j stamp ≡ also j stamp)
+    → records_text leaves k rs ≡ records_text also k rs
 records-same leaves also k [] same = refl
 records-same leaves also k (x ∷ xs) same =
     ap (λ at. record_head at (length x.bytes) ++ (x.bytes ++ records_text leaves (k + 1) xs)) (same k x.stamp (omega arith))
-    ∙ ap (λ l. record_head (also k x.stamp) (length x.bytes) ++ (x.bytes ++ l)) (records-same leaves also (k + 1) xs (λ j stamp few. same j stamp (omega (arith, few))))
+    ∙ ap (λ l. record_head (also k x.stamp) (length x.bytes) ++ (x.bytes ++ l))
+    (records-same leaves also (k + 1) xs (λ j stamp few. same j stamp (omega (arith, few))))
 
 -- when a packet leaves, by what its place is
 leaves-by : (tai head : ℕ) (departures : List ℕ) (k stamp : ℕ) (b c : Bool) → nat_lt k head ≡ b → nat_lt k (head + length departures) ≡ c
     → leaves_at tai head departures k stamp
-    ≡ (if b then stamp else if c then slice_index departures (k - head) - tai * 10 ^ 9 else max (stamp + tai * 10 ^ 9) (slice_index departures (length departures - 1)) - tai * 10 ^ 9)
+    ≡ (if b then stamp else if c then slice_index departures (k - head) - tai * 10 ^ 9
+    else max (stamp + tai * 10 ^ 9) (slice_index departures (length departures - 1)) - tai * 10 ^ 9)
 leaves-by tai head departures k stamp b c first second =
     let judged = slice_index departures (k - head) - tai * 10 ^ 9 in
     let behind = max (stamp + tai * 10 ^ 9) (slice_index departures (length departures - 1)) - tai * 10 ^ 9 in
-    ap (λ (x : Bool). if x then stamp else if nat_lt k (head + length departures) then judged else behind) first ∙ ap (λ (x : Bool). if b then stamp else if x then judged else behind) second
+    ap (λ (x : Bool). if x then stamp else if nat_lt k (head + length departures) then judged else behind) first
+    ∙ ap (λ (x : Bool). if b then stamp else if x then judged else behind) second
 
-leaves-judged : (tai head : ℕ) (departures : List ℕ) (k stamp : ℕ) → head ≤ k → k < head + length departures → leaves_at tai head departures k stamp ≡ slice_index departures (k - head) - tai * 10 ^ 9
+leaves-judged : (tai head : ℕ) (departures : List ℕ) (k stamp : ℕ) → head ≤ k → k < head + length departures
+    → leaves_at tai head departures k stamp ≡ slice_index departures (k - head) - tai * 10 ^ 9
 leaves-judged tai head departures k stamp low few =
     leaves-by tai head departures k stamp false true (grind (arith, nat_tests)) (grind (arith, nat_tests))
 
 -- a packet before one more judged one leaves as it did
-leaves-before : (tai head : ℕ) (departures : List ℕ) (d k stamp : ℕ) → k < head + length departures → leaves_at tai head (departures ++ d ∷ []) k stamp ≡ leaves_at tai head departures k stamp
+leaves-before : (tai head : ℕ) (departures : List ℕ) (d k stamp : ℕ) → k < head + length departures
+    → leaves_at tai head (departures ++ d ∷ []) k stamp ≡ leaves_at tai head departures k stamp
 leaves-before tai head departures d k stamp few =
     let more = departures ++ d ∷ [] in
     let long : length more ≡ length departures + 1 = length-append departures (d ∷ []) in
@@ -62,10 +97,12 @@ leaves-before tai head departures d k stamp few =
     ]
 
 -- with one packet more
-copy-more : (leaves : ℕ → ℕ → ℕ) (records : List Record) (r : Record) (at : ℕ) → leaves (length records) r.stamp ≡ at → records_text leaves 0 (records ++ r ∷ []) ≡ records_text leaves 0 records ++ record_at at r
+copy-more : (leaves : ℕ → ℕ → ℕ) (records : List Record) (r : Record) (at : ℕ) → leaves (length records) r.stamp ≡ at
+    → records_text leaves 0 (records ++ r ∷ []) ≡ records_text leaves 0 records ++ record_at at r
 copy-more leaves records r at here =
     let start : 0 + length records ≡ length records = omega arith in
-    records-more leaves 0 records r ∙ ap (λ k. records_text leaves 0 records ++ record_at (leaves k r.stamp) r) start ∙ ap (λ x. records_text leaves 0 records ++ record_at x r) here
+    records-more leaves 0 records r ∙ ap (λ k. records_text leaves 0 records ++ record_at (leaves k r.stamp) r) start
+    ∙ ap (λ x. records_text leaves 0 records ++ record_at x r) here
 
 -- with one judged packet more
 pub capture-judged : (tai head : ℕ) (departures : List ℕ) (d : ℕ) (records : List Record) (r : Record) → length records ≡ head + length departures
@@ -80,11 +117,13 @@ capture-judged tai head departures d records r place =
     ∙ ap (λ x. x - tai * 10 ^ 9) (get_or-append_seam departures d [] 0) in
     ap (λ l. file_head ++ l)
     (copy-more (leaves_at tai head more) records r (d - tai * 10 ^ 9) here
-    ∙ ap (λ l. l ++ record_at (d - tai * 10 ^ 9) r) (records-same (leaves_at tai head more) (leaves_at tai head departures) 0 records (λ j stamp few. leaves-before tai head departures d j stamp (omega (arith, few, place)))))
+    ∙ ap (λ l. l ++ record_at (d - tai * 10 ^ 9) r) (records-same (leaves_at tai head more)
+    (leaves_at tai head departures) 0 records (λ j stamp few. leaves-before tai head departures d j stamp (omega (arith, few, place)))))
     ∙ sym (append_assoc file_head (records_text (leaves_at tai head departures) 0 records) (record_at (d - tai * 10 ^ 9) r))
 
 -- with one packet more before the judged ones, or behind them
-pub capture-beside : (tai head left : ℕ) (departures : List ℕ) (records : List Record) (r : Record) → left ≡ slice_index departures (length departures - 1) - tai * 10 ^ 9
+pub capture-beside : (tai head left : ℕ) (departures : List ℕ) (records : List Record) (r : Record)
+    → left ≡ slice_index departures (length departures - 1) - tai * 10 ^ 9
     → (length records < head → departures ≡ []) → (head ≤ length records → head + length departures ≤ length records)
     → shaped_capture tai head departures (records ++ r ∷ []) ≡ shaped_capture tai head departures records ++ record_at (max r.stamp left) r
 capture-beside tai head left departures records r last ahead behind =

@@ -36,7 +36,8 @@ capture-cause i job (Err failure.WriteFault) answers cause = cause
 capture-cause i job (Err failure.OutOfMemory) answers cause = tt
 
 -- a capture that was read in a part of the run
-capture-seen : (i j : Inputs) (outcome : Result Answer Failure) (name : List ℕ) (next : List ℕ → Type 0) → Sees i j → ReadsCapture j outcome name next → ReadsCapture i outcome name next
+capture-seen : (i j : Inputs) (outcome : Result Answer Failure) (name : List ℕ) (next : List ℕ → Type 0) → Sees i j → ReadsCapture j outcome name next
+    → ReadsCapture i outcome name next
 capture-seen i j outcome name next s (inl failed) = inl (failed.0, risen-seen i j name s failed.1)
 capture-seen i j outcome name next s (inr read) = inr ((λ lacks. read.0 (s.lacks name lacks)), λ text told. read.1 text (s.texts name ∙ told))
 
@@ -46,14 +47,16 @@ flow-seen i j outcome job next None s h = h
 flow-seen i j outcome job next (Some m) s h = capture-seen i j outcome job.capture (λ text. Gives outcome (next m text)) s h
 
 -- a description that was read, and what follows for its media was seen later
-pub flow-session : (i j : Inputs) (job : FlowJob) (next : Media → List ℕ → Answer → Type 0) (outcome : Result Answer Failure) (asked : List ℕ) (all media : List Media) → Sees i j → asked ≡ job.sdp → all ≡ media → ¬ i.lacks asked
+pub flow-session : (i j : Inputs) (job : FlowJob) (next : Media → List ℕ → Answer → Type 0) (outcome : Result Answer Failure) (asked : List ℕ)
+    (all media : List Media) → Sees i j → asked ≡ job.sdp → all ≡ media → ¬ i.lacks asked
     → ((text : List ℕ) → i.texts asked ≡ Some text → session text ≡ Ok media) → Yields outcome (ReadsFlow j outcome job next (slice_get all job.media))
     → Yields outcome (ReadsSession i outcome job.sdp (λ media. ReadsFlow i outcome job next (slice_get media job.media)))
 flow-session i j job next outcome asked all media s named same there told h =
     follows-session i outcome job.sdp media (λ m. ReadsFlow i outcome job next (slice_get m job.media)) (subst (λ (n : List ℕ). ¬ i.lacks n) named there)
     (λ text t. told text (ap i.texts named ∙ t))
     (yields-on outcome (ReadsFlow j outcome job next (slice_get all job.media)) (ReadsFlow i outcome job next (slice_get media job.media))
-    (λ r. subst (λ (m : List Media). ReadsFlow i outcome job next (slice_get m job.media)) same (flow-seen i j outcome job next (slice_get all job.media) s r)) h)
+    (λ r. subst (λ (m : List Media). ReadsFlow i outcome job next (slice_get m job.media)) same (flow-seen i j outcome job next (slice_get all job.media) s r))
+    h)
 
 -- the capture's count rose in a part of the run
 pub cause-after : (outcome : Result Answer Failure) (a b c : ℕ) → a ≤ b → IfErr outcome (λ e. OnReadFault e (λ x. (x ≡ input.Capture 0) × Rose b c))
@@ -64,17 +67,21 @@ cause-after (Err failure.WriteFault) a b c h cause = cause
 cause-after (Err failure.OutOfMemory) a b c h cause = tt
 
 -- the flow was judged and then looked into, in two parts of the run
-pub reads-twice : (i : Inputs) (mid : List ℕ → Option (List ℕ)) (between : List ℕ → ℕ) (outcome : Result Answer Failure) (name : List ℕ) (Seen : List ℕ → Type 0) (next : List ℕ → Answer → Type 0)
-    → ((n : List ℕ) → mid n ≡ i.texts n) → ((n : List ℕ) → i.before n ≤ between n) → ((text : List ℕ) → classic_texts i.texts name ≡ Some text → Seen text) → ¬ i.lacks name
-    → IfOk outcome (λ answer. (text : List ℕ) → classic_texts mid name ≡ Some text → Seen text → next text answer)
+pub reads-twice : (i : Inputs) (mid : List ℕ → Option (List ℕ)) (between : List ℕ → ℕ) (outcome : Result Answer Failure) (name : List ℕ)
+    (Known : List ℕ → Type 0) (next : List ℕ → Answer → Type 0)
+    → ((n : List ℕ) → mid n ≡ i.texts n) → ((n : List ℕ) → i.before n ≤ between n) → ((text : List ℕ) → classic_texts i.texts name ≡ Some text → Known text)
+    → ¬ i.lacks name
+    → IfOk outcome (λ answer. (text : List ℕ) → classic_texts mid name ≡ Some text → Known text → next text answer)
     → IfErr outcome (λ e. OnReadFault e (λ x. (x ≡ input.Capture 0) × Rose (between name) (i.now name)))
     → Yields outcome (ReadsCapture i outcome name (λ text. Gives outcome (next text)))
-reads-twice i mid between outcome name Seen next texts earlier seen there told cause =
-    reads-capture i outcome name next (on-answer outcome told) (there-too outcome) (cause-after outcome (i.before name) (between name) (i.now name) (earlier name) cause)
+reads-twice i mid between outcome name Known next texts earlier known there told cause =
+    reads-capture i outcome name next (on-answer outcome told) (there-too outcome)
+    (cause-after outcome (i.before name) (between name) (i.now name) (earlier name) cause)
   where
-    on-answer : (outcome : Result Answer Failure) → IfOk outcome (λ answer. (text : List ℕ) → classic_texts mid name ≡ Some text → Seen text → next text answer)
+    on-answer : (outcome : Result Answer Failure) → IfOk outcome (λ answer. (text : List ℕ) → classic_texts mid name ≡ Some text → Known text
+        → next text answer)
         → IfOk outcome (λ answer. (text : List ℕ) → classic_texts i.texts name ≡ Some text → next text answer)
-    on-answer (Ok answer) h = λ text t. h text (ap (option_map classic) (texts name) ∙ t) (seen text t)
+    on-answer (Ok answer) h = λ text t. h text (ap (option_map classic) (texts name) ∙ t) (known text t)
     on-answer (Err e) h = tt
 
     there-too : (outcome : Result Answer Failure) → IfOk outcome (λ _. ¬ i.lacks name)
@@ -90,17 +97,20 @@ pub cause-out : (outcome : Result Answer Failure) (InputRose : Input → Type 0)
 cause-out outcome InputRose h = subst (λ o. HasCause o InputRose) (sym (ran-out outcome h)) tt
 
 -- the description hasn't the media
-pub reads-none : (i : Inputs) (job : FlowJob) (next : Media → List ℕ → Answer → Type 0) (answer : Answer) (there : Option Media) → there ≡ None → answer ≡ no_such_media
+pub reads-none : (i : Inputs) (job : FlowJob) (next : Media → List ℕ → Answer → Type 0) (answer : Answer) (there : Option Media) → there ≡ None
+    → answer ≡ no_such_media
     → Yields (Ok answer) (ReadsFlow i (Ok answer) job next there)
 reads-none i job next answer there none is = inr (subst (ReadsFlow i (Ok answer) job next) (sym none) (answer, refl, is))
 
 -- the description has it
-pub reads-some : (i : Inputs) (outcome : Result Answer Failure) (job : FlowJob) (next : Media → List ℕ → Answer → Type 0) (there : Option Media) (m : Media) → there ≡ Some m
+pub reads-some : (i : Inputs) (outcome : Result Answer Failure) (job : FlowJob) (next : Media → List ℕ → Answer → Type 0) (there : Option Media) (m : Media)
+    → there ≡ Some m
     → Yields outcome (ReadsFlow i outcome job next (Some m)) → Yields outcome (ReadsFlow i outcome job next there)
 reads-some i outcome job next there m some h = subst (λ t. Yields outcome (ReadsFlow i outcome job next t)) (sym some) h
 
 -- an input's count rose in a part of the run
-pub cause-seen : (i j : Inputs) (outcome : Result Answer Failure) (job : FlowJob) → Sees i j → HasCause outcome (FlowInputRose job j) → HasCause outcome (FlowInputRose job i)
+pub cause-seen : (i j : Inputs) (outcome : Result Answer Failure) (job : FlowJob) → Sees i j → HasCause outcome (FlowInputRose job j)
+    → HasCause outcome (FlowInputRose job i)
 cause-seen i j (Ok answer) job s h = h
 cause-seen i j (Err (failure.ReadFault input.Sdp)) job s h = risen-seen i j job.sdp s h
 cause-seen i j (Err (failure.ReadFault input.Report)) job s h = absurd h

@@ -1,6 +1,32 @@
 -- One packet more of a flow that is measured, and the whole flow.
 use Rattle.std.specs.Prelude.{ℤ, slice_index}
-use Rattle.std.proofs.Common.{◌≡◌, ◌≤◌, ◌<◌, ◌+◌, ◌-◌, ◌*◌, ◌^◌, ℕ, zero, suc, List, [], ◌∷◌, ◌++◌, length, Option, refl, arith, ap, ◌∙◌, sym, subst, map, take, drop}
+use Rattle.std.proofs.Common.{
+  ◌≡◌,
+  ◌≤◌,
+  ◌<◌,
+  ◌+◌,
+  ◌-◌,
+  ◌*◌,
+  ◌^◌,
+  ℕ,
+  zero,
+  suc,
+  List,
+  [],
+  ◌∷◌,
+  ◌++◌,
+  length,
+  Option,
+  refl,
+  arith,
+  ap,
+  ◌∙◌,
+  sym,
+  subst,
+  map,
+  take,
+  drop,
+}
 use Rattle.std.specs.List.{cons_option}
 use Rattle.std.proofs.lemmas.List.{drop-append-le, length-append, length-drop, length-map, map-append, take-append-le}
 use Rattle.std.proofs.Math.ListN.{drop_of_length-le}
@@ -11,10 +37,11 @@ use Rattle.timing_base.specs.Media.{Media}
 use Rattle.timing_base.specs.declared.packet.FlowPacket.{FlowPacket}
 use Rattle.sender_params.specs.declared.params.Params.{Params}
 use Rattle.sender_params.specs.Reads.{anchor_of}
-use Rattle.timing_reach.specs.Gauging.{AreFed, IsGauged, Puts, gauged}
+use Rattle.timing_reach.specs.judged.Runs.{gauged}
+use Rattle.timing_reach.specs.window.Gauging.{AreFed, IsGauged, Puts}
 use Rattle.timing_reach.specs.Windows.{AreWindowsOf}
-use Rattle.timing_reach.specs.declared.windows.Windows.{Windows}
-use Rattle.timing_reach.specs.declared.gauge.Gauge.{Gauge}
+use Rattle.timing_reach.specs.declared.window.windows.Windows.{Windows}
+use Rattle.timing_reach.specs.declared.window.gauge.Gauge.{Gauge}
 
 -- all of a list
 take-all : {X : Type 0} (n : ℕ) (xs : List X) → length xs ≤ n → take n xs ≡ xs
@@ -45,7 +72,8 @@ gauged-behind tai head count packets p h all =
     ∙ ap (map (stamp_of tai)) (take-append-le count rest (p ∷ []) (omega (arith, long, all)))
 
 -- a packet behind the judged ones, and a judged one, are passed
-pub passes-behind : (old : Gauge) (m : Media) (n tai : ℕ) (anchor : ℤ) (head count : ℕ) (packets : List FlowPacket) (p : FlowPacket) → old.ahead ≡ 0 → old.due ≡ 0
+pub passes-behind : (old : Gauge) (m : Media) (n tai : ℕ) (anchor : ℤ) (head count : ℕ) (packets : List FlowPacket) (p : FlowPacket) → old.ahead ≡ 0
+    → old.due ≡ 0
     → IsGauged m n tai anchor head count old packets → IsGauged m n tai anchor head count old (packets ++ p ∷ [])
 passes-behind old m n tai anchor head count packets p none done h =
     let long : length (packets ++ p ∷ []) ≡ length packets + 1 = length-append packets (p ∷ []) in
@@ -55,10 +83,12 @@ passes-behind old m n tai anchor head count packets p none done h =
       added = h.added;
       ahead = omega (arith, long, none, h.ahead);
       due = omega (arith, long, none, done, h.ahead, h.due);
-      fed = subst (AreFed old.params anchor old.meters) (sym (gauged-behind tai head count packets p (omega (arith, none, h.ahead)) (omega (arith, done, h.due)))) h.fed;
+      fed = subst (AreFed old.params anchor old.meters) (sym (gauged-behind tai head count packets p (omega (arith, none, h.ahead))
+          (omega (arith, done, h.due)))) h.fed;
     }
 
-pub passes-judged : (old new : Gauge) (at : ℕ) (m : Media) (n tai : ℕ) (anchor : ℤ) (head count : ℕ) (packets : List FlowPacket) (p : FlowPacket) → old.ahead ≡ 0 → 0 < old.due
+pub passes-judged : (old new : Gauge) (at : ℕ) (m : Media) (n tai : ℕ) (anchor : ℤ) (head count : ℕ) (packets : List FlowPacket) (p : FlowPacket)
+    → old.ahead ≡ 0 → 0 < old.due
     → Puts (at + old.added) old new → p.at ≡ at
     → IsGauged m n tai anchor head count old packets → IsGauged m n tai anchor head count new (packets ++ p ∷ [])
 passes-judged old new at m n tai anchor head count packets p none some put is h =
@@ -70,12 +100,14 @@ passes-judged old new at m n tai anchor head count packets p none some put is h 
       added = put.added ∙ h.added;
       ahead = omega (arith, long, put.ahead, none, h.ahead);
       due = omega (arith, long, put.due, none, some, h.ahead, h.due);
-      fed = subst (AreFed new.params anchor new.meters) (ap (λ x. gauged tai head count packets ++ x ∷ []) same ∙ sym (gauged-more tai head count packets p (omega (arith, none, h.ahead)) (omega (arith, some, h.due))))
+      fed = subst (AreFed new.params anchor new.meters) (ap (λ x. gauged tai head count packets ++ x ∷ []) same
+          ∙ sym (gauged-more tai head count packets p (omega (arith, none, h.ahead)) (omega (arith, some, h.due))))
           (put.stands anchor (gauged tai head count packets) h.fed);
     }
 
 -- a record that is a packet of the flow, or isn't
-pub one-packet : (P : List FlowPacket → Type 0) (packets : List FlowPacket) (o also : Option FlowPacket) → also ≡ o → P (packets ++ cons_option o []) → P (packets ++ cons_option also [])
+pub one-packet : (P : List FlowPacket → Type 0) (packets : List FlowPacket) (o also : Option FlowPacket) → also ≡ o → P (packets ++ cons_option o [])
+    → P (packets ++ cons_option also [])
 one-packet P packets o also e h = subst (λ x. P (packets ++ cons_option x [])) (sym e) h
 
 -- as many of a list as a part from its start has
@@ -93,9 +125,11 @@ gauged-all tai head k packets stamps e =
 
 -- before the first packet
 pub gauged-none : (tai head count : ℕ) → gauged tai head count [] ≡ []
-gauged-none tai head count = ap (λ l. map (stamp_of tai) (take count l)) (drop_of_length-le [] (omega arith)) ∙ ap (map (stamp_of tai)) (take-all count [] (omega arith))
+gauged-none tai head count =
+    ap (λ l. map (stamp_of tai) (take count l)) (drop_of_length-le [] (omega arith)) ∙ ap (map (stamp_of tai)) (take-all count [] (omega arith))
 
-pub gauge-new : (g : Gauge) (m : Media) (n tai : ℕ) (anchor : ℤ) (head count : ℕ) → g.params.media ≡ m → g.params.n ≡ n → g.added ≡ tai * 10 ^ 9 → g.ahead ≡ head → g.due ≡ count
+pub gauge-new : (g : Gauge) (m : Media) (n tai : ℕ) (anchor : ℤ) (head count : ℕ) → g.params.media ≡ m → g.params.n ≡ n → g.added ≡ tai * 10 ^ 9
+    → g.ahead ≡ head → g.due ≡ count
     → AreFed g.params anchor g.meters [] → IsGauged m n tai anchor head count g []
 gauge-new g m n tai anchor head count media group added ahead due fed = record {
   media = media;
@@ -109,7 +143,8 @@ gauge-new g m n tai anchor head count media group added ahead due fed = record {
 -- behind the last one, where no judged packet is still to come
 pub gauge-finish : (old new : Gauge) (m : Media) (n tai head count : ℕ) (packets : List FlowPacket) (stamps : List ℕ) (w : Windows) → (old.due ≡ 0 → new ≡ old)
     → ((params : Params) (s : List ℕ) → AreFed params (anchor_of params.media (slice_index s 0)) new.meters s → AreWindowsOf params.media params.n s w)
-    → IsGauged m n tai (anchor_of m (slice_index stamps 0)) head count old packets → count ≤ length packets - head → gauged tai head count packets ≡ stamps → AreWindowsOf m n stamps w
+    → IsGauged m n tai (anchor_of m (slice_index stamps 0)) head count old packets → count ≤ length packets - head → gauged tai head count packets ≡ stamps
+    → AreWindowsOf m n stamps w
 gauge-finish old new m n tai head count packets stamps w kept finish h all is =
     let anchor = anchor_of m (slice_index stamps 0) in
     let same : new ≡ old = kept (omega (arith, h.due, all)) in

@@ -1,12 +1,62 @@
 -- A flow that is judged in one run: its markers, its first stamp and its number of packets.
-use Rattle.std.proofs.Common.{◌≡◌, ◌≤◌, ◌<◌, ◌+◌, ◌-◌, ◌*◌, ◌^◌, ℕ, Bool, true, false, if◌then◌else◌, nat_lt, List, ◌∷◌, length, map, take, drop, min, Option, Some, None, refl, arith, ap, ◌∙◌, sym, subst}
+use Rattle.std.proofs.Common.{
+  ◌≡◌,
+  ◌≤◌,
+  ◌<◌,
+  ◌+◌,
+  ◌-◌,
+  ◌*◌,
+  ◌^◌,
+  ℕ,
+  Bool,
+  true,
+  false,
+  if◌then◌else◌,
+  nat_lt,
+  List,
+  ◌∷◌,
+  length,
+  map,
+  take,
+  drop,
+  min,
+  Option,
+  Some,
+  None,
+  refl,
+  arith,
+  ap,
+  ◌∙◌,
+  sym,
+  subst,
+}
 use Rattle.std.specs.Prelude.{◌==◌, slice_index}
 use Rattle.std.proofs.lemmas.Bool.Decides.{nat_tests}
 use Rattle.std.proofs.lemmas.List.{get_or-drop, get_or-map, get_or-take, length-drop, length-map, length-take}
 use Rattle.std.proofs.lemmas.Nat.{mul-le}
 use Rattle.timing_base.specs.Flows.{AreStamped, FirstFault, cuts, first_fault, last_place, markers, no_packet, packet}
 use Rattle.timing_base.specs.Grouped.{IsGrouped, IsGroupedVerdict}
-use Rattle.timing_base.specs.Judged.{FlowRun, FlowVerdict, JudgedRun, RunOutcome, absent, gap, head_len, in_one_run, in_runs, judged, judged_run, no_whole_frame, refusal, refused, refused_or, run_outcome, runs, stamp_of, whole_frames}
+use Rattle.timing_base.specs.Judged.{
+  FlowRun,
+  FlowVerdict,
+  JudgedRun,
+  RunOutcome,
+  absent,
+  gap,
+  head_len,
+  in_one_run,
+  in_runs,
+  judged,
+  judged_run,
+  no_whole_frame,
+  refusal,
+  refused,
+  refused_or,
+  run_outcome,
+  runs,
+  stamp_of,
+  whole_frames,
+}
 use Rattle.timing_base.specs.Media.{Media}
 use Rattle.timing_base.specs.Verdicts.{Judged}
 use Rattle.timing_base.specs.declared.packet.FlowPacket.{FlowPacket}
@@ -17,8 +67,8 @@ use Rattle.timing_base.specs.declared.row.Verdict.TheVariants as verdict
 use Rattle.timing_base.proofs.Grouped.{judged-grouped}
 use Rattle.fail_interval.specs.Row.{judged_values, verdict_of}
 use Rattle.sender_params.specs.Ticks.{NeverFall}
-use Rattle.timing_reach.specs.Gauging.{gauged}
-use Rattle.timing_reach.specs.Opening.{OpensBy}
+use Rattle.timing_reach.specs.judged.Runs.{gauged}
+use Rattle.timing_reach.specs.judged.Opening.{OpensBy}
 use Rattle.timing_reach.proofs.Gauges.{gauged-all}
 
 -- of one run
@@ -61,9 +111,11 @@ whole-of packets tai head run false e h = record { marked = not_few _ e; run_is 
 pub one-run : (packets : List FlowPacket) (pt tai : ℕ) (run : JudgedRun) → judged packets pt tai ≡ in_one_run (whole_frames run) → IsOneRun packets tai run
 one-run packets pt tai run e =
     let out : run_outcome packets tai 0 (length packets) ≡ whole_frames run =
-    one-of (whole_frames run) packets (length packets == 0) (length (cuts packets (length packets)) == 0) (first_fault packets pt) (run_outcome packets tai 0 (length packets)) (runs packets tai)
+    one-of (whole_frames run) packets (length packets == 0) (length (cuts packets (length packets)) == 0) (first_fault packets pt)
+    (run_outcome packets tai 0 (length packets)) (runs packets tai)
     (subst (IsOne (whole_frames run)) (sym e) refl) in
-    whole-of packets tai (head_len (markers packets 0 (length packets)) 0 (length packets)) run (nat_lt (length (markers packets 0 (length packets))) 2) refl (subst (IsWhole run) (sym out) refl)
+    whole-of packets tai (head_len (markers packets 0 (length packets)) 0 (length packets)) run (nat_lt (length (markers packets 0 (length packets))) 2) refl
+    (subst (IsWhole run) (sym out) refl)
 
 -- a verdict on judged packets is of one run of whole frames
 abbrev IsValues : Judged → Verdict → Type 0
@@ -94,7 +146,8 @@ length-part tai k head packets =
     let rest : length (drop head packets) ≡ length packets - head = length-drop head packets in
     omega (arith, mapped, long, rest)
 
-pub judged-few : (m : Media) (j : Judged) (packets : List FlowPacket) (tai : ℕ) (run : JudgedRun) → IsOneRun packets tai run → judged_values m run ≡ j → j.packets ≤ length packets
+pub judged-few : (m : Media) (j : Judged) (packets : List FlowPacket) (tai : ℕ) (run : JudgedRun) → IsOneRun packets tai run → judged_values m run ≡ j
+    → j.packets ≤ length packets
 judged-few m j packets tai run one e =
     let marks = markers packets 0 (length packets) in
     let is : j.packets ≡ length run.stamps = ap (λ (x : Judged). x.packets) (sym e) in
@@ -103,14 +156,16 @@ judged-few m j packets tai run one e =
     omega (arith, is, same, few)
 
 -- some packet is judged
-pub some-judged : (packets : List FlowPacket) (pt tai : ℕ) (run : JudgedRun) → length packets < 2 ^ 41 → tai ≤ 1000 → AreStamped packets → judged packets pt tai ≡ in_one_run (whole_frames run) → 1 ≤ length run.stamps
+pub some-judged : (packets : List FlowPacket) (pt tai : ℕ) (run : JudgedRun) → length packets < 2 ^ 41 → tai ≤ 1000 → AreStamped packets
+    → judged packets pt tai ≡ in_one_run (whole_frames run) → 1 ≤ length run.stamps
 some-judged packets pt tai run few seconds stamped e =
     let g : IsGrouped run = subst IsGroupedVerdict e (judged-grouped packets pt tai few seconds stamped) in
     let some : 1 * 1 ≤ run.n * run.groups = mul-le 1 1 run.n run.groups g.some g.some_groups in
     omega (arith, g.whole, some)
 
 -- the judged stamps never fall
-pub judged-rises : (packets : List FlowPacket) (pt tai : ℕ) (run : JudgedRun) → length packets < 2 ^ 41 → tai ≤ 1000 → AreStamped packets → judged packets pt tai ≡ in_one_run (whole_frames run) → NeverFall run.stamps
+pub judged-rises : (packets : List FlowPacket) (pt tai : ℕ) (run : JudgedRun) → length packets < 2 ^ 41 → tai ≤ 1000 → AreStamped packets
+    → judged packets pt tai ≡ in_one_run (whole_frames run) → NeverFall run.stamps
 judged-rises packets pt tai run few seconds stamped e =
     let g : IsGrouped run = subst IsGroupedVerdict e (judged-grouped packets pt tai few seconds stamped) in
     λ j i order low. g.rising j i 0 order low
@@ -125,10 +180,12 @@ opened packets tai i k at some is =
     let long : length part ≡ min k (length rest) = length-take k rest in
     let zero : i + 1 + 0 ≡ i + 1 = omega arith in
     get_or-map (stamp_of tai) part 0 no_packet 0 (omega (arith, some, mapped))
-    ∙ ap (stamp_of tai) (get_or-take k rest 0 no_packet (omega (arith, some, mapped, long)) ∙ get_or-drop (i + 1) packets 0 no_packet ∙ ap (packet packets) zero)
+    ∙ ap (stamp_of tai) (get_or-take k rest 0 no_packet (omega (arith, some, mapped, long)) ∙ get_or-drop (i + 1) packets 0 no_packet
+    ∙ ap (packet packets) zero)
     ∙ ap (λ x. x + tai * 10 ^ 9) is
 
-one-first : (packets : List FlowPacket) (tai : ℕ) (run : JudgedRun) (i : ℕ) (later : List ℕ) (at : ℕ) → IsOneRun packets tai run → 1 ≤ length run.stamps → markers packets 0 (length packets) ≡ i ∷ later
+one-first : (packets : List FlowPacket) (tai : ℕ) (run : JudgedRun) (i : ℕ) (later : List ℕ) (at : ℕ) → IsOneRun packets tai run → 1 ≤ length run.stamps
+    → markers packets 0 (length packets) ≡ i ∷ later
     → (packet packets (i + 1)).at ≡ at → slice_index run.stamps 0 ≡ at + tai * 10 ^ 9
 one-first packets tai run i later at one some marks is =
     let all = markers packets 0 (length packets) in
@@ -137,7 +194,8 @@ one-first packets tai run i later at one some marks is =
     ap (λ (x : JudgedRun). x.stamps) (sym one.run_is) ∙ ap (λ f. map (stamp_of tai) (take (last_place all + 1 - (f + 1)) (drop (f + 1) packets))) first in
     ap (λ l. slice_index l 0) stamps ∙ opened packets tai i (last_place all + 1 - (i + 1)) at (subst (λ l. 1 ≤ length l) stamps some) is
 
-pub first-stamp : (packets : List FlowPacket) (tai : ℕ) (run : JudgedRun) (marked : Bool) (first : Option ℕ) (stamp : ℕ) → IsOneRun packets tai run → 1 ≤ length run.stamps
+pub first-stamp : (packets : List FlowPacket) (tai : ℕ) (run : JudgedRun) (marked : Bool) (first : Option ℕ) (stamp : ℕ) → IsOneRun packets tai run
+    → 1 ≤ length run.stamps
     → OpensBy packets marked first → ((at : ℕ) → first ≡ Some at → stamp ≡ at) → slice_index run.stamps 0 ≡ stamp + tai * 10 ^ 9
 first-stamp packets tai run false None stamp one some h is =
     let none : length (markers packets 0 (length packets)) ≡ 0 = ap length h in absurd (omega (arith, one.marked, none))

@@ -1,5 +1,31 @@
 -- One packet more of a flow whose judged packets leave.
-use Rattle.std.proofs.Common.{◌≡◌, ◌≤◌, ◌<◌, ◌+◌, ◌-◌, ◌*◌, ◌^◌, ℕ, List, [], ◌∷◌, ◌++◌, length, take, drop, min, refl, arith, ap, ◌∙◌, sym, subst, inl, inr, length-append}
+use Rattle.std.proofs.Common.{
+  ◌≡◌,
+  ◌≤◌,
+  ◌<◌,
+  ◌+◌,
+  ◌-◌,
+  ◌*◌,
+  ◌^◌,
+  ℕ,
+  List,
+  [],
+  ◌∷◌,
+  ◌++◌,
+  length,
+  take,
+  drop,
+  min,
+  refl,
+  arith,
+  ap,
+  ◌∙◌,
+  sym,
+  subst,
+  inl,
+  inr,
+  length-append,
+}
 use Rattle.std.proofs.lemmas.Bool.{cases_lt}
 use Rattle.std.proofs.lemmas.List.{length-drop, length-map, length-take}
 use Rattle.flow_shaper.proofs.Seams.{before, last}
@@ -13,11 +39,11 @@ use Rattle.timing_base.specs.Judged.{stamp_of}
 use Rattle.timing_base.specs.Media.{Media}
 use Rattle.timing_base.specs.declared.media.Kind.{Kind}
 use Rattle.timing_base.specs.declared.packet.FlowPacket.{FlowPacket}
-use Rattle.timing_reach.specs.Leaving.{HasGiven, IsFit, IsLast, Part, Shapes, Stays, Takes, Turns, stamps_in}
+use Rattle.timing_reach.specs.shape.Leaving.{HasGiven, IsFit, IsLast, Part, Shapes, Stays, Takes, Turns, stamps_in}
 use Rattle.timing_reach.specs.Shapes.{IsLate, LeaveInTime, end_of}
-use Rattle.timing_reach.specs.declared.leaver.Leaver.{Leaver}
-use Rattle.timing_reach.specs.declared.leaver.Turn.{Turn}
-use Rattle.timing_reach.specs.declared.leaver.Turn.TheVariants as turn
+use Rattle.timing_reach.specs.declared.shape.leaver.Leaver.{Leaver}
+use Rattle.timing_reach.specs.declared.shape.leaver.Turn.{Turn}
+use Rattle.timing_reach.specs.declared.shape.leaver.Turn.TheVariants as turn
 use Rattle.timing_reach.proofs.Gauges.{gauged-behind, gauged-more, gauged-none}
 use Rattle.timing_reach.proofs.Listings.{late-last}
 
@@ -27,7 +53,8 @@ length-stamps w packets =
     length-map (take w.count (drop w.head packets)) (stamp_of w.tai) ∙ length-take w.count (drop w.head packets) ∙ ap (min w.count) (length-drop w.head packets)
 
 -- before the first packet
-pub given-none : (w : Part) (l : Leaver) → l.params.media ≡ w.media → l.params.n ≡ w.n → l.shaper.kind ≡ w.kind → l.shaper.origin ≡ w.origin → l.shaper.end ≡ end_of w.tai → l.added ≡ w.tai * 10 ^ 9
+pub given-none : (w : Part) (l : Leaver) → l.params.media ≡ w.media → l.params.n ≡ w.n → l.shaper.kind ≡ w.kind → l.shaper.origin ≡ w.origin
+    → l.shaper.end ≡ end_of w.tai → l.added ≡ w.tai * 10 ^ 9
     → l.ahead ≡ w.head → l.due ≡ w.count → StandsFor l.params l.shaper [] [] → HasGiven w l [] []
 given-none w l media group kind origin end added ahead due stands = record {
   media = media;
@@ -55,19 +82,24 @@ stamp-is s arrivals last at stamp seen can is first later = elim (cases_lt 0 (le
       first (seen ∙ zero) ∙ sym (can.first zero)
 ]
 
-pub shapes-leaves : (params : Params) (old new : Shaper) (arrivals departures : List ℕ) (at packet stamp : ℕ) (d : Departure) → stamp ≡ at → packet ≡ length arrivals
-    → BoundAt params.media params.n old.kind (arrivals ++ stamp ∷ []) (departures ++ d.at ∷ []) (length arrivals) d.bound → StandsFor params new (arrivals ++ stamp ∷ []) (departures ++ d.at ∷ [])
+pub shapes-leaves : (params : Params) (old new : Shaper) (arrivals departures : List ℕ) (at packet stamp : ℕ) (d : Departure) → stamp ≡ at
+    → packet ≡ length arrivals
+    → BoundAt params.media params.n old.kind (arrivals ++ stamp ∷ []) (departures ++ d.at ∷ []) (length arrivals) d.bound
+    → StandsFor params new (arrivals ++ stamp ∷ []) (departures ++ d.at ∷ [])
     → Shapes params old new arrivals departures at (turn.Leaves packet stamp d)
 shapes-leaves params old new arrivals departures at packet stamp d e number bound stands =
     subst (λ x. Shapes params old new arrivals departures x (turn.Leaves packet stamp d)) e (number, refl, bound, stands)
 
 pub shapes-late : (params : Params) (old new : Shaper) (arrivals departures : List ℕ) (at stamp : ℕ) (late : Late) → stamp ≡ at
-    → (late.packet ≡ length arrivals) × NoneInTime params old (arrivals ++ stamp ∷ []) (length arrivals) → Shapes params old new arrivals departures at (turn.Late late)
+    → (late.packet ≡ length arrivals) × NoneInTime params old (arrivals ++ stamp ∷ []) (length arrivals)
+    → Shapes params old new arrivals departures at (turn.Late late)
 shapes-late params old new arrivals departures at stamp late e h = subst (λ x. Shapes params old new arrivals departures x (turn.Late late)) e h
 
 -- a packet beside the judged ones
-given-beside : (w : Part) (old new : Leaver) (packets : List FlowPacket) (p : FlowPacket) (departures : List ℕ) → stamps_in w (packets ++ p ∷ []) ≡ stamps_in w packets
-    → Stays old new → new.shaper ≡ old.shaper → new.last ≡ old.last → new.ahead ≡ w.head - length (packets ++ p ∷ []) → new.due ≡ w.count - (length (packets ++ p ∷ []) - w.head)
+given-beside : (w : Part) (old new : Leaver) (packets : List FlowPacket) (p : FlowPacket) (departures : List ℕ)
+    → stamps_in w (packets ++ p ∷ []) ≡ stamps_in w packets
+    → Stays old new → new.shaper ≡ old.shaper → new.last ≡ old.last → new.ahead ≡ w.head - length (packets ++ p ∷ [])
+    → new.due ≡ w.count - (length (packets ++ p ∷ []) - w.head)
     → HasGiven w old packets departures → HasGiven w new (packets ++ p ∷ []) departures
 given-beside w old new packets p departures same stays shaper end_last ahead due h = record {
   media = ap (λ (x : Params). x.media) stays.params ∙ h.media;
@@ -80,7 +112,8 @@ given-beside w old new packets p departures same stays shaper end_last ahead due
   due = due;
   last = subst (λ l. IsLast l new.last) (sym same) (subst (IsLast (stamps_in w packets)) (sym end_last) h.last);
   stands = subst (λ l. StandsFor new.params new.shaper l departures) (sym same)
-      (subst (λ (x : Params). StandsFor x new.shaper (stamps_in w packets) departures) (sym stays.params) (subst (λ (x : Shaper). StandsFor old.params x (stamps_in w packets) departures) (sym shaper) h.stands));
+      (subst (λ (x : Params). StandsFor x new.shaper (stamps_in w packets) departures) (sym stays.params)
+      (subst (λ (x : Shaper). StandsFor old.params x (stamps_in w packets) departures) (sym shaper) h.stands));
 }
 
 pub takes-behind : (at : ℕ) (old : Leaver) → old.ahead ≡ 0 → old.due ≡ 0 → Takes at old old turn.Beside
@@ -93,7 +126,8 @@ takes-behind at old none done = λ w packets p departures is fit h.
     )
 
 -- what is said of a flow, its group, its type and its end
-pub retold : (P : Media → ℕ → Kind → ℕ → Type 0) (m also : Media) (n k : ℕ) (kind other : Kind) (end late : ℕ) → m ≡ also → n ≡ k → kind ≡ other → end ≡ late → P m n kind end → P also k other late
+pub retold : (P : Media → ℕ → Kind → ℕ → Type 0) (m also : Media) (n k : ℕ) (kind other : Kind) (end late : ℕ) → m ≡ also → n ≡ k → kind ≡ other → end ≡ late
+    → P m n kind end → P also k other late
 retold P m also n k kind other end late em en ek ee h =
     subst (P also k other) ee (subst (λ x. P also k x end) ek (subst (λ x. P also x kind end) en (subst (λ (x : Media). P x n kind end) em h)))
 
@@ -104,12 +138,19 @@ can-follow s stamps origin at is fit =
     record {
       first = λ none. sym (last stamps at 0 (sym none)) ∙ fit.first (omega (arith, long)) ∙ sym is;
       later = λ i size.
-          omega (arith, fit.ordered i (length stamps) (omega (arith, size)) (omega (arith, long)), before stamps at i (omega (arith, size)), last stamps at (length stamps) refl);
+          omega (
+            arith,
+            fit.ordered i (length stamps) (omega (arith, size)) (omega (arith, long)),
+            before stamps at i (omega (arith, size)),
+            last stamps at (length stamps) refl,
+          );
     }
 
 -- what became of a judged packet, from what its shaper says
-judged-turn : (w : Part) (old new : Leaver) (packets : List FlowPacket) (p : FlowPacket) (departures : List ℕ) (a : ℕ) (turned : Turn) → Stays old new → new.ahead ≡ old.ahead → new.due + 1 ≡ old.due → old.ahead ≡ 0
-    → stamps_in w (packets ++ p ∷ []) ≡ stamps_in w packets ++ a ∷ [] → new.last ≡ a → Shapes old.params old.shaper new.shaper (stamps_in w packets) departures a turned
+judged-turn : (w : Part) (old new : Leaver) (packets : List FlowPacket) (p : FlowPacket) (departures : List ℕ) (a : ℕ) (turned : Turn) → Stays old new
+    → new.ahead ≡ old.ahead → new.due + 1 ≡ old.due → old.ahead ≡ 0
+    → stamps_in w (packets ++ p ∷ []) ≡ stamps_in w packets ++ a ∷ [] → new.last ≡ a
+    → Shapes old.params old.shaper new.shaper (stamps_in w packets) departures a turned
     → HasGiven w old packets departures → Turns w new packets p departures turned
 judged-turn w old new packets p departures a turn.Beside stays ahead due none more is s h = absurd s
 judged-turn w old new packets p departures a (turn.Leaves packet stamp d) stays ahead due none more is s h =
@@ -141,7 +182,8 @@ judged-turn w old new packets p departures a (turn.Leaves packet stamp d) stays 
     )
 judged-turn w old new packets p departures a (turn.Late late) stays ahead due none more is s h =
     let stamps = stamps_in w packets in
-    let leave : LeaveInTime old.params.media old.params.n old.shaper.kind old.shaper.end stamps departures = record { shaped = h.stands.shaped; in_time = h.stands.in_time } in
+    let leave : LeaveInTime old.params.media old.params.n old.shaper.kind old.shaper.end stamps departures =
+    record { shaped = h.stands.shaped; in_time = h.stands.in_time } in
     let here = late-last old.params.media old.params.n old.shaper.kind old.shaper.end stamps departures a leave s.1 in
     let there : IsLate w.media w.n w.kind (end_of w.tai) (stamps ++ a ∷ []) (length stamps) =
     retold (λ m n kind end. IsLate m n kind end (stamps ++ a ∷ []) (length stamps))
@@ -150,7 +192,8 @@ judged-turn w old new packets p departures a (turn.Late late) stays ahead due no
     (subst (λ l. IsLate w.media w.n w.kind (end_of w.tai) l (length stamps)) (sym more) there)
 
 pub takes-judged : (at : ℕ) (old new : Leaver) (turned : Turn) → old.ahead ≡ 0 → 0 < old.due → Stays old new → new.ahead ≡ old.ahead → new.due + 1 ≡ old.due
-    → ((arrivals departures : List ℕ) → StandsFor old.params old.shaper arrivals departures → CanFollow old.shaper arrivals (at + old.added) → IsLast arrivals old.last
+    → ((arrivals departures : List ℕ) → StandsFor old.params old.shaper arrivals departures → CanFollow old.shaper arrivals (at + old.added)
+    → IsLast arrivals old.last
     → (new.last ≡ at + old.added) × Shapes old.params old.shaper new.shaper arrivals departures (at + old.added) turned)
     → Takes at old new turned
 takes-judged at old new turned none some stays ahead due shapes = λ w packets p departures is fit h.

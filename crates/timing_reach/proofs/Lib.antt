@@ -5,14 +5,16 @@ mod Packets
 mod Judgings
 mod RunSizes
 pub mod SomeShape
-mod Seens
+mod Judgments
 mod Following
 pub mod Unique
 mod Listings
 mod Copies
 pub mod OneShape
 mod Leavings
+mod ShapeFronts
 mod Shapings
+mod ShapeEnds
 mod Pairings
 mod Comparings
 mod Skewing

@@ -1,6 +1,29 @@
 -- One packet more of a list of delays, and of a packet that is late.
 use Rattle.std.specs.Prelude.{slice_index, slice_index_or, cond, nat_lt, max}
-use Rattle.std.proofs.Common.{◌≡◌, ◌≤◌, ◌+◌, ◌-◌, ℕ, suc, List, [], ◌∷◌, ◌++◌, length, refl, arith, ap, ◌∙◌, sym, subst, inl, inr, append-nil, append_assoc, length-append}
+use Rattle.std.proofs.Common.{
+  ◌≡◌,
+  ◌≤◌,
+  ◌+◌,
+  ◌-◌,
+  ℕ,
+  suc,
+  List,
+  [],
+  ◌∷◌,
+  ◌++◌,
+  length,
+  refl,
+  arith,
+  ap,
+  ◌∙◌,
+  sym,
+  subst,
+  inl,
+  inr,
+  append-nil,
+  append_assoc,
+  length-append,
+}
 use Rattle.std.specs.List.{count_by, sum_by}
 use Rattle.std.proofs.Math.Seq.{get_or-append_seam, take-append_seam, take-append-add}
 use Rattle.std.proofs.lemmas.Bool.{cases_lt}
@@ -16,17 +39,20 @@ use Rattle.timing_base.specs.declared.media.Kind.{Kind}
 use Rattle.timing_reach.specs.Shapes.{AreBounds, IsLate, LeaveInTime, delays, delayed_line, greatest, packet_line, packet_lines}
 
 -- a packet that is late is so whatever comes behind it
-pub late-more : (m : Media) (n : ℕ) (kind : Kind) (end : ℕ) (stamps more : List ℕ) (i : ℕ) → IsLate m n kind end stamps i → IsLate m n kind end (stamps ++ more) i
+pub late-more : (m : Media) (n : ℕ) (kind : Kind) (end : ℕ) (stamps more : List ℕ) (i : ℕ) → IsLate m n kind end stamps i
+    → IsLate m n kind end (stamps ++ more) i
 late-more m n kind end stamps more i h = record {
   within = omega (arith, length-append stamps more, h.within);
   departures = h.departures;
   before = subst (λ l. LeaveInTime m n kind end l h.departures) (sym (take-append-le i stamps more (omega (arith, h.within)))) h.before;
-  late = subst (λ l. (others : List ℕ) → Plan m n kind l others → end ≤ slice_index others i) (sym (take-append-le (i + 1) stamps more (omega (arith, h.within)))) h.late;
+  late = subst (λ l. (others : List ℕ) → Plan m n kind l others → end ≤ slice_index others i)
+      (sym (take-append-le (i + 1) stamps more (omega (arith, h.within)))) h.late;
 }
 
 -- the last packet is the first that is late
 pub late-last : (m : Media) (n : ℕ) (kind : Kind) (end : ℕ) (stamps departures : List ℕ) (at : ℕ) → LeaveInTime m n kind end stamps departures
-    → ((others : List ℕ) → Plan m n kind (stamps ++ at ∷ []) others → end ≤ slice_index others (length stamps)) → IsLate m n kind end (stamps ++ at ∷ []) (length stamps)
+    → ((others : List ℕ) → Plan m n kind (stamps ++ at ∷ []) others → end ≤ slice_index others (length stamps))
+    → IsLate m n kind end (stamps ++ at ∷ []) (length stamps)
 late-last m n kind end stamps departures at before none = record {
   within = omega (arith, length-append stamps (at ∷ []));
   departures = departures;
@@ -49,7 +75,8 @@ overloads-same : (w : Models) (xs ys : List ℕ) (i at also : ℕ) → Same xs y
 overloads-same w xs ys i at also same e h = (h.0, h.1, omega (arith, h.2, ap w.ticks (same h.0 (omega (arith, h.1))), ap w.ticks e))
 
 -- what holds packet i back is told by the packets up to it
-bound-same : (w : Models) (arrivals departures also others : List ℕ) (i : ℕ) (b : Bound) → slice_index also i ≡ slice_index arrivals i → Same departures others i
+bound-same : (w : Models) (arrivals departures also others : List ℕ) (i : ℕ) (b : Bound) → slice_index also i ≡ slice_index arrivals i
+    → Same departures others i
     → IsBound w arrivals departures i b → IsBound w also others i b
 bound-same w arrivals departures also others i Arrival came same h = same i (omega arith) ∙ h ∙ sym came
 bound-same w arrivals departures also others i (Bucket from) came same h =
@@ -65,14 +92,16 @@ bound-same w arrivals departures also others i (Bucket from) came same h =
 bound-same w arrivals departures also others i (Buffer read) came same h =
     let here = same i (omega arith) in (
       (λ e. h.0 (sym here ∙ e ∙ came)),
-      (λ o. h.1 (overloads-same w others departures i (slice_index others i - 1) (slice_index departures i - 1) (λ j few. sym (same j few)) (ap (λ x. x - 1) (sym here)) o)),
+      (λ o. h.1 (overloads-same w others departures i (slice_index others i - 1) (slice_index departures i - 1) (λ j few. sym (same j few))
+          (ap (λ x. x - 1) (sym here)) o)),
       subst (λ x. Overfills w i (x - 1)) (sym here) h.2,
       h.3,
     )
 bound-same w arrivals departures also others i Order came same h =
     let here = same i (omega arith) in (
       (λ e. h.0 (sym here ∙ e ∙ came)),
-      (λ o. h.1 (overloads-same w others departures i (slice_index others i - 1) (slice_index departures i - 1) (λ j few. sym (same j few)) (ap (λ x. x - 1) (sym here)) o)),
+      (λ o. h.1 (overloads-same w others departures i (slice_index others i - 1) (slice_index departures i - 1) (λ j few. sym (same j few))
+          (ap (λ x. x - 1) (sym here)) o)),
       (λ o. h.2 (subst (λ x. Overfills w i (x - 1)) here o)),
       h.3,
       here ∙ h.4 ∙ sym (same (i - 1) (omega arith)),
@@ -93,11 +122,13 @@ bounds-more m n kind stamps departures bounds a d b each last h =
             subst (λ x. BoundAt m n kind more leave i x) (sym (get_or_append_left bounds (b ∷ []) Arrival i (omega (arith, early, h.each))))
             (subst (λ a0. IsBound (models_of m n kind a0) more leave i (slice_index_or bounds i Arrival)) (sym first)
             (bound-same (models_of m n kind (slice_index stamps 0)) stamps departures more leave i (slice_index_or bounds i Arrival)
-            (get_or_append_left stamps (a ∷ []) 0 i early) (λ j before. get_or_append_left departures (d ∷ []) 0 j (omega (arith, before, early, each))) (h.bound i early)))
+            (get_or_append_left stamps (a ∷ []) 0 i early) (λ j before. get_or_append_left departures (d ∷ []) 0 j (omega (arith, before, early, each)))
+            (h.bound i early)))
         | inr late ↦
             let same : i ≡ length stamps = omega (arith, late, few, length-append stamps (a ∷ [])) in
             let there : i ≡ length bounds = omega (arith, same, h.each) in
-            subst (λ x. BoundAt m n kind more leave i x) (sym (ap (λ k. slice_index_or (bounds ++ b ∷ []) k Arrival) there ∙ get_or-append_seam bounds b [] Arrival))
+            subst (λ x. BoundAt m n kind more leave i x) (sym (ap (λ k. slice_index_or (bounds ++ b ∷ []) k Arrival) there
+            ∙ get_or-append_seam bounds b [] Arrival))
             (subst (λ k. BoundAt m n kind more leave k b) (sym same) last)
       ];
     }
@@ -105,7 +136,8 @@ bounds-more m n kind stamps departures bounds a d b each last h =
 pub bounds-none : (m : Media) (n : ℕ) (kind : Kind) → AreBounds m n kind [] [] []
 bounds-none m n kind = record { each = refl; bound = λ i few. absurd (omega (arith, few)) }
 
-pub delays-more : (stamps departures : List ℕ) (a d : ℕ) → length departures ≡ length stamps → delays (stamps ++ a ∷ []) (departures ++ d ∷ []) ≡ delays stamps departures ++ (d - a) ∷ []
+pub delays-more : (stamps departures : List ℕ) (a d : ℕ) → length departures ≡ length stamps
+    → delays (stamps ++ a ∷ []) (departures ++ d ∷ []) ≡ delays stamps departures ++ (d - a) ∷ []
 delays-more [] [] a d each = refl
 delays-more [] (e ∷ es) a d each = absurd (omega (arith, each))
 delays-more (s ∷ ss) [] a d each = absurd (omega (arith, each))
@@ -124,7 +156,8 @@ lines-more packet [] (e ∷ es) d b each = absurd (omega (arith, each))
 lines-more packet (x ∷ xs) [] d b each = absurd (omega (arith, each))
 lines-more packet (x ∷ xs) (e ∷ es) d b each =
     let count : packet + 1 + length xs ≡ packet + suc (length xs) = omega arith in
-    ap (λ l. packet_line packet x e ++ l) (lines-more (packet + 1) xs es d b (omega (arith, each)) ∙ ap (λ k. packet_lines (packet + 1) xs es ++ packet_line k d b) count)
+    ap (λ l. packet_line packet x e ++ l) (lines-more (packet + 1) xs es d b (omega (arith, each))
+    ∙ ap (λ k. packet_lines (packet + 1) xs es ++ packet_line k d b) count)
     ∙ sym (append_assoc (packet_line packet x e) (packet_lines (packet + 1) xs es) (packet_line (packet + suc (length xs)) d b))
 
 pub count-more : (ds : List ℕ) (d : ℕ) → count_by (nat_lt 0) (ds ++ d ∷ []) ≡ count_by (nat_lt 0) ds + cond (nat_lt 0 d) 1 0

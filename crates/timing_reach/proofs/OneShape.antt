@@ -16,26 +16,57 @@ use Rattle.timing_base.specs.Media.{Media}
 use Rattle.timing_base.specs.declared.media.Kind.{Kind}
 use Rattle.timing_report.specs.declared.status.Status.TheVariants as status
 use Rattle.timing_steps.specs.Answers.{Answer}
-use Rattle.timing_reach.specs.Shapes.{AreBounds, HasPlan, HasShape, IsLate, IsList, LeaveInTime, Prints, delays, delays_line, end_of, greatest, not_shaped, packet_lines}
+use Rattle.timing_reach.specs.Shapes.{
+  AreBounds,
+  HasPlan,
+  HasShape,
+  IsLate,
+  IsList,
+  LeaveInTime,
+  Prints,
+  delays,
+  delays_line,
+  end_of,
+  greatest,
+  not_shaped,
+  packet_lines,
+}
 
 -- the first departures of a plan are one
-plan-first : (w : Models) (arrivals departures : List ℕ) (k : ℕ) → k ≤ length arrivals → IsPlan w arrivals departures → IsPlan w (take k arrivals) (take k departures)
+plan-first : (w : Models) (arrivals departures : List ℕ) (k : ℕ) → k ≤ length arrivals → IsPlan w arrivals departures
+    → IsPlan w (take k arrivals) (take k departures)
 plan-first w arrivals departures k few p =
     let size : length (take k departures) ≡ k = length-take-le k departures (omega (arith, few, p.each)) in
     let long : length (take k arrivals) ≡ k = length-take-le k arrivals few in
     let same = λ (j : ℕ) (low : j < k). get_or-take k departures j 0 low in
     record {
       each = omega (arith, size, long);
-      after = λ i low. omega (arith, same i (omega (arith, low, long)), get_or-take k arrivals i 0 (omega (arith, low, long)), p.after i (omega (arith, low, long, few)));
+      after = λ i low. omega (
+        arith,
+        same i (omega (arith, low, long)),
+        get_or-take k arrivals i 0 (omega (arith, low, long)),
+        p.after i (omega (arith, low, long, few)),
+      );
       ordered = λ j i order low.
-          omega (arith, same i (omega (arith, low, size)), same j (omega (arith, order, low, size)), p.ordered j i order (omega (arith, low, size, few, p.each)));
+          omega (
+            arith,
+            same i (omega (arith, low, size)),
+            same j (omega (arith, order, low, size)),
+            p.ordered j i order (omega (arith, low, size, few, p.each)),
+          );
       bucket = λ j i order low.
-          omega (arith, ap w.ticks (same i (omega (arith, low, size))), ap w.ticks (same j (omega (arith, order, low, size))), p.bucket j i order (omega (arith, low, size, few, p.each)));
+          omega (
+            arith,
+            ap w.ticks (same i (omega (arith, low, size))),
+            ap w.ticks (same j (omega (arith, order, low, size))),
+            p.bucket j i order (omega (arith, low, size, few, p.each)),
+          );
       buffer = λ i low. omega (arith, ap (w.held i) (same i (omega (arith, low, size))), p.buffer i (omega (arith, low, size, few, p.each)));
     }
 
 -- where a packet is late, no plan lets it leave in time
-late-not : (m : Media) (n : ℕ) (kind : Kind) (end : ℕ) (stamps departures : List ℕ) (i : ℕ) → IsLate m n kind end stamps i → LeaveInTime m n kind end stamps departures → ⊥
+late-not : (m : Media) (n : ℕ) (kind : Kind) (end : ℕ) (stamps departures : List ℕ) (i : ℕ) → IsLate m n kind end stamps i
+    → LeaveInTime m n kind end stamps departures → ⊥
 late-not m n kind end stamps departures i h leave =
     let first : slice_index (take (i + 1) stamps) 0 ≡ slice_index stamps 0 = get_or-take (i + 1) stamps 0 0 (omega arith) in
     let plan = leave.shaped.plan in
@@ -93,22 +124,27 @@ bound-once w arrivals departures i Order (Bucket from) h k = absurd (h.1 k.1)
 bound-once w arrivals departures i Order (Buffer read) h k = absurd (h.2 k.2)
 bound-once w arrivals departures i Order Order h k = refl
 
-bounds-once : (m : Media) (n : ℕ) (kind : Kind) (stamps departures : List ℕ) (a b : List Bound) → AreBounds m n kind stamps departures a → AreBounds m n kind stamps departures b → a ≡ b
+bounds-once : (m : Media) (n : ℕ) (kind : Kind) (stamps departures : List ℕ) (a b : List Bound) → AreBounds m n kind stamps departures a
+    → AreBounds m n kind stamps departures b → a ≡ b
 bounds-once m n kind stamps departures a b h k =
     ext_get_or Arrival a b (h.each ∙ sym k.each)
-    (λ i few. let low : i < length stamps = omega (arith, few, h.each) in bound-once (models_of m n kind (slice_index stamps 0)) stamps departures i _ _ (h.bound i low) (k.bound i low))
+    (λ i few. let low : i < length stamps = omega (arith, few, h.each) in bound-once (models_of m n kind (slice_index stamps 0)) stamps departures i _ _
+    (h.bound i low) (k.bound i low))
 
-list-once : (m : Media) (n : ℕ) (kind : Kind) (stamps departures : List ℕ) (a b : List ℕ) → IsList m n kind stamps departures a → IsList m n kind stamps departures b → a ≡ b
+list-once : (m : Media) (n : ℕ) (kind : Kind) (stamps departures : List ℕ) (a b : List ℕ) → IsList m n kind stamps departures a
+    → IsList m n kind stamps departures b → a ≡ b
 list-once m n kind stamps departures a b h k =
     let ds = delays stamps departures in
-    h.text_is ∙ ap (λ (bounds : List Bound). packet_lines 0 ds bounds ++ delays_line (count_by (nat_lt 0) ds) (length ds) (greatest ds)) (bounds-once m n kind stamps departures h.bounds k.bounds h.are k.are) ∙ sym k.text_is
+    h.text_is ∙ ap (λ (bounds : List Bound). packet_lines 0 ds bounds ++ delays_line (count_by (nat_lt 0) ds) (length ds) (greatest ds))
+    (bounds-once m n kind stamps departures h.bounds k.bounds h.are k.are) ∙ sym k.text_is
 
 prints-once : (list : Bool) (tai : ℕ) (kind : Kind) (m : Media) (items : List Record) (run : JudgedRun) (departures a b : List ℕ)
     → Prints list tai kind m items run departures a → Prints list tai kind m items run departures b → a ≡ b
 prints-once true tai kind m items run departures a b h k = list-once m run.n kind run.stamps departures a b h k
 prints-once false tai kind m items run departures a b h k = h ∙ sym k
 
-plan-once : (list : Bool) (tai : ℕ) (kind : Kind) (m : Media) (items : List Record) (run : JudgedRun) (a b : Answer) → HasPlan list tai kind m items run a → HasPlan list tai kind m items run b → a ≡ b
+plan-once : (list : Bool) (tai : ℕ) (kind : Kind) (m : Media) (items : List Record) (run : JudgedRun) (a b : Answer) → HasPlan list tai kind m items run a
+    → HasPlan list tai kind m items run b → a ≡ b
 plan-once list tai kind m items run a b h k =
     let same : h.departures ≡ k.departures = leave-once m run.n kind (end_of tai) run.stamps h.departures k.departures h.leave k.leave in
     let text : h.text ≡ k.text =
@@ -116,7 +152,8 @@ plan-once list tai kind m items run a b h k =
     h.answer_is ∙ ap (λ (t : List ℕ). record { text = t; status = status.Pass }) text ∙ sym k.answer_is
 
 -- of a run
-pub shape-once : (list : Bool) (tai : ℕ) (kind : Kind) (m : Media) (items : List Record) (run : JudgedRun) (a b : Answer) → HasShape list tai kind m items run a → HasShape list tai kind m items run b → a ≡ b
+pub shape-once : (list : Bool) (tai : ℕ) (kind : Kind) (m : Media) (items : List Record) (run : JudgedRun) (a b : Answer) → HasShape list tai kind m items run a
+    → HasShape list tai kind m items run b → a ≡ b
 shape-once list tai kind m items run a b (inl h) (inl k) = plan-once list tai kind m items run a b h k
 shape-once list tai kind m items run a b (inl h) (inr k) = absurd (late-not m run.n kind (end_of tai) run.stamps h.departures k.packet k.late h.leave)
 shape-once list tai kind m items run a b (inr h) (inl k) = absurd (late-not m run.n kind (end_of tai) run.stamps k.departures h.packet h.late k.leave)

@@ -1,12 +1,38 @@
 -- One packet more of a flow, and its markers.
-use Rattle.std.proofs.Common.{◌≡◌, ◌<◌, ◌+◌, ℕ, zero, suc, Bool, true, false, List, [], ◌∷◌, ◌++◌, length, Option, Some, None, refl, arith, ap, ◌∙◌, sym, subst, length-append, append-nil}
+use Rattle.std.proofs.Common.{
+  ◌≡◌,
+  ◌<◌,
+  ◌+◌,
+  ℕ,
+  zero,
+  suc,
+  Bool,
+  true,
+  false,
+  List,
+  [],
+  ◌∷◌,
+  ◌++◌,
+  length,
+  Option,
+  Some,
+  None,
+  refl,
+  arith,
+  ap,
+  ◌∙◌,
+  sym,
+  subst,
+  length-append,
+  append-nil,
+}
 use Rattle.std.specs.Prelude.{◌&&◌, nat_le, if◌then◌else◌}
 use Rattle.std.proofs.Math.ListN.{get_or-append}
 use Rattle.std.proofs.Math.Seq.{get_or-append_seam}
 use Rattle.timing_base.specs.Flows.{has_marker, markers, no_packet, packet, places, read_or_zeros}
 use Rattle.timing_base.specs.declared.packet.FlowPacket.{FlowPacket}
 use Rattle.timing_base.proofs.Places.{places-here, places-other}
-use Rattle.timing_reach.specs.Opening.{OpensBy}
+use Rattle.timing_reach.specs.judged.Opening.{OpensBy}
 
 -- places go by what the test says below the end
 places-same : (test other : ℕ → Bool) (from n : ℕ) → ((k : ℕ) → k < n → test k ≡ other k) → places test from n ≡ places other from n
@@ -33,7 +59,8 @@ marked-more : (packets : List FlowPacket) (p : FlowPacket) → (read_or_zeros p.
     → markers (packets ++ p ∷ []) 0 (length (packets ++ p ∷ [])) ≡ markers packets 0 (length packets) ++ length packets ∷ []
 marked-more packets p e =
     ap (markers (packets ++ p ∷ []) 0) (length-append packets (p ∷ []))
-    ∙ places-here (has_marker (packets ++ p ∷ [])) 0 (length packets) (omega arith) (ap (λ (q : FlowPacket). (read_or_zeros q.rtp).marker) (packet-last packets p) ∙ e)
+    ∙ places-here (has_marker (packets ++ p ∷ [])) 0 (length packets) (omega arith)
+    (ap (λ (q : FlowPacket). (read_or_zeros q.rtp).marker) (packet-last packets p) ∙ e)
     ∙ ap (λ l. l ++ length packets ∷ []) (markers-before packets p)
 
 unmarked-more : (packets : List FlowPacket) (p : FlowPacket) → (read_or_zeros p.rtp).marker ≡ false
@@ -50,7 +77,8 @@ more-markers packets p true e = (length packets ∷ [], marked-more packets p e)
 more-markers packets p false e = ([], unmarked-more packets p e ∙ sym (append-nil (markers packets 0 (length packets))))
 
 -- before a marker
-pub opens-unmarked : (packets : List FlowPacket) (p : FlowPacket) (b : Bool) → (read_or_zeros p.rtp).marker ≡ b → OpensBy packets false None → OpensBy (packets ++ p ∷ []) b None
+pub opens-unmarked : (packets : List FlowPacket) (p : FlowPacket) (b : Bool) → (read_or_zeros p.rtp).marker ≡ b → OpensBy packets false None
+    → OpensBy (packets ++ p ∷ []) b None
 opens-unmarked packets p false e h = unmarked-more packets p e ∙ h
 opens-unmarked packets p true e h = (length packets, length-append packets (p ∷ []), marked-more packets p e ∙ ap (λ l. l ++ length packets ∷ []) h)
 
@@ -77,18 +105,24 @@ opens-on packets p at h =
     )
 
 -- and later
-pub opens-later : (packets : List FlowPacket) (p : FlowPacket) (marked : Bool) (at : ℕ) → OpensBy packets marked (Some at) → OpensBy (packets ++ p ∷ []) marked (Some at)
+pub opens-later : (packets : List FlowPacket) (p : FlowPacket) (marked : Bool) (at : ℕ) → OpensBy packets marked (Some at)
+    → OpensBy (packets ++ p ∷ []) marked (Some at)
 opens-later packets p true at h = opens-on packets p at h
 opens-later packets p false at h = opens-on packets p at h
 
--- the same by what stands in an opening
-pub opens-found : (packets : List FlowPacket) (p : FlowPacket) (marked : Bool) (first : Option ℕ) (at : ℕ) → first ≡ Some at → OpensBy packets marked first → OpensBy (packets ++ p ∷ []) marked first
+-- a packet more, by what stands in an opening
+pub opens-found : (packets : List FlowPacket) (p : FlowPacket) (marked : Bool) (first : Option ℕ) (at : ℕ) → first ≡ Some at → OpensBy packets marked first
+    → OpensBy (packets ++ p ∷ []) marked first
 opens-found packets p marked first at e = subst (λ f. OpensBy packets marked f → OpensBy (packets ++ p ∷ []) marked f) (sym e) (opens-later packets p marked at)
 
-pub opens-next : (packets : List FlowPacket) (p : FlowPacket) (marked : Bool) (first : Option ℕ) → first ≡ None → marked ≡ true → OpensBy packets marked first → OpensBy (packets ++ p ∷ []) marked (Some p.at)
+pub opens-next : (packets : List FlowPacket) (p : FlowPacket) (marked : Bool) (first : Option ℕ) → first ≡ None → marked ≡ true → OpensBy packets marked first
+    → OpensBy (packets ++ p ∷ []) marked (Some p.at)
 opens-next packets p marked first e m h =
-    subst (λ b. OpensBy (packets ++ p ∷ []) b (Some p.at)) (sym m) (opens-marked packets p (subst (λ b. OpensBy packets b None) m (subst (λ f. OpensBy packets marked f) e h)))
+    subst (λ b. OpensBy (packets ++ p ∷ []) b (Some p.at)) (sym m) (opens-marked packets p
+    (subst (λ b. OpensBy packets b None) m (subst (λ f. OpensBy packets marked f) e h)))
 
-pub opens-before : (packets : List FlowPacket) (p : FlowPacket) (marked b : Bool) (first : Option ℕ) → first ≡ None → marked ≡ false → b ≡ (read_or_zeros p.rtp).marker → OpensBy packets marked first → OpensBy (packets ++ p ∷ []) b first
+pub opens-before : (packets : List FlowPacket) (p : FlowPacket) (marked b : Bool) (first : Option ℕ) → first ≡ None → marked ≡ false
+    → b ≡ (read_or_zeros p.rtp).marker → OpensBy packets marked first → OpensBy (packets ++ p ∷ []) b first
 opens-before packets p marked b first e m is h =
-    subst (λ f. OpensBy (packets ++ p ∷ []) b f) (sym e) (opens-unmarked packets p b (sym is) (subst (λ x. OpensBy packets x None) m (subst (λ f. OpensBy packets marked f) e h)))
+    subst (λ f. OpensBy (packets ++ p ∷ []) b f) (sym e) (opens-unmarked packets p b (sym is)
+    (subst (λ x. OpensBy packets x None) m (subst (λ f. OpensBy packets marked f) e h)))

@@ -4,7 +4,24 @@ use Rattle.std.specs.Prelude.{⊤}
 use Rattle.std.proofs.lemmas.Bool.{cond_both, eqb-true, ltb-false}
 use Rattle.timing_base.specs.Flows.{FirstFault, cuts, first_fault, markers}
 use Rattle.timing_base.specs.Grouped.{IsSized}
-use Rattle.timing_base.specs.Judged.{FlowVerdict, JudgedRun, RunOutcome, absent, head_len, in_one_run, in_runs, judged, judged_run, judged_runs, no_whole_frame, refusal, refused_or, run_outcome, runs, whole_frames}
+use Rattle.timing_base.specs.Judged.{
+  FlowVerdict,
+  JudgedRun,
+  RunOutcome,
+  absent,
+  head_len,
+  in_one_run,
+  in_runs,
+  judged,
+  judged_run,
+  judged_runs,
+  no_whole_frame,
+  refusal,
+  refused_or,
+  run_outcome,
+  runs,
+  whole_frames,
+}
 use Rattle.timing_base.specs.declared.packet.FlowPacket.{FlowPacket}
 use Rattle.timing_base.specs.declared.packet.PacketFault.{PacketFault}
 use Rattle.timing_base.specs.declared.packet.PacketFault.TheVariants.{Number}
@@ -24,7 +41,8 @@ RunHasSize verdict = ⊤
 outcome-size : (packets : List FlowPacket) (tai to : ℕ) → IsSized to (markers packets 0 to) → RunHasSize (in_one_run (run_outcome packets tai 0 to))
 outcome-size packets tai to sized =
     let marks = markers packets 0 to in
-    cond_both (nat_lt (length marks) 2) (no_whole_frame (head_len marks 0 to)) (whole_frames (judged_run packets tai 0 to)) (λ (o : RunOutcome). RunHasSize (in_one_run o))
+    cond_both (nat_lt (length marks) 2) (no_whole_frame (head_len marks 0 to)) (whole_frames (judged_run packets tai 0 to))
+    (λ (o : RunOutcome). RunHasSize (in_one_run o))
     (λ _. tt)
     (λ many.
     let two = ltb-false (length marks) 2 many in
@@ -42,7 +60,8 @@ refusal-size : (rec : ℕ) (fault : PacketFault) → RunHasSize (refusal rec fau
 refusal-size rec (Number expected got) = tt
 refusal-size rec fault = tt
 
-refused-size : (packets : List FlowPacket) (first : Option FirstFault) (verdict : FlowVerdict) → (first ≡ None → RunHasSize verdict) → RunHasSize (refused_or packets first verdict)
+refused-size : (packets : List FlowPacket) (first : Option FirstFault) (verdict : FlowVerdict) → (first ≡ None → RunHasSize verdict)
+    → RunHasSize (refused_or packets first verdict)
 refused-size packets (Some first) verdict h = refusal-size _ first.fault
 refused-size packets None verdict h = h refl
 

@@ -1,7 +1,34 @@
 -- Each flow has an answer of `shape`, and not two.
 use Rattle.std.specs.Prelude.{◌⊎◌, nat_lt, slice_index, slice_index_or}
 use Rattle.std.specs.List.{count_by}
-use Rattle.std.proofs.Common.{◌≡◌, ◌≤◌, ◌<◌, ◌+◌, ℕ, zero, suc, Bool, true, false, List, [], ◌∷◌, ◌++◌, length, take, refl, arith, ap, ◌∙◌, sym, subst, inl, inr, add-one, length-append}
+use Rattle.std.proofs.Common.{
+  ◌≡◌,
+  ◌≤◌,
+  ◌<◌,
+  ◌+◌,
+  ℕ,
+  zero,
+  suc,
+  Bool,
+  true,
+  false,
+  List,
+  [],
+  ◌∷◌,
+  ◌++◌,
+  length,
+  take,
+  refl,
+  arith,
+  ap,
+  ◌∙◌,
+  sym,
+  subst,
+  inl,
+  inr,
+  add-one,
+  length-append,
+}
 use Rattle.std.proofs.Math.Seq.{get_or-append_seam, take-length}
 use Rattle.std.proofs.lemmas.Bool.{cases_lt}
 use Rattle.std.proofs.lemmas.List.{get_or_append_left, length-take-le}
@@ -20,7 +47,21 @@ use Rattle.flow_shaper.proofs.SomeBound.{bound-some}
 use Rattle.timing_report.specs.declared.status.Status.TheVariants as status
 use Rattle.timing_steps.specs.Answers.{Answer}
 use Rattle.timing_reach.specs.Shaped.{HasShapeIn}
-use Rattle.timing_reach.specs.Shapes.{AreBounds, HasShape, IsLate, LeaveInTime, Prints, delays, delays_line, end_of, flow_records, greatest, not_shaped, packet_lines, shaped_capture}
+use Rattle.timing_reach.specs.Shapes.{
+  AreBounds,
+  HasShape,
+  IsLate,
+  LeaveInTime,
+  Prints,
+  delays,
+  delays_line,
+  end_of,
+  flow_records,
+  greatest,
+  not_shaped,
+  packet_lines,
+  shaped_capture,
+}
 use Rattle.timing_reach.proofs.OneShape.{shape-once}
 use Rattle.timing_reach.proofs.Unique.{once-flow, some-flow}
 
@@ -57,12 +98,15 @@ next-leaves m n kind end stamps before k is some within leave =
       )
     ]
 
-leave-or-late : (m : Media) (n : ℕ) (kind : Kind) (end : ℕ) (stamps : List ℕ) (k : ℕ) → IsMedia m → 1 ≤ n → k ≤ length stamps → LeaveOrLate m n kind end stamps k
-leave-or-late m n kind end stamps zero is some few = inl ([], record { shaped = least-none (models_of m n kind 0); in_time = λ i low. absurd (omega (arith, low)) })
-leave-or-late m n kind end stamps (suc k) is some few = elim (leave-or-late m n kind end stamps k is some (omega (arith, few))) as (λ _. LeaveOrLate m n kind end stamps (suc k)) [
-  | inl leave ↦ let next = next-leaves m n kind end stamps leave.0 k is some (omega (arith, few)) leave.1 in rw add-one at next
-  | inr late ↦ inr late
-]
+leave-or-late : (m : Media) (n : ℕ) (kind : Kind) (end : ℕ) (stamps : List ℕ) (k : ℕ) → IsMedia m → 1 ≤ n → k ≤ length stamps
+    → LeaveOrLate m n kind end stamps k
+leave-or-late m n kind end stamps zero is some few =
+    inl ([], record { shaped = least-none (models_of m n kind 0); in_time = λ i low. absurd (omega (arith, low)) })
+leave-or-late m n kind end stamps (suc k) is some few =
+    elim (leave-or-late m n kind end stamps k is some (omega (arith, few))) as (λ _. LeaveOrLate m n kind end stamps (suc k)) [
+      | inl leave ↦ let next = next-leaves m n kind end stamps leave.0 k is some (omega (arith, few)) leave.1 in rw add-one at next
+      | inr late ↦ inr late
+    ]
 
 -- where there is one for each number below n, there is a list of them
 record AreFor {A : Type 0} (P : ℕ → A → Type 0) (default : A) (n : ℕ) : Type 0 where
@@ -84,7 +128,8 @@ list-for P default (suc n) some =
         | inr late ↦
             let same : i ≡ n = omega (arith, late, few) in
             let there : i ≡ length rest.items = omega (arith, same, rest.each) in
-            let here : slice_index_or items i default ≡ last.0 = ap (λ k. slice_index_or items k default) there ∙ get_or-append_seam rest.items last.0 [] default in
+            let here : slice_index_or items i default ≡ last.0 =
+            ap (λ k. slice_index_or items k default) there ∙ get_or-append_seam rest.items last.0 [] default in
             subst (λ x. P i x) (sym here) (subst (λ k. P k last.0) (sym same) last.1)
       ];
     }
@@ -92,7 +137,8 @@ list-for P default (suc n) some =
 bounds-some : (m : Media) (n : ℕ) (kind : Kind) (stamps departures : List ℕ) → IsMedia m → n ≤ 262144 → Shaped m n kind stamps departures
     → (bounds : List Bound) × AreBounds m n kind stamps departures bounds
 bounds-some m n kind stamps departures is few shaped =
-    let all = list-for (λ i b. BoundAt m n kind stamps departures i b) Arrival (length stamps) (λ i within. bound-some m n kind stamps departures i is few shaped within) in
+    let all = list-for (λ i b. BoundAt m n kind stamps departures i b) Arrival (length stamps)
+    (λ i within. bound-some m n kind stamps departures i is few shaped within) in
     (all.items, record { each = all.each; bound = all.are })
 
 prints-some : (list : Bool) (tai : ℕ) (kind : Kind) (m : Media) (items : List Record) (run : JudgedRun) (departures : List ℕ) → IsMedia m → run.n ≤ 262144
@@ -109,9 +155,11 @@ prints-some false tai kind m items run departures is few shaped = (shaped_captur
 pub some-shape : (list : Bool) (tai : ℕ) (kind : Kind) (m : Media) (items : List Record) (run : JudgedRun) → IsMedia m → 1 ≤ run.n → run.n ≤ 262144
     → (answer : Answer) × HasShape list tai kind m items run answer
 some-shape list tai kind m items run is some few =
-    elim (leave-or-late m run.n kind (end_of tai) run.stamps (length run.stamps) is some (omega arith)) as (λ _. (answer : Answer) × HasShape list tai kind m items run answer) [
+    elim (leave-or-late m run.n kind (end_of tai) run.stamps (length run.stamps) is some (omega arith))
+    as (λ _. (answer : Answer) × HasShape list tai kind m items run answer) [
       | inl found ↦
-          let leave : LeaveInTime m run.n kind (end_of tai) run.stamps found.0 = subst (λ l. LeaveInTime m run.n kind (end_of tai) l found.0) (take-length run.stamps) found.1 in
+          let leave : LeaveInTime m run.n kind (end_of tai) run.stamps found.0 =
+          subst (λ l. LeaveInTime m run.n kind (end_of tai) l found.0) (take-length run.stamps) found.1 in
           let text = prints-some list tai kind m items run found.0 is few leave.shaped in
           let answer : Answer = record { text = text.0; status = status.Pass } in
           (answer, inl (record { departures = found.0; leave = leave; text = text.0; prints = text.1; answer_is = refl }))

@@ -18,7 +18,7 @@ use Rattle.timing_steps.specs.Answers.{Answer}
 use Rattle.timing_reach.specs.Asked.{HasWindow, OnFlow, OnRun, not_judged}
 use Rattle.timing_reach.specs.Skewed.{HasSkew, first_of, last_of, skewed}
 use Rattle.timing_reach.specs.Windows.{AreWindowsOf, HasLines, windows_text}
-use Rattle.timing_reach.specs.declared.windows.Windows.{Windows}
+use Rattle.timing_reach.specs.declared.window.windows.Windows.{Windows}
 use Rattle.timing_reach.proofs.RunSizes.{HasSize, RunHasSize, judged-size}
 
 -- of a run
@@ -42,10 +42,12 @@ windows-once m n stamps a b h k =
 
 pub lines-once : (m : Media) (run : JudgedRun) (a b : Answer) → HasLines m run a → HasLines m run b → a ≡ b
 lines-once m run a b h k =
-    h.answer_is ∙ ap (λ (w : Windows). record { text = windows_text w; status = status.Pass }) (windows-once m run.n run.stamps h.windows k.windows h.are k.are) ∙ sym k.answer_is
+    h.answer_is ∙ ap (λ (w : Windows). record { text = windows_text w; status = status.Pass }) (windows-once m run.n run.stamps h.windows k.windows h.are k.are)
+    ∙ sym k.answer_is
 
 -- of a verdict
-some-on : (m : Media) (next : JudgedRun → Answer → Type 0) (v : FlowVerdict) → RunHasSize v → ((run : JudgedRun) → HasSize run → (answer : Answer) × next run answer) → (answer : Answer) × OnRun m next v answer
+some-on : (m : Media) (next : JudgedRun → Answer → Type 0) (v : FlowVerdict) → RunHasSize v
+    → ((run : JudgedRun) → HasSize run → (answer : Answer) × next run answer) → (answer : Answer) × OnRun m next v answer
 some-on m next absent size some = (not_judged m (verdict_of m absent), refl)
 some-on m next (refused rec fault) size some = (not_judged m (verdict_of m (refused rec fault)), refl)
 some-on m next (gap rec expected got) size some = (not_judged m (verdict_of m (gap rec expected got)), refl)
@@ -53,7 +55,8 @@ some-on m next (in_one_run (no_whole_frame head)) size some = (not_judged m (ver
 some-on m next (in_one_run (whole_frames run)) size some = some run size
 some-on m next (in_runs runs) size some = (not_judged m (verdict_of m (in_runs runs)), refl)
 
-once-on : (m : Media) (next : JudgedRun → Answer → Type 0) (v : FlowVerdict) (a b : Answer) → ((run : JudgedRun) → next run a → next run b → a ≡ b) → OnRun m next v a → OnRun m next v b → a ≡ b
+once-on : (m : Media) (next : JudgedRun → Answer → Type 0) (v : FlowVerdict) (a b : Answer) → ((run : JudgedRun) → next run a → next run b → a ≡ b)
+    → OnRun m next v a → OnRun m next v b → a ≡ b
 once-on m next absent a b once h k = h ∙ sym k
 once-on m next (refused rec fault) a b once h k = h ∙ sym k
 once-on m next (gap rec expected got) a b once h k = h ∙ sym k
@@ -62,17 +65,20 @@ once-on m next (in_one_run (whole_frames run)) a b once h k = once run h k
 once-on m next (in_runs runs) a b once h k = h ∙ sym k
 
 -- of a text
-pub some-flow : (tai : ℕ) (m : Media) (next : List Record → JudgedRun → Answer → Type 0) (text : List ℕ) → ((items : List Record) (run : JudgedRun) → HasSize run → (answer : Answer) × next items run answer)
+pub some-flow : (tai : ℕ) (m : Media) (next : List Record → JudgedRun → Answer → Type 0) (text : List ℕ)
+    → ((items : List Record) (run : JudgedRun) → HasSize run → (answer : Answer) × next items run answer)
     → (answer : Answer) × OnFlow tai m next text answer
 some-flow tai m next text some =
     let all = some_by (header text) (2 ^ 40) text in
     let on = some-on m (next all.0) (judged (flow all.0 m) m.pt tai) (judged-size (flow all.0 m) m.pt tai) (some all.0) in
     (on.0, record { items = all.0; note = all.1; records = all.2; on_run = on.1 })
 
-pub once-flow : (tai : ℕ) (m : Media) (next : List Record → JudgedRun → Answer → Type 0) (text : List ℕ) (a b : Answer) → ((items : List Record) (run : JudgedRun) → next items run a → next items run b → a ≡ b) → OnFlow tai m next text a → OnFlow tai m next text b → a ≡ b
+pub once-flow : (tai : ℕ) (m : Media) (next : List Record → JudgedRun → Answer → Type 0) (text : List ℕ) (a b : Answer)
+    → ((items : List Record) (run : JudgedRun) → next items run a → next items run b → a ≡ b) → OnFlow tai m next text a → OnFlow tai m next text b → a ≡ b
 once-flow tai m next text a b once h k =
     let same : h.items ≡ k.items = (only_by (header text) (2 ^ 40) text h.items k.items h.note k.note h.records k.records).0 in
-    once-on m (next k.items) (judged (flow k.items m) m.pt tai) a b (once k.items) (subst (λ (l : List Record). OnRun m (next l) (judged (flow l m) m.pt tai) a) same h.on_run) k.on_run
+    once-on m (next k.items) (judged (flow k.items m) m.pt tai) a b (once k.items)
+    (subst (λ (l : List Record). OnRun m (next l) (judged (flow l m) m.pt tai) a) same h.on_run) k.on_run
 
 -- of two flows
 pub some-skew : (job : SkewJob) (a b : Media) (texts : List (List ℕ)) → (answer : Answer) × HasSkew job a b texts answer

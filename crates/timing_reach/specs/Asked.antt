@@ -1,5 +1,5 @@
--- What the texts of the commands define that look deeper into one flow, in the order in which they are read: the session
--- description, and then a capture. This project's profile.
+-- What the texts of the commands define that look deeper into one flow, in the order in which they are read: the
+-- session description, and then a capture. This project's profile.
 use Rattle.std.specs.Prelude.{◌≡◌, ◌⊎◌, ◌^◌, ℕ, List, ◌++◌, slice_get, Option, Some, None, Result, Err, codes}
 use Rattle.timing_base.specs.Captures.{Record}
 use Rattle.timing_base.specs.Jobs.{FlowJob}
@@ -26,16 +26,18 @@ no_such_media = record { text = codes "no such media\n"; status = status.NotAllJ
 
 -- `not judged: VERDICT`, with the end of the line
 abbrev pub not_judged : Media → Verdict → Answer
-not_judged m verdict = record { text = codes "not judged: " ++ (verdict_text m verdict ++ codes "\n"); status = status.NotAllJudged }
+not_judged m verdict =
+    record { text = codes "not judged: " ++ (verdict_text m verdict ++ codes "\n"); status = status.NotAllJudged }
 
 -- a flow that is judged in one run leads on with it; of any other the verdict is told
 abbrev pub OnRun : Media → (JudgedRun → Answer → Type 0) → FlowVerdict → Answer → Type 0
 OnRun m next (in_one_run (whole_frames run)) answer = next run answer
 OnRun m next verdict answer = answer ≡ not_judged m (verdict_of m verdict)
 
--- the answer on the flow of this media in a classic capture of this text; `tai` is in seconds, and what leads on with the run
--- has the records of the capture too
-pub record OnFlow (tai : ℕ) (m : Media) (next : List Record → JudgedRun → Answer → Type 0) (text : List ℕ) (answer : Answer) : Type 0 where
+-- the answer on the flow of this media in a classic capture of this text; `tai` is in seconds, and what leads on with
+-- the run has the records of the capture too
+pub record OnFlow (tai : ℕ) (m : Media) (next : List Record → JudgedRun → Answer → Type 0) (text : List ℕ)
+    (answer : Answer) : Type 0 where
   pub items : List Record
   pub note : FileNote
   pub records : Records text (2 ^ 40) items note
@@ -48,7 +50,8 @@ ReadsCapture i outcome name next =
     ⊎ (¬ i.lacks name × ((text : List ℕ) → i.texts name ≡ Some text → next (classic text)))
 
 -- for a media that the description hasn't no capture is read; else the capture leads on
-abbrev pub ReadsFlow : Inputs → Result Answer Failure → FlowJob → (Media → List ℕ → Answer → Type 0) → Option Media → Type 0
+abbrev pub ReadsFlow : Inputs → Result Answer Failure → FlowJob → (Media → List ℕ → Answer → Type 0) → Option Media
+    → Type 0
 ReadsFlow i outcome job next None = Gives outcome (λ answer. answer ≡ no_such_media)
 ReadsFlow i outcome job next (Some m) = ReadsCapture i outcome job.capture (λ text. Gives outcome (next m text))
 

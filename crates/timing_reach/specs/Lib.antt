@@ -8,11 +8,7 @@ pub mod Shaped
 pub mod Worked
 pub mod WorkedShapes
 -- these only serve proofs
-pub mod Opening
-pub mod Readings
-pub mod Gauging
-pub mod Leaving
-pub mod Shaping
-pub mod Added
-pub mod Pairs
-pub mod Comparing
+pub mod judged
+pub mod window
+pub mod shape
+pub mod skew

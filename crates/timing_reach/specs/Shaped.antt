@@ -1,5 +1,5 @@
--- What the texts of `shape` define, in the order in which they are read: the session description, and then a capture. This
--- project's profile.
+-- What the texts of `shape` define, in the order in which they are read: the session description, and then a capture.
+-- This project's profile.
 use Rattle.std.specs.Prelude.{ℕ, List, slice_get, Result}
 use Rattle.timing_base.specs.Jobs.{ShapeJob}
 use Rattle.timing_base.specs.Media.{Media}

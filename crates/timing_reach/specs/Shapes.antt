@@ -1,8 +1,34 @@
--- What `shape` prints of a flow that is judged in one run: its packets leave as a plan that is least at each packet has it,
--- so that neither the bucket nor the virtual receiver buffer of a sender type ever holds too many (SMPTE ST 2110-21). It
--- is a list of the delayed packets, or the flow as a capture file (pcap-savefile(5)). Stamps and departures are in
--- nanoseconds, and packets, judged ones and reads count from 0. This project's profile.
-use Rattle.std.specs.Prelude.{◌≡◌, ◌⊎◌, ◌<◌, ◌≤◌, ◌+◌, ◌-◌, ◌*◌, ◌^◌, ℕ, Bool, true, false, nat_lt, max, if◌then◌else◌, List, [], ◌∷◌, ◌++◌, length, take, slice_index, slice_index_or, is_some, codes}
+-- What `shape` prints of a flow that is judged in one run: its packets leave as a plan that is least at each packet has
+-- it, so that neither the bucket nor the virtual receiver buffer of a sender type ever holds too many (SMPTE ST
+-- 2110-21). It is a list of the delayed packets, or the flow as a capture file (pcap-savefile(5)). Stamps and
+-- departures are in nanoseconds, and packets, judged ones and reads count from 0. This project's profile.
+use Rattle.std.specs.Prelude.{
+  ◌≡◌,
+  ◌⊎◌,
+  ◌<◌,
+  ◌≤◌,
+  ◌+◌,
+  ◌-◌,
+  ◌*◌,
+  ◌^◌,
+  ℕ,
+  Bool,
+  true,
+  false,
+  nat_lt,
+  max,
+  if◌then◌else◌,
+  List,
+  [],
+  ◌∷◌,
+  ◌++◌,
+  length,
+  take,
+  slice_index,
+  slice_index_or,
+  is_some,
+  codes,
+}
 use Rattle.std.specs.Fmt.{decimal}
 use Rattle.std.specs.List.{count_by, filter}
 use Rattle.capture_gen.specs.Heads.{file_head, record_head}
@@ -55,7 +81,8 @@ bound_text Order = codes "order"
 -- `packet I delayed D ns by ..`, with the end of the line
 abbrev pub delayed_line : (packet delay : ℕ) → Bound → List ℕ
 delayed_line packet delay bound =
-    codes "packet " ++ (decimal packet ++ (codes " delayed " ++ (decimal delay ++ (codes " ns by " ++ (bound_text bound ++ codes "\n")))))
+    codes "packet " ++ (decimal packet ++ (codes " delayed "
+    ++ (decimal delay ++ (codes " ns by " ++ (bound_text bound ++ codes "\n")))))
 
 -- the line of a packet: none where nothing holds it back
 abbrev pub packet_line : (packet delay : ℕ) → Bound → List ℕ
@@ -73,7 +100,8 @@ packet_lines packet (d ∷ ds) (b ∷ bs) = packet_line packet d b ++ packet_lin
 -- `delayed X of P, greatest D ns`, with the end of the line
 abbrev pub delays_line : (delayed packets most : ℕ) → List ℕ
 delays_line delayed packets most =
-    codes "delayed " ++ (decimal delayed ++ (codes " of " ++ (decimal packets ++ (codes ", greatest " ++ (decimal most ++ codes " ns\n")))))
+    codes "delayed " ++ (decimal delayed ++ (codes " of "
+    ++ (decimal packets ++ (codes ", greatest " ++ (decimal most ++ codes " ns\n")))))
 
 -- what holds each packet back
 pub record AreBounds (m : Media) (n : ℕ) (kind : Kind) (stamps departures : List ℕ) (bounds : List Bound) : Type 0 where
@@ -85,14 +113,15 @@ pub record IsList (m : Media) (n : ℕ) (kind : Kind) (stamps departures : List 
   pub bounds : List Bound
   pub are : AreBounds m n kind stamps departures bounds
   pub text_is : text ≡ packet_lines 0 (delays stamps departures) bounds
-      ++ delays_line (count_by (nat_lt 0) (delays stamps departures)) (length (delays stamps departures)) (greatest (delays stamps departures))
+      ++ delays_line (count_by (nat_lt 0) (delays stamps departures)) (length (delays stamps departures))
+      (greatest (delays stamps departures))
 
 -- the records of a media's flow
 abbrev pub flow_records : Media → List Record → List Record
 flow_records m items = filter (λ r. is_some (flow_packet m r)) items
 
--- when packet k of a flow leaves, which came at `stamp`, both as its capture has it: one before the judged packets as it
--- came, a judged one as planned, and one behind them no earlier than the last of them
+-- when packet k of a flow leaves, which came at `stamp`, both as its capture has it: one before the judged packets as
+-- it came, a judged one as planned, and one behind them no earlier than the last of them
 abbrev pub leaves_at : (tai head : ℕ) → (departures : List ℕ) → (k stamp : ℕ) → ℕ
 leaves_at tai head departures k stamp =
     if nat_lt k head then stamp
@@ -102,19 +131,22 @@ leaves_at tai head departures k stamp =
 -- the records of packets that leave so, the first of them packet k
 abbrev pub records_text : (leaves : ℕ → ℕ → ℕ) → (k : ℕ) → List Record → List ℕ
 records_text leaves k [] = []
-records_text leaves k (r ∷ rs) = record_head (leaves k r.stamp) (length r.bytes) ++ (r.bytes ++ records_text leaves (k + 1) rs)
+records_text leaves k (r ∷ rs) =
+    record_head (leaves k r.stamp) (length r.bytes) ++ (r.bytes ++ records_text leaves (k + 1) rs)
 
 -- the capture of a flow with these records, of whose packets the judged ones, behind `head` others, leave so
 abbrev pub shaped_capture : (tai head : ℕ) → (departures : List ℕ) → List Record → List ℕ
 shaped_capture tai head departures records = file_head ++ records_text (leaves_at tai head departures) 0 records
 
 -- what is printed of packets that leave so: their list, or the capture
-abbrev pub Prints : (list : Bool) → (tai : ℕ) → Kind → Media → List Record → JudgedRun → (departures text : List ℕ) → Type 0
+abbrev pub Prints : (list : Bool) → (tai : ℕ) → Kind → Media → List Record → JudgedRun → (departures text : List ℕ)
+    → Type 0
 Prints true tai kind m items run departures text = IsList m run.n kind run.stamps departures text
 Prints false tai kind m items run departures text = text ≡ shaped_capture tai run.head departures (flow_records m items)
 
 -- all judged packets leave in time
-pub record HasPlan (list : Bool) (tai : ℕ) (kind : Kind) (m : Media) (items : List Record) (run : JudgedRun) (answer : Answer) : Type 0 where
+pub record HasPlan (list : Bool) (tai : ℕ) (kind : Kind) (m : Media) (items : List Record) (run : JudgedRun)
+    (answer : Answer) : Type 0 where
   pub departures : List ℕ
   pub leave : LeaveInTime m run.n kind (end_of tai) run.stamps departures
   pub text : List ℕ
@@ -123,7 +155,10 @@ pub record HasPlan (list : Bool) (tai : ℕ) (kind : Kind) (m : Media) (items : 
 
 -- `not shaped: packet I`, with the end of the line
 abbrev pub not_shaped : (packet : ℕ) → Answer
-not_shaped packet = record { text = codes "not shaped: packet " ++ (decimal packet ++ codes "\n"); status = status.NotAllJudged }
+not_shaped packet = record {
+  text = codes "not shaped: packet " ++ (decimal packet ++ codes "\n");
+  status = status.NotAllJudged;
+}
 
 -- some judged packet is late
 pub record HasLate (tai : ℕ) (kind : Kind) (m : Media) (run : JudgedRun) (answer : Answer) : Type 0 where

@@ -1,8 +1,28 @@
--- What the texts of `skew` define, in the order in which they are read: the session description, and then one capture or
--- two. Two flows that carry the same packets by two paths (SMPTE ST 2022-7; RFC 7104) are compared: the first is of the first
--- capture, the second of the last. Captures and media count from 0, records from 1; skews are nanoseconds. This project's
--- profile.
-use Rattle.std.specs.Prelude.{◌≡◌, ◌+◌, ◌-◌, ◌==◌, ◌||◌, if◌then◌else◌, ℕ, Bool, List, [], ◌++◌, length, slice_get, slice_index_or, Option, Some, None, Result, codes}
+-- What the texts of `skew` define, in the order in which they are read: the session description, and then one capture
+-- or two. Two flows that carry the same packets by two paths (SMPTE ST 2022-7; RFC 7104) are compared: the first is of
+-- the first capture, the second of the last. Captures and media count from 0, records from 1; skews are nanoseconds.
+-- This project's profile.
+use Rattle.std.specs.Prelude.{
+  ◌≡◌,
+  ◌+◌,
+  ◌-◌,
+  ◌==◌,
+  ◌||◌,
+  if◌then◌else◌,
+  ℕ,
+  Bool,
+  List,
+  [],
+  ◌++◌,
+  length,
+  slice_get,
+  slice_index_or,
+  Option,
+  Some,
+  None,
+  Result,
+  codes,
+}
 use Rattle.std.specs.Fmt.{decimal, signed_decimal}
 use Rattle.std.specs.List.{list_any}
 use Rattle.timing_base.specs.Captures.{Record}
@@ -20,29 +40,43 @@ use Rattle.timing_report.specs.declared.status.Input.{Input}
 use Rattle.timing_report.specs.declared.status.Input.TheVariants as input
 use Rattle.timing_report.specs.declared.status.Status.{Status}
 use Rattle.timing_report.specs.declared.status.Status.TheVariants as status
-use Rattle.timing_steps.specs.Answers.{Answer, CaptureRose, Gives, HasRisen, Inputs, ReadsCaptures, ReadsSession, Yields}
+use Rattle.timing_steps.specs.Answers.{
+  Answer,
+  CaptureRose,
+  Gives,
+  HasRisen,
+  Inputs,
+  ReadsCaptures,
+  ReadsSession,
+  Yields,
+}
 use Rattle.timing_steps.specs.declared.failure.Failure.{Failure}
 use Rattle.timing_reach.specs.Asked.{no_such_media}
 
 -- `pair 1.A F.B: `, F the number of captures
 abbrev pub pair_head : SkewJob → List ℕ
-pair_head job = codes "pair 1." ++ (decimal (job.media + 1) ++ (codes " " ++ (decimal (length job.captures) ++ (codes "."
+pair_head job = codes "pair 1." ++ (decimal (job.media + 1)
+    ++ (codes " " ++ (decimal (length job.captures) ++ (codes "."
     ++ (decimal (job.pair + 1) ++ codes ": ")))))
 
 -- `matched M, first only X, second only Y, repeated Z, unread U`, with the end of the line
 abbrev pub counts_text : SkewRow → List ℕ
-counts_text row = codes "matched " ++ (decimal row.matched ++ (codes ", first only " ++ (decimal row.first_only ++ (codes ", second only "
-    ++ (decimal row.second_only ++ (codes ", repeated " ++ (decimal row.repeated ++ (codes ", unread " ++ (decimal row.unread ++ codes "\n")))))))))
+counts_text row = codes "matched " ++ (decimal row.matched
+    ++ (codes ", first only " ++ (decimal row.first_only ++ (codes ", second only "
+    ++ (decimal row.second_only ++ (codes ", repeated " ++ (decimal row.repeated
+    ++ (codes ", unread " ++ (decimal row.unread ++ codes "\n")))))))))
 
 -- `WORD D ns at records R and T`, with the end of the line; nothing where no number is matched
 abbrev pub extreme_line : List ℕ → Option Extreme → List ℕ
 extreme_line word None = []
-extreme_line word (Some e) = word ++ (codes " " ++ (signed_decimal e.skew ++ (codes " ns at records " ++ (decimal e.first_rec
+extreme_line word (Some e) =
+    word ++ (codes " " ++ (signed_decimal e.skew ++ (codes " ns at records " ++ (decimal e.first_rec
     ++ (codes " and " ++ (decimal e.second_rec ++ codes "\n"))))))
 
 -- the lines of the pair
 abbrev pub row_text : SkewJob → SkewRow → List ℕ
-row_text job row = pair_head job ++ (counts_text row ++ (extreme_line (codes "least") row.least ++ extreme_line (codes "greatest") row.greatest))
+row_text job row = pair_head job ++ (counts_text row ++ (extreme_line (codes "least") row.least
+    ++ extreme_line (codes "greatest") row.greatest))
 
 -- 4 where no number is matched, or a capture was refused for its bytes; else 0
 abbrev pub skew_status : (refused : Bool) → SkewRow → Status
@@ -50,7 +84,10 @@ skew_status refused row = if (row.matched == 0) || refused then status.NotAllJud
 
 -- the answer on captures that end so and flows that compare so: a line for each capture, and the lines of the pair
 abbrev pub skewed : SkewJob → List FileNote → SkewRow → Answer
-skewed job notes row = record { text = text_of_lines (files_lines 0 job.captures notes) ++ row_text job row; status = skew_status (list_any is_refused notes) row }
+skewed job notes row = record {
+  text = text_of_lines (files_lines 0 job.captures notes) ++ row_text job row;
+  status = skew_status (list_any is_refused notes) row;
+}
 
 -- the first and the last of some captures
 abbrev pub first_of : List (List Record) → List Record
@@ -68,7 +105,8 @@ pub record HasSkew (job : SkewJob) (a b : Media) (texts : List (List ℕ)) (answ
 
 -- where the description hasn't one of the media no capture is read; else the captures lead on
 abbrev pub ReadsPair : Inputs → Result Answer Failure → SkewJob → (first second : Option Media) → Type 0
-ReadsPair i outcome job (Some a) (Some b) = ReadsCaptures i outcome job.captures (λ texts. Gives outcome (HasSkew job a b texts))
+ReadsPair i outcome job (Some a) (Some b) =
+    ReadsCaptures i outcome job.captures (λ texts. Gives outcome (HasSkew job a b texts))
 ReadsPair i outcome job None second = Gives outcome (λ answer. answer ≡ no_such_media)
 ReadsPair i outcome job (Some a) None = Gives outcome (λ answer. answer ≡ no_such_media)
 

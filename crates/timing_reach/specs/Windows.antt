@@ -1,5 +1,5 @@
--- What `window` prints of a flow that is judged in one run: for each sender type of SMPTE ST 2110-21 the offsets that would
--- keep its buffer. Offsets are in microseconds, and judged packets count from 0. This project's profile.
+-- What `window` prints of a flow that is judged in one run: for each sender type of SMPTE ST 2110-21 the offsets that
+-- would keep its buffer. Offsets are in microseconds, and judged packets count from 0. This project's profile.
 use Rattle.std.specs.Prelude.{◌≡◌, ℕ, List, [], ◌++◌, Option, Some, None, codes}
 use Rattle.std.specs.Fmt.{decimal}
 use Rattle.timing_base.specs.Judged.{JudgedRun}
@@ -13,7 +13,7 @@ use Rattle.offset_window.specs.declared.window.WindowEnd.TheVariants.{Absent, At
 use Rattle.timing_report.specs.Words.{kind_name}
 use Rattle.timing_report.specs.declared.status.Status.TheVariants as status
 use Rattle.timing_steps.specs.Answers.{Answer}
-use Rattle.timing_reach.specs.declared.windows.Windows.{Windows}
+use Rattle.timing_reach.specs.declared.window.windows.Windows.{Windows}
 
 -- ` at packet I`, where a packet binds
 abbrev pub binding_text : Option ℕ → List ℕ
@@ -27,7 +27,8 @@ end_text (At micros binding) = decimal micros ++ binding_text binding
 
 -- `K lower A, upper B`, with the end of the line
 abbrev pub window_line : Kind → Window → List ℕ
-window_line kind w = kind_name kind ++ (codes " lower " ++ (end_text w.lower ++ (codes ", upper " ++ (end_text w.upper ++ codes "\n"))))
+window_line kind w =
+    kind_name kind ++ (codes " lower " ++ (end_text w.lower ++ (codes ", upper " ++ (end_text w.upper ++ codes "\n"))))
 
 -- the lines of the types N, NL and W
 abbrev pub windows_text : Windows → List ℕ

@@ -7,7 +7,8 @@ use Rattle.offset_window.specs.declared.window.Window.{Window}
 use Rattle.offset_window.specs.declared.window.WindowEnd.{WindowEnd}
 use Rattle.offset_window.specs.declared.window.WindowEnd.TheVariants.{At}
 
--- a frame of 20 packets behind a head of one: packet 0 comes 764,000 ns after the begin of the frame, and each other one
+-- a frame of 20 packets behind a head of one: packet 0 comes 764,000 ns after the begin of the frame, and each other
+-- one
 -- 960,000 ns after the one before it
 abbrev pub narrow_frame : JudgedRun
 narrow_frame = record { n = 20; groups = 1; head = 1; tail = 0; stamps = each_after 960000 20 }

@@ -17,7 +17,8 @@ record_at seconds nanos bytes = record { number = 1; stamp = seconds * 10 ^ 9 + 
 
 -- a flow of five packets: the first ends the group before the judged ones, and two come behind them
 abbrev pub five_records : List Record
-five_records = record_at 5 9 (0xaa ∷ []) ∷ record_at 6 0 (1 ∷ []) ∷ record_at 6 0 (2 ∷ 3 ∷ []) ∷ record_at 6 0 (4 ∷ []) ∷ record_at 9 0 (5 ∷ []) ∷ []
+five_records = record_at 5 9 (0xaa ∷ []) ∷ record_at 6 0 (1 ∷ []) ∷ record_at 6 0 (2 ∷ 3 ∷ []) ∷ record_at 6 0 (4 ∷ [])
+    ∷ record_at 9 0 (5 ∷ []) ∷ []
 
 -- departures of the judged ones, in nanoseconds of TAI
 abbrev pub two_departures : List ℕ

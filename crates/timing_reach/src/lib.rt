@@ -6,28 +6,12 @@
 //! second time. Captures, media and judged packets count from 0, and records from 1; stamps are nanoseconds.
 #![tactic(auto)]
 
-mod captures;
-mod compare;
-mod copy;
-mod delays;
-mod gauge;
-mod judging;
+mod judged;
 pub mod laws;
-mod leaver;
-mod meters;
-mod opening;
-mod pair_words;
-mod pairing;
-mod seen;
 mod shape;
-mod shape_words;
-mod shaping;
 mod skew;
 mod window;
-mod windows;
-mod words;
 
-pub use shape::{answer_shape, shape_one};
-pub use skew::{answer_skew, skew_one};
-pub use window::{answer_window, window_one};
-pub use windows::Windows;
+pub use shape::shape_one;
+pub use skew::skew_one;
+pub use window::window_one;

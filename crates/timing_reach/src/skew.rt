@@ -1,14 +1,18 @@
 //! `skew`: how far two flows with the same packets lie apart.
 
+mod compare;
+mod pairing;
+mod words;
+
 ghost use Rattle.std.specs.Prelude.{Some, slice_get};
 ghost use Rattle.timing_outside.specs.Shelves.{StaysAs};
 ghost use Rattle.timing_steps.specs.Answers.{Gives, ReadsCaptures, Yields, seen_of};
 ghost use Rattle.timing_steps.specs.Ran.{HasCause, Ran, output_of};
 ghost use Rattle.timing_reach.specs.Skewed.{FollowsSkew, HasSkew, ReadsPair, SkewInputRose};
 
-use crate::compare::compare;
-use crate::pair_words::skewed;
-use crate::words::no_such_media;
+use crate::judged::words::no_such_media;
+use crate::skew::compare::compare;
+use crate::skew::words::skewed;
 use std::alloc::Global;
 use timing_base::{Media, SkewJob};
 use timing_outside::{Shelf, Sink};
@@ -68,7 +72,7 @@ fn answer_over<H: Shelf>(
 
 /// The answer of a job, or why there is none. Where the description hasn't one of the media, no capture
 /// is fetched. The captures are fetched in order and then read in order.
-pub fn answer_skew<H: Shelf>(alloc: Global, job: &SkewJob, shelf: &mut H) -> Result<Answer, Failure>
+fn answer_skew<H: Shelf>(alloc: Global, job: &SkewJob, shelf: &mut H) -> Result<Answer, Failure>
     ensures follows { FollowsSkew job.now (seen_of H.text H.lacks H.faults shelf.old shelf.new) result }
     ensures cause { HasCause result (SkewInputRose job.now (seen_of H.text H.lacks H.faults shelf.old shelf.new)) }
     ensures stays { StaysAs H.text H.lacks H.faults shelf.old shelf.new }

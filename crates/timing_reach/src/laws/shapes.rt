@@ -39,7 +39,7 @@ pub fn list_by_hand()
     burst_by_hand();
 }
 
-/// The same in the last nanosecond of a capture: no plan lets the last one leave in time.
+/// Of five packets in the last nanosecond of a capture the last one is late: no plan lets it leave in time.
 #[tactic(auto, unfolding(timing_report::proofs::Numerals::numerals))]
 pub fn late_by_hand()
     ensures { (list : Bool) (items : List Record) (answer : Answer)

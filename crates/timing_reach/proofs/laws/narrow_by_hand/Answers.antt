@@ -9,12 +9,16 @@ use Rattle.timing_report.proofs.Numerals.{numerals}
 use Rattle.timing_report.specs.declared.status.Status.TheVariants as status
 use Rattle.timing_reach.specs.Windows.{AreWindowsOf, HasLines, windows_text}
 use Rattle.timing_reach.specs.Worked.{bound_at, from_to, narrow_frame}
-use Rattle.timing_reach.specs.declared.windows.Windows.{Windows}
+use Rattle.timing_reach.specs.declared.window.windows.Windows.{Windows}
 use Rattle.timing_reach.proofs.Unique.{lines-once}
 use Rattle.timing_reach.proofs.laws.narrow_by_hand.Goals as goal
 
 windows : Windows
-windows = record { narrow = from_to (bound_at 0 764) (bound_at 8 8444); narrow_linear = from_to (bound_at 0 764) (bound_at 19 8004); wide = from_to (bound_at 0 764) (At 1000000 None) }
+windows = record {
+  narrow = from_to (bound_at 0 764) (bound_at 8 8444);
+  narrow_linear = from_to (bound_at 0 764) (bound_at 19 8004);
+  wide = from_to (bound_at 0 764) (At 1000000 None);
+}
 
 are : AreWindowsOf hd_50 20 (each_after 960000 20) windows
 unfolding windows
@@ -37,7 +41,8 @@ has : HasLines hd_50 narrow_frame (record { text = windows_text windows; status 
 has = record { windows = windows; are = are; answer_is = refl }
 
 lines : windows_text windows
-    ≡ codes "N lower 764 at packet 0, upper 8444 at packet 8\n" ++ (codes "NL lower 764 at packet 0, upper 8004 at packet 19\n" ++ codes "W lower 764 at packet 0, upper 1000000\n")
+    ≡ codes "N lower 764 at packet 0, upper 8444 at packet 8\n" ++ (codes "NL lower 764 at packet 0, upper 8004 at packet 19\n"
+    ++ codes "W lower 764 at packet 0, upper 1000000\n")
 unfolding windows numerals
 lines = refl
 

@@ -43,7 +43,13 @@ leave = record {
 -- the fifth leaves a tick after the first
 later : (others : List ℕ) → IsPlan w (last_nanosecond 5) others → end_of 0 ≤ slice_index others 4
 later others p =
-    omega (arith, p.after 0 (omega arith), p.after 4 (omega arith), p.ordered 0 4 (omega arith) (omega (arith, p.each)), p.bucket 0 4 (omega arith) (omega (arith, p.each)))
+    omega (
+      arith,
+      p.after 0 (omega arith),
+      p.after 4 (omega arith),
+      p.ordered 0 4 (omega arith) (omega (arith, p.each)),
+      p.bucket 0 4 (omega arith) (omega (arith, p.each)),
+    )
 
 late : IsLate hd_50 20 N (end_of 0) (last_nanosecond 5) 4
 late = record { within = omega arith; departures = last_nanosecond 4; before = leave; late = later }
@@ -54,4 +60,5 @@ lines = refl
 
 pub returns : goal.returns
 returns c = λ list items answer h.
-    shape-once list 0 N hd_50 items (run_of_stamps (last_nanosecond 5)) answer (not_shaped 4) h (inr (record { packet = 4; late = late; answer_is = refl })) ∙ lines
+    shape-once list 0 N hd_50 items (run_of_stamps (last_nanosecond 5)) answer (not_shaped 4) h (inr (record { packet = 4; late = late; answer_is = refl }))
+    ∙ lines

@@ -34,7 +34,8 @@ are last = record { each = refl; bound = five (λ i. BoundAt hd_50 20 N (at_once
 
 abbrev text : List ℕ
 text = packet_lines 0 (delays (at_once 5) burst_shaped) bounds
-    ++ delays_line (count_by (nat_lt 0) (delays (at_once 5) burst_shaped)) (length (delays (at_once 5) burst_shaped)) (greatest (delays (at_once 5) burst_shaped))
+    ++ delays_line (count_by (nat_lt 0) (delays (at_once 5) burst_shaped)) (length (delays (at_once 5) burst_shaped))
+    (greatest (delays (at_once 5) burst_shaped))
 
 lines : text ≡ codes "packet 4 delayed 909091 ns by bucket from 0\n" ++ codes "delayed 1 of 5, greatest 909091 ns\n"
 unfolding bounds numerals
@@ -44,7 +45,11 @@ has : (items : List Record) → Shaped hd_50 20 N (at_once 5) burst_shaped → B
     → HasShape true 0 N hd_50 items (run_of_stamps (at_once 5)) (record { text = text; status = status.Pass })
 has items shaped last = inl (record {
   departures = burst_shaped;
-  leave = record { shaped = shaped; in_time = five (λ i. slice_index burst_shaped i < end_of 0) (omega arith) (omega arith) (omega arith) (omega arith) (omega arith) };
+  leave = record {
+    shaped = shaped;
+    in_time = five (λ i. slice_index burst_shaped i < end_of 0) (omega arith) (omega arith) (omega arith) (omega arith)
+        (omega arith);
+  };
   text = text;
   prints = record { bounds = bounds; are = are last; text_is = refl };
   answer_is = refl;
@@ -52,5 +57,6 @@ has items shaped last = inl (record {
 
 pub returns : goal.returns
 returns c = λ items answer h.
-    shape-once true 0 N hd_50 items (run_of_stamps (at_once 5)) answer (record { text = text; status = status.Pass }) h (has items c.burst_by_hand.ensures.shaped c.burst_by_hand.ensures.bound)
+    shape-once true 0 N hd_50 items (run_of_stamps (at_once 5)) answer (record { text = text; status = status.Pass }) h
+    (has items c.burst_by_hand.ensures.shaped c.burst_by_hand.ensures.bound)
     ∙ ap (λ (t : List ℕ). record { text = t; status = status.Pass }) lines

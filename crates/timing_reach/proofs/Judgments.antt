@@ -1,0 +1,124 @@
+-- What a first reading finds, from what its judge and its opening say, and what a second one measures.
+use Rattle.std.specs.Prelude.{IfOk, OnOk, Result, Ok, Err, slice_index}
+use Rattle.std.proofs.Common.{◌≡◌, ◌≤◌, ◌+◌, ◌*◌, ◌-◌, ◌^◌, ℕ, List, [], ◌∷◌, ◌++◌, length, Some, refl, arith, ap, ◌∙◌, sym, subst}
+use Rattle.timing_base.specs.Captures.{Record}
+use Rattle.timing_base.specs.Judged.{FlowVerdict, JudgedRun, absent, gap, in_one_run, in_runs, judged, no_whole_frame, refused, whole_frames}
+use Rattle.timing_base.specs.Media.{Media}
+use Rattle.timing_base.specs.Verdicts.{Judged}
+use Rattle.timing_base.specs.declared.capture.FileNote.{FileNote}
+use Rattle.timing_base.specs.declared.key.FlowKey.{FlowKey}
+use Rattle.timing_base.specs.declared.packet.FlowPacket.{FlowPacket}
+use Rattle.timing_base.specs.declared.row.Verdict.{Verdict}
+use Rattle.timing_base.specs.declared.row.Verdict.TheVariants as verdict
+use Rattle.fail_interval.specs.Row.{judged_values, verdict_of}
+use Rattle.fail_interval.specs.Stands.{StandsFor}
+use Rattle.pcap_reader.specs.Records.{Records}
+use Rattle.pcap_reader.specs.Taken.{TakesFew}
+use Rattle.pcap_reader.specs.declared.records.Taken.{Taken}
+use Rattle.sender_params.specs.Reads.{anchor_of}
+use Rattle.udp_rtp.specs.Flow.{flow, flow_packet}
+use Rattle.timing_steps.specs.Answers.{Answer}
+use Rattle.timing_steps.specs.Taken.{TakesText}
+use Rattle.timing_reach.specs.Asked.{OnFlow, OnRun, not_judged}
+use Rattle.timing_reach.specs.judged.Runs.{IsRunOf, gauged}
+use Rattle.timing_reach.specs.window.Gauging.{GaugesOn, IsGauged}
+use Rattle.timing_reach.specs.judged.Opening.{IsOpening}
+use Rattle.timing_reach.specs.judged.Readings.{IsJudging, IsJudgment, IsJudgmentIn, JudgesOn}
+use Rattle.timing_reach.specs.Windows.{AreWindowsOf}
+use Rattle.timing_reach.specs.declared.window.gauge.Gauge.{Gauge}
+use Rattle.timing_reach.specs.declared.judged.judging.Judging.{Judging}
+use Rattle.timing_reach.specs.declared.judged.judgment.Judgment.{Judgment}
+use Rattle.timing_reach.specs.declared.window.windows.Windows.{Windows}
+use Rattle.timing_reach.proofs.Gauges.{one-packet}
+use Rattle.timing_reach.proofs.Judgings.{judged-few, judged-of, one-run, within-run}
+use Rattle.timing_reach.proofs.Packets.{flow-few}
+use Rattle.timing_reach.proofs.Takings.{fed-alone}
+
+-- a packet of the flow was passed to the judge
+pub judges-packet : {T E : Type 0} (result : Result T E) (old new : Judging) (r : Record) (p : FlowPacket) → flow_packet old.media r ≡ Some p
+    → new.media ≡ old.media
+    → ((packets : List FlowPacket) → IsOpening packets old.opening → IsOpening (packets ++ p ∷ []) new.opening)
+    → ((m : Media) (key : FlowKey) (tai : ℕ) (packets : List FlowPacket) → StandsFor m key tai old.judge packets
+    → OnOk result (StandsFor m key tai new.judge (packets ++ p ∷ [])))
+    → IfOk result (λ _. JudgesOn old new (r ∷ []))
+judges-packet (Ok x) old new r p e media opens feeds = λ m key tai packets h.
+    one-packet (IsJudging m key tai new) packets (Some p) (flow_packet m r) (ap (λ (x : Media). flow_packet x r) (sym h.media) ∙ e)
+    (record { media = media ∙ h.media; judge = feeds m key tai packets h.judge; opening = opens packets h.opening })
+judges-packet (Err e) old new r p is media opens feeds = tt
+
+-- the records of a text were passed
+pub judgment-in : (text : List ℕ) (m : Media) (key : FlowKey) (tai : ℕ) (old new : Judging) (read : Taken) (judgment : Judgment) → IsJudging m key tai old []
+    → TakesText JudgesOn text 0 old new read → ((packets : List FlowPacket) → IsJudging m key tai new packets → IsJudgment m tai packets judgment)
+    → IsJudgmentIn m tai text judgment
+judgment-in text m key tai old new read judgment start t finish = record {
+  items = t.items;
+  note = read.note;
+  records = t.records;
+  judgment_is = finish (flow t.items m) (fed-alone JudgesOn text old new read t m key tai [] start);
+}
+
+-- few records were passed
+pub judgment-few : (m : Media) (key : FlowKey) (tai most : ℕ) (old new : Judging) (judgment : Judgment) (j : Judged) → IsJudging m key tai old []
+    → TakesFew JudgesOn most old new → ((packets : List FlowPacket) → IsJudging m key tai new packets → IsJudgment m tai packets judgment)
+    → judgment.verdict ≡ verdict.Judged j → j.packets ≤ most
+judgment-few m key tai most old new judgment j start t finish is =
+    let packets = flow t.items m in
+    let s = finish packets (t.taken m key tai [] start) in
+    let run = judged-of m j (judged packets m.pt tai) judgment.verdict s.verdict_is is in
+    let few = judged-few m j packets tai run.0 (one-run packets m.pt tai run.0 run.1) run.2 in
+    omega (arith, few, flow-few m t.items, t.few)
+
+-- the records of a flow were measured that is judged in this run
+pub measured : (m : Media) (tai first : ℕ) (j : Judged) (run : JudgedRun) (old new : Gauge) (items : List Record) (w : Windows)
+    → IsGauged m j.n tai (anchor_of m (first + tai * 10 ^ 9)) j.head j.packets old [] → GaugesOn old new items → IsRunOf m tai first j items run
+    → ((m : Media) (n tai head count : ℕ) (packets : List FlowPacket) (stamps : List ℕ)
+    → IsGauged m n tai (anchor_of m (slice_index stamps 0)) head count new packets
+    → count ≤ length packets - head → gauged tai head count packets ≡ stamps → AreWindowsOf m n stamps w)
+    → AreWindowsOf m run.n run.stamps w
+measured m tai first j run old new items w start on found finish =
+    let packets = flow items m in
+    let within = within-run packets tai run (one-run packets m.pt tai run found.judged_is) in
+    let at_start : IsGauged m run.n tai (anchor_of m (slice_index run.stamps 0)) run.head (length run.stamps) old [] =
+    subst (λ (x : Judged). IsGauged m x.n tai (anchor_of m (slice_index run.stamps 0)) x.head x.packets old []) found.values
+    (subst (λ (a : ℕ). IsGauged m j.n tai (anchor_of m a) j.head j.packets old []) (sym found.opens) start) in
+    finish m run.n tai run.head (length run.stamps) packets run.stamps
+    (on m run.n tai (anchor_of m (slice_index run.stamps 0)) run.head (length run.stamps) [] at_start) within.few within.gauged_is
+
+-- the answer on a flow that is judged in one run
+pub run-on : (text : List ℕ) (m : Media) (tai : ℕ) (next : List Record → JudgedRun → Answer → Type 0) (judgment : Judgment) (j : Judged) (answer : Answer)
+    → judgment.verdict ≡ verdict.Judged j → IsJudgmentIn m tai text judgment
+    → ((items : List Record) (note : FileNote) (run : JudgedRun) → Records text (2 ^ 40) items note → IsRunOf m tai judgment.first j items run
+    → next items run answer)
+    → OnFlow tai m next text answer
+run-on text m tai next judgment j answer is s looked =
+    let run = judged-of m j (judged (flow s.items m) m.pt tai) judgment.verdict s.judgment_is.verdict_is is in
+    let found : IsRunOf m tai judgment.first j s.items run.0 =
+    record { judged_is = run.1; values = sym run.2; opens = s.judgment_is.first run.0 run.1; ordered = s.judgment_is.ordered run.0 run.1 } in
+    record {
+      items = s.items;
+      note = s.note;
+      records = s.records;
+      on_run = subst (λ v. OnRun m (next s.items) v answer) (sym run.1) (looked s.items s.note run.0 s.records found);
+    }
+
+-- the answer on any other flow
+not-run : (m : Media) (next : JudgedRun → Answer → Type 0) (v : FlowVerdict) (answer : Answer) → ((j : Judged) → verdict_of m v ≡ verdict.Judged j → ⊥)
+    → answer ≡ not_judged m (verdict_of m v) → OnRun m next v answer
+not-run m next absent answer other e = e
+not-run m next (refused rec fault) answer other e = e
+not-run m next (gap rec expected got) answer other e = e
+not-run m next (in_one_run (no_whole_frame head)) answer other e = e
+not-run m next (in_one_run (whole_frames run)) answer other e = absurd (other (judged_values m run) refl)
+not-run m next (in_runs runs) answer other e = e
+
+pub told-on : (text : List ℕ) (m : Media) (tai : ℕ) (next : List Record → JudgedRun → Answer → Type 0) (judgment : Judgment) (v : Verdict) (answer : Answer)
+    → v ≡ judgment.verdict → ((j : Judged) → judgment.verdict ≡ verdict.Judged j → ⊥) → IsJudgmentIn m tai text judgment
+    → answer ≡ not_judged m v → OnFlow tai m next text answer
+told-on text m tai next judgment v answer is other s e =
+    let same : v ≡ verdict_of m (judged (flow s.items m) m.pt tai) = is ∙ s.judgment_is.verdict_is in
+    record {
+      items = s.items;
+      note = s.note;
+      records = s.records;
+      on_run = not-run m (next s.items) (judged (flow s.items m) m.pt tai) answer (λ j h. other j (s.judgment_is.verdict_is ∙ h)) (e ∙ ap (not_judged m) same);
+    }

@@ -1,0 +1,32 @@
+use Rattle.std.proofs.Common.{rules, ◌≡◌, ◌∙◌}
+use Rattle.timing_reach.specs.Asked.{OnFlow}
+use Rattle.timing_steps.specs.Answers.{seen_of}
+use Rattle.timing_steps.proofs.Seeing.{sees-rest, stays-then}
+use Rattle.timing_reach.proofs.Following.{cause-seen, flow-session}
+use Rattle.timing_reach.proofs.judged.answers.answer_flow.Goals as goal
+
+pub returns-in-Ok-clause-follows : goal.returns-in-Ok-clause-follows
+returns-in-Ok-clause-follows g c =
+    let named : c.as_str.result.now ≡ c.args.job.now.sdp = search rules in
+    let media : c.as_slice.result.now ≡ c.in-Ok.session = search rules in
+    flow-session
+    (seen_of g.H.Shelf.text g.H.Shelf.lacks g.H.Shelf.faults c.args.shelf.now c.answer_over.new.shelf)
+    (seen_of g.H.Shelf.text g.H.Shelf.lacks g.H.Shelf.faults c.fetch_session.new.shelf c.answer_over.new.shelf)
+    c.args.job.now (λ m. OnFlow c.args.job.now.tai m (g.L.Look.answers c.args.look.now c.args.job.now.tai m)) c.answer_over.result c.as_str.result.now
+    c.as_slice.result.now c.in-Ok.session
+    (sees-rest g.H.Shelf.text g.H.Shelf.lacks g.H.Shelf.faults c.args.shelf.now c.fetch_session.new.shelf c.answer_over.new.shelf c.fetch_session.ensures.stays)
+    named media c.in_ok-session.ensures.there (λ text t. c.in_ok-session.ensures.told text t ∙ c.in-Ok.is) c.answer_over.ensures.follows
+
+pub returns-in-Ok-clause-cause : goal.returns-in-Ok-clause-cause
+returns-in-Ok-clause-cause g c =
+    cause-seen
+    (seen_of g.H.Shelf.text g.H.Shelf.lacks g.H.Shelf.faults c.args.shelf.now c.answer_over.new.shelf)
+    (seen_of g.H.Shelf.text g.H.Shelf.lacks g.H.Shelf.faults c.fetch_session.new.shelf c.answer_over.new.shelf)
+    c.answer_over.result c.args.job.now
+    (sees-rest g.H.Shelf.text g.H.Shelf.lacks g.H.Shelf.faults c.args.shelf.now c.fetch_session.new.shelf c.answer_over.new.shelf c.fetch_session.ensures.stays)
+    c.answer_over.ensures.cause
+
+pub returns-in-Ok-clause-stays : goal.returns-in-Ok-clause-stays
+returns-in-Ok-clause-stays g c =
+    stays-then g.H.Shelf.text g.H.Shelf.lacks g.H.Shelf.faults c.args.shelf.now c.fetch_session.new.shelf c.answer_over.new.shelf c.fetch_session.ensures.stays
+    c.answer_over.ensures.stays

@@ -1,0 +1,59 @@
+-- What the first reading of a flow finds. Packets count from 0.
+use Rattle.std.specs.Prelude.{◌≡◌, ◌+◌, ◌*◌, ◌^◌, ℕ, List, [], ◌++◌, slice_index}
+use Rattle.std.proofs.Common.{sym, subst, append-nil, append_assoc, ap, ◌∙◌}
+use Rattle.std.proofs.lemmas.List.Elements.{filter_map-append}
+use Rattle.timing_base.specs.Captures.{Record}
+use Rattle.timing_base.specs.Judged.{JudgedRun, in_one_run, judged, whole_frames}
+use Rattle.timing_base.specs.Media.{Media}
+use Rattle.timing_base.specs.declared.capture.FileNote.{FileNote}
+use Rattle.timing_base.specs.declared.key.FlowKey.{FlowKey}
+use Rattle.timing_base.specs.declared.packet.FlowPacket.{FlowPacket}
+use Rattle.fail_interval.specs.Row.{verdict_of}
+use Rattle.fail_interval.specs.Stands.{StandsFor, count_fed}
+use Rattle.pcap_reader.specs.Records.{Records}
+use Rattle.sender_params.specs.Ticks.{NeverFall}
+use Rattle.udp_rtp.specs.Flow.{flow, flow_packet}
+use Rattle.timing_reach.specs.judged.Opening.{IsOpening}
+use Rattle.timing_reach.specs.declared.judged.judging.Judging.{Judging}
+use Rattle.timing_reach.specs.declared.judged.judgment.Judgment.{Judgment}
+
+-- the packets were passed to the judge of this media, and no others
+pub record IsJudging (m : Media) (key : FlowKey) (tai : ℕ) (j : Judging) (packets : List FlowPacket) : Type 0 where
+  pub media : j.media ≡ m
+  pub judge : StandsFor m key tai j.judge packets
+  pub opening : IsOpening packets j.opening
+
+-- how many packets were passed
+abbrev pub count_judged : Judging → ℕ
+count_judged j = count_fed j.judge
+
+-- whatever packets were passed, the flow of these records was passed then, and nothing else
+abbrev pub JudgesOn : (old new : Judging) → List Record → Type 0
+JudgesOn old new more =
+    (m : Media) (key : FlowKey) (tai : ℕ) (packets : List FlowPacket) → IsJudging m key tai old packets
+    → IsJudging m key tai new (packets ++ flow more m)
+
+-- no record, and some records and then others
+pub judges_none : (x : Judging) → JudgesOn x x []
+judges_none x m key tai packets h = subst (IsJudging m key tai x) (sym (append-nil packets)) h
+
+pub judges_more : (x y z : Judging) (a b : List Record) → JudgesOn x y a → JudgesOn y z b → JudgesOn x z (a ++ b)
+judges_more x y z a b first second m key tai packets h =
+    subst (IsJudging m key tai z) (append_assoc packets (flow a m) (flow b m)
+    ∙ ap (λ l. packets ++ l) (sym (filter_map-append (flow_packet m) a b)))
+    (second m key tai (packets ++ flow a m) (first m key tai packets h))
+
+-- what is found where these packets are the flow: its verdict, and where it is judged in one run the stamp of the first
+-- judged packet, before the seconds are added; the stamps of the run never fall
+pub record IsJudgment (m : Media) (tai : ℕ) (packets : List FlowPacket) (judgment : Judgment) : Type 0 where
+  pub verdict_is : judgment.verdict ≡ verdict_of m (judged packets m.pt tai)
+  pub first : (run : JudgedRun) → judged packets m.pt tai ≡ in_one_run (whole_frames run)
+      → slice_index run.stamps 0 ≡ judgment.first + tai * 10 ^ 9
+  pub ordered : (run : JudgedRun) → judged packets m.pt tai ≡ in_one_run (whole_frames run) → NeverFall run.stamps
+
+-- what is found of the flow of a media in a capture of this text
+pub record IsJudgmentIn (m : Media) (tai : ℕ) (text : List ℕ) (judgment : Judgment) : Type 0 where
+  pub items : List Record
+  pub note : FileNote
+  pub records : Records text (2 ^ 40) items note
+  pub judgment_is : IsJudgment m tai (flow items m) judgment

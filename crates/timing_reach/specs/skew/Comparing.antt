@@ -1,0 +1,39 @@
+-- How the captures of two flows are read, one after the other.
+use Rattle.std.specs.Prelude.{◌≡◌, ◌+◌, ◌==◌, ◌^◌, ℕ, List, [], ◌∷◌, ◌++◌, length}
+use Rattle.timing_base.specs.Captures.{Record}
+use Rattle.timing_base.specs.Media.{Media}
+use Rattle.timing_base.specs.declared.capture.FileNote.{FileNote}
+use Rattle.path_skew.specs.Pair.{skew}
+use Rattle.path_skew.specs.Stands.{StandsFor}
+use Rattle.pcap_reader.specs.Records.{AreRecords, Records}
+use Rattle.udp_rtp.specs.Flow.{flow}
+use Rattle.timing_reach.specs.skew.Added.{Adds, taken_of}
+use Rattle.timing_reach.specs.Skewed.{first_of, last_of}
+use Rattle.timing_reach.specs.declared.skew.compare.Compared.{Compared}
+use Rattle.timing_reach.specs.declared.skew.compare.Comparing.{Comparing}
+
+-- one capture more was read, of so many: its note stands at the end, and what it has of the two flows was taken
+pub record ComparesNext (text : List ℕ) (count : ℕ) (old new : Comparing) : Type 0 where
+  pub items : List Record
+  pub note : FileNote
+  pub records : Records text (2 ^ 40) items note
+  pub notes : new.notes.items ≡ old.notes.items ++ note ∷ []
+  pub first : new.pairing.first ≡ old.pairing.first
+  pub second : new.pairing.second ≡ old.pairing.second
+  pub adds : Adds old.pairing.skew new.pairing.skew (taken_of (length old.notes.items == 0) old.pairing.first items)
+      (taken_of (length old.notes.items + 1 == count) old.pairing.second items)
+
+-- captures of these texts were read, of so many: the first flow is of the first of them, and the second of the last,
+-- where that was read
+pub record AreCompared (texts : List (List ℕ)) (a b : Media) (count : ℕ) (c : Comparing) : Type 0 where
+  pub files : List (List Record)
+  pub records : AreRecords texts files c.notes.items
+  pub first : c.pairing.first ≡ a
+  pub second : c.pairing.second ≡ b
+  pub stands : StandsFor c.pairing.skew (flow (first_of files) a) (taken_of (length files == count) b (last_of files))
+
+-- what is found of two media in all captures of these texts
+pub record IsComparedIn (texts : List (List ℕ)) (a b : Media) (c : Compared) : Type 0 where
+  pub files : List (List Record)
+  pub records : AreRecords texts files c.notes.items
+  pub row_is : c.row ≡ skew (flow (first_of files) a) (flow (last_of files) b)

@@ -1,0 +1,147 @@
+//! The answer on one flow: its description is read, the flow is judged, and its capture is read again.
+
+ghost use Rattle.std.specs.Prelude.{◌≡◌, ◌≤◌, ◌^◌, ℕ, List, Some, IfOk, IfErr, slice_get};
+ghost use Rattle.timing_base.specs.Captures.{IsStamp, Record};
+ghost use Rattle.timing_base.specs.Judged.{JudgedRun};
+ghost use Rattle.timing_base.specs.Verdicts.{Judged as JudgedValue};
+ghost use Rattle.timing_base.specs.declared.row.Verdict.TheVariants as verdict;
+ghost use Rattle.pcap_reader.specs.Records.{Records};
+ghost use Rattle.pcapng_reader.specs.Classic.{classic_texts};
+ghost use Rattle.timing_outside.specs.Causes.{Rose};
+ghost use Rattle.timing_outside.specs.Shelves.{StaysAs};
+ghost use Rattle.timing_steps.specs.Answers.{Gives, OnReadFault, ReadsSession, Yields, seen_of};
+ghost use Rattle.timing_steps.specs.Ran.{HasCause, IsAnswered};
+ghost use Rattle.timing_reach.specs.Asked.{FlowInputRose, OnFlow, ReadsCapture, ReadsFlow};
+ghost use Rattle.timing_reach.specs.judged.Readings.{IsJudgmentIn};
+ghost use Rattle.timing_reach.specs.judged.Runs.{IsRunOf};
+
+use crate::judged::captures::take_capture;
+use crate::judged::judging::judge_flow;
+use crate::judged::judgment::Judgment;
+use crate::judged::look::Look;
+use crate::judged::words::{no_such_media, not_judged};
+use std::alloc::Global;
+use timing_base::{FlowJob, Judged, Media, Verdict};
+use timing_outside::Shelf;
+use timing_report::{Input, Status};
+use timing_steps::{Answer, Failure, fetch_session};
+
+/// Reads the capture of a flow again that was judged so in one run. Its first judged packet came at `first`,
+/// in nanoseconds, as the capture has it.
+fn look_again<L: Look, H: Shelf>(
+    alloc: Global,
+    job: &FlowJob,
+    look: &L,
+    shelf: &mut H,
+    media: &Media,
+    judged: &Judged,
+    first: u64,
+) -> Result<Answer, Failure>
+    requires first { IsStamp first }
+    requires few { judged.now.packets ≤ 2 ^ 36 }
+    ensures told { IfOk result (λ answer. (text : List ℕ) (items : List Record) (note : _)
+        (run : JudgedRun) → classic_texts (H.text shelf.old) job.now.capture ≡ Some text
+        → Records text (2 ^ 40) items note
+        → IsRunOf media.now job.now.tai first judged.now items run
+        → L.answers look.now job.now.tai media.now items run answer) }
+    ensures answers { IfOk result (λ answer. IsAnswered answer.status) }
+    ensures cause { IfErr result (λ e. OnReadFault e (λ i. (i ≡ Input.Capture 0)
+        × Rose (H.faults shelf.old job.now.capture) (H.faults shelf.new job.now.capture))) }
+    ensures stays { StaysAs H.text H.lacks H.faults shelf.old shelf.new }
+{
+    let mut meter = look.begin(alloc, job.tai, media, judged, first)?;
+    take_capture(alloc, shelf, job.capture.as_str(), &mut meter)?;
+    Ok(look.finish(alloc, judged, meter)?)
+}
+
+/// The answer on the flow of this media, of which the first reading found this.
+fn answer_seen<L: Look, H: Shelf>(
+    alloc: Global,
+    job: &FlowJob,
+    look: &L,
+    shelf: &mut H,
+    media: &Media,
+    judgment: &Judgment,
+) -> Result<Answer, Failure>
+    requires few { (judged : JudgedValue) → judgment.now.verdict ≡ verdict.Judged judged
+        → judged.packets ≤ 2 ^ 36 }
+    ensures told { IfOk result (λ answer. (text : List ℕ)
+        → classic_texts (H.text shelf.old) job.now.capture ≡ Some text
+        → IsJudgmentIn media.now job.now.tai text judgment.now
+        → OnFlow job.now.tai media.now (L.answers look.now job.now.tai media.now) text answer) }
+    ensures answers { IfOk result (λ answer. IsAnswered answer.status) }
+    ensures cause { IfErr result (λ e. OnReadFault e (λ i. (i ≡ Input.Capture 0)
+        × Rose (H.faults shelf.old job.now.capture) (H.faults shelf.new job.now.capture))) }
+    ensures stays { StaysAs H.text H.lacks H.faults shelf.old shelf.new }
+{
+    match &judgment.verdict {
+        Verdict::Judged(judged) => {
+            look_again(alloc, job, look, shelf, media, judged, judgment.first)
+        }
+        verdict => Ok(not_judged(alloc, media, verdict)?),
+    }
+}
+
+/// The answer on the flow of this media.
+fn answer_on<L: Look, H: Shelf>(
+    alloc: Global,
+    job: &FlowJob,
+    look: &L,
+    shelf: &mut H,
+    media: &Media,
+) -> Result<Answer, Failure>
+    ensures follows { Yields result (ReadsCapture (seen_of H.text H.lacks H.faults shelf.old shelf.new)
+        result job.now.capture (λ text. Gives result
+        (OnFlow job.now.tai media.now (L.answers look.now job.now.tai media.now) text))) }
+    ensures cause { HasCause result
+        (FlowInputRose job.now (seen_of H.text H.lacks H.faults shelf.old shelf.new)) }
+    ensures stays { StaysAs H.text H.lacks H.faults shelf.old shelf.new }
+{
+    let judgment = judge_flow(alloc, job, shelf, media)?;
+    answer_seen(alloc, job, look, shelf, media, &judgment)
+}
+
+/// The answer over a session of these media.
+fn answer_over<L: Look, H: Shelf>(
+    alloc: Global,
+    job: &FlowJob,
+    look: &L,
+    shelf: &mut H,
+    media: &[Media],
+) -> Result<Answer, Failure>
+    ensures follows { Yields result (ReadsFlow (seen_of H.text H.lacks H.faults shelf.old shelf.new)
+        result job.now (λ m. OnFlow job.now.tai m (L.answers look.now job.now.tai m))
+        (slice_get media.now job.now.media)) }
+    ensures cause { HasCause result
+        (FlowInputRose job.now (seen_of H.text H.lacks H.faults shelf.old shelf.new)) }
+    ensures stays { StaysAs H.text H.lacks H.faults shelf.old shelf.new }
+{
+    match media.get(job.media as usize) {
+        Some(media) => answer_on(alloc, job, look, shelf, media),
+        None => Ok(no_such_media(alloc)?),
+    }
+}
+
+/// The answer of a job, or why there is none. Where the description hasn't the media, no capture is
+/// fetched. The capture is fetched and read once to judge the flow, and where that comes to one run of
+/// whole frames, a second time to look into it.
+pub fn answer_flow<L: Look, H: Shelf>(
+    alloc: Global,
+    job: &FlowJob,
+    look: &L,
+    shelf: &mut H,
+) -> Result<Answer, Failure>
+    ensures follows { Yields result (ReadsSession (seen_of H.text H.lacks H.faults shelf.old shelf.new)
+        result job.now.sdp (λ media.
+        ReadsFlow (seen_of H.text H.lacks H.faults shelf.old shelf.new) result job.now
+        (λ m. OnFlow job.now.tai m (L.answers look.now job.now.tai m))
+        (slice_get media job.now.media))) }
+    ensures cause { HasCause result
+        (FlowInputRose job.now (seen_of H.text H.lacks H.faults shelf.old shelf.new)) }
+    ensures stays { StaysAs H.text H.lacks H.faults shelf.old shelf.new }
+{
+    match fetch_session(alloc, shelf, job.sdp.as_str())? {
+        Ok(session) => answer_over(alloc, job, look, shelf, session.media.as_slice()),
+        Err(fault) => Ok(Answer::silent(alloc, Status::SdpRefused(fault))),
+    }
+}

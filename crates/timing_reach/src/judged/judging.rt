@@ -1,0 +1,115 @@
+//! The first reading of a flow: what comes of it, and with which stamp its judged part begins.
+
+ghost use Rattle.std.specs.Prelude.{◌≡◌, ◌≤◌, ◌<◌, ◌^◌, [], ℕ, List, Some, IfOk, IfErr};
+ghost use Rattle.timing_base.specs.Verdicts.{Judged as JudgedValue};
+ghost use Rattle.timing_base.specs.declared.key.FlowKey.{FlowKey as KeyValue};
+ghost use Rattle.timing_base.specs.declared.row.Verdict.TheVariants as verdict;
+ghost use Rattle.timing_outside.specs.Causes.{Rose};
+ghost use Rattle.timing_outside.specs.Shelves.{StaysAs};
+ghost use Rattle.pcapng_reader.specs.Classic.{classic_texts};
+ghost use Rattle.timing_steps.specs.Answers.{OnReadFault};
+
+use crate::judged::captures::take_capture;
+use crate::judged::judgment::Judgment;
+use crate::judged::opening::Opening;
+use fail_interval::FlowJudge;
+use pcap_reader::Taker;
+use std::alloc::{AllocError as OutOfMemory, Global};
+use timing_base::{FlowJob, FlowKey, Media};
+use timing_outside::Shelf;
+use timing_report::Input;
+use timing_steps::Failure;
+use udp_rtp::packet_of;
+
+/// The judge of a flow, and how its judged part opens.
+#[derive(Drop)]
+pub struct Judging {
+    pub media: Media,
+    pub judge: FlowJudge,
+    pub opening: Opening,
+}
+
+impl Judging {
+    ghost use Rattle.timing_reach.specs.judged.Readings.{IsJudging, IsJudgment, count_judged};
+
+    /// The judge of this media before the first record. `tai` seconds are added to the stamps.
+    fn new(alloc: Global, media: &Media, number: u32, tai: u64) -> Judging
+        requires { tai ≤ 1000 }
+        ensures stands { IsJudging media.now (record { file = 0; media = number }) tai result [] }
+        ensures count { count_judged result ≡ 0 }
+    {
+        let key = FlowKey {
+            file: 0,
+            media: number,
+        };
+        Judging {
+            media: *media,
+            judge: FlowJudge::new(alloc, media, key, tai),
+            opening: Opening::new(),
+        }
+    }
+
+    /// What comes of the flow, where it ends here.
+    fn finish(self) -> Judgment
+        requires { count_judged self < 2 ^ 41 }
+        ensures { (media : _) (key : KeyValue) (tai : ℕ) (packets : List _) → tai ≤ 1000
+            → IsJudging media key tai self packets → IsJudgment media tai packets result }
+    {
+        let Judging {
+            media: _,
+            judge,
+            opening,
+        } = self;
+        Judgment {
+            verdict: judge.finish().verdict,
+            first: opening.stamp(),
+        }
+    }
+}
+
+impl Taker for Judging {
+    ghost use Rattle.timing_reach.specs.judged.Readings.{JudgesOn, count_judged, judges_more, judges_none};
+
+    ghost takes = { JudgesOn };
+
+    ghost given = { count_judged };
+
+    ghost none = { judges_none };
+
+    ghost more = { judges_more };
+
+    #[inline(always)]
+    fn take(&mut self, number: u64, at: u64, frame: &[u8]) -> Result<(), OutOfMemory> {
+        match packet_of(&self.media, number, at, frame) {
+            None => Ok(()),
+            Some(packet) => {
+                self.opening.pass(&packet);
+                self.judge.feed(packet.rec, packet.at, packet.rtp)
+            }
+        }
+    }
+}
+
+ghost use Rattle.timing_reach.specs.judged.Readings.{IsJudgmentIn};
+
+/// Reads the flow of a job for the first time.
+pub fn judge_flow<H: Shelf>(
+    alloc: Global,
+    job: &FlowJob,
+    shelf: &mut H,
+    media: &Media,
+) -> Result<Judgment, Failure>
+    ensures told { IfOk result (λ judgment. (text : List ℕ)
+        → classic_texts (H.text shelf.old) job.now.capture ≡ Some text
+        → IsJudgmentIn media.now job.now.tai text judgment) }
+    ensures few { IfOk result (λ judgment. (judged : JudgedValue)
+        → judgment.verdict ≡ verdict.Judged judged → judged.packets ≤ 2 ^ 36) }
+    ensures cause { IfErr result (λ e. OnReadFault e (λ i. (i ≡ Input.Capture 0)
+        × Rose (H.faults shelf.old job.now.capture) (H.faults shelf.new job.now.capture))) }
+    ensures there { IfOk result (λ _. ¬ H.lacks shelf.old job.now.capture) }
+    ensures stays { StaysAs H.text H.lacks H.faults shelf.old shelf.new }
+{
+    let mut judging = Judging::new(alloc, media, job.media, job.tai);
+    take_capture(alloc, shelf, job.capture.as_str(), &mut judging)?;
+    Ok(judging.finish())
+}

@@ -1,0 +1,58 @@
+//! How a command looks into a flow.
+
+ghost use Rattle.std.specs.Prelude.{◌≡◌, ◌≤◌, ◌^◌, ℕ, List, IfOk};
+ghost use Rattle.timing_base.specs.Captures.{IsStamp, Record};
+ghost use Rattle.timing_base.specs.Judged.{JudgedRun};
+ghost use Rattle.timing_base.specs.Media.{Media as MediaValue};
+ghost use Rattle.timing_base.specs.Verdicts.{Judged as JudgedValue};
+ghost use Rattle.timing_steps.specs.Answers.{Answer as AnswerValue};
+ghost use Rattle.timing_steps.specs.Ran.{IsAnswered};
+ghost use Rattle.timing_reach.specs.judged.Runs.{IsRunOf};
+
+use pcap_reader::Taker;
+use std::alloc::{AllocError as OutOfMemory, Global};
+use timing_base::{Judged, Media};
+use timing_steps::Answer;
+
+/// How a command looks into a flow that is judged in one run: a meter takes the records of its capture,
+/// one after the other.
+pub trait Look {
+    /// What takes the records.
+    type Meter: Taker + Drop;
+
+    /// The answer on this run of a media's flow, in a capture of these records. `tai` is in seconds.
+    ghost answers: { Self → (tai : ℕ) → MediaValue → List Record → JudgedRun → AnswerValue → Type 0 };
+
+    /// The meter took no record yet of a media's flow that was judged so.
+    ghost fresh: { Self → (tai : ℕ) → MediaValue → JudgedValue → (first : ℕ) → Self.Meter → Type 0 };
+
+    /// The meter before the first record of a media's flow that was judged so. Its first judged packet came
+    /// at `first`, in nanoseconds, as the capture has it.
+    fn begin(
+        &self,
+        alloc: Global,
+        tai: u64,
+        media: &Media,
+        judged: &Judged,
+        first: u64,
+    ) -> Result<Self::Meter, OutOfMemory>
+        requires tai { tai ≤ 1000 }
+        requires first { IsStamp first }
+        requires few { judged.now.packets ≤ 2 ^ 36 }
+        ensures given { IfOk result (λ meter. Self.Meter.given meter ≡ 0) }
+        ensures fresh { IfOk result (λ meter. fresh self.now tai media.now judged.now first meter) };
+
+    /// The answer on a flow that was judged so and ends here.
+    fn finish(
+        &self,
+        alloc: Global,
+        judged: &Judged,
+        meter: Self::Meter,
+    ) -> Result<Answer, OutOfMemory>
+        ensures answered { IfOk result (λ answer. IsAnswered answer.status) }
+        ensures answers { IfOk result (λ answer. (tai : ℕ) (media : MediaValue) (first : ℕ)
+            (begun : Self.Meter) (items : List Record) (run : JudgedRun)
+            → fresh self.now tai media judged.now first begun → Self.Meter.takes begun meter items
+            → IsRunOf media tai first judged.now items run
+            → answers self.now tai media items run answer) };
+}

@@ -1,0 +1,138 @@
+//! Two flows, packet number by packet number.
+
+ghost use Rattle.std.specs.Prelude.{◌≡◌, ◌==◌, ◌≤◌, ◌<◌, ◌+◌, ◌^◌, ◌∷◌, [], List, IfOk};
+ghost use Rattle.std.specs.List.{cons_option};
+ghost use Rattle.std.specs.Option.{ForSome};
+ghost use Rattle.timing_base.specs.Captures.{IsStamp};
+ghost use Rattle.path_skew.specs.Stands.{count_first, count_second};
+ghost use Rattle.timing_reach.specs.skew.Added.{Adds, taken_of};
+
+use path_skew::{Skew, SkewRow};
+use pcap_reader::Taker;
+use std::alloc::{AllocError as OutOfMemory, Global};
+use timing_base::{FlowPacket, Media};
+use udp_rtp::packet_of;
+
+/// Two flows, and which of them is in the capture that is read.
+#[derive(Drop)]
+pub struct Pairing {
+    /// The media of the first flow.
+    pub first: Media,
+    /// The media of the second flow.
+    pub second: Media,
+    /// Whether the first flow is in this capture.
+    pub takes_first: bool,
+    /// Whether the second flow is in it.
+    pub takes_second: bool,
+    pub skew: Skew,
+}
+
+impl Pairing {
+    ghost use Rattle.path_skew.specs.Pair.{skew};
+    ghost use Rattle.path_skew.specs.Stands.{StandsFor};
+    ghost use Rattle.timing_base.specs.declared.packet.FlowPacket.{FlowPacket};
+    ghost use Rattle.timing_reach.specs.skew.Pairs.{pair_given};
+
+    /// No packet of either flow, and no capture that has one.
+    pub fn new(alloc: Global, first: &Media, second: &Media) -> Pairing
+        ensures first { result.first ≡ first.now }
+        ensures second { result.second ≡ second.now }
+        ensures given { pair_given result ≡ 0 }
+        ensures stands { StandsFor result.skew [] [] }
+    {
+        Pairing {
+            first: *first,
+            second: *second,
+            takes_first: false,
+            takes_second: false,
+            skew: Skew::new(alloc),
+        }
+    }
+
+    /// The capture that is read next is this one of so many, counted from 0: the first has the first flow,
+    /// and the last has the second.
+    pub fn turn(&mut self, number: usize, count: usize)
+        requires { number < count }
+        ensures first { self.new.first ≡ self.old.first }
+        ensures second { self.new.second ≡ self.old.second }
+        ensures takes_first { self.new.takes_first ≡ (number == 0) }
+        ensures takes_second { self.new.takes_second ≡ (number + 1 == count) }
+        ensures skew { self.new.skew ≡ self.old.skew }
+    {
+        self.takes_first = number == 0;
+        self.takes_second = number + 1 == count;
+    }
+
+    /// What is told of the two flows, where they end here.
+    pub fn finish(self) -> SkewRow
+        ensures { (f g : List FlowPacket) → StandsFor self.skew f g → result ≡ skew f g }
+    {
+        let Pairing { skew, .. } = self;
+        skew.finish()
+    }
+}
+
+impl Taker for Pairing {
+    ghost use Rattle.timing_reach.specs.skew.Pairs.{PairsOn, pair_given, pairs_more, pairs_none};
+
+    ghost takes = { PairsOn };
+
+    ghost given = { pair_given };
+
+    ghost none = { pairs_none };
+
+    ghost more = { pairs_more };
+
+    #[inline(always)]
+    fn take(&mut self, number: u64, at: u64, frame: &[u8]) -> Result<(), OutOfMemory> {
+        let first = packet_in(self.takes_first, &self.first, number, at, frame);
+        put_first(&mut self.skew, first)?;
+        let second = packet_in(self.takes_second, &self.second, number, at, frame);
+        put_second(&mut self.skew, second)
+    }
+}
+
+/// The packet that a record is of the flow of this media, where that is in its capture.
+#[inline(always)]
+fn packet_in(takes: bool, media: &Media, number: u64, at: u64, frame: &[u8]) -> Option<FlowPacket>
+    requires stamp { IsStamp at }
+    ensures packet { cons_option result []
+        ≡ taken_of takes media.now (record { number = number; stamp = at; bytes = frame.now } ∷ []) }
+    ensures stamp { ForSome result (λ packet. IsStamp packet.at) }
+{
+    if takes {
+        packet_of(media, number, at, frame)
+    } else {
+        None
+    }
+}
+
+/// Puts a packet into the first flow, where there is one.
+#[inline(always)]
+fn put_first(skew: &mut Skew, packet: Option<FlowPacket>) -> Result<(), OutOfMemory>
+    requires stamp { ForSome packet (λ packet. IsStamp packet.at) }
+    requires few { count_first skew.old < 2 ^ 41 }
+    ensures given { count_first skew.new ≤ count_first skew.old + 1 }
+    ensures other { count_second skew.new ≡ count_second skew.old }
+    ensures adds { IfOk result (λ _. Adds skew.old skew.new (cons_option packet []) []) }
+{
+    match packet {
+        Some(packet) => skew.first(packet.rec, packet.at, packet.rtp),
+        None => Ok(()),
+    }
+}
+
+/// Puts a packet into the second flow, where there is one.
+#[inline(always)]
+fn put_second(skew: &mut Skew, packet: Option<FlowPacket>) -> Result<(), OutOfMemory>
+    requires stamp { ForSome packet (λ packet. IsStamp packet.at) }
+    requires few { count_second skew.old < 2 ^ 41 }
+    ensures given { count_second skew.new ≤ count_second skew.old + 1 }
+    ensures other { count_first skew.new ≡ count_first skew.old }
+    ensures adds { IfOk result (λ _. Adds skew.old skew.new [] (cons_option packet [])) }
+{
+    match packet {
+        Some(packet) => skew.second(packet.rec, packet.at, packet.rtp),
+        None => Ok(()),
+    }
+}

@@ -1,0 +1,66 @@
+//! The meters of the three sender types.
+
+ghost use Rattle.std.specs.Prelude.{◌≡◌, ◌≤◌, ◌<◌, ◌+◌, ◌^◌, ◌++◌, ◌∷◌, [], ℕ, ℤ, List, slice_index};
+ghost use Rattle.std.specs.Prelude.{pos, negsuc, ◌≤ℤ◌};
+ghost use Rattle.sender_params.specs.Reads.{anchor_of};
+
+use crate::window::windows::Windows;
+use offset_window::WindowMeter;
+use sender_params::Params;
+use timing_base::Kind;
+
+/// The windows of the packets so far of one flow, for each sender type.
+#[derive(Clone, Copy, Debug, PartialEq, Eq)]
+pub struct WindowMeters {
+    pub narrow: WindowMeter,
+    pub narrow_linear: WindowMeter,
+    pub wide: WindowMeter,
+    ghost same_linear: { narrow_linear.seen ≡ narrow.seen },
+    ghost same_wide: { wide.seen ≡ narrow.seen },
+}
+
+impl WindowMeters {
+    ghost use Rattle.sender_params.specs.declared.params.Params.{Params};
+    ghost use Rattle.timing_reach.specs.window.Gauging.{AreFed, count_seen};
+    ghost use Rattle.timing_reach.specs.Windows.{AreWindowsOf};
+
+    /// The meters of a flow whose first packet is of group `n0`, before that packet.
+    pub fn new(params: &Params, n0: i128) -> WindowMeters
+        requires low { negsuc 479 ≤ℤ n0 }
+        requires high { n0 ≤ℤ pos (2 ^ 42) }
+        ensures seen { count_seen result ≡ 0 }
+        ensures stands { AreFed params.now n0 result [] }
+    {
+        WindowMeters {
+            narrow: WindowMeter::new(params, Kind::N, n0),
+            narrow_linear: WindowMeter::new(params, Kind::NL, n0),
+            wide: WindowMeter::new(params, Kind::W, n0),
+        }
+    }
+
+    /// Puts in the packet that came at `at`, in nanoseconds of TAI.
+    pub fn feed(&mut self, params: &Params, at: u64)
+        requires in_time { at < 2 ^ 62 }
+        requires few { count_seen self.old < 2 ^ 40 }
+        ensures seen { count_seen self.new ≡ count_seen self.old + 1 }
+        ensures stands { (n0 : ℤ) (stamps : List ℕ) → AreFed params.now n0 self.old stamps
+            → AreFed params.now n0 self.new (stamps ++ at ∷ []) }
+    {
+        self.narrow.feed(params, at);
+        self.narrow_linear.feed(params, at);
+        self.wide.feed(params, at);
+    }
+
+    /// The windows of the packets that were fed.
+    pub fn finish(&self) -> Windows
+        ensures { (params : Params) (stamps : List ℕ)
+            → AreFed params (anchor_of params.media (slice_index stamps 0)) self.now stamps
+            → AreWindowsOf params.media params.n stamps result }
+    {
+        Windows {
+            narrow: self.narrow.finish(),
+            narrow_linear: self.narrow_linear.finish(),
+            wide: self.wide.finish(),
+        }
+    }
+}
