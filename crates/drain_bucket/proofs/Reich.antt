@@ -1,5 +1,6 @@
 -- Reich's formula, by induction on the packet, over any clock that never falls.
-use Rattle.std.proofs.Common.{◌≡◌, ◌≤◌, ◌<◌, ◌+◌, ◌-◌, ℕ, zero, suc, List, [], ◌∷◌, ◌++◌, length, slice_index, refl, ap, ◌∙◌, arith, inl, inr, replicate, le_of_eq}
+use Rattle.std.proofs.Common.{◌≡◌, ◌≤◌, ◌<◌, ◌+◌, ◌-◌, ℕ, zero, suc, List, [], ◌∷◌, ◌++◌, length, slice_index, refl, ap, ◌∙◌, arith, inl, inr, replicate}
+use Rattle.std.proofs.Common.{le_of_eq}
 use Rattle.std.proofs.lemmas.Bool.{cases_lt}
 use Rattle.timing_base.specs.Media.{Media}
 use Rattle.sender_params.specs.Ticks.{NeverFall, ticks_at}

@@ -1,5 +1,6 @@
 -- A flow is fed one packet.
-use Rattle.std.proofs.Common.{◌≡◌, ◌≤◌, ◌<◌, ◌+◌, ◌*◌, ◌^◌, ℕ, Bool, true, false, List, [], ◌∷◌, ◌++◌, length, length-append, Option, Some, None, Ok, Err, refl, arith, ap, ◌∙◌, sym, subst, append_assoc}
+use Rattle.std.proofs.Common.{◌≡◌, ◌≤◌, ◌<◌, ◌+◌, ◌*◌, ◌^◌, ℕ, Bool, true, false, List, [], ◌∷◌, ◌++◌, length, length-append, Option, Some, None, Ok, Err, refl}
+use Rattle.std.proofs.Common.{arith, ap, ◌∙◌, sym, subst, append_assoc}
 use Rattle.std.specs.Prelude.{if◌then◌else◌, is_some}
 use Rattle.std.proofs.Props.{props}
 use Rattle.std.proofs.Math.Logic.{∥∥₁_elim, ∥∥₁_map}
@@ -8,7 +9,8 @@ use Rattle.frame_group.specs.Cuts.{answer_at, cut_at}
 use Rattle.frame_group.specs.Stands.{StandsFor as GrouperStandsFor, count_fed}
 use Rattle.frame_group.specs.declared.grouper.Grouper.{Grouper}
 use Rattle.timing_base.specs.Captures.{IsStamp}
-use Rattle.timing_base.specs.Flows.{AreStamped, cuts, fault, fault_if, first_fault, first_fault_below, first_of, is_cut, is_other_payload, is_second_source, last_place, order_fault, packet, reading_fault, size_fault}
+use Rattle.timing_base.specs.Flows.{AreStamped, cuts, fault, fault_if, first_fault, first_fault_below, first_of, is_cut, is_other_payload, is_second_source}
+use Rattle.timing_base.specs.Flows.{last_place, order_fault, packet, reading_fault, size_fault}
 use Rattle.timing_base.specs.declared.packet.PacketFault.TheVariants.{PayloadType, SecondSource}
 use Rattle.timing_base.proofs.FirstFaults.{fault-here}
 use Rattle.timing_base.specs.Judged.{stamp_of}

@@ -1,11 +1,13 @@
 -- A flow goes on by one packet.
-use Rattle.std.proofs.Common.{◌≡◌, ◌≤◌, ◌+◌, ℕ, zero, suc, Bool, true, false, List, [], ◌∷◌, ◌++◌, length, length-append, map, Option, Some, None, Ok, Err, refl, arith, ap, ◌∙◌, sym, subst}
+use Rattle.std.proofs.Common.{◌≡◌, ◌≤◌, ◌+◌, ℕ, zero, suc, Bool, true, false, List, [], ◌∷◌, ◌++◌, length, length-append, map, Option, Some, None, Ok, Err}
+use Rattle.std.proofs.Common.{refl, arith, ap, ◌∙◌, sym, subst}
 use Rattle.std.specs.Prelude.{if◌then◌else◌, nat_lt, ◌&&◌, ◌==◌}
 use Rattle.std.proofs.Math.Seq.{get_or-append_seam}
 use Rattle.std.proofs.lemmas.Bool.Decides.{nat_tests}
 use Rattle.std.proofs.lemmas.List.{map-append}
 use Rattle.frame_group.specs.Cuts.{answer_at, cut_at, unless_fault}
-use Rattle.timing_base.specs.Flows.{FirstFault, cuts, earlier_or, expected_number, fault, first_fault_below, has_marker, is_cut, last_place, no_packet, packet, read_or_zeros, rtp}
+use Rattle.timing_base.specs.Flows.{FirstFault, cuts, earlier_or, expected_number, fault, first_fault_below, has_marker, is_cut, last_place, no_packet, packet}
+use Rattle.timing_base.specs.Flows.{read_or_zeros, rtp}
 use Rattle.timing_base.specs.Judged.{expected_at, run_at, run_outcome, runs_between}
 use Rattle.timing_base.specs.Media.{Media}
 use Rattle.timing_base.specs.declared.packet.FlowPacket.{FlowPacket}

@@ -1,5 +1,6 @@
 -- What a `Flow` says of the packets that it was fed. Packets count from 0.
-use Rattle.std.specs.Prelude.{◌≡◌, ◌≤◌, ◌<◌, ◌+◌, ◌^◌, ℕ, List, [], ◌∷◌, ◌++◌, length, map, vec_len, vec_capacity, ⊤, true, Option, Some, None, Ok}
+use Rattle.std.specs.Prelude.{◌≡◌, ◌≤◌, ◌<◌, ◌+◌, ◌^◌, ℕ, List, [], ◌∷◌, ◌++◌, length, map, vec_len, vec_capacity, ⊤}
+use Rattle.std.specs.Prelude.{true, Option, Some, None, Ok}
 use Rattle.frame_group.specs.Stands.{StandsFor as GrouperStandsFor}
 use Rattle.timing_base.specs.Captures.{IsStamp}
 use Rattle.timing_base.specs.Flows.{AreStamped, cuts, first_fault_below, is_cut, last_place, packet, rtp}

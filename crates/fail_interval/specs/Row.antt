@@ -1,6 +1,7 @@
 -- The row of a flow: what its packets come to. This project's profile.
 use Rattle.std.specs.Prelude.{ℕ, true, false, List, [], ◌∷◌, length, map}
-use Rattle.timing_base.specs.Judged.{FlowRun, FlowVerdict, JudgedRun, RunOutcome, absent, gap, in_one_run, in_runs, judged, no_whole_frame, refused, whole_frames}
+use Rattle.timing_base.specs.Judged.{FlowRun, FlowVerdict, JudgedRun, RunOutcome, absent, gap, in_one_run, in_runs}
+use Rattle.timing_base.specs.Judged.{judged, no_whole_frame, refused, whole_frames}
 use Rattle.timing_base.specs.Media.{Media}
 use Rattle.timing_base.specs.Verdicts.{Judged as JudgedValue}
 use Rattle.timing_base.specs.declared.key.FlowKey.{FlowKey}

@@ -1,6 +1,7 @@
 -- What a run has come to, packet by packet: its head, the stamps of its first group, and then those of its whole groups.
 -- Stamps are nanoseconds of TAI.
-use Rattle.std.specs.Prelude.{◌≤◌, ◌<◌, ℕ, ◌+◌, ◌-◌, ◌^◌, Bool, true, false, if◌then◌else◌, List, [], ◌∷◌, ◌++◌, length, map, slice_range, All}
+use Rattle.std.specs.Prelude.{◌≤◌, ◌<◌, ℕ, ◌+◌, ◌-◌, ◌^◌, Bool, true, false, if◌then◌else◌, List, [], ◌∷◌, ◌++◌, length}
+use Rattle.std.specs.Prelude.{map, slice_range, All}
 use Rattle.timing_base.specs.Flows.{last_place, markers}
 use Rattle.timing_base.specs.Judged.{RunOutcome, no_whole_frame, stamp_of, whole_frames}
 use Rattle.timing_base.specs.declared.packet.FlowPacket.{FlowPacket}

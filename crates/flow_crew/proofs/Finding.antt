@@ -1,5 +1,6 @@
 -- What a run finds in the texts of its files.
-use Rattle.std.proofs.Common.{◌≡◌, ◌<◌, ◌^◌, ℕ, zero, suc, Bool, true, false, eqb, nat_lt, if◌then◌else◌, List, [], ◌∷◌, length, map, filter, replicate, slice_index_or, Some, None, refl, sym, ap, ◌∙◌, subst, eqb-true, ltb-true, lt-ltb, arith, append-nil, Vec, Global}
+use Rattle.std.proofs.Common.{◌≡◌, ◌<◌, ◌^◌, ℕ, zero, suc, Bool, true, false, eqb, nat_lt, if◌then◌else◌, List, [], ◌∷◌, length, map, filter, replicate}
+use Rattle.std.proofs.Common.{slice_index_or, Some, None, refl, sym, ap, ◌∙◌, subst, eqb-true, ltb-true, lt-ltb, arith, append-nil, Vec, Global}
 use Rattle.std.specs.Prelude.{All, IfSome, IsTrue, Option}
 use Rattle.std.proofs.lemmas.Bool.{and_from, false≢true}
 use Rattle.std.proofs.lemmas.List.{length-map}

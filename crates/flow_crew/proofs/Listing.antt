@@ -1,5 +1,6 @@
 -- The keys of a run, and the receipts for their rows.
-use Rattle.std.proofs.Common.{◌≡◌, ◌≤◌, ◌<◌, ◌+◌, ℕ, zero, suc, Bool, true, false, List, [], ◌∷◌, length, map, slice_index_or, Some, None, if◌then◌else◌, sym, ap, ◌∙◌, subst, refl, arith, Vec, Global}
+use Rattle.std.proofs.Common.{◌≡◌, ◌≤◌, ◌<◌, ◌+◌, ℕ, zero, suc, Bool, true, false, List, [], ◌∷◌, length, map, slice_index_or, Some, None, if◌then◌else◌, sym}
+use Rattle.std.proofs.Common.{ap, ◌∙◌, subst, refl, arith, Vec, Global}
 use Rattle.std.specs.Prelude.{All, Option}
 use Rattle.std.proofs.lemmas.List.{length-map}
 use Rattle.std.proofs.lemmas.List.Elements.{All-append, All-cons, All-nil}

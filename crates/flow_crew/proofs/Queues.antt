@@ -1,5 +1,6 @@
 -- Receipts that are taken in the order of keys.
-use Rattle.std.proofs.Common.{◌≡◌, ◌<◌, ◌+◌, ℕ, suc, cond, eqb, List, [], ◌∷◌, ◌++◌, length, map, filter, slice_set, slice_index_or, inl, inr, sym, ap, ◌∙◌, subst, eq-eqb, ne_eqb, arith, length-set, take, drop, ap₂}
+use Rattle.std.proofs.Common.{◌≡◌, ◌<◌, ◌+◌, ℕ, suc, cond, eqb, List, [], ◌∷◌, ◌++◌, length, map, filter, slice_set, slice_index_or, inl, inr, sym, ap, ◌∙◌}
+use Rattle.std.proofs.Common.{subst, eq-eqb, ne_eqb, arith, length-set, take, drop, ap₂}
 use Rattle.std.proofs.Math.Seq.{drop-cons, take-suc}
 use Rattle.std.proofs.lemmas.Bool.{cases_eq}
 use Rattle.std.proofs.lemmas.List.{get_or-map, get_or-set_other, get_or-set_same, length-map, map-append, map-set}

@@ -1,5 +1,6 @@
 -- Every list of arrivals has a plan that is least at each packet.
-use Rattle.std.proofs.Common.{◌≡◌, ◌≤◌, ◌<◌, ◌+◌, ◌-◌, ◌*◌, ◌⊎◌, ℕ, ℤ, zero, suc, pos, ◌-ℤ◌, Bool, true, false, nat_le, max, List, [], ◌∷◌, ◌++◌, length, slice_index, take, refl, ap, subst, sym, ◌∙◌, inl, inr, arith}
+use Rattle.std.proofs.Common.{◌≡◌, ◌≤◌, ◌<◌, ◌+◌, ◌-◌, ◌*◌, ◌⊎◌, ℕ, ℤ, zero, suc, pos, ◌-ℤ◌, Bool, true, false, nat_le, max, List, [], ◌∷◌, ◌++◌, length}
+use Rattle.std.proofs.Common.{slice_index, take, refl, ap, subst, sym, ◌∙◌, inl, inr, arith}
 use Rattle.std.proofs.Math.Nat.{mul-le-mul, mul-le-mul_left}
 use Rattle.std.proofs.Math.Seq.{take-length, take-suc}
 use Rattle.std.proofs.lemmas.Bool.{cases_lt}

@@ -1,5 +1,6 @@
 -- Packets that are cut into batches: what one packet more does to the batches and to what is left.
-use Rattle.std.proofs.Common.{◌≡◌, ◌≤◌, ◌<◌, ◌+◌, ◌-◌, ◌*◌, ◌/◌, ◌%◌, ℕ, Bool, if◌then◌else◌, List, [], ◌∷◌, ◌++◌, length, drop, ap, ap₂, ◌∙◌, inl, inr, eq-eqb, ne_eqb, append-nil, div-add-mod', arith}
+use Rattle.std.proofs.Common.{◌≡◌, ◌≤◌, ◌<◌, ◌+◌, ◌-◌, ◌*◌, ◌/◌, ◌%◌, ℕ, Bool, if◌then◌else◌, List, [], ◌∷◌, ◌++◌, length, drop, ap, ap₂, ◌∙◌, inl, inr, eq-eqb}
+use Rattle.std.proofs.Common.{ne_eqb, append-nil, div-add-mod', arith}
 use Rattle.std.specs.Prelude.{flat_map}
 use Rattle.std.proofs.lemmas.Bool.{cases_lt}
 use Rattle.std.proofs.lemmas.List.{drop-append-le, drop_all, length_push, length-drop}

@@ -1,5 +1,6 @@
 -- How many packets of flows are among messages: no more than there are in all.
-use Rattle.std.proofs.Common.{◌≡◌, ◌≤◌, ◌<◌, ◌+◌, ◌^◌, ℕ, zero, suc, Bool, true, false, cond, if◌then◌else◌, eqb, List, [], ◌∷◌, length, map, get_or, Some, None, refl, ap, ap₂, ◌∙◌, inl, inr, eq-eqb, ne_eqb, length-append, arith}
+use Rattle.std.proofs.Common.{◌≡◌, ◌≤◌, ◌<◌, ◌+◌, ◌^◌, ℕ, zero, suc, Bool, true, false, cond, if◌then◌else◌, eqb, List, [], ◌∷◌, length, map, get_or, Some}
+use Rattle.std.proofs.Common.{None, refl, ap, ap₂, ◌∙◌, inl, inr, eq-eqb, ne_eqb, length-append, arith}
 use Rattle.std.specs.Prelude.{Option}
 use Rattle.std.specs.List.{cons_option}
 use Rattle.std.proofs.lemmas.Bool.{cases_eq}

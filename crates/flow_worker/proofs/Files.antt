@@ -5,7 +5,8 @@ use Rattle.std.specs.List.{cons_option}
 use Rattle.ruled_intake.specs.Packets.{Packet}
 use Rattle.ruled_intake.specs.declared.message.Message.{Message}
 use Rattle.flow_worker.specs.Messages.{file_of, ending}
-use Rattle.flow_worker.specs.Opening.{Addressed, Capture, Setting, addressed, filled, for_lane, full_batches, lane_packets, last_batches, messages, packet_lane, rest, sends, sends_if, session_packets, to_each, unless_empty}
+use Rattle.flow_worker.specs.Opening.{Addressed, Capture, Setting, addressed, filled, for_lane, full_batches, lane_packets, last_batches, messages, packet_lane}
+use Rattle.flow_worker.specs.Opening.{rest, sends, sends_if, session_packets, to_each, unless_empty}
 
 -- the messages are of the file
 abbrev pub AreOf : ℕ → List Message → Type 0

@@ -1,5 +1,6 @@
 -- What one message more makes of files that are joined, and what the end of the next file does.
-use Rattle.std.proofs.Common.{◌≡◌, ◌≤◌, ◌<◌, ◌+◌, ◌*◌, ◌^◌, ℕ, zero, suc, Bool, true, false, if◌then◌else◌, leb, leb-false, leb-true, min, ◌||◌, List, [], ◌∷◌, ◌++◌, length, map, get_or, set, Some, None, refl, sym, ap, ap₂, ◌∙◌, subst, inl, inr, append_assoc, append-nil, length-set, arith}
+use Rattle.std.proofs.Common.{◌≡◌, ◌≤◌, ◌<◌, ◌+◌, ◌*◌, ◌^◌, ℕ, zero, suc, Bool, true, false, if◌then◌else◌, leb, leb-false, leb-true, min, ◌||◌, List, [], ◌∷◌}
+use Rattle.std.proofs.Common.{◌++◌, length, map, get_or, set, Some, None, refl, sym, ap, ap₂, ◌∙◌, subst, inl, inr, append_assoc, append-nil, length-set, arith}
 use Rattle.std.specs.Prelude.{◌⊎◌, Option, Result, Ok, Err, IfOk, is_some}
 use Rattle.std.proofs.lemmas.Bool.{and_from, and_parts, both_ways, cases_eq, false≢true}
 use Rattle.std.proofs.lemmas.List.{map-append}
@@ -28,7 +29,8 @@ use Rattle.flow_worker.proofs.Fed.{fed-same}
 use Rattle.flow_worker.proofs.Few.{files_total, joined_packets-few, room-from, total-few, total-more}
 use Rattle.flow_worker.proofs.Posted.{own_rows}
 use Rattle.flow_worker.proofs.Rows.{has_ends-at}
-use Rattle.flow_worker.proofs.Taking.{file_packets-batch, file_packets-ended, file_packets-ending, file_packets-other, has_end-append, joined_packets-ended, joined_packets-more, records_told-ended, records_told-ending, told_by-ended, told_by-more}
+use Rattle.flow_worker.proofs.Taking.{file_packets-batch, file_packets-ended, file_packets-ending, file_packets-other, has_end-append, joined_packets-ended}
+use Rattle.flow_worker.proofs.Taking.{joined_packets-more, records_told-ended, records_told-ending, told_by-ended, told_by-more}
 
 -- once its end was taken, a file has ended
 has_end-ended : (f : ℕ) (taken more : List Message) → has_end f taken ≡ true → has_end f (taken ++ more) ≡ has_end f taken

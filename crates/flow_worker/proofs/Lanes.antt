@@ -1,5 +1,6 @@
 -- What is sent of the packets of a file for one lane: the packets of the lane, in order, in batches, and then the end.
-use Rattle.std.proofs.Common.{◌≡◌, ◌≤◌, ◌<◌, ℕ, zero, suc, eqb, List, [], ◌∷◌, ◌++◌, map, refl, sym, ap, ap₂, ◌∙◌, subst, inl, inr, append_assoc, append-nil, arith}
+use Rattle.std.proofs.Common.{◌≡◌, ◌≤◌, ◌<◌, ℕ, zero, suc, eqb, List, [], ◌∷◌, ◌++◌, map, refl, sym, ap, ap₂, ◌∙◌, subst, inl, inr, append_assoc, append-nil}
+use Rattle.std.proofs.Common.{arith}
 use Rattle.std.specs.Prelude.{flat_map}
 use Rattle.std.proofs.lemmas.Bool.{cases_eq}
 use Rattle.std.proofs.lemmas.List.Concat.{flat_map-append}
@@ -9,9 +10,11 @@ use Rattle.ruled_intake.specs.Packets.{Packet}
 use Rattle.ruled_intake.specs.declared.message.Message.{Message}
 use Rattle.ruled_intake.specs.declared.message.Message.TheVariants.{Batch, End}
 use Rattle.flow_worker.specs.Messages.{packets_in, packets_of, batch, ending}
-use Rattle.flow_worker.specs.Opening.{Addressed, addressed, filled, for_lane, full_batches, lane_packets, last_batches, message_for, rest, sent_of, to_each, unless_empty}
+use Rattle.flow_worker.specs.Opening.{Addressed, addressed, filled, for_lane, full_batches, lane_packets, last_batches, message_for, rest, sent_of, to_each}
+use Rattle.flow_worker.specs.Opening.{unless_empty}
 use Rattle.flow_worker.specs.Cut.{AreBatches, AreWhole}
-use Rattle.flow_worker.proofs.Lists.{for_lane-batches, for_lane-here, for_lane-other, for_lane-others, lane_packets-none, lane_packets-one, lane_packets-push, lane_packets-push_other, packets_in-batches}
+use Rattle.flow_worker.proofs.Lists.{for_lane-batches, for_lane-here, for_lane-other, for_lane-others, lane_packets-none, lane_packets-one, lane_packets-push}
+use Rattle.flow_worker.proofs.Lists.{lane_packets-push_other, packets_in-batches}
 use Rattle.flow_worker.proofs.Batches.{filled-rest, rest-nil}
 
 pub AreBatches-append : (f : ℕ) (xs ys : List Message) → AreBatches f xs → AreBatches f ys → AreBatches f (xs ++ ys)

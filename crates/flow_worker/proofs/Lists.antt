@@ -1,5 +1,6 @@
 -- Messages and packets of one kind among others: those for a lane, of a lane, of a media.
-use Rattle.std.proofs.Common.{◌≡◌, ℕ, Bool, true, false, cond, if◌then◌else◌, eqb, List, [], ◌∷◌, ◌++◌, map, Some, None, refl, sym, ap, ◌∙◌, eq-eqb, ne_eqb, append-nil}
+use Rattle.std.proofs.Common.{◌≡◌, ℕ, Bool, true, false, cond, if◌then◌else◌, eqb, List, [], ◌∷◌, ◌++◌, map, Some, None, refl, sym, ap, ◌∙◌, eq-eqb, ne_eqb}
+use Rattle.std.proofs.Common.{append-nil}
 use Rattle.std.specs.Prelude.{Option, flat_map}
 use Rattle.std.specs.List.{cons_option}
 use Rattle.std.proofs.lemmas.Bool.{eqb-true}

@@ -1,5 +1,6 @@
 -- The packets of a file that have the number of a media are the media's flow, where no two media have one target.
-use Rattle.std.proofs.Common.{◌≡◌, ◌<◌, ◌+◌, ℕ, zero, suc, Bool, true, if◌then◌else◌, eqb, List, [], ◌∷◌, slice_get, Some, None, refl, sym, ap, ap₂, ◌∙◌, eq-eqb, ne_eqb, arith}
+use Rattle.std.proofs.Common.{◌≡◌, ◌<◌, ◌+◌, ℕ, zero, suc, Bool, true, if◌then◌else◌, eqb, List, [], ◌∷◌, slice_get, Some, None, refl, sym, ap, ap₂, ◌∙◌}
+use Rattle.std.proofs.Common.{eq-eqb, ne_eqb, arith}
 use Rattle.std.specs.Prelude.{Option}
 use Rattle.std.specs.List.{cons_option}
 use Rattle.std.proofs.lemmas.Bool.{and_parts, eqb-true}

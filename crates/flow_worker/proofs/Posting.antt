@@ -1,5 +1,6 @@
 -- The row that a worker makes of what it took is the flow's row, where it took all of it.
-use Rattle.std.proofs.Common.{◌≡◌, ◌≤◌, ◌<◌, ◌+◌, ◌*◌, ℕ, Bool, true, false, if◌then◌else◌, eqb, nat_lt, List, [], ◌++◌, length, map, slice_get, get_or, Some, refl, sym, ap, ◌∙◌, subst, eq-eqb, ltb-true, lt-ltb, arith}
+use Rattle.std.proofs.Common.{◌≡◌, ◌≤◌, ◌<◌, ◌+◌, ◌*◌, ℕ, Bool, true, false, if◌then◌else◌, eqb, nat_lt, List, [], ◌++◌, length, map, slice_get, get_or, Some}
+use Rattle.std.proofs.Common.{refl, sym, ap, ◌∙◌, subst, eq-eqb, ltb-true, lt-ltb, arith}
 use Rattle.std.specs.Prelude.{Option, IsTrue}
 use Rattle.std.proofs.lemmas.Bool.{and_parts}
 use Rattle.std.proofs.lemmas.Nat.{mod_below}

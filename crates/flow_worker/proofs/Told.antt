@@ -1,5 +1,6 @@
 -- The records of a file, as their packets are cut one after the other, and what an intake has sent of them when it ends.
-use Rattle.std.proofs.Common.{◌≡◌, ◌<◌, ◌+◌, ℕ, Bool, if◌then◌else◌, List, [], ◌∷◌, ◌++◌, length, inl, inr, refl, sym, ap, ◌∙◌, subst, append-nil, append_assoc, length-append, arith}
+use Rattle.std.proofs.Common.{◌≡◌, ◌<◌, ◌+◌, ℕ, Bool, if◌then◌else◌, List, [], ◌∷◌, ◌++◌, length, inl, inr, refl, sym, ap, ◌∙◌, subst, append-nil, append_assoc}
+use Rattle.std.proofs.Common.{length-append, arith}
 use Rattle.std.specs.Prelude.{Option, None}
 use Rattle.std.proofs.lemmas.Bool.{cases_lt}
 use Rattle.std.proofs.lemmas.List.Elements.{filter_map-append}
@@ -20,7 +21,8 @@ use Rattle.flow_worker.specs.Cut.{HasCut}
 use Rattle.flow_worker.specs.Intakes.{HasBegun, HasSentAll, HasTold, HaveSent, HaveSentNothing, intake_setting, lane_sends}
 use Rattle.flow_worker.specs.Messages.{IsPrefix, ending}
 use Rattle.flow_worker.specs.Opening.{Capture, Setting, for_lane, full_batches, lane_packets, packet_from, rest, sent_of, session_packets}
-use Rattle.flow_worker.specs.Sending.{AreCut, AreSame, CutsNext, HasBegunFile, HasCutAll, HasCutSome, HasLeftOff, HasSentFile, open_for, route_of, sends_to, sent_to, with_end}
+use Rattle.flow_worker.specs.Sending.{AreCut, AreSame, CutsNext, HasBegunFile, HasCutAll, HasCutSome, HasLeftOff, HasSentFile, open_for, route_of, sends_to}
+use Rattle.flow_worker.specs.Sending.{sent_to, with_end}
 use Rattle.flow_worker.specs.declared.outboxes.Outboxes.{Outboxes}
 use Rattle.flow_worker.specs.declared.routing.Routing.{Routing}
 use Rattle.flow_worker.proofs.Cutting.{HasCut-all, HasCut-prefix}

@@ -1,6 +1,7 @@
 -- What the intakes have to send as a run begins: the packets of each file, cut in order into batches for each lane, and
 -- an end for each lane. There is a lane for each worker. Files, lanes and media count from 0.
-use Rattle.std.specs.Prelude.{◌≤◌, ℕ, zero, suc, Bool, ◌==◌, ◌+◌, ◌-◌, ◌%◌, if◌then◌else◌, List, [], ◌∷◌, ◌++◌, length, drop, map, filter, filter_map, slice_get, Option, Some, None}
+use Rattle.std.specs.Prelude.{◌≤◌, ℕ, zero, suc, Bool, ◌==◌, ◌+◌, ◌-◌, ◌%◌, if◌then◌else◌, List, [], ◌∷◌, ◌++◌, length}
+use Rattle.std.specs.Prelude.{drop, map, filter, filter_map, slice_get, Option, Some, None}
 use Rattle.timing_base.specs.Captures.{Record}
 use Rattle.timing_base.specs.Media.{Media}
 use Rattle.timing_base.specs.Routes.{route}

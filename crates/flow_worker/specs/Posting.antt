@@ -1,6 +1,7 @@
 -- The row that a worker makes for a flow of its own, from the messages that it took, and the row that it is to be.
 -- Files and media count from 0, records from 1.
-use Rattle.std.specs.Prelude.{ℕ, zero, suc, Bool, true, ◌&&◌, ◌==◌, ◌+◌, filter, nat_lt, if◌then◌else◌, List, [], ◌∷◌, ◌++◌, length, map, slice_get, Option, Some, None}
+use Rattle.std.specs.Prelude.{ℕ, zero, suc, Bool, true, ◌&&◌, ◌==◌, ◌+◌, filter, nat_lt, if◌then◌else◌, List, [], ◌∷◌}
+use Rattle.std.specs.Prelude.{◌++◌, length, map, slice_get, Option, Some, None}
 use Rattle.timing_base.specs.Captures.{Record, joined}
 use Rattle.timing_base.specs.declared.key.FlowKey.{FlowKey}
 use Rattle.timing_base.specs.declared.packet.FlowPacket.{FlowPacket}

@@ -1,8 +1,10 @@
 -- What is kept of a flow, one packet on.
-use Rattle.std.proofs.Common.{◌≡◌, ◌+◌, ℕ, suc, Bool, true, false, List, [], ◌∷◌, ◌++◌, length, Option, Some, None, Ok, Err, Result, refl, ap, subst, ◌∙◌, sym, arith, length-append, append_assoc}
+use Rattle.std.proofs.Common.{◌≡◌, ◌+◌, ℕ, suc, Bool, true, false, List, [], ◌∷◌, ◌++◌, length, Option, Some, None, Ok, Err, Result, refl, ap, subst, ◌∙◌, sym}
+use Rattle.std.proofs.Common.{arith, length-append, append_assoc}
 use Rattle.std.specs.Prelude.{is_some}
 use Rattle.std.proofs.Math.Seq.{get_or-append_seam}
-use Rattle.timing_base.specs.Flows.{FirstFault, cuts, earlier_or, fault, first_fault_below, first_of, has_marker, last_place, markers, markers_before, no_packet, packet, run_start}
+use Rattle.timing_base.specs.Flows.{FirstFault, cuts, earlier_or, fault, first_fault_below, first_of, has_marker, last_place, markers, markers_before}
+use Rattle.timing_base.specs.Flows.{no_packet, packet, run_start}
 use Rattle.timing_base.specs.declared.packet.FlowPacket.{FlowPacket}
 use Rattle.timing_base.specs.declared.packet.PacketFault.{PacketFault}
 use Rattle.timing_base.specs.declared.packet.Rtp.{Rtp}

@@ -1,7 +1,8 @@
 -- The sizes of groups in a flow whose packets up to packet i have no fault. A group is a frame of a progressive video or
 -- a field of an interlaced one.
 use Rattle.std.specs.Prelude.{◌≡◌, ◌≤◌, ◌+◌, ℕ, true, List, length, None}
-use Rattle.timing_base.specs.Flows.{first_fault_below, group_len, has_marker, markers, markers_before, place_in_group, run_start}
+use Rattle.timing_base.specs.Flows.{first_fault_below, group_len, has_marker, markers, markers_before, place_in_group}
+use Rattle.timing_base.specs.Flows.{run_start}
 use Rattle.timing_base.specs.declared.packet.FlowPacket.{FlowPacket}
 
 -- packet i stands in a group of the right size: after these markers of its run, with so many packets of the group up to it

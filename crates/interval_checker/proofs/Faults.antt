@@ -2,7 +2,8 @@
 use Rattle.std.proofs.Common.{◌≡◌, ◌≢◌, ◌≤◌, ◌-◌, ℕ, Bool, true, false, List, Option, Some, None, Result, refl, ap, ◌∙◌, sym, subst, arith}
 use Rattle.std.specs.Prelude.{◌==◌, nat_lt, ◌&&◌, not}
 use Rattle.std.proofs.lemmas.Bool.Decides.{nat_tests}
-use Rattle.timing_base.specs.Flows.{fault, fault_if, first_of, is_cut, is_second_source, is_stamp_back, lacks_marker, order_fault, packet, read_or_zeros, reading_fault, repeats_timestamp, rtp, size_fault}
+use Rattle.timing_base.specs.Flows.{fault, fault_if, first_of, is_cut, is_second_source, is_stamp_back, lacks_marker, order_fault, packet, read_or_zeros}
+use Rattle.timing_base.specs.Flows.{reading_fault, repeats_timestamp, rtp, size_fault}
 use Rattle.timing_base.specs.declared.packet.FlowPacket.{FlowPacket}
 use Rattle.timing_base.specs.declared.packet.PacketFault.{PacketFault}
 use Rattle.timing_base.specs.declared.packet.PacketFault.TheVariants.{PayloadType, SecondSource, NoMarker, SameStamp}

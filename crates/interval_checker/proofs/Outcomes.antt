@@ -1,11 +1,13 @@
 -- The answer on a run, and on the runs of a flow.
-use Rattle.std.proofs.Common.{◌≡◌, ◌≢◌, ◌≤◌, ◌<◌, ◌+◌, ◌-◌, ◌*◌, ◌^◌, ◌↔◌, ℕ, zero, suc, Bool, true, false, List, [], ◌∷◌, ◌++◌, length, map, min, get_or, drop, take, refl, ap, sym, ◌∙◌, subst, arith, inl, inr, append-nil}
+use Rattle.std.proofs.Common.{◌≡◌, ◌≢◌, ◌≤◌, ◌<◌, ◌+◌, ◌-◌, ◌*◌, ◌^◌, ◌↔◌, ℕ, zero, suc, Bool, true, false, List, [], ◌∷◌, ◌++◌, length, map, min, get_or, drop}
+use Rattle.std.proofs.Common.{take, refl, ap, sym, ◌∙◌, subst, arith, inl, inr, append-nil}
 use Rattle.std.specs.Prelude.{IsTrue, Option, Some, None, Result, Ok, Err, slice_index, slice_range, nat_lt, ◌==◌, if◌then◌else◌}
 use Rattle.std.proofs.lemmas.Bool.{cases_lt}
 use Rattle.std.proofs.lemmas.Bool.Decides.{nat_tests}
 use Rattle.std.proofs.lemmas.List.{get_or-drop, get_or-map, get_or-take, length-take, length-drop, length-map, map-append}
 use Rattle.timing_base.specs.Flows.{cuts, first_fault, last_place, markers, group_len, no_packet, packet}
-use Rattle.timing_base.specs.Judged.{FlowRun, RunOutcome, absent, head_len, in_one_run, in_runs, judged, judged_run, judged_runs, no_whole_frame, refused_or, run_at, run_outcome, runs, runs_between, stamp_of, whole_frames}
+use Rattle.timing_base.specs.Judged.{FlowRun, RunOutcome, absent, head_len, in_one_run, in_runs, judged, judged_run, judged_runs, no_whole_frame, refused_or}
+use Rattle.timing_base.specs.Judged.{run_at, run_outcome, runs, runs_between, stamp_of, whole_frames}
 use Rattle.timing_base.specs.Media.{Media}
 use Rattle.timing_base.specs.declared.fail.FailProof.{FailProof}
 use Rattle.timing_base.specs.declared.media.Kind.{Kind}

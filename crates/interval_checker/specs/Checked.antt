@@ -1,7 +1,8 @@
 -- What a check of a claimed fail answers, by what is judged of the flow. Runs, media, sources and judged packets count
 -- from 0.
 use Rattle.std.specs.Prelude.{◌≡◌, ℕ, zero, suc, Bool, true, false, List, [], ◌∷◌, map, Result, Ok, Err, ⊤}
-use Rattle.timing_base.specs.Judged.{FlowVerdict, JudgedRun, RunOutcome, absent, refused, gap, in_one_run, in_runs, no_whole_frame, whole_frames}
+use Rattle.timing_base.specs.Judged.{FlowVerdict, JudgedRun, RunOutcome, absent, refused, gap, in_one_run, in_runs}
+use Rattle.timing_base.specs.Judged.{no_whole_frame, whole_frames}
 use Rattle.timing_base.specs.Media.{Media}
 use Rattle.timing_base.specs.declared.fail.FailProof.{FailProof}
 use Rattle.timing_base.specs.declared.media.Kind.{Kind}

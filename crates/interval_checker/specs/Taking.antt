@@ -1,5 +1,6 @@
 -- What a walk says of the records that it was fed, and which records of a reader were taken.
-use Rattle.std.specs.Prelude.{◌≡◌, ◌+◌, ℕ, Bool, true, false, List, [], ◌∷◌, ◌++◌, length, map, Option, Result, Ok, Err, ⊤}
+use Rattle.std.specs.Prelude.{◌≡◌, ◌+◌, ℕ, Bool, true, false, List, [], ◌∷◌, ◌++◌, length, map, Option, Result, Ok, Err}
+use Rattle.std.specs.Prelude.{⊤}
 use Rattle.timing_base.specs.Captures.{Record, joined_after, raised}
 use Rattle.timing_base.specs.Judged.{judged}
 use Rattle.timing_base.specs.declared.capture.FileNote.{FileNote}

@@ -1,5 +1,6 @@
 -- What one packet more in a flow changes.
-use Rattle.std.proofs.Common.{◌≡◌, ◌≢◌, ℕ, ◌+◌, Bool, true, false, not, if◌then◌else◌, is_some, cond, List, [], ◌∷◌, ◌++◌, length, Option, Some, None, Result, Ok, Err, count_by, refl, sym, ap, ◌∙◌, arith, inl, inr, append_assoc, append-nil}
+use Rattle.std.proofs.Common.{◌≡◌, ◌≢◌, ℕ, ◌+◌, Bool, true, false, not, if◌then◌else◌, is_some, cond, List, [], ◌∷◌, ◌++◌, length, Option, Some, None, Result}
+use Rattle.std.proofs.Common.{Ok, Err, count_by, refl, sym, ap, ◌∙◌, arith, inl, inr, append_assoc, append-nil}
 use mathlib.Core.Bool.{true≢false, false≢true}
 use Rattle.std.specs.List.{flat_map}
 use Rattle.std.specs.Option.{option_or}

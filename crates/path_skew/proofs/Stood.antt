@@ -1,5 +1,6 @@
 -- What a `Skew` stands for after one packet more.
-use Rattle.std.proofs.Common.{◌≡◌, ◌≢◌, ℕ, ◌+◌, ◌-◌, ◌==◌, pos, ◌-ℤ◌, true, false, if◌then◌else◌, is_some, IsSome, List, [], ◌∷◌, ◌++◌, length, Option, Some, None, Result, Ok, Err, count_by, refl, sym, ap, subst, ◌∙◌, arith, inl, inr, append-nil}
+use Rattle.std.proofs.Common.{◌≡◌, ◌≢◌, ℕ, ◌+◌, ◌-◌, ◌==◌, pos, ◌-ℤ◌, true, false, if◌then◌else◌, is_some, IsSome, List, [], ◌∷◌, ◌++◌, length, Option, Some}
+use Rattle.std.proofs.Common.{None, Result, Ok, Err, count_by, refl, sym, ap, subst, ◌∙◌, arith, inl, inr, append-nil}
 use mathlib.Core.Bool.{false≢true}
 use Rattle.std.specs.Option.{option_or, option_map}
 use Rattle.std.proofs.lemmas.Bool.{cases_eq}

@@ -2,7 +2,8 @@
 -- Packets are told apart by their extended packet number alone (RFC 4175, section 4.2). Which packets count, and
 -- which of equal skews is told, is this project's profile.
 -- Stamps and skews are nanoseconds; records count from 1.
-use Rattle.std.specs.Prelude.{ℕ, ◌+◌, ◌==◌, pos, ◌-ℤ◌, Bool, true, false, not, if◌then◌else◌, is_some, List, [], ◌∷◌, ◌++◌, length, count_by, Option, Some, None, Result, Ok, Err}
+use Rattle.std.specs.Prelude.{ℕ, ◌+◌, ◌==◌, pos, ◌-ℤ◌, Bool, true, false, not, if◌then◌else◌, is_some, List, [], ◌∷◌}
+use Rattle.std.specs.Prelude.{◌++◌, length, count_by, Option, Some, None, Result, Ok, Err}
 use Rattle.std.specs.List.{find, flat_map}
 use Rattle.std.specs.declared.cmp.Ordering.{Ordering}
 use Rattle.std.specs.Ordering.{nat_cmp, int_cmp, ordering_then, is_gt}

@@ -1,5 +1,6 @@
 -- Lemmas on what the front of a text says of the whole.
-use Rattle.std.proofs.Common.{subst, refl, ◌≡◌, ◌≤◌, ◌<◌, ◌+◌, ◌*◌, ◌^◌, ℕ, List, ◌++◌, length, take, drop, None, Some, Err, sym, ap, ◌∙◌, arith, append-nil, length-drop, length-append}
+use Rattle.std.proofs.Common.{subst, refl, ◌≡◌, ◌≤◌, ◌<◌, ◌+◌, ◌*◌, ◌^◌, ℕ, List, ◌++◌, length, take, drop, None, Some, Err, sym, ap, ◌∙◌, arith, append-nil}
+use Rattle.std.proofs.Common.{length-drop, length-append}
 use Rattle.std.proofs.lemmas.List.{drop-append-le, take-append-le}
 use Rattle.std.proofs.lemmas.Bool.Decides.{nat_tests}
 use Rattle.std.specs.Prelude.{Option}

@@ -1,6 +1,7 @@
 -- What a reader's own functions promise each other: the bytes that one holds, the header that one
 -- reads, the record that one reads, and what the search for the next record finds.
-use Rattle.std.specs.Prelude.{◌≡◌, ◌≤◌, ◌<◌, ℕ, ◌+◌, List, ◌∷◌, length, Bool, false, IsTrue, Option, None, Result, Ok, Err, IfOk, IfErr}
+use Rattle.std.specs.Prelude.{◌≡◌, ◌≤◌, ◌<◌, ℕ, ◌+◌, List, ◌∷◌, length, Bool, false, IsTrue, Option, None, Result, Ok}
+use Rattle.std.specs.Prelude.{Err, IfOk, IfErr}
 use Rattle.std.specs.Io.KnownBytes.{Keeps, IsAtEnd}
 use Rattle.timing_base.specs.Captures.{Record, IsStamp}
 use Rattle.timing_base.specs.declared.capture.PcapFault.{PcapFault}
@@ -14,7 +15,8 @@ use Rattle.pcap_reader.specs.declared.reader.PcapReader.{PcapReader}
 use Rattle.pcap_reader.specs.declared.stage.Head.{Head}
 use Rattle.pcap_reader.specs.Records.{UnlessReadFault, OnReadFault}
 use Rattle.pcap_reader.specs.Windows.{held_bytes, last_bytes, SameRecord, Takes}
-use Rattle.pcap_reader.specs.Readers.{under, frame_count, most_of, taken_count, end_note, ahead, GivesNote, StageGives, WillGive}
+use Rattle.pcap_reader.specs.Readers.{under, frame_count, most_of, taken_count, end_note, ahead, GivesNote, StageGives}
+use Rattle.pcap_reader.specs.Readers.{WillGive}
 
 -- what stays of a reader, and what is gone from its source
 pub record Moves {S : Type 0} (left : S → Option (List ℕ)) (name : S → List ℕ) (faults : S → ℕ)

@@ -3,7 +3,8 @@
 -- From pcap-savefile(5): the four magics, the places and sizes of the fields, and that the link
 -- type is the low 16 bits of its field.
 -- This project's profile: version 2.4 and Ethernet alone, and which of several faults is the first.
-use Rattle.std.specs.Prelude.{ℕ, ◌^◌, ◌%◌, ◌==◌, nat_lt, if◌then◌else◌, List, length, drop, Option, Some, None, Result, Ok, Err}
+use Rattle.std.specs.Prelude.{ℕ, ◌^◌, ◌%◌, ◌==◌, nat_lt, if◌then◌else◌, List, length, drop, Option, Some, None, Result}
+use Rattle.std.specs.Prelude.{Ok, Err}
 use Rattle.byteorder.specs.Endian.{big_number, little_number}
 use Rattle.timing_base.specs.declared.capture.PcapFault.{PcapFault}
 use Rattle.timing_base.specs.declared.capture.PcapFault.TheVariants.{BadMagic, BadVersion, BadLink}

@@ -4,7 +4,8 @@
 -- This project's profile: a fraction is below a second, at most 262,144 bytes are captured, a
 -- capture has at most `most` bytes; which of several faults is the first, and that nothing comes
 -- behind it.
-use Rattle.std.specs.Prelude.{◌≡◌, ⊤, ℕ, ◌+◌, ◌*◌, ◌^◌, ◌==◌, nat_lt, if◌then◌else◌, List, [], ◌∷◌, length, take, drop, Option, Some, None, Result, Ok, Err}
+use Rattle.std.specs.Prelude.{◌≡◌, ⊤, ℕ, ◌+◌, ◌*◌, ◌^◌, ◌==◌, nat_lt, if◌then◌else◌, List, [], ◌∷◌, length, take, drop}
+use Rattle.std.specs.Prelude.{Option, Some, None, Result, Ok, Err}
 use Rattle.timing_base.specs.Captures.{Record}
 use Rattle.timing_base.specs.declared.capture.PcapFault.{PcapFault}
 use Rattle.timing_base.specs.declared.capture.PcapFault.TheVariants.{ReadFault, BadStamp, BadLength, TooLong}

@@ -1,5 +1,6 @@
 -- Lemmas on the text of the blocks of a rest: one block, and what comes of the next.
-use Rattle.std.proofs.Common.{refl, ◌≡◌, ◌≤◌, ◌<◌, ◌+◌, ◌-◌, ◌^◌, ℕ, zero, suc, Bool, true, false, List, [], ◌∷◌, ◌++◌, length, take, drop, None, Some, sym, ap, ◌∙◌, arith, length-drop, length-append}
+use Rattle.std.proofs.Common.{refl, ◌≡◌, ◌≤◌, ◌<◌, ◌+◌, ◌-◌, ◌^◌, ℕ, zero, suc, Bool, true, false, List, [], ◌∷◌, ◌++◌, length, take, drop, None, Some, sym, ap}
+use Rattle.std.proofs.Common.{◌∙◌, arith, length-drop, length-append}
 use Rattle.std.proofs.lemmas.Bool.Decides.{nat_tests}
 use Rattle.std.proofs.lemmas.List.{drop-drop}
 use Rattle.std.specs.Prelude.{◌==◌, nat_lt, not, if◌then◌else◌, Option}
@@ -8,7 +9,8 @@ use Rattle.pcapng_reader.specs.declared.block.Order.{Order}
 use Rattle.pcapng_reader.specs.declared.block.Kind.{Kind}
 use Rattle.pcapng_reader.specs.declared.block.Kind.TheVariants as kind
 use Rattle.pcapng_reader.specs.declared.stage.Body.{Body}
-use Rattle.pcapng_reader.specs.Classic.{number, Section, Given, ended, cut, broken, bare_head, content, least_length, is_length, kind_of, order_by, total_by, sized_block, ordered_block, block, go_on, blocks_by, blocks}
+use Rattle.pcapng_reader.specs.Classic.{number, Section, Given, ended, cut, broken, bare_head, content, least_length, is_length, kind_of, order_by, total_by}
+use Rattle.pcapng_reader.specs.Classic.{sized_block, ordered_block, block, go_on, blocks_by, blocks}
 use Rattle.pcapng_reader.specs.Converting.{after, head_text}
 use Rattle.pcapng_reader.proofs.Numbers.{number-front, number-drop, kind_of-front, order_by-front}
 

@@ -1,7 +1,8 @@
 -- What comes of a file from a place within a block on: of the bytes that follow there and of what
 -- the block said so far. Where the text ends within the block, or its second total length isn't the
 -- first, that is all the same.
-use Rattle.std.specs.Prelude.{ℕ, ◌+◌, ◌-◌, ◌*◌, ◌^◌, ◌<◌, ◌≤◌, ◌==◌, nat_lt, not, ◌||◌, if◌then◌else◌, List, [], ◌++◌, length, take, drop, slice_index, Option, Some, None, ⊤}
+use Rattle.std.specs.Prelude.{ℕ, ◌+◌, ◌-◌, ◌*◌, ◌^◌, ◌<◌, ◌≤◌, ◌==◌, nat_lt, not, ◌||◌, if◌then◌else◌, List, [], ◌++◌}
+use Rattle.std.specs.Prelude.{length, take, drop, slice_index, Option, Some, None, ⊤}
 use Rattle.std.specs.Option.{option_map_or, unwrap_or}
 use Rattle.std.specs.List.{list_all}
 use Rattle.capture_gen.specs.Heads.{record_head}
@@ -14,7 +15,8 @@ use Rattle.pcapng_reader.specs.declared.stage.Body.{Body}
 use Rattle.pcapng_reader.specs.declared.stage.Found.{Found}
 use Rattle.pcapng_reader.specs.declared.stage.Content.{Content}
 use Rattle.pcapng_reader.specs.declared.stage.Content.TheVariants as content
-use Rattle.pcapng_reader.specs.Classic.{number, Section, Given, cut, broken, late, gives, BlockOption, is_formed, first_value, options, add_interface, nanos, is_late, sized_block, go_on, blocks}
+use Rattle.pcapng_reader.specs.Classic.{number, Section, Given, cut, broken, late, gives, BlockOption, is_formed}
+use Rattle.pcapng_reader.specs.Classic.{first_value, options, add_interface, nanos, is_late, sized_block, go_on, blocks}
 
 -- what an option says, where it has its length; the first of its kind counts
 abbrev pub found_with : Order → BlockOption → Found → Option Found

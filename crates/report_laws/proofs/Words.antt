@@ -1,14 +1,19 @@
 -- The numbers of the rows that are made of captures of bytes have 64 bits.
-use Rattle.std.proofs.Common.{◌≡◌, ◌≤◌, ◌<◌, ◌+◌, ◌-◌, ◌^◌, ◌/◌, ℕ, zero, suc, Bool, true, false, List, [], ◌∷◌, length, drop, Option, Some, None, refl, arith, subst}
+use Rattle.std.proofs.Common.{◌≡◌, ◌≤◌, ◌<◌, ◌+◌, ◌-◌, ◌^◌, ◌/◌, ℕ, zero, suc, Bool, true, false, List, [], ◌∷◌, length, drop, Option, Some, None, refl, arith}
+use Rattle.std.proofs.Common.{subst}
 use Rattle.std.proofs.Math.Nat.{max-le, mul-le-mul_right}
 use Rattle.std.proofs.lemmas.List.{length-map}
 use Rattle.std.proofs.lemmas.List.Elements.{All-append, All-cons, All-drop, All-head, All-map, All-nil, All-tail, All-take, All-weaker}
 use Rattle.std.specs.Option.{ForSome}
 use Rattle.std.specs.Prelude.{All, IsSome, Result, Ok, Err, if◌then◌else◌, map, nat_le, nat_lt, slice_index, ◌&&◌, ◌==◌, ⊤}
 use Rattle.timing_base.specs.Captures.{Record}
-use Rattle.timing_base.specs.Flows.{AreStamped, FirstFault, cuts, expected_number, fault, fault_if, first_fault, first_of, group_len, is_cut, is_cut_too_many, is_other_payload, is_other_size, is_second_source, is_stamp_back, is_too_large, lacks_marker, markers, markers_before, next_number, order_fault, packet, place_in_group, places, read_or_zeros, reading_fault, repeats_timestamp, rtp, sender_fault, size_fault}
+use Rattle.timing_base.specs.Flows.{AreStamped, FirstFault, cuts, expected_number, fault, fault_if, first_fault, first_of, group_len, is_cut, is_cut_too_many}
+use Rattle.timing_base.specs.Flows.{is_other_payload, is_other_size, is_second_source, is_stamp_back, is_too_large, lacks_marker, markers, markers_before}
+use Rattle.timing_base.specs.Flows.{next_number, order_fault, packet, place_in_group, places, read_or_zeros, reading_fault, repeats_timestamp, rtp}
+use Rattle.timing_base.specs.Flows.{sender_fault, size_fault}
 use Rattle.timing_base.specs.Grouped.{AreGrouped, ExpectsAfterFirst, IsGrouped, IsGroupedOutcome, IsGroupedVerdict}
-use Rattle.timing_base.specs.Judged.{FlowRun, FlowVerdict, JudgedRun, RunOutcome, absent, head_len, in_one_run, in_runs, judged, judged_run, judged_runs, no_whole_frame, refusal, refused_or, run_at, run_outcome, runs, runs_between, whole_frames}
+use Rattle.timing_base.specs.Judged.{FlowRun, FlowVerdict, JudgedRun, RunOutcome, absent, head_len, in_one_run, in_runs, judged, judged_run, judged_runs}
+use Rattle.timing_base.specs.Judged.{no_whole_frame, refusal, refused_or, run_at, run_outcome, runs, runs_between, whole_frames}
 use Rattle.timing_base.specs.Media.{IsMedia, Media}
 use Rattle.timing_base.specs.Rows.{ExpectAfterFirst}
 use Rattle.timing_base.specs.declared.fail.Broken.{Broken}
@@ -18,7 +23,8 @@ use Rattle.timing_base.specs.declared.media.Kind.{Kind}
 use Rattle.timing_base.specs.declared.media.Kind.TheVariants.{N, NL, W}
 use Rattle.timing_base.specs.declared.packet.FlowPacket.{FlowPacket}
 use Rattle.timing_base.specs.declared.packet.PacketFault.{PacketFault}
-use Rattle.timing_base.specs.declared.packet.PacketFault.TheVariants.{Short, Version, PayloadType, SecondSource, Number, StampBack, NoMarker, SameStamp, FrameSize, FrameTooLarge}
+use Rattle.timing_base.specs.declared.packet.PacketFault.TheVariants.{Short, Version, PayloadType, SecondSource, Number, StampBack, NoMarker, SameStamp}
+use Rattle.timing_base.specs.declared.packet.PacketFault.TheVariants.{FrameSize, FrameTooLarge}
 use Rattle.timing_base.specs.declared.packet.Rtp.{Rtp}
 use Rattle.timing_base.specs.declared.row.KindVerdict.{KindVerdict}
 use Rattle.timing_base.specs.declared.row.KindVerdict.TheVariants.{Pass, Fail}

@@ -2,7 +2,8 @@
 -- packets keep its limits, and its fail names an interval that shows why they don't. Files and media count from 0.
 use Rattle.std.specs.Prelude.{◌≡◌, ℕ, Bool, true, false, List, [], ◌∷◌, Option, Some, slice_get}
 use Rattle.timing_base.specs.Captures.{Record, joined as joined_records}
-use Rattle.timing_base.specs.Judged.{FlowRun, FlowVerdict, JudgedRun, RunOutcome, in_one_run, in_runs, judged, no_whole_frame, whole_frames}
+use Rattle.timing_base.specs.Judged.{FlowRun, FlowVerdict, JudgedRun, RunOutcome, in_one_run, in_runs, judged}
+use Rattle.timing_base.specs.Judged.{no_whole_frame, whole_frames}
 use Rattle.timing_base.specs.Media.{Media}
 use Rattle.timing_base.specs.Verdicts.{Judged as JudgedValue}
 use Rattle.timing_base.specs.declared.fail.FailProof.{FailProof}

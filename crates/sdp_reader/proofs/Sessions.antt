@@ -1,5 +1,6 @@
 -- The answer, from what is kept of the raw parts.
-use Rattle.std.proofs.Common.{◌≡◌, ◌<◌, ◌≤◌, ◌+◌, ℕ, true, false, List, [], ◌∷◌, ◌++◌, Option, Some, None, Ok, Err, map, length, drop, get_or, arith, refl, sym, ap, ◌∙◌, length-drop, Bool, cond, nat_lt, Result}
+use Rattle.std.proofs.Common.{◌≡◌, ◌<◌, ◌≤◌, ◌+◌, ℕ, true, false, List, [], ◌∷◌, ◌++◌, Option, Some, None, Ok, Err, map, length, drop, get_or, arith, refl, sym}
+use Rattle.std.proofs.Common.{ap, ◌∙◌, length-drop, Bool, cond, nat_lt, Result}
 use Rattle.std.specs.Option.{is_some}
 use Rattle.std.specs.List.{flat_map, filter_map, cons_option}
 use Rattle.std.proofs.lemmas.List.{length-map, drop_all}
@@ -11,7 +12,8 @@ use Rattle.timing_base.specs.Media.{Media, IsSession}
 use Rattle.sdp_reader.specs.Fault.{first_of, least}
 use Rattle.sdp_reader.specs.Lines.{TextLine, lines, at, line_faults, version_faults}
 use Rattle.sdp_reader.specs.Parts.{RawPart, part_faults, media_of}
-use Rattle.sdp_reader.specs.Session.{destination_of, target_faults, first_too_many, too_many_faults, raw_parts, raw_faults, faults, streams, unless_fault, answer, session}
+use Rattle.sdp_reader.specs.Session.{destination_of, target_faults, first_too_many, too_many_faults, raw_parts, raw_faults, faults, streams, unless_fault}
+use Rattle.sdp_reader.specs.Session.{answer, session}
 use Rattle.sdp_reader.specs.Summary.{Keeps}
 use Rattle.sdp_reader.proofs.Items.{append_nil}
 use Rattle.sdp_reader.proofs.Complete.{append-none, media_stands}

@@ -1,5 +1,6 @@
 -- What is kept of raw parts is what the definitions say of them.
-use Rattle.std.proofs.Common.{◌≡◌, ◌<◌, ◌==◌, ◌+◌, ◌&&◌, ◌||◌, ℕ, Bool, true, false, cond, arith, List, [], ◌∷◌, ◌++◌, Option, Some, None, map, length, take, drop, get_or, refl, sym, ap, ◌∙◌, subst, append_assoc}
+use Rattle.std.proofs.Common.{◌≡◌, ◌<◌, ◌==◌, ◌+◌, ◌&&◌, ◌||◌, ℕ, Bool, true, false, cond, arith, List, [], ◌∷◌, ◌++◌, Option, Some, None, map, length, take}
+use Rattle.std.proofs.Common.{drop, get_or, refl, sym, ap, ◌∙◌, subst, append_assoc}
 use Rattle.std.specs.Option.{option_to_list, option_map, option_and_then, is_some}
 use Rattle.std.specs.List.{filter_map, flat_map, list_any}
 use Rattle.std.specs.BTreeSet.{BTreeSet}
@@ -16,7 +17,8 @@ use Rattle.sdp_reader.specs.declared.part.Reading.{Reading}
 use Rattle.sdp_reader.specs.Fault.{first_of, least}
 use Rattle.sdp_reader.specs.Lines.{TextLine, at, media_fields, video_of}
 use Rattle.sdp_reader.specs.Parameters.{Item, parameters}
-use Rattle.sdp_reader.specs.Parts.{RawPart, own_lines, parts, connection_line, counting, address_of, is_raw_map, raw_part, raw_with, raw_of, faults_at, part_faults, media_from, media_of}
+use Rattle.sdp_reader.specs.Parts.{RawPart, own_lines, parts, connection_line, counting, address_of, is_raw_map, raw_part, raw_with, raw_of, faults_at}
+use Rattle.sdp_reader.specs.Parts.{part_faults, media_from, media_of}
 use Rattle.sdp_reader.specs.Session.{destination_of, target_at, is_same, are_same, have_one_target}
 use Rattle.sdp_reader.specs.Summary.{reading_of, Keeps, Adds, target_cmp, has, TakesTarget}
 use Rattle.sdp_reader.proofs.Items.{append_nil, filter_map-cons, list_any-push}

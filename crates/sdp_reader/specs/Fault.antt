@@ -1,9 +1,13 @@
 -- The faults of a session description: which comes first, and their texts.
 -- Lines are counted from 1; 0 stands for the whole text.
-use Rattle.std.specs.Prelude.{◌≡◌, ◌⊎◌, ℕ, ◌==◌, ◌&&◌, ◌||◌, nat_lt, Bool, if◌then◌else◌, List, [], ◌∷◌, ◌++◌, Option, Some, None, codes}
+use Rattle.std.specs.Prelude.{◌≡◌, ◌⊎◌, ℕ, ◌==◌, ◌&&◌, ◌||◌, nat_lt, Bool, if◌then◌else◌, List, [], ◌∷◌, ◌++◌, Option}
+use Rattle.std.specs.Prelude.{Some, None, codes}
 use Rattle.std.specs.Fmt.{decimal}
 use Rattle.sdp_reader.specs.declared.fault.SdpCause.{SdpCause}
-use Rattle.sdp_reader.specs.declared.fault.SdpCause.TheVariants.{NotText, NoVersion, BadLine, BadMedia, NoConnection, BadAddress, BadParameter, RepeatedParameter, MissingParameter, BadRate, Segmented, ExtendedUdp, SameTarget, TooManyMedia, NoVideo, TooLarge}
+use Rattle.sdp_reader.specs.declared.fault.SdpCause.TheVariants.{NotText, NoVersion, BadLine, BadMedia, NoConnection}
+use Rattle.sdp_reader.specs.declared.fault.SdpCause.TheVariants.{BadAddress, BadParameter, RepeatedParameter}
+use Rattle.sdp_reader.specs.declared.fault.SdpCause.TheVariants.{MissingParameter, BadRate, Segmented, ExtendedUdp}
+use Rattle.sdp_reader.specs.declared.fault.SdpCause.TheVariants.{SameTarget, TooManyMedia, NoVideo, TooLarge}
 use Rattle.sdp_reader.specs.declared.fault.SdpFault.{SdpFault}
 
 -- the number of a cause: of two causes on one line that with the smaller number is told

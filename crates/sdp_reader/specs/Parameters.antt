@@ -1,7 +1,8 @@
 -- The parameters of a raw part: `a=fmtp` (RFC 4566, section 6) with the names of SMPTE ST 2110-20 and
 -- ST 2110-21. Sizes are pixels and lines, the rate frames per second, TROFF microseconds, CMAX packets
 -- and MAXUDP bytes.
-use Rattle.std.specs.Prelude.{ℕ, ◌*◌, ◌==◌, ◌&&◌, Bool, true, false, nat_le, nat_lt, if◌then◌else◌, List, [], Option, Some, None, is_some, is_none, codes, find}
+use Rattle.std.specs.Prelude.{ℕ, ◌*◌, ◌==◌, ◌&&◌, Bool, true, false, nat_le, nat_lt, if◌then◌else◌, List, [], Option}
+use Rattle.std.specs.Prelude.{Some, None, is_some, is_none, codes, find}
 use Rattle.std.specs.Option.{option_and_then}
 use Rattle.std.specs.List.{slice_split, filter_map, flat_map}
 use Rattle.std.specs.Str.{bytes_eq, str_eq_ignore_ascii_case}
@@ -10,10 +11,12 @@ use Rattle.timing_base.specs.declared.media.Kind.TheVariants.{N, NL, W}
 use Rattle.sdp_reader.specs.Bytes.{before, after, holds, after_prefix, trim_end, trim_start, number, number_within}
 use Rattle.sdp_reader.specs.Lines.{TextLine, at, repeats}
 use Rattle.sdp_reader.specs.declared.fault.SdpCause.{SdpCause}
-use Rattle.sdp_reader.specs.declared.fault.SdpCause.TheVariants.{BadParameter, RepeatedParameter, BadRate, Segmented, ExtendedUdp}
+use Rattle.sdp_reader.specs.declared.fault.SdpCause.TheVariants.{BadParameter, RepeatedParameter, BadRate, Segmented}
+use Rattle.sdp_reader.specs.declared.fault.SdpCause.TheVariants.{ExtendedUdp}
 use Rattle.sdp_reader.specs.declared.fault.SdpFault.{SdpFault}
 use Rattle.sdp_reader.specs.declared.parameter.Name.{Name}
-use Rattle.sdp_reader.specs.declared.parameter.Name.TheVariants.{Width, Height, ExactFrameRate, Interlace, Segmentation, Tp, Troff, Cmax, MaxUdp}
+use Rattle.sdp_reader.specs.declared.parameter.Name.TheVariants.{Width, Height, ExactFrameRate, Interlace, Segmentation}
+use Rattle.sdp_reader.specs.declared.parameter.Name.TheVariants.{Tp, Troff, Cmax, MaxUdp}
 use Rattle.sdp_reader.specs.declared.parameter.Rate.{Rate}
 
 -- a parameter with a name of the table, on its line

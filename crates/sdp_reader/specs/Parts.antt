@@ -2,19 +2,22 @@
 -- SMPTE ST 2110-20, whose `a=rtpmap` (section 6) has the encoding raw/90000 of RFC 4175: what each says,
 -- and its faults.
 -- Addresses are 32-bit numbers, the first octet highest.
-use Rattle.std.specs.Prelude.{ℕ, ◌+◌, ◌*◌, ◌&&◌, ◌||◌, Bool, true, false, if◌then◌else◌, List, [], ◌∷◌, ◌++◌, Option, Some, None, is_some, is_none, codes, find}
+use Rattle.std.specs.Prelude.{ℕ, ◌+◌, ◌*◌, ◌&&◌, ◌||◌, Bool, true, false, if◌then◌else◌, List, [], ◌∷◌, ◌++◌, Option}
+use Rattle.std.specs.Prelude.{Some, None, is_some, is_none, codes, find}
 use Rattle.std.specs.Option.{option_and_then, option_map}
 use Rattle.std.specs.List.{list_any, flat_map}
 use Rattle.std.specs.Str.{str_eq_ignore_ascii_case}
 use Rattle.timing_base.specs.Media.{Media}
 use Rattle.sdp_reader.specs.Bytes.{before, after, holds, after_prefix, digits_of, within, number}
 use Rattle.sdp_reader.specs.Lines.{TextLine, at, media_fields, video_of}
-use Rattle.sdp_reader.specs.Parameters.{Item, is_the, parameters, value_size, value_offset, value_limit, value_rate, value_kind, item_named, item_faults, repeated_faults}
+use Rattle.sdp_reader.specs.Parameters.{Item, is_the, parameters, value_size, value_offset, value_limit, value_rate}
+use Rattle.sdp_reader.specs.Parameters.{value_kind, item_named, item_faults, repeated_faults}
 use Rattle.sdp_reader.specs.declared.fault.SdpCause.TheVariants.{NoConnection, BadAddress, MissingParameter}
 use Rattle.sdp_reader.specs.declared.fault.SdpFault.{SdpFault}
 use Rattle.sdp_reader.specs.declared.line.Video.{Video}
 use Rattle.sdp_reader.specs.declared.parameter.Name.{Name}
-use Rattle.sdp_reader.specs.declared.parameter.Name.TheVariants.{Width, Height, ExactFrameRate, Interlace, Tp, Troff, Cmax}
+use Rattle.sdp_reader.specs.declared.parameter.Name.TheVariants.{Width, Height, ExactFrameRate, Interlace, Tp, Troff}
+use Rattle.sdp_reader.specs.declared.parameter.Name.TheVariants.{Cmax}
 use Rattle.sdp_reader.specs.declared.parameter.Rate.{Rate}
 
 -- a media part: the line that begins `m=`, and the lines up to the next such line or the end

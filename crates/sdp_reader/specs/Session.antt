@@ -1,13 +1,15 @@
 -- The video streams of a session description, or its first fault (RFC 4566, SMPTE ST 2110-20 and
 -- ST 2110-21; the limits and the numbers of the causes are this project's profile).
-use Rattle.std.specs.Prelude.{ℕ, ◌==◌, ◌&&◌, nat_lt, Bool, true, false, if◌then◌else◌, List, [], ◌∷◌, ◌++◌, length, drop, map, Option, Some, None, Result, Ok, Err}
+use Rattle.std.specs.Prelude.{ℕ, ◌==◌, ◌&&◌, nat_lt, Bool, true, false, if◌then◌else◌, List, [], ◌∷◌, ◌++◌, length}
+use Rattle.std.specs.Prelude.{drop, map, Option, Some, None, Result, Ok, Err}
 use Rattle.std.specs.Option.{option_map}
 use Rattle.std.specs.List.{flat_map, filter_map}
 use Rattle.timing_base.specs.Media.{Media}
 use Rattle.timing_base.specs.declared.target.Target.{Target}
 use Rattle.sdp_reader.specs.Fault.{least, IsAmong}
 use Rattle.sdp_reader.specs.Lines.{TextLine, lines, at, repeats, line_faults, version_faults}
-use Rattle.sdp_reader.specs.Parts.{parts, own_lines, connection_line, RawPart, raw_of, good_address, part_faults, media_of}
+use Rattle.sdp_reader.specs.Parts.{parts, own_lines, connection_line, RawPart, raw_of, good_address, part_faults}
+use Rattle.sdp_reader.specs.Parts.{media_of}
 use Rattle.sdp_reader.specs.declared.fault.SdpCause.{SdpCause}
 use Rattle.sdp_reader.specs.declared.fault.SdpCause.TheVariants.{SameTarget, TooManyMedia, NoVideo, TooLarge}
 use Rattle.sdp_reader.specs.declared.fault.SdpFault.{SdpFault}

@@ -1,5 +1,6 @@
 -- Captures that are taken and judged one by one.
-use Rattle.std.proofs.Common.{◌≡◌, ◌≤◌, ◌<◌, ◌+◌, ◌^◌, ℕ, List, [], ◌∷◌, ◌++◌, length, Option, Some, refl, arith, ap, ◌∙◌, sym, subst, append_assoc, append-nil, length-append, true, false, if◌then◌else◌}
+use Rattle.std.proofs.Common.{◌≡◌, ◌≤◌, ◌<◌, ◌+◌, ◌^◌, ℕ, List, [], ◌∷◌, ◌++◌, length, Option, Some, refl, arith, ap, ◌∙◌, sym, subst, append_assoc, append-nil}
+use Rattle.std.proofs.Common.{length-append, true, false, if◌then◌else◌}
 use Rattle.std.specs.Prelude.{All, IfOk, Result, Ok, Err, map}
 use Rattle.timing_steps.specs.declared.failure.Failure.{Failure}
 use Rattle.std.proofs.lemmas.List.{length-map}

@@ -3,7 +3,8 @@ use Rattle.std.specs.Prelude.{ℕ, List, Result}
 use Rattle.timing_base.specs.Jobs.{CheckJob}
 use Rattle.timing_report.specs.declared.status.Input.{Input}
 use Rattle.timing_report.specs.declared.status.Input.TheVariants as input
-use Rattle.timing_steps.specs.Answers.{Answer, CaptureRose, Gives, HasRisen, Inputs, ReadsCaptures, ReadsSession, Yields}
+use Rattle.timing_steps.specs.Answers.{Answer, CaptureRose, Gives, HasRisen, Inputs, ReadsCaptures, ReadsSession}
+use Rattle.timing_steps.specs.Answers.{Yields}
 use Rattle.timing_steps.specs.declared.failure.Failure.{Failure}
 use Rattle.timing_top.specs.Report.{HasReport}
 

@@ -1,5 +1,6 @@
 -- The value of a report is kept by its text: numbers have 64 bits, keys rise, and objects and lists are few in one another.
-use Rattle.std.proofs.Common.{◌≡◌, ◌<◌, ◌≤◌, ℕ, suc, List, [], ◌∷◌, ◌++◌, length, Bool, true, false, Some, None, Ordering, Less, Equal, Greater, nat_cmp, refl, arith}
+use Rattle.std.proofs.Common.{◌≡◌, ◌<◌, ◌≤◌, ℕ, suc, List, [], ◌∷◌, ◌++◌, length, Bool, true, false, Some, None, Ordering, Less, Equal, Greater, nat_cmp, refl}
+use Rattle.std.proofs.Common.{arith}
 use Rattle.std.specs.Prelude.{All, map, codes, Option, IsUtf8, ⊤}
 use Rattle.std.specs.Cmp.Lexicographic.{slice_cmp}
 use Rattle.std.specs.Option.{ForSome}
@@ -32,9 +33,13 @@ use Rattle.timing_base.specs.Keys.{media_of, no_media}
 use Rattle.timing_base.specs.Targets.{target_of, target_text}
 use Rattle.timing_report.specs.Words.{kind_name, class_name, declared_name, model_name, packet_fault_text, note_text}
 use Rattle.timing_json.specs.Fails.{IsWord, AreWords, FitsKind, FitsJudged, FitsRunVerdict, FitsRun, FitsUnjudged, FitsVerdict}
-use Rattle.timing_json.specs.Json.{Member, with_members, object_of, list_of, count, proof_members, proof_data, outcome_members, type_members, type_data, types_data, interlaced_members, judged_numbers, judged_words, judged_members, no_whole_frame_members, unjudged_members, expected_members, run_verdict_members, run_members, whole_run_members, run_data, verdict_members, flow_members, flow_data, row_data, file_members, file_data, files_data, report_members, report_data}
+use Rattle.timing_json.specs.Json.{Member, with_members, object_of, list_of, count, proof_members, proof_data, outcome_members, type_members, type_data}
+use Rattle.timing_json.specs.Json.{types_data, interlaced_members, judged_numbers, judged_words, judged_members, no_whole_frame_members, unjudged_members}
+use Rattle.timing_json.specs.Json.{expected_members, run_verdict_members, run_members, whole_run_members, run_data, verdict_members, flow_members, flow_data}
+use Rattle.timing_json.specs.Json.{row_data, file_members, file_data, files_data, report_members, report_data}
 use Rattle.timing_json.proofs.Kept.{Kept, ItemsKept, AllKept, object-kept}
-use Rattle.timing_json.proofs.Texts.{HasTexts, ItemsHaveTexts, MembersHaveTexts, ascii, class_utf8, declared_utf8, kind_utf8, model_utf8, note_utf8, packet_fault_utf8, put_texts, target_utf8}
+use Rattle.timing_json.proofs.Texts.{HasTexts, ItemsHaveTexts, MembersHaveTexts, ascii, class_utf8, declared_utf8, kind_utf8, model_utf8, note_utf8}
+use Rattle.timing_json.proofs.Texts.{packet_fault_utf8, put_texts, target_utf8}
 use Rattle.timing_json.proofs.Limits.{c_max_small, vrx_full_small, code_small}
 
 -- a value that its text keeps, with at most so many objects and lists in one another, and with UTF-8 in its texts

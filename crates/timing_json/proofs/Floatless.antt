@@ -23,7 +23,9 @@ use Rattle.timing_base.specs.declared.row.Unjudged.TheVariants as unjudged
 use Rattle.timing_base.specs.declared.row.Verdict.{Verdict}
 use Rattle.timing_base.specs.declared.row.Verdict.TheVariants as verdict
 use Rattle.timing_report.specs.Outcomes.{verdict_on}
-use Rattle.timing_json.specs.Json.{Member, with_members, list_of, type_members, outcome_members, interlaced_members, judged_members, unjudged_members, expected_members, run_verdict_members, run_members, whole_run_members, run_data, verdict_members, flow_members, flow_data, files_data, type_data, types_data}
+use Rattle.timing_json.specs.Json.{Member, with_members, list_of, type_members, outcome_members, interlaced_members, judged_members, unjudged_members}
+use Rattle.timing_json.specs.Json.{expected_members, run_verdict_members, run_members, whole_run_members, run_data, verdict_members, flow_members, flow_data}
+use Rattle.timing_json.specs.Json.{files_data, type_data, types_data}
 
 neither : (a b : Bool) → a ≡ false → b ≡ false → (a || b) ≡ false
 neither true b e f = e

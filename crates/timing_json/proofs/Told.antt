@@ -1,5 +1,6 @@
 -- What the value of a report tells is the fails of its rows.
-use Rattle.std.proofs.Common.{◌≡◌, ◌<◌, ◌≤◌, ◌+◌, ◌-◌, ℕ, suc, List, [], ◌∷◌, ◌++◌, length, Bool, true, false, Some, None, refl, ap, ◌∙◌, arith, append-nil, le-leb}
+use Rattle.std.proofs.Common.{◌≡◌, ◌<◌, ◌≤◌, ◌+◌, ◌-◌, ℕ, suc, List, [], ◌∷◌, ◌++◌, length, Bool, true, false, Some, None, refl, ap, ◌∙◌, arith, append-nil}
+use Rattle.std.proofs.Common.{le-leb}
 use Rattle.std.specs.Prelude.{All, Option, map, codes, nat_le, if◌then◌else◌, ◌&&◌, option_map, option_and_then}
 use Rattle.serde_json.specs.Data.{Data, Items, no_items, item, string}
 use Rattle.serde_json.specs.Events.{items_len}
@@ -29,8 +30,11 @@ use Rattle.timing_report.specs.Outcomes.{verdict_on, first_passing}
 use Rattle.timing_base.specs.Keys.{media_of}
 use Rattle.timing_report.specs.Words.{model_name, kind_name, class_name, declared_name}
 use Rattle.timing_json.specs.Fails.{fail_of, judged_fails, run_fails, runs_fails, verdict_fails, fails_of, FitsVerdict}
-use Rattle.timing_json.specs.Json.{Member, object_of, list_of, count, proof_data, type_members, type_data, types_data, judged_numbers, interlaced_members, expected_members, no_whole_frame_members, run_members, run_verdict_members, run_data, key_members, flow_members, row_data, report_data}
-use Rattle.timing_json.specs.Reading.{place_up_to, place_in, model_named, kind_named, where_present, proof_of, proof_in, type_of, told, types_from, types_in, run_of, runs_from, runs_of, runs_in, key_of, flow_of, flows_from, report_of}
+use Rattle.timing_json.specs.Json.{Member, object_of, list_of, count, proof_data, type_members, type_data, types_data, judged_numbers, interlaced_members}
+use Rattle.timing_json.specs.Json.{expected_members, no_whole_frame_members, run_members, run_verdict_members, run_data, key_members, flow_members, row_data}
+use Rattle.timing_json.specs.Json.{report_data}
+use Rattle.timing_json.specs.Reading.{place_up_to, place_in, model_named, kind_named, where_present, proof_of, proof_in, type_of, told, types_from, types_in}
+use Rattle.timing_json.specs.Reading.{run_of, runs_from, runs_of, runs_in, key_of, flow_of, flows_from, report_of}
 use Rattle.timing_json.specs.declared.reading.ReportProof.{ReportProof}
 use Rattle.timing_json.proofs.Fitting.{Tellable}
 

@@ -1,7 +1,8 @@
 -- What is read back of a JSON report: the fails that it tells, each with its flow and its run. Texts that are not in the form
 -- are refused. Keys that are not named here are passed over, and of two equal keys in one object the last counts (RFC 8259
 -- leaves that open). Captures and media count from 1 in the report and from 0 here, as do runs.
-use Rattle.std.specs.Prelude.{◌≡◌, ◌≤◌, ℕ, ◌+◌, ◌-◌, ◌&&◌, nat_le, if◌then◌else◌, is_some, List, [], ◌∷◌, ◌++◌, length, Option, Some, None, codes, option_map, option_and_then, bytes_eq, IsUtf8}
+use Rattle.std.specs.Prelude.{◌≡◌, ◌≤◌, ℕ, ◌+◌, ◌-◌, ◌&&◌, nat_le, if◌then◌else◌, is_some, List, [], ◌∷◌, ◌++◌, length}
+use Rattle.std.specs.Prelude.{Option, Some, None, codes, option_map, option_and_then, bytes_eq, IsUtf8}
 use Rattle.serde_json.specs.Data.{Data, Items, no_items, item}
 use Rattle.serde_json.specs.Events.{items_len}
 use Rattle.serde_json.specs.Find.{get, as_array, as_object, as_str, as_number, as_u64}

@@ -1,32 +1,7 @@
 -- One packet more of a flow that is measured, and the whole flow.
 use Rattle.std.specs.Prelude.{ℤ, slice_index}
-use Rattle.std.proofs.Common.{
-  ◌≡◌,
-  ◌≤◌,
-  ◌<◌,
-  ◌+◌,
-  ◌-◌,
-  ◌*◌,
-  ◌^◌,
-  ℕ,
-  zero,
-  suc,
-  List,
-  [],
-  ◌∷◌,
-  ◌++◌,
-  length,
-  Option,
-  refl,
-  arith,
-  ap,
-  ◌∙◌,
-  sym,
-  subst,
-  map,
-  take,
-  drop,
-}
+use Rattle.std.proofs.Common.{◌≡◌, ◌≤◌, ◌<◌, ◌+◌, ◌-◌, ◌*◌, ◌^◌, ℕ, zero, suc, List, [], ◌∷◌, ◌++◌, length, Option, refl, arith, ap, ◌∙◌, sym, subst, map, take}
+use Rattle.std.proofs.Common.{drop}
 use Rattle.std.specs.List.{cons_option}
 use Rattle.std.proofs.lemmas.List.{drop-append-le, length-append, length-drop, length-map, map-append, take-append-le}
 use Rattle.std.proofs.Math.ListN.{drop_of_length-le}

@@ -1,62 +1,14 @@
 -- A flow that is judged in one run: its markers, its first stamp and its number of packets.
-use Rattle.std.proofs.Common.{
-  ◌≡◌,
-  ◌≤◌,
-  ◌<◌,
-  ◌+◌,
-  ◌-◌,
-  ◌*◌,
-  ◌^◌,
-  ℕ,
-  Bool,
-  true,
-  false,
-  if◌then◌else◌,
-  nat_lt,
-  List,
-  ◌∷◌,
-  length,
-  map,
-  take,
-  drop,
-  min,
-  Option,
-  Some,
-  None,
-  refl,
-  arith,
-  ap,
-  ◌∙◌,
-  sym,
-  subst,
-}
+use Rattle.std.proofs.Common.{◌≡◌, ◌≤◌, ◌<◌, ◌+◌, ◌-◌, ◌*◌, ◌^◌, ℕ, Bool, true, false, if◌then◌else◌, nat_lt, List, ◌∷◌, length, map, take, drop, min, Option}
+use Rattle.std.proofs.Common.{Some, None, refl, arith, ap, ◌∙◌, sym, subst}
 use Rattle.std.specs.Prelude.{◌==◌, slice_index}
 use Rattle.std.proofs.lemmas.Bool.Decides.{nat_tests}
 use Rattle.std.proofs.lemmas.List.{get_or-drop, get_or-map, get_or-take, length-drop, length-map, length-take}
 use Rattle.std.proofs.lemmas.Nat.{mul-le}
 use Rattle.timing_base.specs.Flows.{AreStamped, FirstFault, cuts, first_fault, last_place, markers, no_packet, packet}
 use Rattle.timing_base.specs.Grouped.{IsGrouped, IsGroupedVerdict}
-use Rattle.timing_base.specs.Judged.{
-  FlowRun,
-  FlowVerdict,
-  JudgedRun,
-  RunOutcome,
-  absent,
-  gap,
-  head_len,
-  in_one_run,
-  in_runs,
-  judged,
-  judged_run,
-  no_whole_frame,
-  refusal,
-  refused,
-  refused_or,
-  run_outcome,
-  runs,
-  stamp_of,
-  whole_frames,
-}
+use Rattle.timing_base.specs.Judged.{FlowRun, FlowVerdict, JudgedRun, RunOutcome, absent, gap, head_len, in_one_run, in_runs, judged, judged_run}
+use Rattle.timing_base.specs.Judged.{no_whole_frame, refusal, refused, refused_or, run_outcome, runs, stamp_of, whole_frames}
 use Rattle.timing_base.specs.Media.{Media}
 use Rattle.timing_base.specs.Verdicts.{Judged}
 use Rattle.timing_base.specs.declared.packet.FlowPacket.{FlowPacket}

@@ -1,29 +1,7 @@
 -- One packet more of a list of delays, and of a packet that is late.
 use Rattle.std.specs.Prelude.{slice_index, slice_index_or, cond, nat_lt, max}
-use Rattle.std.proofs.Common.{
-  ◌≡◌,
-  ◌≤◌,
-  ◌+◌,
-  ◌-◌,
-  ℕ,
-  suc,
-  List,
-  [],
-  ◌∷◌,
-  ◌++◌,
-  length,
-  refl,
-  arith,
-  ap,
-  ◌∙◌,
-  sym,
-  subst,
-  inl,
-  inr,
-  append-nil,
-  append_assoc,
-  length-append,
-}
+use Rattle.std.proofs.Common.{◌≡◌, ◌≤◌, ◌+◌, ◌-◌, ℕ, suc, List, [], ◌∷◌, ◌++◌, length, refl, arith, ap, ◌∙◌, sym, subst, inl, inr, append-nil, append_assoc}
+use Rattle.std.proofs.Common.{length-append}
 use Rattle.std.specs.List.{count_by, sum_by}
 use Rattle.std.proofs.Math.Seq.{get_or-append_seam, take-append_seam, take-append-add}
 use Rattle.std.proofs.lemmas.Bool.{cases_lt}

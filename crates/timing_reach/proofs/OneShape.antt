@@ -16,21 +16,8 @@ use Rattle.timing_base.specs.Media.{Media}
 use Rattle.timing_base.specs.declared.media.Kind.{Kind}
 use Rattle.timing_report.specs.declared.status.Status.TheVariants as status
 use Rattle.timing_steps.specs.Answers.{Answer}
-use Rattle.timing_reach.specs.Shapes.{
-  AreBounds,
-  HasPlan,
-  HasShape,
-  IsLate,
-  IsList,
-  LeaveInTime,
-  Prints,
-  delays,
-  delays_line,
-  end_of,
-  greatest,
-  not_shaped,
-  packet_lines,
-}
+use Rattle.timing_reach.specs.Shapes.{AreBounds, HasPlan, HasShape, IsLate, IsList, LeaveInTime, Prints, delays, delays_line, end_of, greatest, not_shaped}
+use Rattle.timing_reach.specs.Shapes.{packet_lines}
 
 -- the first departures of a plan are one
 plan-first : (w : Models) (arrivals departures : List ℕ) (k : ℕ) → k ≤ length arrivals → IsPlan w arrivals departures

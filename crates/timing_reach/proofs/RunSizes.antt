@@ -4,24 +4,8 @@ use Rattle.std.specs.Prelude.{⊤}
 use Rattle.std.proofs.lemmas.Bool.{cond_both, eqb-true, ltb-false}
 use Rattle.timing_base.specs.Flows.{FirstFault, cuts, first_fault, markers}
 use Rattle.timing_base.specs.Grouped.{IsSized}
-use Rattle.timing_base.specs.Judged.{
-  FlowVerdict,
-  JudgedRun,
-  RunOutcome,
-  absent,
-  head_len,
-  in_one_run,
-  in_runs,
-  judged,
-  judged_run,
-  judged_runs,
-  no_whole_frame,
-  refusal,
-  refused_or,
-  run_outcome,
-  runs,
-  whole_frames,
-}
+use Rattle.timing_base.specs.Judged.{FlowVerdict, JudgedRun, RunOutcome, absent, head_len, in_one_run, in_runs, judged, judged_run, judged_runs, no_whole_frame}
+use Rattle.timing_base.specs.Judged.{refusal, refused_or, run_outcome, runs, whole_frames}
 use Rattle.timing_base.specs.declared.packet.FlowPacket.{FlowPacket}
 use Rattle.timing_base.specs.declared.packet.PacketFault.{PacketFault}
 use Rattle.timing_base.specs.declared.packet.PacketFault.TheVariants.{Number}

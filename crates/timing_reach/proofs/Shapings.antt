@@ -1,40 +1,7 @@
 -- One packet more of a flow that is shaped, and one record more of its capture.
 use Rattle.std.specs.Prelude.{IfOk, Result, Ok, Err, cond, is_some, slice_index, string_bytes, nat_lt, max, if◌then◌else◌}
-use Rattle.std.proofs.Common.{
-  ◌≡◌,
-  ◌+◌,
-  ◌-◌,
-  ◌*◌,
-  ◌^◌,
-  ℕ,
-  zero,
-  suc,
-  Bool,
-  true,
-  false,
-  List,
-  [],
-  ◌∷◌,
-  ◌++◌,
-  length,
-  map,
-  take,
-  drop,
-  min,
-  Option,
-  Some,
-  None,
-  refl,
-  arith,
-  ap,
-  ◌∙◌,
-  sym,
-  subst,
-  inl,
-  inr,
-  append-nil,
-  length-append,
-}
+use Rattle.std.proofs.Common.{◌≡◌, ◌+◌, ◌-◌, ◌*◌, ◌^◌, ℕ, zero, suc, Bool, true, false, List, [], ◌∷◌, ◌++◌, length, map, take, drop, min, Option, Some, None}
+use Rattle.std.proofs.Common.{refl, arith, ap, ◌∙◌, sym, subst, inl, inr, append-nil, length-append}
 use Rattle.std.specs.List.{cons_option, count_by}
 use Rattle.std.proofs.lemmas.Bool.{false≢true}
 use Rattle.std.proofs.lemmas.List.{get_or_append_left, map-append}
@@ -53,23 +20,8 @@ use Rattle.timing_steps.specs.Answers.{Answer}
 use Rattle.timing_reach.specs.judged.Runs.{IsRunOf, gauged}
 use Rattle.udp_rtp.specs.Flow.{flow, flow_packet}
 use Rattle.timing_reach.specs.shape.Leaving.{HasGiven, HasLeft, IsFit, IsPartOf, Part, Takes, part_of, stamps_in}
-use Rattle.timing_reach.specs.Shapes.{
-  AreBounds,
-  HasShape,
-  IsLate,
-  IsList,
-  LeaveInTime,
-  Prints,
-  delays,
-  delays_line,
-  end_of,
-  flow_records,
-  greatest,
-  not_shaped,
-  packet_line,
-  packet_lines,
-  shaped_capture,
-}
+use Rattle.timing_reach.specs.Shapes.{AreBounds, HasShape, IsLate, IsList, LeaveInTime, Prints, delays, delays_line, end_of, flow_records, greatest, not_shaped}
+use Rattle.timing_reach.specs.Shapes.{packet_line, packet_lines, shaped_capture}
 use Rattle.timing_reach.specs.shape.Shaping.{Copies, Ends, HasMade, IsGoing, IsListed, IsShaping, OnLate, Passes, ShapesOn, Tells}
 use Rattle.timing_reach.specs.declared.shape.delays.Delays.{Delays}
 use Rattle.timing_reach.specs.declared.shape.leaver.Leaver.{Leaver}

@@ -1,34 +1,8 @@
 -- Each flow has an answer of `shape`, and not two.
 use Rattle.std.specs.Prelude.{◌⊎◌, nat_lt, slice_index, slice_index_or}
 use Rattle.std.specs.List.{count_by}
-use Rattle.std.proofs.Common.{
-  ◌≡◌,
-  ◌≤◌,
-  ◌<◌,
-  ◌+◌,
-  ℕ,
-  zero,
-  suc,
-  Bool,
-  true,
-  false,
-  List,
-  [],
-  ◌∷◌,
-  ◌++◌,
-  length,
-  take,
-  refl,
-  arith,
-  ap,
-  ◌∙◌,
-  sym,
-  subst,
-  inl,
-  inr,
-  add-one,
-  length-append,
-}
+use Rattle.std.proofs.Common.{◌≡◌, ◌≤◌, ◌<◌, ◌+◌, ℕ, zero, suc, Bool, true, false, List, [], ◌∷◌, ◌++◌, length, take, refl, arith, ap, ◌∙◌, sym, subst, inl}
+use Rattle.std.proofs.Common.{inr, add-one, length-append}
 use Rattle.std.proofs.Math.Seq.{get_or-append_seam, take-length}
 use Rattle.std.proofs.lemmas.Bool.{cases_lt}
 use Rattle.std.proofs.lemmas.List.{get_or_append_left, length-take-le}
@@ -47,21 +21,8 @@ use Rattle.flow_shaper.proofs.SomeBound.{bound-some}
 use Rattle.timing_report.specs.declared.status.Status.TheVariants as status
 use Rattle.timing_steps.specs.Answers.{Answer}
 use Rattle.timing_reach.specs.Shaped.{HasShapeIn}
-use Rattle.timing_reach.specs.Shapes.{
-  AreBounds,
-  HasShape,
-  IsLate,
-  LeaveInTime,
-  Prints,
-  delays,
-  delays_line,
-  end_of,
-  flow_records,
-  greatest,
-  not_shaped,
-  packet_lines,
-  shaped_capture,
-}
+use Rattle.timing_reach.specs.Shapes.{AreBounds, HasShape, IsLate, LeaveInTime, Prints, delays, delays_line, end_of, flow_records, greatest, not_shaped}
+use Rattle.timing_reach.specs.Shapes.{packet_lines, shaped_capture}
 use Rattle.timing_reach.proofs.OneShape.{shape-once}
 use Rattle.timing_reach.proofs.Unique.{once-flow, some-flow}
 

@@ -2,33 +2,8 @@
 -- it, so that neither the bucket nor the virtual receiver buffer of a sender type ever holds too many (SMPTE ST
 -- 2110-21). It is a list of the delayed packets, or the flow as a capture file (pcap-savefile(5)). Stamps and
 -- departures are in nanoseconds, and packets, judged ones and reads count from 0. This project's profile.
-use Rattle.std.specs.Prelude.{
-  ◌≡◌,
-  ◌⊎◌,
-  ◌<◌,
-  ◌≤◌,
-  ◌+◌,
-  ◌-◌,
-  ◌*◌,
-  ◌^◌,
-  ℕ,
-  Bool,
-  true,
-  false,
-  nat_lt,
-  max,
-  if◌then◌else◌,
-  List,
-  [],
-  ◌∷◌,
-  ◌++◌,
-  length,
-  take,
-  slice_index,
-  slice_index_or,
-  is_some,
-  codes,
-}
+use Rattle.std.specs.Prelude.{◌≡◌, ◌⊎◌, ◌<◌, ◌≤◌, ◌+◌, ◌-◌, ◌*◌, ◌^◌, ℕ, Bool, true, false, nat_lt, max, if◌then◌else◌}
+use Rattle.std.specs.Prelude.{List, [], ◌∷◌, ◌++◌, length, take, slice_index, slice_index_or, is_some, codes}
 use Rattle.std.specs.Fmt.{decimal}
 use Rattle.std.specs.List.{count_by, filter}
 use Rattle.capture_gen.specs.Heads.{file_head, record_head}

@@ -2,27 +2,8 @@
 -- or two. Two flows that carry the same packets by two paths (SMPTE ST 2022-7; RFC 7104) are compared: the first is of
 -- the first capture, the second of the last. Captures and media count from 0, records from 1; skews are nanoseconds.
 -- This project's profile.
-use Rattle.std.specs.Prelude.{
-  ◌≡◌,
-  ◌+◌,
-  ◌-◌,
-  ◌==◌,
-  ◌||◌,
-  if◌then◌else◌,
-  ℕ,
-  Bool,
-  List,
-  [],
-  ◌++◌,
-  length,
-  slice_get,
-  slice_index_or,
-  Option,
-  Some,
-  None,
-  Result,
-  codes,
-}
+use Rattle.std.specs.Prelude.{◌≡◌, ◌+◌, ◌-◌, ◌==◌, ◌||◌, if◌then◌else◌, ℕ, Bool, List, [], ◌++◌, length, slice_get}
+use Rattle.std.specs.Prelude.{slice_index_or, Option, Some, None, Result, codes}
 use Rattle.std.specs.Fmt.{decimal, signed_decimal}
 use Rattle.std.specs.List.{list_any}
 use Rattle.timing_base.specs.Captures.{Record}
@@ -40,16 +21,8 @@ use Rattle.timing_report.specs.declared.status.Input.{Input}
 use Rattle.timing_report.specs.declared.status.Input.TheVariants as input
 use Rattle.timing_report.specs.declared.status.Status.{Status}
 use Rattle.timing_report.specs.declared.status.Status.TheVariants as status
-use Rattle.timing_steps.specs.Answers.{
-  Answer,
-  CaptureRose,
-  Gives,
-  HasRisen,
-  Inputs,
-  ReadsCaptures,
-  ReadsSession,
-  Yields,
-}
+use Rattle.timing_steps.specs.Answers.{Answer, CaptureRose, Gives, HasRisen, Inputs, ReadsCaptures, ReadsSession}
+use Rattle.timing_steps.specs.Answers.{Yields}
 use Rattle.timing_steps.specs.declared.failure.Failure.{Failure}
 use Rattle.timing_reach.specs.Asked.{no_such_media}
 

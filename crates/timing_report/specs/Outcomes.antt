@@ -1,6 +1,7 @@
 -- What a judged run says of the sender types, which media a row is of, and the exit status of a report.
 -- A type passes where the judged packets keep its limits (SMPTE ST 2110-21).
-use Rattle.std.specs.Prelude.{◌≡◌, ◌<◌, ℕ, Bool, true, false, not, ◌||◌, if◌then◌else◌, List, length, map, slice_index_or, Option, Some, None, All}
+use Rattle.std.specs.Prelude.{◌≡◌, ◌<◌, ℕ, Bool, true, false, not, ◌||◌, if◌then◌else◌, List, length, map}
+use Rattle.std.specs.Prelude.{slice_index_or, Option, Some, None, All}
 use Rattle.std.specs.List.{list_any, list_all}
 use Rattle.timing_base.specs.Jobs.{CheckJob}
 use Rattle.timing_base.specs.Keys.{keys_of, media_of}

@@ -5,7 +5,8 @@ use Rattle.sdp_reader.specs.Fault.{fault_text}
 use Rattle.timing_report.specs.declared.status.Input.{Input}
 use Rattle.timing_report.specs.declared.status.Input.TheVariants.{Sdp, Report, Capture}
 use Rattle.timing_report.specs.declared.status.Status.{Status}
-use Rattle.timing_report.specs.declared.status.Status.TheVariants.{Pass, Fail, Usage, SdpRefused, NotAllJudged, ReadFault, WriteFault, OutOfMemory, ReportRefused}
+use Rattle.timing_report.specs.declared.status.Status.TheVariants.{Pass, Fail, Usage, SdpRefused, NotAllJudged}
+use Rattle.timing_report.specs.declared.status.Status.TheVariants.{ReadFault, WriteFault, OutOfMemory, ReportRefused}
 
 -- what the process ends with
 abbrev pub code_of : Status → ℕ

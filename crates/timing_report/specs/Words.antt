@@ -4,13 +4,16 @@ use Rattle.std.specs.Fmt.{decimal}
 use Rattle.timing_base.specs.declared.capture.FileNote.{FileNote}
 use Rattle.timing_base.specs.declared.capture.FileNote.TheVariants.{End, Cut, Refused}
 use Rattle.timing_base.specs.declared.capture.PcapFault.{PcapFault}
-use Rattle.timing_base.specs.declared.capture.PcapFault.TheVariants.{ReadFault, BadMagic, BadVersion, BadLink, BadStamp, BadLength, TooLong}
+use Rattle.timing_base.specs.declared.capture.PcapFault.TheVariants.{ReadFault, BadMagic, BadVersion, BadLink, BadStamp}
+use Rattle.timing_base.specs.declared.capture.PcapFault.TheVariants.{BadLength, TooLong}
 use Rattle.timing_base.specs.declared.fail.Broken.{Broken}
 use Rattle.timing_base.specs.declared.fail.Broken.TheVariants.{Bucket, Over, Empty}
 use Rattle.timing_base.specs.declared.media.Kind.{Kind}
 use Rattle.timing_base.specs.declared.media.Kind.TheVariants.{N, NL, W}
 use Rattle.timing_base.specs.declared.packet.PacketFault.{PacketFault}
-use Rattle.timing_base.specs.declared.packet.PacketFault.TheVariants.{Short, Version, PayloadType, SecondSource, Number, StampBack, NoMarker, SameStamp, FrameSize, FrameTooLarge}
+use Rattle.timing_base.specs.declared.packet.PacketFault.TheVariants.{Short, Version, PayloadType, SecondSource, Number}
+use Rattle.timing_base.specs.declared.packet.PacketFault.TheVariants.{StampBack, NoMarker, SameStamp, FrameSize}
+use Rattle.timing_base.specs.declared.packet.PacketFault.TheVariants.{FrameTooLarge}
 
 -- a sender type
 abbrev pub kind_name : Kind → List ℕ

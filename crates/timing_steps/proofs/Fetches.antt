@@ -1,5 +1,6 @@
 -- Sources that are fetched one by one.
-use Rattle.std.proofs.Common.{◌≡◌, ◌≤◌, ◌<◌, ◌+◌, ℕ, zero, suc, List, [], ◌∷◌, ◌++◌, length, take, Option, refl, arith, ap, ◌∙◌, sym, subst, add-one, append_assoc, append-nil}
+use Rattle.std.proofs.Common.{◌≡◌, ◌≤◌, ◌<◌, ◌+◌, ℕ, zero, suc, List, [], ◌∷◌, ◌++◌, length, take, Option, refl, arith, ap, ◌∙◌, sym, subst, add-one}
+use Rattle.std.proofs.Common.{append_assoc, append-nil}
 use Rattle.std.proofs.lemmas.List.Elements.{All-append, All-cons, All-nil, All-push, All-weaker}
 use Rattle.std.specs.Prelude.{All, IsErrOf, Result, Ok, Err, slice_index_or}
 use Rattle.timing_outside.specs.Causes.{Rose}

@@ -1,6 +1,7 @@
 -- What the texts of a request define, and how a run comes to it. An answer is what stands on standard output, and the
 -- status; where there is none, an input couldn't be read or memory ran out.
-use Rattle.std.specs.Prelude.{◌≡◌, ◌<◌, ◌⊎◌, ℕ, ⊤, List, [], ◌∷◌, length, map, slice_index_or, All, Option, Some, Result, Ok, Err}
+use Rattle.std.specs.Prelude.{◌≡◌, ◌<◌, ◌⊎◌, ℕ, ⊤, List, [], ◌∷◌, length, map, slice_index_or, All, Option, Some}
+use Rattle.std.specs.Prelude.{Result, Ok, Err}
 use Rattle.timing_base.specs.Media.{Media}
 use Rattle.timing_outside.specs.Causes.{Rose}
 use Rattle.pcapng_reader.specs.Classic.{classic}

@@ -17,7 +17,8 @@ use Rattle.timing_top.specs.Asked.{CheckInputRose, FollowsCheck}
 use Rattle.timing_top.specs.Asked.{Follows, FollowsAtOnce, FollowsSelfTest, InputRose, names_of}
 use Rattle.timing_top.specs.Report.{HasReport}
 use Rattle.timing_top.specs.SelfTest.{HasSelfTest}
-use Rattle.timing_top.proofs.Answering.{Caused, captured-failed, described-failed, not-given, only-captured, only-described, only-given, only-silent, only-yielded, some-captured, some-described, some-given, some-yielded, yielded-failed}
+use Rattle.timing_top.proofs.Answering.{Caused, captured-failed, described-failed, not-given, only-captured, only-described, only-given, only-silent}
+use Rattle.timing_top.proofs.Answering.{only-yielded, some-captured, some-described, some-given, some-yielded, yielded-failed}
 use Rattle.timing_reach.specs.Asked.{HasWindow}
 use Rattle.timing_reach.specs.Shaped.{HasShapeIn}
 use Rattle.timing_reach.proofs.SomeShape.{once-shape-in, some-shape-in}

@@ -13,7 +13,8 @@ use Rattle.timing_steps.specs.declared.failure.Failure.{Failure}
 use Rattle.timing_reach.specs.Asked.{FlowInputRose, ReadsCapture, ReadsFlow, no_such_media}
 use Rattle.timing_reach.specs.Skewed.{FollowsSkew, HasSkew, ReadsPair, SkewInputRose}
 use Rattle.timing_reach.proofs.Unique.{once-skew, some-skew}
-use Rattle.timing_top.proofs.Answering.{Caused, captured-failed, described-failed, not-given, ok-not-err, only-captured, only-described, only-given, only-silent, only-yielded, same-err, same-some, some-captured, some-described, some-given, some-yielded, yielded-failed}
+use Rattle.timing_top.proofs.Answering.{Caused, captured-failed, described-failed, not-given, ok-not-err, only-captured, only-described, only-given}
+use Rattle.timing_top.proofs.Answering.{only-silent, only-yielded, same-err, same-some, some-captured, some-described, some-given, some-yielded, yielded-failed}
 
 -- one capture that is read
 some-capture : (i : Inputs) (name text : List ℕ) (Defined : List ℕ → Answer → Type 0) → ¬ i.lacks name → i.texts name ≡ Some text → (answer : Answer) × Defined (classic text) answer

@@ -16,7 +16,8 @@ use Rattle.timing_verify.specs.Asked.{FollowsReport, HasReported, OnReport, Read
 use Rattle.timing_json.proofs.Decided.{only-claims, report-decided}
 use Rattle.timing_verify.proofs.Answered.{needed-all, same-needed, same-reported, text_in, told-needed}
 use Rattle.timing_verify.proofs.Unique.{only-reported, some-reported}
-use Rattle.timing_top.proofs.Answering.{Caused, described-failed, not-given, ok-not-err, only-described, only-given, only-silent, only-yielded, same-err, same-some, some-described, some-yielded, yielded-failed}
+use Rattle.timing_top.proofs.Answering.{Caused, described-failed, not-given, ok-not-err, only-described, only-given, only-silent, only-yielded, same-err}
+use Rattle.timing_top.proofs.Answering.{same-some, some-described, some-yielded, yielded-failed}
 
 -- what a text that may be a report leads to
 some-on_report : (text : List ℕ) (Next : Answer → List ReportProof → Type 0) → ((claims : List ReportProof) → (answer : Answer) × Next answer claims) → (answer : Answer) × OnReport text (Ok answer) (Next answer)

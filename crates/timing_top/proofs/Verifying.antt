@@ -10,7 +10,8 @@ use Rattle.timing_steps.specs.declared.failure.Failure.{Failure}
 use Rattle.timing_verify.specs.Asked.{FollowsVerify, HasVerified, ReadsMedia, VerifyInputRose}
 use Rattle.timing_verify.specs.Verified.{verified}
 use Rattle.timing_verify.proofs.Unique.{only-verified, some-verified}
-use Rattle.timing_top.proofs.Answering.{Caused, captured-failed, described-failed, not-given, only-captured, only-described, only-given, only-silent, only-yielded, some-captured, some-described, some-given, some-yielded, yielded-failed}
+use Rattle.timing_top.proofs.Answering.{Caused, captured-failed, described-failed, not-given, only-captured, only-described, only-given, only-silent}
+use Rattle.timing_top.proofs.Answering.{only-yielded, some-captured, some-described, some-given, some-yielded, yielded-failed}
 
 some-media : (job : VerifyJob) (i : Inputs) (texts : List (List ℕ)) (m : Option Media) → AreThere i.lacks job.captures → AreTold i.texts job.captures texts → (answer : Answer) × ReadsMedia i (Ok answer) job m
 some-media job i texts None there told = some-given (λ answer. answer ≡ verified (Ok false)) (verified (Ok false), refl)

@@ -1,5 +1,6 @@
 -- The captures that the fails of a report need, and what is found in them.
-use Rattle.std.proofs.Common.{◌≡◌, ◌<◌, ◌+◌, ◌-◌, ℕ, Bool, true, false, List, [], ◌∷◌, length, take, drop, Option, Some, refl, arith, ap, ◌∙◌, sym, subst, inr, if◌then◌else◌}
+use Rattle.std.proofs.Common.{◌≡◌, ◌<◌, ◌+◌, ◌-◌, ℕ, Bool, true, false, List, [], ◌∷◌, length, take, drop, Option, Some, refl, arith, ap, ◌∙◌, sym, subst, inr}
+use Rattle.std.proofs.Common.{if◌then◌else◌}
 use Rattle.std.proofs.lemmas.List.{drop_more}
 use Rattle.std.proofs.lemmas.List.Elements.{All-cons, All-head, All-map, All-nil, All-tail, All-weaker}
 use Rattle.std.specs.Prelude.{All, IfOk, Result, Ok, Err, map, slice_index_or, slice_range}

@@ -1,5 +1,6 @@
 -- What the texts of `verify` and of `verify-report` define, in the order in which they are read.
-use Rattle.std.specs.Prelude.{◌≡◌, ◌⊎◌, ℕ, nat_lt, if◌then◌else◌, Bool, false, List, [], ◌∷◌, length, map, slice_get, slice_index_or, All, Contains, Option, Some, None, Result, Ok, Err}
+use Rattle.std.specs.Prelude.{◌≡◌, ◌⊎◌, ℕ, nat_lt, if◌then◌else◌, Bool, false, List, [], ◌∷◌, length, map, slice_get}
+use Rattle.std.specs.Prelude.{slice_index_or, All, Contains, Option, Some, None, Result, Ok, Err}
 use Rattle.timing_base.specs.Jobs.{ReportJob, VerifyJob}
 use Rattle.timing_base.specs.Media.{Media}
 use Rattle.timing_base.specs.declared.key.FlowKey.{FlowKey}
@@ -10,7 +11,8 @@ use Rattle.timing_json.specs.declared.reading.ReportProof.{ReportProof}
 use Rattle.timing_report.specs.declared.status.Input.{Input}
 use Rattle.timing_report.specs.declared.status.Input.TheVariants as input
 use Rattle.timing_report.specs.declared.status.Status.TheVariants as status
-use Rattle.timing_steps.specs.Answers.{Answer, AreThere, CaptureRose, Gives, HasRisen, Inputs, ReadsCaptures, ReadsSession, Yields, silent}
+use Rattle.timing_steps.specs.Answers.{Answer, AreThere, CaptureRose, Gives, HasRisen, Inputs, ReadsCaptures}
+use Rattle.timing_steps.specs.Answers.{ReadsSession, Yields, silent}
 use Rattle.timing_steps.specs.declared.failure.Failure.{Failure}
 use Rattle.timing_steps.specs.declared.failure.Failure.TheVariants as failure
 use Rattle.timing_verify.specs.Findings.{Finds}

@@ -1,5 +1,6 @@
 -- What `clap` says of a line, and what the line's grammar does.
-use Rattle.std.proofs.Common.{◌≡◌, ◌∙◌, ◌||◌, ◌&&◌, Bool, true, false, not, cond, refl, sym, ap, ap₂, List, [], ◌∷◌, map, Option, Some, None, option_map, is_some}
+use Rattle.std.proofs.Common.{◌≡◌, ◌∙◌, ◌||◌, ◌&&◌, Bool, true, false, not, cond, refl, sym, ap, ap₂, List, [], ◌∷◌, map, Option, Some, None, option_map}
+use Rattle.std.proofs.Common.{is_some}
 use Rattle.std.specs.Prelude.{find, fold, slice_get, option_and_then, unwrap_or}
 use Rattle.std.specs.List.{list_any}
 use Rattle.std.specs.Str.{bytes_eq}
@@ -9,8 +10,10 @@ use Rattle.clap.specs.Kinds.{Kinds, or_else}
 use Rattle.clap.specs.Matches.{matched_of, raw_values}
 use Rattle.clap.specs.Simple.{App, built, entered, matches_of}
 use Rattle.clap.specs.Takes.{is_given}
-use Rattle.clap.specs.Walk.{Row, Rule, all_of, first_of, finished, has_row, idle, is_empty, nothing_held, row_of, rows_after, rows_of, settled, walk, with_default}
-use Rattle.clap.specs.Faults.{built_fault, check_fault, default_fault, given_default_fault, defaults_fault, entered_fault, fault_of, level_fault, settle_fault, walk_fault}
+use Rattle.clap.specs.Walk.{Row, Rule, all_of, first_of, finished, has_row, idle, is_empty, nothing_held, row_of, rows_after, rows_of, settled, walk}
+use Rattle.clap.specs.Walk.{with_default}
+use Rattle.clap.specs.Faults.{built_fault, check_fault, default_fault, given_default_fault, defaults_fault, entered_fault, fault_of, level_fault, settle_fault}
+use Rattle.clap.specs.Faults.{walk_fault}
 use Rattle.clap.specs.declared.parser.matches.Found.{Found}
 use Rattle.clap.specs.declared.error.kind.ErrorKind.TheVariants.{MissingRequiredArgument}
 use Rattle.timing_words.specs.Line.{Part, Sort, Text, cut, is_once, line, once}

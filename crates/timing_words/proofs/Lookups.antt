@@ -1,5 +1,6 @@
 -- What stands in the rows of a line, by the parts that the line is cut into.
-use Rattle.std.proofs.Common.{◌≡◌, ◌∙◌, ◌||◌, ◌&&◌, Bool, true, false, not, cond, refl, sym, ap, subst, List, [], ◌∷◌, ◌++◌, Option, Some, None, option_map, is_some, ℕ, append_assoc, arith}
+use Rattle.std.proofs.Common.{◌≡◌, ◌∙◌, ◌||◌, ◌&&◌, Bool, true, false, not, cond, refl, sym, ap, subst, List, [], ◌∷◌, ◌++◌, Option, Some, None, option_map}
+use Rattle.std.proofs.Common.{is_some, ℕ, append_assoc, arith}
 use Rattle.std.specs.Prelude.{find, slice_get, option_and_then, unwrap_or}
 use Rattle.std.specs.Option.{option_map_or}
 use Rattle.std.specs.Str.{bytes_eq}

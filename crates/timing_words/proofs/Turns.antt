@@ -1,5 +1,6 @@
 -- One word of `clap`'s walk over a command that it was told of.
-use Rattle.std.proofs.Common.{◌≡◌, ◌∙◌, ◌||◌, ◌&&◌, ◌==◌, Bool, true, false, cond, refl, sym, ap, ap₂, subst, List, [], ◌∷◌, Option, Some, None, option_map, ℕ, suc, length, drop, arith}
+use Rattle.std.proofs.Common.{◌≡◌, ◌∙◌, ◌||◌, ◌&&◌, ◌==◌, Bool, true, false, cond, refl, sym, ap, ap₂, subst, List, [], ◌∷◌, Option, Some, None, option_map, ℕ}
+use Rattle.std.proofs.Common.{suc, length, drop, arith}
 use Rattle.std.specs.Prelude.{find, slice_get, IsUtf8, encode_utf8_all, option_and_then, nat_lt}
 use Rattle.std.specs.List.{before_first}
 use Rattle.std.specs.Option.{option_map_or}
@@ -11,11 +12,15 @@ use Rattle.std.proofs.lemmas.Str.{encodes-chars}
 use Rattle.clap.specs.Kinds.{Kinds, or_else}
 use Rattle.clap.specs.Lexer.{long_of, long_of_rest, short_of, short_of_rest, strip_byte}
 use Rattle.clap.specs.Simple.{Shape, built}
-use Rattle.clap.specs.Walk.{after_step, long_or_other, option_word, pushed, short_or_plain, after_flag, subcommand_or_other, Held, Row, Rule, Waiting, Walk, arg_by_id, arg_by_long, arg_by_short, idle, is_pending, long_met, next, option as awaits, plain_word, positional, settled, settled_rows, subcommand_met, to_positional, trailing, used, value, walked, word_met}
-use Rattle.clap.specs.Faults.{bundle_fault, bundle_step_fault, short_fault, flag_word_fault, other_fault, step_fault, flags_fault, long_fault, positional_fault, settle_fault, stray_fault, turn_fault, use_fault, word_fault}
+use Rattle.clap.specs.Walk.{after_step, long_or_other, option_word, pushed, short_or_plain, after_flag, subcommand_or_other, Held, Row, Rule, Waiting, Walk}
+use Rattle.clap.specs.Walk.{arg_by_id, arg_by_long, arg_by_short, idle, is_pending, long_met, next, option as awaits, plain_word, positional, settled}
+use Rattle.clap.specs.Walk.{settled_rows, subcommand_met, to_positional, trailing, used, value, walked, word_met}
+use Rattle.clap.specs.Faults.{bundle_fault, bundle_step_fault, short_fault, flag_word_fault, other_fault, step_fault, flags_fault, long_fault, positional_fault}
+use Rattle.clap.specs.Faults.{settle_fault, stray_fault, turn_fault, use_fault, word_fault}
 use Rattle.clap.specs.declared.error.kind.ErrorKind.{ErrorKind}
 use Rattle.clap.specs.declared.error.kind.ErrorKind.TheVariants.{UnknownArgument, TooManyValues}
-use Rattle.timing_words.specs.Line.{Sort, Text, Word, option, dashes, flag, name, named, opens, sorted, whole, wrong, long_word, hyphened, is_hyphened, value_in}
+use Rattle.timing_words.specs.Line.{Sort, Text, Word, option, dashes, flag, name, named, opens, sorted, whole, wrong, long_word, hyphened, is_hyphened}
+use Rattle.timing_words.specs.Line.{value_in}
 use Rattle.timing_words.specs.Clap.{app, names_id}
 use Rattle.timing_words.proofs.Rules.{by_id, by_index, by_long, found_again, names_rule, rule, rules, sort_rule}
 

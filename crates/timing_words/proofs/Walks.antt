@@ -9,7 +9,8 @@ use Rattle.clap.specs.declared.error.kind.ErrorKind.TheVariants.{InvalidValue}
 use Rattle.timing_words.specs.Line.{Part, Sort, Text, Word, before, cut, dashes, flag, from_word, hyphened, is_hyphened, name, opens, option, whole, wrong}
 use Rattle.timing_words.specs.Clap.{AreTexts, names_id}
 use Rattle.timing_words.proofs.Rules.{rule, rules}
-use Rattle.timing_words.proofs.Turns.{IsFree, Turns, at, hyphened_turn, is_idle, is_positional, name_turn, or_else_nil, settle_kinds, shape, trailing_turn, value_turn}
+use Rattle.timing_words.proofs.Turns.{IsFree, Turns, at, hyphened_turn, is_idle, is_positional, name_turn, or_else_nil, settle_kinds, shape, trailing_turn}
+use Rattle.timing_words.proofs.Turns.{value_turn}
 
 pub or_else_assoc : (a b c : Kinds) → or_else (or_else a b) c ≡ or_else a (or_else b c)
 or_else_assoc [] b c = refl

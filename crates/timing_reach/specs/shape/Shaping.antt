@@ -1,29 +1,6 @@
 -- What the second reading of a flow that is shaped makes of it. Packets count from 0.
-use Rattle.std.specs.Prelude.{
-  ◌≡◌,
-  ◌≤◌,
-  ◌-◌,
-  ◌*◌,
-  ◌^◌,
-  ◌+◌,
-  ℕ,
-  Bool,
-  true,
-  false,
-  cond,
-  max,
-  nat_lt,
-  List,
-  [],
-  ◌∷◌,
-  ◌++◌,
-  length,
-  slice_index,
-  Option,
-  Some,
-  None,
-  string_bytes,
-}
+use Rattle.std.specs.Prelude.{◌≡◌, ◌≤◌, ◌-◌, ◌*◌, ◌^◌, ◌+◌, ℕ, Bool, true, false, cond, max, nat_lt, List, [], ◌∷◌}
+use Rattle.std.specs.Prelude.{◌++◌, length, slice_index, Option, Some, None, string_bytes}
 use Rattle.std.specs.List.{count_by}
 use Rattle.std.proofs.Common.{sym, subst, append-nil, append_assoc, ap, ◌∙◌}
 use Rattle.std.proofs.lemmas.List.Elements.{filter-append, filter_map-append}
@@ -35,17 +12,8 @@ use Rattle.timing_base.specs.Captures.{Record}
 use Rattle.timing_base.specs.Judged.{JudgedRun}
 use Rattle.timing_base.specs.declared.packet.FlowPacket.{FlowPacket}
 use Rattle.timing_reach.specs.shape.Leaving.{HasGiven, IsFit, Part, stamps_in}
-use Rattle.timing_reach.specs.Shapes.{
-  AreBounds,
-  IsLate,
-  delays,
-  end_of,
-  flow_records,
-  greatest,
-  packet_line,
-  packet_lines,
-  shaped_capture,
-}
+use Rattle.timing_reach.specs.Shapes.{AreBounds, IsLate, delays, end_of, flow_records, greatest, packet_line}
+use Rattle.timing_reach.specs.Shapes.{packet_lines, shaped_capture}
 use Rattle.timing_reach.specs.declared.shape.delays.Delays.{Delays}
 use Rattle.timing_reach.specs.declared.shape.shaping.Shaping.{Shaping}
 use Rattle.udp_rtp.specs.Flow.{flow, flow_packet}

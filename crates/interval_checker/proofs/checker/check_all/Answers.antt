@@ -1,7 +1,8 @@
 use Rattle.std.proofs.Common.{◌≡◌, ◌+◌, length, rules, arith}
 use Rattle.std.specs.Prelude.{vec_len}
 use Rattle.timing_base.specs.Captures.{joined}
-use Rattle.interval_checker.proofs.Goings.{back-same, before-few, before-next, cons-length, failed-all, failed-more, goes-at, goes-none, goes-says, hands-all, hands-more, hands-none, none-left, pushed, pushed-length}
+use Rattle.interval_checker.proofs.Goings.{back-same, before-few, before-next, cons-length, failed-all, failed-more, goes-at, goes-none, goes-says, hands-all}
+use Rattle.interval_checker.proofs.Goings.{hands-more, hands-none, none-left, pushed, pushed-length}
 use Rattle.interval_checker.proofs.checker.check_all.Goals as goal
 
 pub returns-in-Err-clause-back : goal.returns-in-Err-clause-back
