@@ -1,10 +1,11 @@
 //! The intake of captures in memory, with each message compared.
 
 ghost use Rattle.std.specs.Prelude.{◌≡◌, ◌≤◌, ◌∷◌, [], IfOk, length};
-ghost use Rattle.flow_intake.specs.Intakes.{AreOfFile, HaveSentNothing};
+ghost use Rattle.flow_worker.specs.Intakes.{AreOfFile, HaveSentNothing};
 
+use capture_gen::examples::{FRAME, HEAD, source_of};
 use capture_gen::{capture_len, sdp_bytes, write_capture};
-use flow_intake::{IntakeDone, intake};
+use flow_worker::{IntakeDone, intake};
 use ruled_intake::{Closed, Halt, Lane, Message, SendPass, TakePass};
 use sdp_reader::read_sdp;
 use std::alloc::{AllocError, Global};
@@ -14,7 +15,6 @@ use std::sync::Wait;
 use std::test::Fail;
 use timing_base::worked::undeclared_to;
 use timing_base::{FileNote, Media, PcapFault};
-use timing_examples::{FRAME, HEAD, source_of};
 use timing_outside::{MemorySink, NoGate, Source};
 
 // The made capture of 13 frames of 20 packets: with the packet before them it has 261 records.

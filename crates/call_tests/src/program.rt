@@ -150,7 +150,7 @@ fn put(
         piece,
         fails: Vec::from_slice(alloc, &plan.fails)?,
     };
-    timing_examples::put(alloc, shelf, name, text, plan)?;
+    capture_gen::examples::put(alloc, shelf, name, text, plan)?;
     Ok(())
 }
 

@@ -1,11 +1,11 @@
 //! The rows of `window`.
 
 use super::{Setting, made, over, part, runs, shelf_of};
+use capture_gen::examples::{NANOS, as_pcapng};
 use std::process::Abort;
 use std::sync::Wait;
 use std::test::Fail;
 use std::thread::Threads;
-use timing_examples::{NANOS, as_pcapng};
 use timing_report::{Input, Status};
 
 const PLAIN: &str =
@@ -120,7 +120,7 @@ fn reach_missing(rt: HostRuntime) -> Result<(), Fail> {
         let wanted = (Status::NotAllJudged, "no such media\n");
         prints(&rt, line, &setting, wanted)?;
     }
-    setting.sdp = timing_examples::two_paths(rt.alloc())?;
+    setting.sdp = capture_gen::examples::two_paths(rt.alloc())?;
     for (line, number) in [
         ("window --sdp p.sdp --media 1 none.pcap", 1),
         ("shape --sdp p.sdp --media 1 --type N none.pcap", 1),
