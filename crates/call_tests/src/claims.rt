@@ -1,12 +1,12 @@
 //! The rows of `verify` and `verify-report`, over captures in memory.
 
 use crate::program::part;
+use capture_gen::examples::{NARROW, Spread, described};
 use std::alloc::{AllocError, Global};
 use std::process::Abort;
 use std::test::Fail;
 use timing_base::worked::file_name;
 use timing_base::{FailProof, Items, Kind, ReportJob, VerifyJob};
-use capture_gen::examples::{NARROW, Spread, described};
 use timing_outside::{MemoryShelf, MemorySink, ReadPlan};
 use timing_report::{Input, Status};
 use timing_verify::{verify_all, verify_one};

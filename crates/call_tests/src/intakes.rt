@@ -3,6 +3,7 @@
 ghost use Rattle.std.specs.Prelude.{◌≡◌, ◌≤◌, ◌∷◌, [], IfOk, length};
 ghost use Rattle.flow_worker.specs.Intakes.{AreOfFile, HaveSentNothing};
 
+use capture_gen::examples::{FRAME, HEAD, source_of};
 use capture_gen::{capture_len, sdp_bytes, write_capture};
 use flow_worker::{IntakeDone, intake};
 use ruled_intake::{Closed, Halt, Lane, Message, SendPass, TakePass};
@@ -14,7 +15,6 @@ use std::sync::Wait;
 use std::test::Fail;
 use timing_base::worked::undeclared_to;
 use timing_base::{FileNote, Media, PcapFault};
-use capture_gen::examples::{FRAME, HEAD, source_of};
 use timing_outside::{MemorySink, NoGate, Source};
 
 // The made capture of 13 frames of 20 packets: with the packet before them it has 261 records.

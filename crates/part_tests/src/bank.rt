@@ -1,13 +1,13 @@
 ghost use Rattle.std.specs.Prelude.{◌≡◌, ◌≤◌, ◌^◌, None, IfOk};
 ghost use Rattle.pcap_reader.specs.Readers.{end_note, frame_count, most_of};
 
+use capture_gen::examples::{FRAME, HEAD, source_of};
 use fail_interval::Bank;
 use pcap_reader::{MOST, PcapReader, Taken, take_records};
 use std::alloc::{AllocError, Global};
 use std::test::Fail;
 use timing_base::worked::undeclared_to;
 use timing_base::{FileNote, FlowKey, PacketFault, Row, Unjudged, Verdict};
-use capture_gen::examples::{FRAME, HEAD, source_of};
 use timing_outside::{MemorySource, OpenFault};
 
 // A frame to port 50000 and so many more, with the packet of this number: the last of its frame, or

@@ -2,12 +2,12 @@
 
 ghost use Rattle.std.specs.Prelude.{◌≡◌, ◌+◌, IfOk, length};
 
+use capture_gen::examples::{FRAME, HEAD, source_of};
 use interval_checker::{CheckFault, confirm};
 use std::alloc::{AllocError, Global};
 use std::test::Fail;
 use timing_base::worked::{LATE, PLAIN};
 use timing_base::{Broken, FailProof, Kind, PacketFault, Unjudged};
-use capture_gen::examples::{FRAME, HEAD, source_of};
 use timing_outside::{MemorySource, OpenFault};
 
 // Five packets of 20 at once: five in the bucket, and four are the most.

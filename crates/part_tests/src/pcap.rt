@@ -1,11 +1,11 @@
 //! Captures in pieces, reads that fail, and the largest record.
 
+use capture_gen::examples::source_of;
 use pcap_reader::{MOST, PcapReader, Step};
 use std::alloc::{AllocError, Global};
 use std::process::Abort;
 use std::test::Fail;
 use timing_base::{FileNote, PcapFault};
-use capture_gen::examples::source_of;
 use timing_outside::{MemorySource, OpenFault};
 
 const SECOND: u64 = 1_000_000_000;

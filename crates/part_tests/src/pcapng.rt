@@ -1,11 +1,11 @@
 //! Captures as pcapng files, in pieces, with reads that fail, and with long blocks.
 
+use capture_gen::examples::{MICROS, NANOS, SECTION, as_pcapng, push_number, push_packet};
 use capture_gen::{capture_len, write_capture};
 use pcapng_reader::Classic;
 use std::alloc::{AllocError, Global};
 use std::process::Abort;
 use std::test::Fail;
-use capture_gen::examples::{MICROS, NANOS, SECTION, as_pcapng, push_number, push_packet};
 use timing_outside::{MemoryShelf, MemorySink, ReadPlan, Shelf, Source};
 
 const PIECES: [u32; 4] = [1, 7, 100, 65_536];

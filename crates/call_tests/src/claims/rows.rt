@@ -4,11 +4,11 @@ use super::{
     Asked, BURST, CONFIRMED, DENIED, EVEN, FIRST, FIVE_AT_ONCE, claimed, halves, put, reported,
     verifies, verifies_report,
 };
+use capture_gen::examples::{NARROW, Spread, described, three_media, usual_equipment};
 use std::alloc::{AllocError, Global};
 use std::process::Abort;
 use std::test::Fail;
 use timing_base::{Broken, FailProof, Kind, VerifyJob};
-use capture_gen::examples::{NARROW, Spread, described, three_media, usual_equipment};
 use timing_outside::MemoryShelf;
 use timing_report::Status;
 

@@ -2,13 +2,13 @@
 
 use super::faults::without_text;
 use super::{CHECK, HEADER, ends, made, over, part, runs, shelf_of};
+use capture_gen::examples::{MEDIA, described};
 use sdp_reader::{SdpCause, SdpFault};
 use std::process::Abort;
 use std::str;
 use std::sync::Wait;
 use std::test::Fail;
 use std::thread::Threads;
-use capture_gen::examples::{MEDIA, described};
 use timing_report::Status;
 
 // The answer on a description of no bytes.

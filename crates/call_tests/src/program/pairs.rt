@@ -2,9 +2,9 @@
 
 use super::windows::{fails_by_reads, prints};
 use super::{Setting, made, over, part, runs, shelf_of};
+use capture_gen::examples::{NANOS, as_pcapng, second_path, two_paths};
 use std::process::Abort;
 use std::test::Fail;
-use capture_gen::examples::{NANOS, as_pcapng, second_path, two_paths};
 use timing_report::{Input, Status};
 
 const PAIR: &str =

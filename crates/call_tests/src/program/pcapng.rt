@@ -1,8 +1,8 @@
 //! Captures in the layout of pcapng, which are judged as the classic ones of the same packets.
 
 use super::{ABSENT, CHECK, ends, made, over, part, passes};
-use std::test::Fail;
 use capture_gen::examples::{MICROS, NANOS, NARROW, SECTION, Spread, as_pcapng, push_packet};
+use std::test::Fail;
 use timing_report::Status;
 
 #[test]

@@ -2,9 +2,9 @@
 
 use super::variants::{big_endian, last_second_of, tagged, with_payload};
 use super::{CHECK, LINEAR, NARROW, Setting, judges, made, over, passes};
+use capture_gen::examples::{NARROW as PLAIN, Spread, described, usual_equipment as usual};
 use std::alloc::{AllocError, Global};
 use std::test::Fail;
-use capture_gen::examples::{NARROW as PLAIN, Spread, described, usual_equipment as usual};
 use timing_report::Status;
 
 // The plain description and capture, but that so many packets of the first frame come at once.

@@ -1,8 +1,8 @@
 //! Several captures and media, and JSON.
 
 use super::{CHECK_TWO, HEADER, LINEAR, NARROW, ends, made, over, part, runs, shelf_of};
-use std::test::Fail;
 use capture_gen::examples::three_media;
+use std::test::Fail;
 use timing_report::Status;
 
 #[test]

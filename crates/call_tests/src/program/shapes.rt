@@ -2,13 +2,13 @@
 
 use super::windows::{fails_by_reads, prints};
 use super::{CHECK, Setting, judges, made, over, part, shelf_of, words_of};
+use capture_gen::examples::{NARROW, Spread, described};
 use capture_gen::{Packet, file_head};
 use std::alloc::{AllocError, Global};
 use std::process::Abort;
 use std::sync::Wait;
 use std::test::Fail;
 use std::thread::Threads;
-use capture_gen::examples::{NARROW, Spread, described};
 use timing_outside::{MemorySink, NoGate};
 use timing_report::Status;
 use timing_top::run;

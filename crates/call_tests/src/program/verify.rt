@@ -1,11 +1,11 @@
 //! Fails that are checked from the captures alone.
 
 use super::{Setting, ends, made, over, part};
+use capture_gen::examples::{NARROW, Spread, described, usual_equipment};
 use std::process::Abort;
 use std::sync::Wait;
 use std::test::Fail;
 use std::thread::Threads;
-use capture_gen::examples::{NARROW, Spread, described, usual_equipment};
 use timing_report::{Input, Status};
 
 // That each of these lines ends so.

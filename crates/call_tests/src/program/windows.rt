@@ -1,11 +1,11 @@
 //! The rows of `window`.
 
 use super::{Setting, made, over, part, runs, shelf_of};
+use capture_gen::examples::{NANOS, as_pcapng};
 use std::process::Abort;
 use std::sync::Wait;
 use std::test::Fail;
 use std::thread::Threads;
-use capture_gen::examples::{NANOS, as_pcapng};
 use timing_report::{Input, Status};
 
 const PLAIN: &str =
