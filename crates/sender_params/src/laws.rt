@@ -1,8 +1,11 @@
-//! The definitions on numbers worked by hand. Each function does nothing, and its clauses are
-//! proved.
+//! The definitions on numbers worked by hand, and what holds of every confirmed fail. Each function does
+//! nothing, and its clauses are proved.
 
-ghost use Rattle.std.specs.Prelude.{◌≡◌, ◌∷◌, [], true, false, pos, negsuc, Some, None, replicate};
+ghost use Rattle.std.specs.Prelude.{◌≡◌, ◌∷◌, [], ℕ, List, true, false, pos, negsuc, Some, None, replicate};
 ghost use Rattle.fraction128.specs.Fractions.{Below, scaled, whole};
+ghost use Rattle.timing_base.specs.Media.{Media};
+ghost use Rattle.timing_base.specs.declared.fail.FailProof.{FailProof};
+ghost use Rattle.timing_base.specs.declared.media.Kind.{Kind};
 ghost use Rattle.timing_base.specs.declared.fail.Broken.TheVariants.{Bucket, Over, Empty};
 ghost use Rattle.timing_base.specs.declared.media.Kind.TheVariants.{N, NL, W};
 ghost use Rattle.sender_params.specs.Times.{drain_time, frame_time, group_time};
@@ -286,6 +289,16 @@ pub fn keeps_by_hand()
     ensures four { Keeps hd_50 20 (at_once 4) N }
     ensures five { Keeps hd_50 20 (at_once 5) N → ⊥ }
     ensures linear { Keeps hd_50 20 linear_two N → ⊥ }
+{}
+
+/// Of one model and one interval a confirmed fail has one count and one limit.
+pub fn confirmed_once()
+    ensures count { (m : Media) (n : ℕ) (stamps : List ℕ) (kind : Kind) (f g : FailProof)
+        → Confirms m n stamps kind f → Confirms m n stamps kind g → f.model ≡ g.model
+        → f.from ≡ g.from → f.to ≡ g.to → f.count ≡ g.count }
+    ensures limit { (m : Media) (n : ℕ) (stamps : List ℕ) (kind : Kind) (f g : FailProof)
+        → Confirms m n stamps kind f → Confirms m n stamps kind g → f.model ≡ g.model
+        → f.from ≡ g.from → f.to ≡ g.to → f.limit ≡ g.limit }
 {}
 
 /// A fail of the bucket is confirmed for its own interval, count and limit alone.
