@@ -1,4 +1,4 @@
-use Rattle.std.proofs.Common.{◌≤◌, ◌+◌, ◌-◌, ℕ, slice_index, arith, sym, subst}
+use Rattle.std.proofs.Common.{◌≤◌, ◌+◌, ◌-◌, slice_index, arith, sym, subst}
 use Rattle.fraction128.specs.Fractions.{whole}
 use Rattle.sender_params.specs.Keeps.{due_among}
 use Rattle.sender_params.specs.Limits.{c_max_of, gapped_of, vrx_full_of}
