@@ -5,7 +5,8 @@
 -- This project's profile: there is one tag at most, of type 0x8100; a fragment has no datagram; a
 -- frame that was captured up to its UDP ports has one, its payload empty where the UDP header isn't
 -- whole or its length is below 8. IPv4's total length and the checksums aren't looked at.
-use Rattle.std.specs.Prelude.{ℕ, ◌+◌, ◌-◌, ◌*◌, ◌/◌, ◌%◌, ◌^◌, ◌==◌, ◌&&◌, nat_le, Bool, if◌then◌else◌, List, length, take, drop, slice_index, Option, Some, None}
+use Rattle.std.specs.Prelude.{ℕ, ◌+◌, ◌-◌, ◌*◌, ◌/◌, ◌%◌, ◌^◌, ◌==◌, ◌&&◌, nat_le, Bool, if◌then◌else◌, List, length}
+use Rattle.std.specs.Prelude.{take, drop, slice_index, Option, Some, None}
 use Rattle.timing_base.specs.declared.target.Target.{Target}
 use Rattle.udp_rtp.specs.Numbers.{number16, number32}
 

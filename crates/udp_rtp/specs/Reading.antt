@@ -3,7 +3,8 @@
 -- 5.3.1 (the header extension), and RFC 4175, section 4.2 (the extended sequence number).
 -- This project's profile: which of several faults is the first; padding, and the bit that tells of
 -- it, aren't looked at.
-use Rattle.std.specs.Prelude.{ℕ, ◌+◌, ◌*◌, ◌^◌, ◌/◌, ◌%◌, ◌==◌, nat_lt, Bool, if◌then◌else◌, List, length, slice_index, Result, Ok, Err}
+use Rattle.std.specs.Prelude.{ℕ, ◌+◌, ◌*◌, ◌^◌, ◌/◌, ◌%◌, ◌==◌, nat_lt, Bool, if◌then◌else◌, List, length, slice_index}
+use Rattle.std.specs.Prelude.{Result, Ok, Err}
 use Rattle.udp_rtp.specs.Numbers.{number16, number32}
 use Rattle.timing_base.specs.declared.packet.Rtp.{Rtp}
 use Rattle.timing_base.specs.declared.packet.PacketFault.{PacketFault}
