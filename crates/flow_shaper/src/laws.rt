@@ -93,8 +93,8 @@ pub fn burst_by_hand()
     ensures bound { BoundAt hd_50 20 N (at_once 5) burst_shaped 4 (Bucket 0) }
 {}
 
-/// The same with CMAX=100, where VRX_FULL is 8: of nine packets at once the last waits for read 0, at
-/// 444 4/9 ns, and of ten the last for read 1, 960,000 ns after it.
+/// 1080p at 50 with 20 packets per frame and CMAX=100, where VRX_FULL is 8: of nine packets at once the
+/// last waits for read 0, at 444 4/9 ns, and of ten the last for read 1, 960,000 ns after it.
 pub fn buffer_by_hand()
     ensures c_max { (models_of hd_50_wide_bucket 20 N first).c_max ≡ 100 }
     ensures vrx_full { (models_of hd_50_wide_bucket 20 N first).vrx_full ≡ 8 }
