@@ -1,29 +1,6 @@
 -- Windows of packets that are worked by hand: a bound is tried at an offset and at the next one.
-use Rattle.std.proofs.Common.{
-  ◌≡◌,
-  ◌<◌,
-  ◌+◌,
-  ◌-◌,
-  ℕ,
-  zero,
-  suc,
-  Bool,
-  true,
-  false,
-  cond,
-  nat_lt,
-  Some,
-  None,
-  List,
-  length,
-  slice_index,
-  refl,
-  ap,
-  ◌∙◌,
-  arith,
-  inl,
-  inr,
-}
+use Rattle.std.proofs.Common.{◌≡◌, ◌<◌, ◌+◌, ◌-◌, ℕ, zero, suc, Bool, true, false, cond, nat_lt, Some, None, List, length, slice_index, refl, ap, ◌∙◌, arith}
+use Rattle.std.proofs.Common.{inl, inr}
 use Rattle.std.proofs.lemmas.Bool.{cases_lt, ltb-true}
 use Rattle.std.proofs.lemmas.Option.{none-some}
 use Rattle.timing_base.specs.Media.{IsMedia, Media}

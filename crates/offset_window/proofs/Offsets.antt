@@ -1,32 +1,6 @@
 -- What a later or earlier offset does to one packet.
-use Rattle.std.proofs.Common.{
-  ◌≡◌,
-  ◌≤◌,
-  ◌<◌,
-  ◌+◌,
-  ◌-◌,
-  ◌*◌,
-  ℕ,
-  ℤ,
-  Bool,
-  true,
-  false,
-  nat_lt,
-  not,
-  min,
-  Option,
-  Some,
-  List,
-  length,
-  slice_index,
-  ap,
-  sym,
-  subst,
-  ◌∙◌,
-  arith,
-  inl,
-  inr,
-}
+use Rattle.std.proofs.Common.{◌≡◌, ◌≤◌, ◌<◌, ◌+◌, ◌-◌, ◌*◌, ℕ, ℤ, Bool, true, false, nat_lt, not, min, Option, Some, List, length, slice_index, ap, sym, subst}
+use Rattle.std.proofs.Common.{◌∙◌, arith, inl, inr}
 use Rattle.std.proofs.lemmas.Bool.{cases_lt, false_from_ne_true, le-ltb}
 use Rattle.std.proofs.lemmas.Bool.Decides.{nat_tests}
 use Rattle.std.proofs.lemmas.Int.{ints}
@@ -46,19 +20,8 @@ use Rattle.read_schedule.specs.declared.grid.Grid.{Grid}
 use Rattle.read_schedule.proofs.Held.{due_among-is}
 use Rattle.read_schedule.proofs.Rising.{difference, due-some}
 use Rattle.offset_window.specs.Parts.{comes_after, comes_before, parts_with}
-use Rattle.offset_window.specs.Window.{
-  IsGreatest,
-  IsLeast,
-  IsLowerEnd,
-  IsUpperEnd,
-  IsWindow,
-  Serves,
-  held_with,
-  is_empty_with,
-  is_over_with,
-  read_with,
-  with_offset,
-}
+use Rattle.offset_window.specs.Window.{IsGreatest, IsLeast, IsLowerEnd, IsUpperEnd, IsWindow, Serves, held_with, is_empty_with, is_over_with, read_with}
+use Rattle.offset_window.specs.Window.{with_offset}
 use Rattle.offset_window.specs.declared.window.Window.{Window}
 use Rattle.offset_window.specs.declared.window.WindowEnd.TheVariants.{At}
 use Rattle.offset_window.proofs.Ends.{Falls, Rises, clash}

@@ -1,50 +1,12 @@
 -- There is one window and not two.
-use Rattle.std.proofs.Common.{
-  ◌≡◌,
-  ◌≤◌,
-  ◌<◌,
-  ◌+◌,
-  ◌-◌,
-  ◌⊎◌,
-  ℕ,
-  zero,
-  suc,
-  Bool,
-  true,
-  false,
-  Option,
-  Some,
-  None,
-  List,
-  length,
-  slice_index,
-  refl,
-  ap,
-  sym,
-  subst,
-  ◌∙◌,
-  arith,
-  inl,
-  inr,
-}
+use Rattle.std.proofs.Common.{◌≡◌, ◌≤◌, ◌<◌, ◌+◌, ◌-◌, ◌⊎◌, ℕ, zero, suc, Bool, true, false, Option, Some, None, List, length, slice_index, refl, ap, sym}
+use Rattle.std.proofs.Common.{subst, ◌∙◌, arith, inl, inr}
 use Rattle.std.proofs.lemmas.Bool.{cases_lt}
 use Rattle.timing_base.specs.Media.{Media}
 use Rattle.timing_base.specs.declared.media.Kind.{Kind}
 use Rattle.sender_params.specs.Reads.{anchor_of}
-use Rattle.offset_window.specs.Window.{
-  Binds,
-  BindsLower,
-  BindsUpper,
-  IsFirstBroken,
-  IsGreatest,
-  IsLeast,
-  IsLowerEnd,
-  IsUpperEnd,
-  IsWindow,
-  Serves,
-  is_empty_with,
-  is_over_with,
-}
+use Rattle.offset_window.specs.Window.{Binds, BindsLower, BindsUpper, IsFirstBroken, IsGreatest, IsLeast, IsLowerEnd, IsUpperEnd, IsWindow, Serves}
+use Rattle.offset_window.specs.Window.{is_empty_with, is_over_with}
 use Rattle.offset_window.specs.declared.window.Window.{Window}
 use Rattle.offset_window.specs.declared.window.WindowEnd.{WindowEnd}
 use Rattle.offset_window.specs.declared.window.WindowEnd.TheVariants.{Absent, At}

@@ -4,25 +4,8 @@
 -- from 0 to
 -- 1,000,000, as TROFF gives it. The buffer and its reads are the standard's. The window is this project's own: only the
 -- offset varies, while the group of the first packet, the schedule and the limits stay those of the video as described.
-use Rattle.std.specs.Prelude.{
-  ◌≡◌,
-  ◌+◌,
-  ◌-◌,
-  ◌≤◌,
-  ◌<◌,
-  ℕ,
-  ℤ,
-  Bool,
-  true,
-  false,
-  nat_lt,
-  List,
-  length,
-  slice_index,
-  Option,
-  Some,
-  None,
-}
+use Rattle.std.specs.Prelude.{◌≡◌, ◌+◌, ◌-◌, ◌≤◌, ◌<◌, ℕ, ℤ, Bool, true, false, nat_lt, List, length, slice_index}
+use Rattle.std.specs.Prelude.{Option, Some, None}
 use Rattle.fraction128.specs.Fractions.{Fraction, below, whole}
 use Rattle.timing_base.specs.Media.{Media}
 use Rattle.timing_base.specs.declared.media.Kind.{Kind}

@@ -1,31 +1,6 @@
 -- Reads rise, and only so many are due at any instant.
-use Rattle.std.proofs.Common.{
-  ◌≡◌,
-  ◌≤◌,
-  ◌<◌,
-  ◌+◌,
-  ◌-◌,
-  ◌*◌,
-  ◌%◌,
-  ◌↔◌,
-  ℕ,
-  zero,
-  suc,
-  ℤ,
-  Bool,
-  true,
-  false,
-  ap,
-  arith,
-  inl,
-  inr,
-  pos,
-  negsuc,
-  ◌-ℤ◌,
-  ◌*ℤ◌,
-  ◌≤ℤ◌,
-  ◌<ℤ◌,
-}
+use Rattle.std.proofs.Common.{◌≡◌, ◌≤◌, ◌<◌, ◌+◌, ◌-◌, ◌*◌, ◌%◌, ◌↔◌, ℕ, zero, suc, ℤ, Bool, true, false, ap, arith, inl, inr, pos, negsuc, ◌-ℤ◌, ◌*ℤ◌, ◌≤ℤ◌}
+use Rattle.std.proofs.Common.{◌<ℤ◌}
 use Rattle.std.proofs.lemmas.Bool.{cases_lt}
 use Rattle.std.proofs.lemmas.Int.{ints}
 use Rattle.std.proofs.lemmas.Nat.{mod_below}

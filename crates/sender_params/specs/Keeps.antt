@@ -2,24 +2,8 @@
 -- don't. m is the video, n the packets of one group, and the stamps are those of the judged packets, in
 -- nanoseconds, counted from 0. An instant is any fraction of nanoseconds. Both models are the standard's. This
 -- project's own are the fields of a fail, and that at one instant a packet has come and a read is done.
-use Rattle.std.specs.Prelude.{
-  ◌≡◌,
-  ◌+◌,
-  ◌-◌,
-  ◌≤◌,
-  ◌<◌,
-  ℕ,
-  ℤ,
-  pos,
-  ◌-ℤ◌,
-  ◌≤ℤ◌,
-  Bool,
-  nat_lt,
-  List,
-  length,
-  slice_index,
-  count_by,
-}
+use Rattle.std.specs.Prelude.{◌≡◌, ◌+◌, ◌-◌, ◌≤◌, ◌<◌, ℕ, ℤ, pos, ◌-ℤ◌, ◌≤ℤ◌, Bool, nat_lt, List, length, slice_index}
+use Rattle.std.specs.Prelude.{count_by}
 use Rattle.std.specs.List.{range_with_len}
 use Rattle.fraction128.specs.Fractions.{Fraction, at_most, below, whole}
 use Rattle.timing_base.specs.Media.{Media}

@@ -1,38 +1,6 @@
 -- Packets and instants: the buffer at its packets says how it is at every instant.
-use Rattle.std.proofs.Common.{
-  ◌≡◌,
-  ◌≤◌,
-  ◌<◌,
-  ◌+◌,
-  ◌-◌,
-  ◌*◌,
-  ℕ,
-  zero,
-  suc,
-  ℤ,
-  Bool,
-  true,
-  false,
-  cond,
-  min,
-  nat_lt,
-  not,
-  if◌then◌else◌,
-  Some,
-  None,
-  List,
-  [],
-  ◌∷◌,
-  length,
-  slice_index,
-  refl,
-  ap,
-  sym,
-  ◌∙◌,
-  arith,
-  inl,
-  inr,
-}
+use Rattle.std.proofs.Common.{◌≡◌, ◌≤◌, ◌<◌, ◌+◌, ◌-◌, ◌*◌, ℕ, zero, suc, ℤ, Bool, true, false, cond, min, nat_lt, not, if◌then◌else◌, Some, None, List, []}
+use Rattle.std.proofs.Common.{◌∷◌, length, slice_index, refl, ap, sym, ◌∙◌, arith, inl, inr}
 use Rattle.std.specs.List.{count_by}
 use Rattle.std.proofs.lemmas.Bool.{cases_lt, le-ltb, ltb-false, ltb-true}
 use Rattle.std.proofs.lemmas.Int.{ints}

@@ -1,21 +1,8 @@
 use Rattle.std.proofs.Common.{◌≤◌, ◌*◌, ◌^◌, arith}
 use Rattle.std.proofs.Math.Nat.{mul-le-mul_right}
 use Rattle.sender_params.specs.Times.{offset_time}
-use Rattle.sender_params.proofs.Parts.{
-  den-slow,
-  group-fits,
-  group-is,
-  group-most,
-  group-slow,
-  group-small,
-  have_per,
-  offset-is,
-  offset-small,
-  rate-small,
-  step-high,
-  step-is,
-  step-low,
-}
+use Rattle.sender_params.proofs.Parts.{den-slow, group-fits, group-is, group-most, group-slow, group-small, have_per, offset-is, offset-small, rate-small}
+use Rattle.sender_params.proofs.Parts.{step-high, step-is, step-low}
 use Rattle.sender_params.proofs.sizes.sizes_of.Goals as goal
 
 pub returns : goal.returns
