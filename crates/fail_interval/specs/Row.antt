@@ -1,6 +1,7 @@
 -- The row of a flow: what its packets come to. This project's profile.
 use Rattle.std.specs.Prelude.{ℕ, true, false, List, [], ◌∷◌, length, map}
-use Rattle.timing_base.specs.Judged.{FlowRun, FlowVerdict, JudgedRun, RunOutcome, absent, gap, in_one_run, in_runs, judged, no_whole_frame, refused, whole_frames}
+use Rattle.timing_base.specs.Judged.{FlowRun, FlowVerdict, JudgedRun, RunOutcome, absent, gap, in_one_run, in_runs}
+use Rattle.timing_base.specs.Judged.{judged, no_whole_frame, refused, whole_frames}
 use Rattle.timing_base.specs.Media.{Media}
 use Rattle.timing_base.specs.Verdicts.{Judged as JudgedValue}
 use Rattle.timing_base.specs.declared.key.FlowKey.{FlowKey}
@@ -28,7 +29,8 @@ judged_values m run = record {
   bucket_peak = greatest (bucket_of m run.n run.stamps) (length run.stamps);
   gapped_peak = greatest (held_at m run.n run.stamps true) (length run.stamps);
   linear_peak = greatest (held_at m run.n run.stamps false) (length run.stamps);
-  kinds = kind_verdict m run.n run.stamps N ∷ kind_verdict m run.n run.stamps NL ∷ kind_verdict m run.n run.stamps W ∷ [];
+  kinds = kind_verdict m run.n run.stamps N ∷ kind_verdict m run.n run.stamps NL ∷ kind_verdict m run.n run.stamps W
+      ∷ [];
 }
 
 -- the verdict on a run between gaps

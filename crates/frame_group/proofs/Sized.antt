@@ -2,7 +2,8 @@
 use Rattle.std.proofs.Common.{◌≡◌, ◌≤◌, ◌+◌, ◌-◌, ℕ, zero, suc, List, [], ◌∷◌, ◌++◌, length, Option, Some, None, refl, ap, ◌∙◌, sym, arith, add-one, inl, inr}
 use Rattle.std.specs.Prelude.{slice_index}
 use Rattle.std.proofs.lemmas.Bool.{cases_lt}
-use Rattle.timing_base.specs.Flows.{FirstFault, cuts, earlier_or, fault, first_fault_below, group_len, last_place, markers, markers_before, place_in_group, run_start}
+use Rattle.timing_base.specs.Flows.{FirstFault, cuts, earlier_or, fault, first_fault_below, group_len, last_place, markers, markers_before, place_in_group}
+use Rattle.timing_base.specs.Flows.{run_start}
 use Rattle.timing_base.specs.Grouped.{IsSized}
 use Rattle.timing_base.specs.declared.packet.FlowPacket.{FlowPacket}
 use Rattle.timing_base.specs.declared.packet.PacketFault.{PacketFault}
