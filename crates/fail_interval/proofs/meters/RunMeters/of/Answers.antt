@@ -1,6 +1,6 @@
 use Rattle.std.proofs.Common.{◌∙◌}
 use Rattle.fail_interval.proofs.Metering.{all-stands, next-follows, next-stands}
-use Rattle.fail_interval.proofs.meters.Meters.of.Goals as goal
+use Rattle.fail_interval.proofs.meters.RunMeters.of.Goals as goal
 
 pub feed-requires : goal.feed-requires
 feed-requires c = ∣ (_, next-follows _ _ _ _ c.requires.fit c.loop-at-test.true c.loop-at.invariant.origin c.loop-at.invariant.stands) ∣₁

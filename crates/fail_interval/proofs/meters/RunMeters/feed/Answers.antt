@@ -1,6 +1,6 @@
 use Rattle.fail_interval.proofs.Fit.{bounds-known}
 use Rattle.fail_interval.proofs.Metering.{bucket-follows}
-use Rattle.fail_interval.proofs.meters.Meters.feed.Goals as goal
+use Rattle.fail_interval.proofs.meters.RunMeters.feed.Goals as goal
 
 pub feed-requires-clause-begun : goal.feed-requires-clause-begun
 feed-requires-clause-begun c = (bounds-known _ _ _ c.requires).begun

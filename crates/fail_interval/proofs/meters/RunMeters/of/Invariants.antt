@@ -1,6 +1,6 @@
 use Rattle.std.proofs.Common.{◌≡◌, slice_index, take}
 use Rattle.fail_interval.specs.Meters.{StandsFor}
-use Rattle.fail_interval.proofs.meters.Meters.of.Given as goal
+use Rattle.fail_interval.proofs.meters.RunMeters.of.Given as goal
 
 abbrev pub invariant-loop-at : goal.invariant-loop-at
 invariant-loop-at l = record {
