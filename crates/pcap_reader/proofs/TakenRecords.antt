@@ -55,7 +55,7 @@ pub taken-stops : {S T E : Type 0} (left : S → Option (List ℕ)) (takes : T �
     → stops old new stop (map (raised before) items)
 taken-stops left takes stops before old mid new reader count stop items end ends h step =
     let e : map (raised before) items ≡ map (raised before) h.taken ++ map (raised before) h.rest
-        = ap (map (raised before)) h.whole ∙ map-append (raised before) h.taken h.rest in
+    = ap (map (raised before)) h.whole ∙ map-append (raised before) h.taken h.rest in
     subst (stops old new stop) (sym e) (ends (map (raised before) h.taken) (map (raised before) h.rest) h.fed (step h.rest h.given))
 
 -- it stops at the first of these records

@@ -11,10 +11,10 @@ use std::alloc::Global;
 use std::sync::Wait;
 use std::thread::Threads;
 use timing_base::CheckJob;
-use timing_top::{Opened, open, report_on};
 use timing_outside::{Gate, Shelf, Sink};
 use timing_report::Status;
 use timing_steps::{Answer, Failure, conclude};
+use timing_top::{Opened, open, report_on};
 
 /// The answer of a job with its workers, or on this thread where it has none, or why there is none.
 pub fn answer_many<R: Threads + Wait + Sync, H: Shelf, G: Gate>(

@@ -14,9 +14,9 @@ use std::alloc::Global;
 use std::sync::Wait;
 use std::thread::Threads;
 use timing_base::Media;
-use timing_top::{Found, judge_alone};
 use timing_outside::{Gate, Shelf};
 use timing_steps::Failure;
+use timing_top::{Found, judge_alone};
 
 /// Judges the media in the captures with so many workers, or on this thread where there are none. What
 /// is found goes by the texts alone.

@@ -17,10 +17,10 @@ use std::alloc::{AllocError as OutOfMemory, Global};
 use std::sync::Wait;
 use std::thread::Threads;
 use timing_base::{FileName, Session};
-use timing_top::Found;
 use timing_outside::{Gate, MemorySink, SteadyShelf};
 use timing_report::{Status, status_of, verdict_of};
 use timing_steps::{Answer, Failure, fetch_captures, fetch_session};
+use timing_top::Found;
 
 /// The flaws that a made capture can have, none among them.
 const FLAWS: u32 = 5;
