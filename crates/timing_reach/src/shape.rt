@@ -57,8 +57,8 @@ fn answer_on<H: Shelf>(
     shelf: &mut H,
     media: &Media,
 ) -> Result<Answer, Failure>
-    ensures follows { Yields result (ReadsCapture (seen_of H.text H.lacks H.faults shelf.old shelf.new) result job.now.flow.capture (λ text. Gives result (HasShapeIn job.now media.now text))) }
-    ensures cause { HasCause result (FlowInputRose job.now.flow (seen_of H.text H.lacks H.faults shelf.old shelf.new)) }
+    ensures follows { Yields result (ReadsCapture (seen_of H.Shelf shelf.old shelf.new) result job.now.flow.capture (λ text. Gives result (HasShapeIn job.now media.now text))) }
+    ensures cause { HasCause result (FlowInputRose job.now.flow (seen_of H.Shelf shelf.old shelf.new)) }
     ensures stays { StaysAs H.text H.lacks H.faults shelf.old shelf.new }
 {
     let seen = judge_flow(alloc, &job.flow, shelf, media)?;
@@ -72,8 +72,8 @@ fn answer_over<H: Shelf>(
     shelf: &mut H,
     media: &[Media],
 ) -> Result<Answer, Failure>
-    ensures follows { Yields result (ReadsFlow (seen_of H.text H.lacks H.faults shelf.old shelf.new) result job.now.flow (HasShapeIn job.now) (slice_get media.now job.now.flow.media)) }
-    ensures cause { HasCause result (FlowInputRose job.now.flow (seen_of H.text H.lacks H.faults shelf.old shelf.new)) }
+    ensures follows { Yields result (ReadsFlow (seen_of H.Shelf shelf.old shelf.new) result job.now.flow (HasShapeIn job.now) (slice_get media.now job.now.flow.media)) }
+    ensures cause { HasCause result (FlowInputRose job.now.flow (seen_of H.Shelf shelf.old shelf.new)) }
     ensures stays { StaysAs H.text H.lacks H.faults shelf.old shelf.new }
 {
     match media.get(job.flow.media as usize) {
@@ -90,8 +90,8 @@ pub fn answer_shape<H: Shelf>(
     job: &ShapeJob,
     shelf: &mut H,
 ) -> Result<Answer, Failure>
-    ensures follows { FollowsShape job.now (seen_of H.text H.lacks H.faults shelf.old shelf.new) result }
-    ensures cause { HasCause result (FlowInputRose job.now.flow (seen_of H.text H.lacks H.faults shelf.old shelf.new)) }
+    ensures follows { FollowsShape job.now (seen_of H.Shelf shelf.old shelf.new) result }
+    ensures cause { HasCause result (FlowInputRose job.now.flow (seen_of H.Shelf shelf.old shelf.new)) }
     ensures stays { StaysAs H.text H.lacks H.faults shelf.old shelf.new }
 {
     match fetch_session(alloc, shelf, job.flow.sdp.as_str())? {
@@ -109,10 +109,10 @@ pub fn shape_one<H: Shelf, K: Sink>(
     out: &mut K,
     err: &mut K,
 ) -> Status
-    ensures ran { Ran (FollowsShape job.now (seen_of H.text H.lacks H.faults shelf.old shelf.new))
-        (FlowInputRose job.now.flow (seen_of H.text H.lacks H.faults shelf.old shelf.new))
-        (output_of K.written K.faults out.old out.new)
-        (output_of K.written K.faults err.old err.new)
+    ensures ran { Ran (FollowsShape job.now (seen_of H.Shelf shelf.old shelf.new))
+        (FlowInputRose job.now.flow (seen_of H.Shelf shelf.old shelf.new))
+        (output_of K.Sink out.old out.new)
+        (output_of K.Sink err.old err.new)
         result }
     ensures stays { StaysAs H.text H.lacks H.faults shelf.old shelf.new }
 {

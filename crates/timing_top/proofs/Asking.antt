@@ -13,9 +13,9 @@ use Rattle.pcapng_reader.specs.Classic.{classic}
 use Rattle.timing_steps.specs.Answers.{Answer, AreThere, AreTold, Gives, Inputs, ReadsCaptures, ReadsSession, silent}
 use Rattle.timing_steps.specs.declared.failure.Failure.{Failure}
 use Rattle.timing_steps.specs.declared.failure.Failure.TheVariants as failure
-use Rattle.timing_check.specs.Asked.{CheckInputRose, FollowsCheck}
+use Rattle.timing_top.specs.Check.{CheckInputRose, FollowsCheck}
 use Rattle.timing_top.specs.Asked.{Follows, FollowsAtOnce, FollowsSelfTest, InputRose, names_of}
-use Rattle.timing_check.specs.Report.{HasReport}
+use Rattle.timing_top.specs.Report.{HasReport}
 use Rattle.timing_top.specs.SelfTest.{HasSelfTest}
 use Rattle.timing_top.proofs.Answering.{Caused, captured-failed, described-failed, not-given, only-captured, only-described, only-given, only-silent, only-yielded, some-captured, some-described, some-given, some-yielded, yielded-failed}
 use Rattle.timing_reach.specs.Asked.{HasWindow}
@@ -23,7 +23,7 @@ use Rattle.timing_reach.specs.Shaped.{HasShapeIn}
 use Rattle.timing_reach.proofs.SomeShape.{once-shape-in, some-shape-in}
 use Rattle.timing_reach.proofs.Unique.{once-window, some-window}
 use Rattle.timing_top.proofs.Reaching.{only-reach, only-skewed, reach-failed, skewed-failed, some-reach, some-skewed}
-use Rattle.timing_check.proofs.Reports.{only-report, some-report}
+use Rattle.timing_top.proofs.Reports.{only-report, some-report}
 use Rattle.timing_top.proofs.Reported.{only-reread, reread-failed, some-reread}
 use Rattle.timing_top.proofs.SelfTests.{only-self_test, some-self_test}
 use Rattle.timing_top.proofs.Verifying.{only-verify, some-verify, verify-failed}

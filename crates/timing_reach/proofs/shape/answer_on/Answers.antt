@@ -9,7 +9,7 @@ use Rattle.timing_reach.proofs.shape.answer_on.Goals as goal
 
 pub returns-clause-follows : goal.returns-clause-follows
 returns-clause-follows g c =
-    let i = seen_of g.H.Shelf.text g.H.Shelf.lacks g.H.Shelf.faults c.args.shelf.now c.answer_seen.new.shelf in
+    let i = seen_of g.H.Shelf c.args.shelf.now c.answer_seen.new.shelf in
     let same : c.job.inside.flow ≡ c.args.job.now.flow = search rules in
     reads-twice i (g.H.Shelf.text c.judge_flow.new.shelf) (g.H.Shelf.faults c.judge_flow.new.shelf) c.answer_seen.result c.args.job.now.flow.capture
     (λ text. IsSeenIn c.args.media.now c.args.job.now.flow.tai text c.in_ok-seen.seen) (HasShapeIn c.args.job.now c.args.media.now)
@@ -19,7 +19,7 @@ returns-clause-follows g c =
 
 pub returns-clause-cause : goal.returns-clause-cause
 returns-clause-cause g c =
-    let i = seen_of g.H.Shelf.text g.H.Shelf.lacks g.H.Shelf.faults c.args.shelf.now c.answer_seen.new.shelf in
+    let i = seen_of g.H.Shelf c.args.shelf.now c.answer_seen.new.shelf in
     capture-cause i c.args.job.now.flow c.answer_seen.result c.answer_seen.ensures.answers
     (cause-after c.answer_seen.result (i.before c.args.job.now.flow.capture) (g.H.Shelf.faults c.judge_flow.new.shelf c.args.job.now.flow.capture) (i.now c.args.job.now.flow.capture)
     (c.judge_flow.ensures.stays.later c.args.job.now.flow.capture) c.answer_seen.ensures.cause)

@@ -6,14 +6,14 @@ use Rattle.timing_reach.proofs.window.answer_on.Goals as goal
 
 pub returns-clause-follows : goal.returns-clause-follows
 returns-clause-follows g c =
-    let i = seen_of g.H.Shelf.text g.H.Shelf.lacks g.H.Shelf.faults c.args.shelf.now c.answer_seen.new.shelf in
+    let i = seen_of g.H.Shelf c.args.shelf.now c.answer_seen.new.shelf in
     reads-twice i (g.H.Shelf.text c.judge_flow.new.shelf) (g.H.Shelf.faults c.judge_flow.new.shelf) c.answer_seen.result c.args.job.now.capture
     (λ text. IsSeenIn c.args.media.now c.args.job.now.tai text c.in_ok-seen.seen) (HasWindow c.args.job.now.tai c.args.media.now)
     c.judge_flow.ensures.stays.texts c.judge_flow.ensures.stays.later c.in_ok-seen.ensures.told c.in_ok-seen.ensures.there c.answer_seen.ensures.told c.answer_seen.ensures.cause
 
 pub returns-clause-cause : goal.returns-clause-cause
 returns-clause-cause g c =
-    let i = seen_of g.H.Shelf.text g.H.Shelf.lacks g.H.Shelf.faults c.args.shelf.now c.answer_seen.new.shelf in
+    let i = seen_of g.H.Shelf c.args.shelf.now c.answer_seen.new.shelf in
     capture-cause i c.args.job.now c.answer_seen.result c.answer_seen.ensures.answers
     (cause-after c.answer_seen.result (i.before c.args.job.now.capture) (g.H.Shelf.faults c.judge_flow.new.shelf c.args.job.now.capture) (i.now c.args.job.now.capture)
     (c.judge_flow.ensures.stays.later c.args.job.now.capture) c.answer_seen.ensures.cause)

@@ -1,6 +1,0 @@
-use Rattle.std.proofs.Common.{arith}
-use Rattle.report_laws.proofs.Exact.{rows-exact}
-use Rattle.report_laws.proofs.laws.types_are_exact.Goals as goal
-
-pub returns : goal.returns
-returns c = λ job media texts answer is are bytes many h. rows-exact job.joined job.tai media texts h.files h.notes is.tai_most (omega (arith, many, is.captures_are.few)) are bytes h.records

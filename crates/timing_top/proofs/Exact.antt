@@ -1,0 +1,133 @@
+-- What the rows of a job tell of the sender types.
+use Rattle.std.proofs.Common.{◌≡◌, ◌≤◌, ◌+◌, ◌*◌, ◌^◌, ℕ, zero, suc, Bool, true, false, List, [], ◌∷◌, length, Some, refl, arith, ap, ◌∙◌, sym}
+use Rattle.std.proofs.lemmas.List.Elements.{All-append, All-cons, All-head, All-nil, All-tail, All-weaker}
+use Rattle.std.specs.Prelude.{All, map, slice_get}
+use Rattle.timing_base.specs.Captures.{Record, joined}
+use Rattle.timing_base.specs.Grouped.{IsGrouped, IsGroupedOutcome, IsGroupedVerdict}
+use Rattle.timing_base.specs.Judged.{FlowRun, FlowVerdict, JudgedRun, RunOutcome, absent, gap, in_one_run, in_runs, judged, no_whole_frame, refused, whole_frames}
+use Rattle.timing_base.specs.Keys.{key_of}
+use Rattle.timing_base.specs.Media.{IsMedia, Media}
+use Rattle.timing_base.specs.declared.capture.FileNote.{FileNote}
+use Rattle.timing_base.specs.declared.media.Kind.{Kind}
+use Rattle.timing_base.specs.declared.media.Kind.TheVariants.{N, NL, W}
+use Rattle.timing_base.specs.declared.row.Row.{Row}
+use Rattle.timing_base.specs.declared.row.Unjudged.TheVariants as unjudged
+use Rattle.sender_params.specs.Ticks.{NeverFall}
+use Rattle.pcap_reader.specs.Records.{AreRecords}
+use Rattle.udp_rtp.specs.Flow.{flow}
+use Rattle.fail_interval.specs.Fails.{kind_verdict}
+use Rattle.fail_interval.specs.Row.{judged_values, row, run_of, run_verdict_of, verdict_of}
+use Rattle.fail_interval.proofs.Confirmed.{fail-confirms, keeps-pass, pass-keeps}
+use Rattle.flow_bank.specs.Rows.{rows_from, rows_of, rows_of_files, rows_over}
+use Rattle.timing_top.specs.Exact.{AreExact, IsExact, IsExactRow, TellRuns, TellsFlow, TellsRun}
+use Rattle.timing_top.specs.ReadBack.{AreBytes}
+use Rattle.timing_top.proofs.Small.{flow-grouped, joined-small, one-small}
+
+-- the verdicts on a judged run
+kinds-exact : (m : Media) (run : JudgedRun) → IsMedia m → IsGrouped run → AreExact m run (judged_values m run).kinds
+kinds-exact m run is g =
+    let falls : NeverFall run.stamps = λ a b order below. g.rising a b 0 order below in
+    let of : (kind : Kind) → IsExact m run.n run.stamps kind (kind_verdict m run.n run.stamps kind) = λ kind. record {
+      passes = pass-keeps m run.n run.stamps kind is g.some falls;
+      keeps = keeps-pass m run.n run.stamps kind is g.some falls;
+      confirmed = λ f e. fail-confirms m run.n run.stamps kind f is g.some falls e;
+    } in
+    record {
+      narrow = kind_verdict m run.n run.stamps N;
+      narrow_linear = kind_verdict m run.n run.stamps NL;
+      wide = kind_verdict m run.n run.stamps W;
+      kinds_are = refl;
+      narrow_is = of N;
+      narrow_linear_is = of NL;
+      wide_is = of W;
+    }
+
+run-exact : (m : Media) (outcome : RunOutcome) → IsMedia m → IsGroupedOutcome outcome → TellsRun m outcome (run_verdict_of m outcome)
+run-exact m (no_whole_frame head) is g = refl
+run-exact m (whole_frames run) is g = (judged_values m run, refl, kinds-exact m run is g)
+
+runs-exact : (m : Media) (runs : List FlowRun) → IsMedia m → All (λ run. IsGroupedOutcome run.outcome) runs → TellRuns m runs (map (run_of m) runs)
+runs-exact m [] is g = refl
+runs-exact m (r ∷ rs) is g =
+    (run-exact m r.outcome is (All-head (λ (run : FlowRun). IsGroupedOutcome run.outcome) r rs g), runs-exact m rs is (All-tail (λ (run : FlowRun). IsGroupedOutcome run.outcome) r rs g))
+
+flow-exact : (m : Media) (v : FlowVerdict) → IsMedia m → IsGroupedVerdict v → TellsFlow m v (verdict_of m v)
+flow-exact m absent is g = (unjudged.Absent, refl)
+flow-exact m (refused rec fault) is g = (unjudged.Refused rec fault, refl)
+flow-exact m (gap rec expected got) is g = (unjudged.Gap rec expected got, refl)
+flow-exact m (in_one_run (no_whole_frame head)) is g = (unjudged.NoWholeFrame head, refl)
+flow-exact m (in_one_run (whole_frames run)) is g = (judged_values m run, refl, kinds-exact m run is g)
+flow-exact m (in_runs runs) is g = (map (run_of m) runs, refl, runs-exact m runs is g.outcomes)
+
+-- a row of this file that tells of its media there
+record IsInFile (media : List Media) (tai file : ℕ) (items : List Record) (r : Row) : Type 0 where
+  file_is : r.key.file ≡ file
+  m : Media
+  there : slice_get media r.key.media ≡ Some m
+  tells : TellsFlow m (judged (flow items m) m.pt tai) r.verdict
+
+file-rows : (media : List Media) (tai file number : ℕ) (ms : List Media) (items : List Record) → All IsMedia ms
+    → ((k : ℕ) → slice_get media (number + k) ≡ slice_get ms k)
+    → ((m : Media) → IsGroupedVerdict (judged (flow items m) m.pt tai))
+    → All (IsInFile media tai file items) (rows_from tai file number ms items)
+file-rows media tai file number [] items are at g = All-nil (IsInFile media tai file items)
+file-rows media tai file number (m ∷ ms) items are at g =
+    let z : number ≡ number + 0 = omega arith in
+    All-cons (IsInFile media tai file items) (row (flow items m) (key_of file number) m tai) (rows_from tai file (number + 1) ms items)
+    record {
+      file_is = refl;
+      m = m;
+      there = ap (slice_get media) z ∙ at 0;
+      tells = flow-exact m (judged (flow items m) m.pt tai) (All-head IsMedia m ms are) (g m);
+    }
+    (file-rows media tai file (number + 1) ms items (All-tail IsMedia m ms are)
+    (λ k. let s : number + 1 + k ≡ number + suc k = omega arith in ap (slice_get media) s ∙ at (suc k)) g)
+
+all-rows : (media : List Media) (tai file : ℕ) (items : List Record) → All IsMedia media → ((m : Media) → IsGroupedVerdict (judged (flow items m) m.pt tai))
+    → All (IsInFile media tai file items) (rows_of tai file media items)
+all-rows media tai file items are g =
+    file-rows media tai file 0 media items are (λ k. let z : 0 + k ≡ k = omega arith in ap (slice_get media) z) g
+
+-- the same of one of these files
+record IsInFiles (media : List Media) (tai first : ℕ) (files : List (List Record)) (r : Row) : Type 0 where
+  place : ℕ
+  file_is : r.key.file ≡ first + place
+  items : List Record
+  found : slice_get files place ≡ Some items
+  m : Media
+  there : slice_get media r.key.media ≡ Some m
+  tells : TellsFlow m (judged (flow items m) m.pt tai) r.verdict
+
+files-rows : (media : List Media) (tai first : ℕ) (texts : List (List ℕ)) (files : List (List Record)) (notes : List FileNote) → tai ≤ 1000 → All IsMedia media → All AreBytes texts
+    → AreRecords texts files notes → All (IsInFiles media tai first files) (rows_of_files tai first media files)
+files-rows media tai first [] [] [] seconds are bytes h = All-nil (IsInFiles media tai first [])
+files-rows media tai first (t ∷ ts) (items ∷ files) (n ∷ ns) seconds are bytes h =
+    let P = IsInFiles media tai first (items ∷ files) in
+    let small = one-small t items n (All-head AreBytes t ts bytes) h.0 in
+    All-append P (rows_of tai first media items) (rows_of_files tai (first + 1) media files)
+    (All-weaker (IsInFile media tai first items) P
+    (λ r k. record { place = zero; file_is = omega (arith, k.file_is); items = items; found = refl; m = k.m; there = k.there; tells = k.tells })
+    (rows_of tai first media items)
+    (all-rows media tai first items are (λ m. flow-grouped m tai 0 (2 ^ 36) items seconds (omega arith) small)))
+    (All-weaker (IsInFiles media tai (first + 1) files) P
+    (λ r k. record { place = suc k.place; file_is = omega (arith, k.file_is); items = k.items; found = k.found; m = k.m; there = k.there; tells = k.tells })
+    (rows_of_files tai (first + 1) media files)
+    (files-rows media tai (first + 1) ts files ns seconds are (All-tail AreBytes t ts bytes) h.1))
+files-rows media tai first [] [] (n ∷ ns) seconds are bytes h = absurd h
+files-rows media tai first [] (f ∷ fs) notes seconds are bytes h = absurd h
+files-rows media tai first (t ∷ ts) [] notes seconds are bytes h = absurd h
+files-rows media tai first (t ∷ ts) (f ∷ fs) [] seconds are bytes h = absurd h
+
+-- what the rows of captures tell
+pub rows-exact : (b : Bool) (tai : ℕ) (media : List Media) (texts : List (List ℕ)) (files : List (List Record)) (notes : List FileNote) → tai ≤ 1000 → length texts ≤ 16 → All IsMedia media
+    → All AreBytes texts → AreRecords texts files notes → All (IsExactRow b tai media files) (rows_over b tai media files)
+rows-exact true tai media texts files notes seconds few are bytes h =
+    All-weaker (IsInFile media tai 0 (joined files)) (IsExactRow true tai media files)
+    (λ r k. record { m = k.m; media_is = k.there; items = joined files; items_are = refl; tells = k.tells })
+    (rows_of tai 0 media (joined files))
+    (all-rows media tai 0 (joined files) are (λ m. flow-grouped m tai 0 (2 ^ 36 * length texts) (joined files) seconds (omega (arith, few)) (joined-small 0 texts files notes bytes h)))
+rows-exact false tai media texts files notes seconds few are bytes h =
+    All-weaker (IsInFiles media tai 0 files) (IsExactRow false tai media files)
+    (λ r k. let e : k.place ≡ r.key.file = omega (arith, k.file_is) in
+    record { m = k.m; media_is = k.there; items = k.items; items_are = ap (slice_get files) (sym e) ∙ k.found; tells = k.tells })
+    (rows_of_files tai 0 media files) (files-rows media tai 0 texts files notes seconds are bytes h)

@@ -1,0 +1,19 @@
+-- What the texts of `check` define, in the order in which its inputs are read. The number of workers is in none of it.
+use Rattle.std.specs.Prelude.{ℕ, List, Result}
+use Rattle.timing_base.specs.Jobs.{CheckJob}
+use Rattle.timing_report.specs.declared.status.Input.{Input}
+use Rattle.timing_report.specs.declared.status.Input.TheVariants as input
+use Rattle.timing_steps.specs.Answers.{Answer, CaptureRose, Gives, HasRisen, Inputs, ReadsCaptures, ReadsSession, Yields}
+use Rattle.timing_steps.specs.declared.failure.Failure.{Failure}
+use Rattle.timing_top.specs.Report.{HasReport}
+
+-- `check`: the description, then the captures, then their report
+abbrev pub FollowsCheck : CheckJob → Inputs → Result Answer Failure → Type 0
+FollowsCheck job i outcome = Yields outcome (ReadsSession i outcome job.sdp (λ media.
+    ReadsCaptures i outcome job.captures (λ texts. Gives outcome (HasReport job media texts))))
+
+-- the count of the name of this input of `check` rose
+abbrev pub CheckInputRose : CheckJob → Inputs → Input → Type 0
+CheckInputRose job i input.Sdp = HasRisen i job.sdp
+CheckInputRose job i input.Report = ⊥
+CheckInputRose job i (input.Capture number) = CaptureRose i.before i.now job.captures number
