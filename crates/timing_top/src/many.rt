@@ -10,6 +10,7 @@ ghost use Rattle.pcapng_reader.specs.Sources.{faults_of, left_of, name_of};
 ghost use Rattle.timing_steps.specs.Answers.{seen_of};
 ghost use Rattle.timing_top.specs.Found.{IsJudged};
 
+use crate::captures::Found;
 use flow_crew::{Judged, judge_files};
 use pcapng_reader::Classic;
 use std::alloc::Global;
@@ -59,7 +60,7 @@ pub fn judge_many<R: Threads + Wait + Sync, H: Shelf, G: Gate>(
     requires some_workers { 1 ≤ workers }
     requires few_workers { workers ≤ 16 }
     ensures judged { IsJudged (name_of H.Source.name) (left_of H.Source.left) (faults_of H.Source.faults)
-        (seen_of H.text H.lacks H.faults shelf.old shelf.new) sources.items (rows_over joined tai media.now) media.now result }
+        (seen_of H.Shelf shelf.old shelf.new) sources.items (rows_over joined tai media.now) media.now result }
     ensures stays { StaysAs H.text H.lacks H.faults shelf.old shelf.new }
 {
     let Judged {

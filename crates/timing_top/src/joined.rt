@@ -7,7 +7,7 @@ ghost use Rattle.timing_outside.specs.Shelves.{StaysAs};
 ghost use Rattle.pcapng_reader.specs.Sources.{faults_of, left_of, name_of};
 ghost use Rattle.timing_steps.specs.Answers.{OnReadFault, seen_of};
 ghost use Rattle.fail_interval.specs.Rows.{rows_of};
-ghost use Rattle.fail_interval.specs.BankStands.{IsFed, records};
+ghost use Rattle.fail_interval.specs.Stands.{IsFed, records};
 ghost use Rattle.timing_top.specs.Found.{IsJudged, JoinsNext};
 
 use crate::captures::Found;
@@ -78,7 +78,7 @@ pub fn judge_joined<H: Shelf>(
     requires few_media { length media.now ≤ 64 }
     requires tai { tai ≤ 1000 }
     ensures judged { IsJudged (name_of H.Source.name) (left_of H.Source.left) (faults_of H.Source.faults)
-        (seen_of H.text H.lacks H.faults shelf.old shelf.new) sources.items (λ files. rows_of tai 0 media.now (joined files)) media.now result }
+        (seen_of H.Shelf shelf.old shelf.new) sources.items (λ files. rows_of tai 0 media.now (joined files)) media.now result }
     ensures stays { StaysAs H.text H.lacks H.faults shelf.old shelf.new }
 {
     let bank = match Bank::new(alloc, media, 0, tai) {

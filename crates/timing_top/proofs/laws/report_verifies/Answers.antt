@@ -1,4 +1,4 @@
-use Rattle.timing_top.proofs.Reports.{answer-confirmed, answer-status, answer-told}
+use Rattle.timing_top.proofs.Verified.{answer-confirmed, answer-status, answer-told}
 use Rattle.timing_top.proofs.laws.report_verifies.Goals as goal
 
 pub returns-clause-told : goal.returns-clause-told

@@ -79,7 +79,7 @@ pub fn judge_each<H: Shelf>(
     requires few_media { length media.now ≤ 64 }
     requires tai { tai ≤ 1000 }
     ensures judged { IsJudged (name_of H.Source.name) (left_of H.Source.left) (faults_of H.Source.faults)
-        (seen_of H.text H.lacks H.faults shelf.old shelf.new) sources.items (rows_of_files tai 0 media.now) media.now result }
+        (seen_of H.Shelf shelf.old shelf.new) sources.items (rows_of_files tai 0 media.now) media.now result }
     ensures stays { StaysAs H.text H.lacks H.faults shelf.old shelf.new }
 {
     let mut found = Found {

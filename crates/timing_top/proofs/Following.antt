@@ -18,7 +18,7 @@ use Rattle.timing_steps.specs.Fetched.{AreFetched}
 use Rattle.timing_steps.specs.Ran.{IsAnswered}
 use Rattle.timing_steps.specs.declared.failure.Failure.{Failure}
 use Rattle.timing_steps.specs.declared.failure.Failure.TheVariants as failure
-use Rattle.timing_top.specs.Asked.{CheckInputRose, FollowsCheck}
+use Rattle.timing_top.specs.Check.{CheckInputRose, FollowsCheck}
 use Rattle.fail_interval.specs.Found.{AreFound}
 use Rattle.timing_top.specs.Report.{HasReport, printed, rows}
 use Rattle.timing_steps.proofs.Readings.{on-map}
