@@ -1,6 +1,6 @@
 //! The records of a capture, taken one after the other.
 
-ghost use Rattle.std.specs.Prelude.{◌≡◌, ◌≢◌, ◌≤◌, ◌<◌, ◌+◌, ◌*◌, ◌^◌, ℕ, List, None, Some, IfOk, IfErr, MatchOption, MatchResult, map, length};
+ghost use Rattle.std.specs.Prelude.{◌≡◌, ◌≢◌, ◌≤◌, ◌<◌, ◌+◌, ◌*◌, ◌^◌, ℕ, List, None, Some, true, false, IfOk, IfErr, MatchOption, MatchResult, map, length};
 ghost use Rattle.timing_base.specs.Captures.{Record, raised};
 ghost use Rattle.timing_base.specs.declared.capture.FileNote.TheVariants as file_note;
 ghost use Rattle.timing_base.specs.declared.capture.PcapFault.TheVariants as fault;
@@ -10,7 +10,7 @@ ghost use Rattle.pcap_reader.specs.Taken.{HasTaken, TakesFew, TakesNext};
 
 use crate::reader::PcapReader;
 use crate::taker::Taker;
-use timing_base::FileNote;
+use timing_base::{FileNote, PcapFault};
 use timing_outside::Source;
 
 /// The records of a capture that were taken.
@@ -20,6 +20,20 @@ pub struct Taken {
     pub note: FileNote,
     /// How many they are, or where a read failed those before.
     pub records: u64,
+}
+
+impl Taken {
+    /// Whether a read failed before the records ended.
+    #[inline]
+    pub fn read_failed(&self) -> bool
+        ensures failed { result ≡ true → self.now.note ≡ file_note.Refused fault.ReadFault }
+        ensures whole { result ≡ false → self.now.note ≢ file_note.Refused fault.ReadFault }
+    {
+        match self.note {
+            FileNote::Refused(PcapFault::ReadFault) => true,
+            FileNote::Refused(_) | FileNote::End | FileNote::Cut { .. } => false,
+        }
+    }
 }
 
 /// Takes the next record, the number raised by `before`. Answers how the records ended, where there
