@@ -29,7 +29,8 @@ pub record HasTaken {T : Type 0} (takes : T → T → List Record → Type 0) (b
 -- a record was taken off what the reader was to give; or there is no record more
 abbrev pub TakesNext : {S T : Type 0} → (left : S → Option (List ℕ)) → (takes : T → T → List Record → Type 0)
     → (before : ℕ) → (old new : T) → PcapReader S → Option FileNote → List Record → FileNote → Type 0
-TakesNext left takes before old new reader None items end = (item : Record) × (later : List Record) × (items ≡ item ∷ later)
+TakesNext left takes before old new reader None items end =
+    (item : Record) × (later : List Record) × (items ≡ item ∷ later)
     × WillGive left reader later end × takes old new (raised before item ∷ [])
 TakesNext left takes before old new reader (Some note) items end = GivesNote note items end
 

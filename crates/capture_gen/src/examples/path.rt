@@ -2,8 +2,9 @@
 
 ghost use Rattle.std.specs.Prelude.{◌<◌, ◌^◌};
 
-use crate::spread::{BEFORE, NARROW};
-use capture_gen::{Packet, file_head};
+use crate::examples::spread::{BEFORE, NARROW};
+use crate::packet::Packet;
+use pcap_reader::file_head;
 use std::alloc::{AllocError, Global};
 
 /// The plain packets without the last one.

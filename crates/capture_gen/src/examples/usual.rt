@@ -2,7 +2,8 @@
 
 ghost use Rattle.std.specs.Prelude.{◌≡◌, ◌<◌, ◌≤◌, ◌+◌, ◌*◌, ◌^◌};
 
-use capture_gen::{Packet, file_head};
+use crate::packet::Packet;
+use pcap_reader::file_head;
 use std::alloc::{AllocError, Global};
 
 const PACKETS: u32 = 4320;

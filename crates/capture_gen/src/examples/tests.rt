@@ -1,7 +1,7 @@
 //! The plain capture and description are those that are made.
 
 use super::*;
-use capture_gen::{capture_len, sdp_bytes, write_capture};
+use crate::{capture_len, sdp_bytes, write_capture};
 use std::alloc::Global;
 use std::process::Abort;
 use std::test::Fail;

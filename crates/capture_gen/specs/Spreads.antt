@@ -1,7 +1,7 @@
 -- When the packets of a capture come, and what each says.
 use Rattle.std.specs.Prelude.{ℕ, ◌+◌, ◌*◌, ◌==◌, ◌&&◌, nat_lt, Bool, if◌then◌else◌}
 use Rattle.capture_gen.specs.declared.packet.Packet.{Packet}
-use Rattle.capture_gen.specs.declared.spread.Spread.{Spread}
+use Rattle.capture_gen.specs.declared.examples.spread.Spread.{Spread}
 
 -- the packet comes together with packet 0 of its group
 abbrev pub is_bunched : Spread → ℕ → ℕ → Bool

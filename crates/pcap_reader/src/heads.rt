@@ -1,7 +1,7 @@
 //! The heads of a capture file and of its records.
 
 ghost use Rattle.std.specs.Prelude.{◌≡◌, ◌<◌, ◌*◌, ◌^◌};
-ghost use Rattle.capture_gen.specs.Heads.{file_head, record_head};
+ghost use Rattle.pcap_reader.specs.WrittenHeads.{file_head, record_head};
 
 use byteorder::{ByteOrder, LittleEndian};
 

@@ -1,6 +1,5 @@
-//! Captures and descriptions that several crates try, with the instants of worked rows. Only tests
-//! call it.
-#![tactic(auto)]
+//! Captures and session descriptions that several crates try, with the instants of worked rows. Tests
+//! alone call them, and they take memory.
 
 mod by_hand;
 mod description;

@@ -1,6 +1,6 @@
 //! The session description of the captures, and others like it.
 
-use capture_gen::description;
+use crate::sdp::description;
 use std::alloc::{AllocError, Global};
 
 /// The lines 5 to 8 of the plain description.
