@@ -22,30 +22,30 @@ use Rattle.verdict_book.specs.declared.book.Book.{Book}
 use Rattle.verdict_book.specs.declared.book.Receipt.{Receipt}
 use Rattle.flow_bank.specs.Found.{AreFound}
 use Rattle.flow_bank.specs.Rows.{rows_of, rows_of_files, rows_over}
-use Rattle.flow_intake.specs.Intakes.{HasSentAll, HasTold}
+use Rattle.flow_worker.specs.Intakes.{HasSentAll, HasTold}
 use Rattle.flow_worker.specs.Kept.{is_in_file}
-use Rattle.flow_intake.specs.Messages.{of_file}
-use Rattle.flow_intake.specs.Opening.{Capture, IsSetting, Setting, messages as file_messages}
+use Rattle.flow_worker.specs.Messages.{of_file}
+use Rattle.flow_worker.specs.Opening.{Capture, IsSetting, Setting, messages as file_messages}
 use Rattle.flow_worker.specs.Posting.{has_ends, key_lane, key_row, keys, own_keys, taken_row}
 use Rattle.flow_worker.specs.Works.{HasJudged}
-use Rattle.flow_intake.specs.declared.intakes.IntakeDone.{IntakeDone}
+use Rattle.flow_worker.specs.declared.intakes.IntakeDone.{IntakeDone}
 use Rattle.flow_worker.specs.declared.workers.WorkDone.{WorkDone}
 use Rattle.flow_worker.proofs.Posting.{taken_row_is}
 use Rattle.flow_worker.proofs.Reported.{rows-keys}
 use Rattle.flow_worker.proofs.Rows.{has_ends-at}
-use Rattle.flow_intake.proofs.Senders.{in_order-by_sender}
+use Rattle.flow_worker.proofs.Senders.{in_order-by_sender}
 use Rattle.flow_crew.specs.Ends.{receipts_in}
 use Rattle.flow_crew.specs.Gathering.{ArePosted}
-use Rattle.intake_crew.specs.Jobs.{AreIntakes, AreMade}
+use Rattle.flow_crew.specs.Jobs.{AreIntakes, AreMade}
 use Rattle.flow_crew.specs.Judging.{AreTexts, IsWhole}
-use Rattle.intake_crew.specs.Threads.{AreRead}
+use Rattle.flow_crew.specs.Reading.{AreRead}
 use Rattle.flow_crew.specs.Threads.{AreWorked}
-use Rattle.intake_crew.specs.declared.jobs.IntakeJob.{IntakeJob}
-use Rattle.intake_crew.specs.declared.jobs.WorkJob.{WorkJob}
+use Rattle.flow_crew.specs.declared.jobs.IntakeJob.{IntakeJob}
+use Rattle.flow_crew.specs.declared.jobs.WorkJob.{WorkJob}
 use Rattle.flow_crew.proofs.Listing.{keys-all}
-use Rattle.intake_crew.proofs.Lists.{at_map, filter-agree, map-same, map_kept-agree, same_at, some_item}
-use Rattle.intake_crew.specs.Closing.{AreClosed}
-use Rattle.intake_crew.specs.Columns.{dealt_all}
+use Rattle.flow_crew.proofs.Lists.{at_map, filter-agree, map-same, map_kept-agree, same_at, some_item}
+use Rattle.flow_crew.specs.Closing.{AreClosed}
+use Rattle.flow_crew.specs.Columns.{dealt_all}
 use Rattle.flow_crew.proofs.Running.{HasRun, HaveSentAll, taken_begins}
 use Rattle.flow_crew.proofs.Starting.{AreRows, job_number, read_at, row_at, row_count, rows_are, taker_count, takers_are, work_count}
 

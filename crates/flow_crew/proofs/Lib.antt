@@ -1,3 +1,7 @@
+pub mod Dealing
+pub mod Making
+pub mod Telling
+pub mod Lists
 pub mod Keys
 pub mod Queues
 pub mod Listing

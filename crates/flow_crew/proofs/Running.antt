@@ -6,12 +6,12 @@ use Rattle.std.proofs.lemmas.List.{get_or_past, length-map, length-replicate}
 use Rattle.std.proofs.lemmas.Option.{slice_get-get_or, slice_get_past}
 use Rattle.ruled_intake.specs.Lanes.{IsPrefix, LaneId, Sender, Taker, of, sent_of}
 use Rattle.ruled_intake.specs.declared.message.Message.{Message}
-use Rattle.flow_intake.specs.Intakes.{HaveSent, lane_sends}
-use Rattle.flow_intake.specs.Opening.{Capture, Setting, for_lane, sends_if, messages as file_messages}
-use Rattle.intake_crew.specs.Closing.{AreClosed, CanClose, HasAll, IsClosed}
-use Rattle.intake_crew.specs.Columns.{dealt_all}
-use Rattle.intake_crew.proofs.Dealing.{length-dealt_all}
-use Rattle.intake_crew.proofs.Lists.{at_default, at_map, dealt_all-at, some_item}
+use Rattle.flow_worker.specs.Intakes.{HaveSent, lane_sends}
+use Rattle.flow_worker.specs.Opening.{Capture, Setting, for_lane, sends_if, messages as file_messages}
+use Rattle.flow_crew.specs.Closing.{AreClosed, CanClose, HasAll, IsClosed}
+use Rattle.flow_crew.specs.Columns.{dealt_all}
+use Rattle.flow_crew.proofs.Dealing.{length-dealt_all}
+use Rattle.flow_crew.proofs.Lists.{at_default, at_map, dealt_all-at, some_item}
 use Rattle.flow_crew.proofs.Starting.{AreRows, AreTakers}
 
 -- the passes of so many files and workers came back, and are dealt out by lanes

@@ -6,17 +6,17 @@ use Rattle.timing_base.specs.declared.capture.FileNote.{FileNote}
 use Rattle.ruled_intake.specs.Lanes.{LaneId, Sender, Taker}
 use Rattle.ruled_intake.specs.declared.passes.SendPass.{SendPass}
 use Rattle.verdict_book.specs.declared.book.Book.{Book}
-use Rattle.flow_intake.specs.Intakes.{AreOfFile, HaveSentNothing}
-use Rattle.flow_intake.specs.Opening.{Setting}
-use Rattle.flow_intake.specs.declared.intakes.IntakeDone.{IntakeDone}
+use Rattle.flow_worker.specs.Intakes.{AreOfFile, HaveSentNothing}
+use Rattle.flow_worker.specs.Opening.{Setting}
+use Rattle.flow_worker.specs.declared.intakes.IntakeDone.{IntakeDone}
 use Rattle.flow_worker.specs.declared.workers.WorkDone.{WorkDone}
-use Rattle.intake_crew.specs.declared.jobs.IntakeJob.{IntakeJob}
-use Rattle.intake_crew.specs.declared.jobs.WorkJob.{WorkJob}
-use Rattle.intake_crew.specs.Jobs.{AreIntakes, AreMade, new_pass, numbers}
+use Rattle.flow_crew.specs.declared.jobs.IntakeJob.{IntakeJob}
+use Rattle.flow_crew.specs.declared.jobs.WorkJob.{WorkJob}
+use Rattle.flow_crew.specs.Jobs.{AreIntakes, AreMade, new_pass, numbers}
 use Rattle.flow_crew.specs.Judging.{AreBack}
-use Rattle.intake_crew.specs.Threads.{AreIntakeJobs, AreRead, HasRead}
+use Rattle.flow_crew.specs.Reading.{AreIntakeJobs, AreRead, HasRead}
 use Rattle.flow_crew.specs.Threads.{AreWorkJobs, AreWorked}
-use Rattle.intake_crew.proofs.Lists.{at_map, numbers-at, some_item}
+use Rattle.flow_crew.proofs.Lists.{at_map, numbers-at, some_item}
 
 -- each worker's job is that of its place
 pub work_count : (files workers : ℕ) (lanes : List LaneId) (jobs : List WorkJob) (columns : List (List Sender)) → AreMade files workers lanes jobs columns → length jobs ≡ length lanes

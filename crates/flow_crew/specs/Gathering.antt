@@ -11,7 +11,7 @@ use Rattle.verdict_book.specs.Receipts.{IsOf, row_of}
 use Rattle.verdict_book.specs.declared.book.Book.{Book}
 use Rattle.verdict_book.specs.declared.book.Receipt.{Receipt}
 use Rattle.flow_crew.specs.Ends.{receipts_in}
-use Rattle.intake_crew.specs.declared.threads.Asked.{Asked}
+use Rattle.flow_crew.specs.declared.reading.Asked.{Asked}
 
 -- the key is that of one of so many media, in one of 16 files
 pub record IsKeyOf (media : ℕ) (key : FlowKey) : Type 0 where

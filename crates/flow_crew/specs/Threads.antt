@@ -2,10 +2,10 @@
 use Rattle.std.specs.Prelude.{◌≡◌, ◌<◌, ℕ, List, length, slice_index_or, IfSome}
 use Rattle.ruled_intake.specs.Lanes.{LaneId}
 use Rattle.verdict_book.specs.declared.book.Book.{Book}
-use Rattle.flow_intake.specs.Opening.{Setting}
+use Rattle.flow_worker.specs.Opening.{Setting}
 use Rattle.flow_worker.specs.Works.{HasJudged, HasTakenNothing}
 use Rattle.flow_worker.specs.declared.workers.WorkDone.{WorkDone}
-use Rattle.intake_crew.specs.declared.jobs.WorkJob.{WorkJob}
+use Rattle.flow_crew.specs.declared.jobs.WorkJob.{WorkJob}
 
 -- the worker has the pass of its lane, and took nothing
 pub record IsWorkJob (lanes : List LaneId) (job : WorkJob) : Type 0 where

@@ -8,17 +8,17 @@ ghost use Rattle.flow_bank.specs.Found.{AreFound};
 ghost use Rattle.flow_bank.specs.Rows.{rows_over};
 ghost use Rattle.flow_crew.specs.Judging.{AreBack, AreTexts, IsWhole, is_whole};
 ghost use Rattle.flow_crew.specs.Threads.{AreWorkJobs, AreWorked};
-ghost use Rattle.intake_crew.specs.Threads.{AreIntakeJobs, AreRead, IsAsked, setting_of};
+ghost use Rattle.flow_crew.specs.Reading.{AreIntakeJobs, AreRead, IsAsked, setting_of};
 
+use crate::close::close_all;
+use crate::columns::deal_all;
 use crate::ends::{Worked, take_posted, take_worked};
 use crate::gather::{gather, list_keys};
+use crate::jobs::{IntakeJob, Made, WorkJob, make_intakes, make_lanes};
+use crate::reading::{Asked, run_intakes};
+use crate::reads::{Read, take_read};
 use crate::threads::run_workers;
-use flow_intake::IntakeDone;
-use flow_worker::WorkDone;
-use intake_crew::{
-    Asked, IntakeJob, Made, Read, WorkJob, close_all, deal_all, make_intakes, make_lanes,
-    run_intakes, take_read,
-};
+use flow_worker::{IntakeDone, WorkDone};
 use ruled_intake::{Halt, Lane};
 use std::alloc::{AllocError as OutOfMemory, Global};
 use std::sync::Wait;

@@ -1,9 +1,14 @@
 //! All files of a job, read and judged beside each other.
 #![tactic(auto)]
 
+mod close;
+mod columns;
 mod ends;
 mod gather;
+mod jobs;
 mod judge;
+mod reading;
+mod reads;
 mod threads;
 
 pub use judge::{Judged, judge_files};

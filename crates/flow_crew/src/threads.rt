@@ -2,10 +2,11 @@
 
 ghost use Rattle.std.specs.Prelude.{◌≡◌, IfOk, length};
 ghost use Rattle.flow_crew.specs.Threads.{AreWorkJobs, AreWorked, HasWorked, IsWorkJob};
-ghost use Rattle.intake_crew.specs.Threads.{IsAsked, setting_of};
+ghost use Rattle.flow_crew.specs.Reading.{IsAsked, setting_of};
 
+use crate::jobs::WorkJob;
+use crate::reading::Asked;
 use flow_worker::{WorkDone, work};
-use intake_crew::{Asked, WorkJob};
 use ruled_intake::{Halt, Lane};
 use std::alloc::{AllocError as OutOfMemory, Global};
 use std::sync::Wait;

@@ -15,8 +15,8 @@ use Rattle.ruled_intake.specs.Lanes.{count_of, packets}
 use Rattle.ruled_intake.specs.Packets.{Packet}
 use Rattle.ruled_intake.specs.declared.message.Message.{Message}
 use Rattle.flow_worker.specs.Judging.{AreFed, EachFrom, Feeds, HaveRoom, is_own, with_packets}
-use Rattle.flow_intake.specs.Messages.{batch, ending, file_packets, has_end, media_packet, media_packets}
-use Rattle.flow_intake.specs.Opening.{Setting}
+use Rattle.flow_worker.specs.Messages.{batch, ending, file_packets, has_end, media_packet, media_packets}
+use Rattle.flow_worker.specs.Opening.{Setting}
 use Rattle.flow_worker.specs.Posting.{has_ends, joined_packets, own_keys, raised_packet, row_over, taken_packets, taken_row}
 use Rattle.flow_worker.specs.Standing.{ApartStandsFor, IsFew, IsFile}
 use Rattle.flow_worker.specs.declared.apart_files.Apart.{Apart}

@@ -6,8 +6,8 @@ use Rattle.timing_base.specs.declared.capture.FileNote.{FileNote}
 use Rattle.ruled_intake.specs.Packets.{Packet}
 use Rattle.ruled_intake.specs.declared.message.Message.{Message}
 use Rattle.ruled_intake.specs.declared.message.Message.TheVariants.{Batch, End}
-use Rattle.flow_intake.specs.Messages.{before_end, has_end, of_file, packets_in, records_told, batch, ending}
-use Rattle.flow_intake.specs.Cut.{AreBatches}
+use Rattle.flow_worker.specs.Messages.{before_end, has_end, of_file, packets_in, records_told, batch, ending}
+use Rattle.flow_worker.specs.Cut.{AreBatches}
 
 -- of a message that is kept or not
 either : (P : List Message → Type 0) (b : Bool) (m : Message) (ms : List Message) → P (m ∷ ms) → P ms → P (cond b (m ∷ ms) ms)

@@ -14,8 +14,8 @@ use Rattle.fail_interval.specs.Stands.{StandsFor}
 use Rattle.fail_interval.specs.declared.judge.FlowJudge.{FlowJudge}
 use Rattle.ruled_intake.specs.Messages.{Batch}
 use Rattle.ruled_intake.specs.Packets.{Packet, flow_packet}
-use Rattle.flow_intake.specs.Messages.{media_packet, media_packets}
-use Rattle.flow_intake.specs.Opening.{Setting}
+use Rattle.flow_worker.specs.Messages.{media_packet, media_packets}
+use Rattle.flow_worker.specs.Opening.{Setting}
 use Rattle.flow_worker.specs.Posting.{raised_packet}
 use Rattle.flow_worker.specs.Judging.{AreFed, EachFrom, Feeds, HaveRoom, IsPlace, batched, fed_at, is_own, with_packets}
 use Rattle.flow_worker.specs.declared.judges.Judges.{Judges}

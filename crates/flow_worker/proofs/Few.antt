@@ -15,8 +15,8 @@ use Rattle.ruled_intake.specs.Packets.{Packet, flow_packet}
 use Rattle.ruled_intake.specs.declared.message.Message.{Message}
 use Rattle.ruled_intake.specs.declared.message.Message.TheVariants.{Batch, End}
 use Rattle.flow_worker.specs.Judging.{AreFed, HaveRoom, IsPlace, fed_at}
-use Rattle.flow_intake.specs.Messages.{batch, before_end, ending, file_packets, media_packets, of_file, packets_in, records_told}
-use Rattle.flow_intake.specs.Opening.{Setting}
+use Rattle.flow_worker.specs.Messages.{batch, before_end, ending, file_packets, media_packets, of_file, packets_in, records_told}
+use Rattle.flow_worker.specs.Opening.{Setting}
 use Rattle.flow_worker.specs.Posting.{joined_packets, raised_packet}
 use Rattle.flow_worker.specs.declared.judges.Judges.{Judges}
 use Rattle.flow_worker.proofs.Each.{each-at}

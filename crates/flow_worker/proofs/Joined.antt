@@ -11,8 +11,8 @@ use Rattle.udp_rtp.specs.Flow.{datagram_packet, flow, flow_packet, is_same_targe
 use Rattle.udp_rtp.specs.Frames.{Datagram, datagram_of}
 use Rattle.udp_rtp.specs.Reading.{reading}
 use Rattle.ruled_intake.specs.declared.message.Message.{Message}
-use Rattle.flow_intake.specs.Messages.{file_packets, media_packets, records_told}
-use Rattle.flow_intake.specs.Opening.{Capture}
+use Rattle.flow_worker.specs.Messages.{file_packets, media_packets, records_told}
+use Rattle.flow_worker.specs.Opening.{Capture}
 use Rattle.flow_worker.specs.Posting.{joined_packets, raised_packet}
 
 -- the packet of a record with its number raised, by whether the record goes there

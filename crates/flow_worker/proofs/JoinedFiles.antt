@@ -16,8 +16,8 @@ use Rattle.ruled_intake.specs.Messages.{Batch, FileEnd}
 use Rattle.ruled_intake.specs.Packets.{Packet}
 use Rattle.ruled_intake.specs.declared.message.Message.{Message}
 use Rattle.flow_worker.specs.Judging.{AreFed, EachFrom, Feeds, HaveRoom, batched, with_packets}
-use Rattle.flow_intake.specs.Messages.{batch, ending, file_packets, has_end, media_packet, media_packets, records_told}
-use Rattle.flow_intake.specs.Opening.{Setting}
+use Rattle.flow_worker.specs.Messages.{batch, ending, file_packets, has_end, media_packet, media_packets, records_told}
+use Rattle.flow_worker.specs.Opening.{Setting}
 use Rattle.flow_worker.specs.Posting.{has_ends, joined_packets, own_keys, raised_packet, taken_packets, taken_row, told_by}
 use Rattle.flow_worker.specs.Standing.{HasEnded, IsFew, IsFirstEnd, IsWaiting, JoinedIsAt, JoinedStandsFor, of_first}
 use Rattle.flow_worker.specs.declared.joined_files.Joined.{Joined}

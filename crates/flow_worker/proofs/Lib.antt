@@ -1,9 +1,25 @@
+-- intakes
+pub mod Lists
+pub mod Batches
+pub mod Lanes
+pub mod Files
+pub mod Cutting
+pub mod Senders
+pub mod Passes
+pub mod Outgoing
+pub mod Targeting
+pub mod Told
+pub mod Dealt
+pub mod Media
+pub mod Whole
+-- the machine
 pub mod Ends
 pub mod Joined
 pub mod Posting
 pub mod Steps
 pub mod Rows
 pub mod Reported
+-- workers
 pub mod Taking
 pub mod Each
 pub mod Fed

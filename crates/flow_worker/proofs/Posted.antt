@@ -9,7 +9,7 @@ use Rattle.timing_base.specs.declared.row.Row.{Row}
 use Rattle.fail_interval.specs.Row.{row}
 use Rattle.fail_interval.specs.Stands.{StandsFor}
 use Rattle.fail_interval.specs.declared.judge.FlowJudge.{FlowJudge}
-use Rattle.flow_intake.specs.Opening.{Setting}
+use Rattle.flow_worker.specs.Opening.{Setting}
 use Rattle.flow_worker.specs.Posting.{row_over}
 use Rattle.flow_worker.specs.Judging.{AreFed, EachFrom, IsPlace, is_own}
 use Rattle.flow_worker.specs.declared.judges.Judges.{Judges}

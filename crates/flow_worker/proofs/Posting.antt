@@ -14,13 +14,13 @@ use Rattle.udp_rtp.specs.Flow.{flow}
 use Rattle.timing_base.specs.Keys.{key_of, no_media, media_of}
 use Rattle.ruled_intake.specs.Packets.{Packet}
 use Rattle.ruled_intake.specs.declared.message.Message.{Message}
-use Rattle.flow_intake.specs.Messages.{file_packets, has_end, media_packets, of_file, packets_in, records_told}
-use Rattle.flow_intake.specs.Opening.{Capture, IsSetting, Setting, for_lane, lane_packets, media_lane, messages, packet_lane, sends_if, session_packets}
+use Rattle.flow_worker.specs.Messages.{file_packets, has_end, media_packets, of_file, packets_in, records_told}
+use Rattle.flow_worker.specs.Opening.{Capture, IsSetting, Setting, for_lane, lane_packets, media_lane, messages, packet_lane, sends_if, session_packets}
 use Rattle.flow_worker.specs.Posting.{is_key, joined_packets, key_lane, key_records, key_row, records_if, row_over, taken_packets, taken_row}
 use Rattle.flow_worker.specs.Kept.{HasTaken, HasTakenAll, is_in_file}
-use Rattle.flow_intake.specs.Cut.{AreWhole}
+use Rattle.flow_worker.specs.Cut.{AreWhole}
 use Rattle.flow_worker.proofs.Ends.{before_end-of_file, before_end-whole, has_end-of_file, records_told-of_file}
-use Rattle.flow_intake.proofs.Whole.{lane_flow, media_lane-below, messages_whole}
+use Rattle.flow_worker.proofs.Whole.{lane_flow, media_lane-below, messages_whole}
 use Rattle.flow_worker.proofs.Joined.{TellsFlow, joined_packets-all}
 
 -- what was taken of a file begins all of it and has its end: so it is all

@@ -9,7 +9,7 @@ use Rattle.udp_rtp.specs.Flow.{flow}
 use Rattle.fail_interval.specs.Row.{row}
 use Rattle.flow_bank.specs.Rows.{rows_from, rows_of, rows_of_files}
 use Rattle.timing_base.specs.Keys.{key_of, keys_of_file, keys_of_files, no_media, media_of}
-use Rattle.flow_intake.specs.Opening.{Capture, Setting}
+use Rattle.flow_worker.specs.Opening.{Capture, Setting}
 use Rattle.flow_worker.specs.Posting.{judged_files, key_records, key_row, keys, records_if}
 
 -- the rows of the last media of a file

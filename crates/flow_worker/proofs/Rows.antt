@@ -10,14 +10,14 @@ use Rattle.timing_base.specs.declared.key.FlowKey.{FlowKey}
 use Rattle.timing_base.specs.declared.row.Row.{Row}
 use Rattle.ruled_intake.specs.declared.message.Message.{Message}
 use Rattle.ruled_intake.specs.declared.message.Message.TheVariants.{Batch, End}
-use Rattle.flow_intake.specs.Messages.{has_end, of_file, ending}
-use Rattle.flow_intake.specs.Opening.{Addressed, Capture, IsSetting, Setting, for_lane, messages}
+use Rattle.flow_worker.specs.Messages.{has_end, of_file, ending}
+use Rattle.flow_worker.specs.Opening.{Addressed, Capture, IsSetting, Setting, for_lane, messages}
 use Rattle.flow_worker.specs.Posting.{has_ends, is_key, is_whole, key_lane, taken_row}
 use Rattle.flow_worker.specs.World.{HasEnded, State, Step, after, after_post, after_send, after_take, is_same_key, may_post, opening, run, times}
 use Rattle.flow_worker.specs.World.Step.{posts_row, sends_next, takes_front}
 use Rattle.flow_worker.specs.Kept.{HasPosted, HasTakenAll, IsInOrder, IsKeyRow, is_in_file}
 use Rattle.flow_worker.proofs.Ends.{has_end-of_file}
-use Rattle.flow_intake.proofs.Whole.{media_lane-below, messages_whole}
+use Rattle.flow_worker.proofs.Whole.{media_lane-below, messages_whole}
 use Rattle.flow_worker.proofs.Posting.{no_capture, taken_row_is}
 use Rattle.flow_worker.proofs.Steps.{opening_in_order, step_keeps}
 

@@ -4,14 +4,14 @@ use Rattle.std.proofs.lemmas.Bool.{cases_eq}
 use Rattle.std.proofs.lemmas.List.Elements.{filter-append}
 use Rattle.timing_base.specs.declared.row.Row.{Row}
 use Rattle.ruled_intake.specs.declared.message.Message.{Message}
-use Rattle.flow_intake.specs.Messages.{file_of, of_file}
-use Rattle.flow_intake.specs.Opening.{Addressed, Capture, Setting, for_lane, messages}
+use Rattle.flow_worker.specs.Messages.{file_of, of_file}
+use Rattle.flow_worker.specs.Opening.{Addressed, Capture, Setting, for_lane, messages}
 use Rattle.flow_worker.specs.Posting.{taken_row}
 use Rattle.flow_worker.specs.World.{State, Step, after, after_post, after_send, after_take, changed, may_post, opening}
 use Rattle.flow_worker.specs.World.Step.{posts_row, sends_next, takes_front}
 use Rattle.flow_worker.specs.Kept.{IsInOrder}
-use Rattle.flow_intake.proofs.Lists.{for_lane-here, for_lane-other}
-use Rattle.flow_intake.proofs.Files.{AreOf, AreOf-behind, AreOf-messages}
+use Rattle.flow_worker.proofs.Lists.{for_lane-here, for_lane-other}
+use Rattle.flow_worker.proofs.Files.{AreOf, AreOf-behind, AreOf-messages}
 
 -- the list that was changed
 changed-here : {X : Type 0} (place i : ℕ) (xs : List X) (lists : ℕ → List X) → i ≡ place → changed place xs lists i ≡ xs

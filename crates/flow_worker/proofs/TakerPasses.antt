@@ -8,7 +8,7 @@ use Rattle.ruled_intake.specs.declared.rule.Entry.{Entry}
 use Rattle.verdict_book.specs.Receipts.{IsOf, row_of}
 use Rattle.verdict_book.specs.declared.book.Book.{Book}
 use Rattle.verdict_book.specs.declared.book.Receipt.{Receipt}
-use Rattle.flow_intake.specs.Opening.{Setting}
+use Rattle.flow_worker.specs.Opening.{Setting}
 use Rattle.flow_worker.specs.Posting.{has_ends, own_keys, taken_row}
 use Rattle.flow_worker.specs.Standing.{IsFew, StandsFor}
 use Rattle.flow_worker.specs.Works.{HasJudged}

@@ -7,9 +7,9 @@ use Rattle.timing_base.specs.declared.packet.FlowPacket.{FlowPacket}
 use Rattle.ruled_intake.specs.Packets.{Packet}
 use Rattle.ruled_intake.specs.declared.message.Message.{Message}
 use Rattle.ruled_intake.specs.declared.message.Message.TheVariants.{Batch, End}
-use Rattle.flow_intake.specs.Messages.{before_end, file_of, file_packets, has_end, media_packets, of_file, packets_in, records_told, batch, ending}
+use Rattle.flow_worker.specs.Messages.{before_end, file_of, file_packets, has_end, media_packets, of_file, packets_in, records_told, batch, ending}
 use Rattle.flow_worker.specs.Posting.{has_ends, joined_packets, raised_packet, told_by}
-use Rattle.flow_intake.proofs.Lanes.{packets_in-append}
+use Rattle.flow_worker.proofs.Lanes.{packets_in-append}
 use Rattle.flow_worker.proofs.Rows.{has_ends-at}
 use Rattle.flow_worker.proofs.Steps.{of_file-push_other}
 

@@ -7,8 +7,8 @@ use Rattle.fail_interval.specs.Stands.{StandsFor, count_fed}
 use Rattle.fail_interval.specs.declared.judge.FlowJudge.{FlowJudge}
 use Rattle.ruled_intake.specs.Messages.{Batch}
 use Rattle.ruled_intake.specs.Packets.{Packet}
-use Rattle.flow_intake.specs.Messages.{media_packets}
-use Rattle.flow_intake.specs.Opening.{Setting}
+use Rattle.flow_worker.specs.Messages.{media_packets}
+use Rattle.flow_worker.specs.Opening.{Setting}
 use Rattle.flow_worker.specs.Posting.{key_lane, raised_packet}
 use Rattle.flow_worker.specs.declared.judges.Judges.{Judges}
 

@@ -3,8 +3,8 @@ use Rattle.std.specs.Prelude.{◌≡◌, ◌≤◌, ◌==◌, ℕ, Bool, nat_lt,
 use Rattle.timing_base.specs.declared.key.FlowKey.{FlowKey}
 use Rattle.timing_base.specs.declared.row.Row.{Row}
 use Rattle.ruled_intake.specs.declared.message.Message.{Message}
-use Rattle.flow_intake.specs.Messages.{IsPrefix, has_end, of_file}
-use Rattle.flow_intake.specs.Opening.{Capture, Setting, for_lane, messages}
+use Rattle.flow_worker.specs.Messages.{IsPrefix, has_end, of_file}
+use Rattle.flow_worker.specs.Opening.{Capture, Setting, for_lane, messages}
 use Rattle.flow_worker.specs.Posting.{is_key, key_lane, key_row}
 use Rattle.flow_worker.specs.World.{State, times}
 

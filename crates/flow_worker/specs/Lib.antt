@@ -1,10 +1,17 @@
 -- what is promised
+pub mod Messages
+pub mod Opening
+pub mod Cut
+pub mod Intakes
 pub mod Posting
 pub mod World
 pub mod Kept
 pub mod Works
--- a run that is worked by hand
-pub mod Examples
--- what the judges of a worker were fed
+-- runs that are worked by hand
+pub mod TwoFiles
+pub mod SmallRun
+-- these only serve proofs
+pub mod Targeted
+pub mod Sending
 pub mod Judging
 pub mod Standing

@@ -9,8 +9,8 @@ use Rattle.udp_rtp.specs.Flow.{flow}
 use Rattle.fail_interval.specs.Row.{row}
 use Rattle.timing_base.specs.Keys.{keys_of, media_of}
 use Rattle.ruled_intake.specs.declared.message.Message.{Message}
-use Rattle.flow_intake.specs.Messages.{file_packets, has_end, media_packets, records_told}
-use Rattle.flow_intake.specs.Opening.{Capture, Setting, media_lane}
+use Rattle.flow_worker.specs.Messages.{file_packets, has_end, media_packets, records_told}
+use Rattle.flow_worker.specs.Opening.{Capture, Setting, media_lane}
 
 -- whether this is the key of a flow of a run with so many files; files that are joined are one
 abbrev pub is_key : Setting → (files : ℕ) → FlowKey → Bool

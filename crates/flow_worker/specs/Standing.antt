@@ -9,8 +9,8 @@ use Rattle.ruled_intake.specs.Messages.{FileEnd}
 use Rattle.ruled_intake.specs.declared.message.Message.{Message}
 use Rattle.verdict_book.specs.Receipts.{row_of}
 use Rattle.verdict_book.specs.declared.book.Receipt.{Receipt}
-use Rattle.flow_intake.specs.Messages.{file_packets, has_end, records_told}
-use Rattle.flow_intake.specs.Opening.{Setting}
+use Rattle.flow_worker.specs.Messages.{file_packets, has_end, records_told}
+use Rattle.flow_worker.specs.Opening.{Setting}
 use Rattle.flow_worker.specs.Posting.{has_ends, joined_packets, own_keys, taken_packets, taken_row, told_by}
 use Rattle.flow_worker.specs.Judging.{AreFed, EachFrom, batched}
 use Rattle.flow_worker.specs.declared.apart_files.Apart.{Apart}

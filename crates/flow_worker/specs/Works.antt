@@ -4,7 +4,7 @@ use Rattle.ruled_intake.specs.Lanes.{LaneId, Taker, messages}
 use Rattle.verdict_book.specs.Receipts.{IsOf, row_of}
 use Rattle.verdict_book.specs.declared.book.Book.{Book}
 use Rattle.verdict_book.specs.declared.book.Receipt.{Receipt}
-use Rattle.flow_intake.specs.Opening.{Setting}
+use Rattle.flow_worker.specs.Opening.{Setting}
 use Rattle.flow_worker.specs.Posting.{has_ends, own_keys, taken_row}
 
 -- the pass is the taker's of this lane, and nothing was taken

@@ -4,7 +4,7 @@ use Rattle.std.specs.Prelude.{◌≡◌, ℕ, Bool, false, ◌==◌, ◌&&◌, i
 use Rattle.timing_base.specs.declared.key.FlowKey.{FlowKey}
 use Rattle.timing_base.specs.declared.row.Row.{Row}
 use Rattle.ruled_intake.specs.declared.message.Message.{Message}
-use Rattle.flow_intake.specs.Opening.{Addressed, Capture, Setting, sends}
+use Rattle.flow_worker.specs.Opening.{Addressed, Capture, Setting, sends}
 use Rattle.flow_worker.specs.Posting.{is_key, is_whole, key_lane, taken_row}
 
 pub record State : Type 0 where

@@ -4,8 +4,8 @@ ghost use Rattle.std.specs.Prelude.{◌≡◌, ◌<◌, [], ℕ, List, All, fals
 ghost use Rattle.std.specs.List.{list_all};
 ghost use Rattle.ruled_intake.specs.declared.message.Message.{Message as MessageValue};
 ghost use Rattle.verdict_book.specs.Receipts.{IsOf, row_of};
-ghost use Rattle.flow_intake.specs.Messages.{batch as batch_of, ending};
-ghost use Rattle.flow_intake.specs.Opening.{Setting};
+ghost use Rattle.flow_worker.specs.Messages.{batch as batch_of, ending};
+ghost use Rattle.flow_worker.specs.Opening.{Setting};
 ghost use Rattle.flow_worker.specs.Posting.{own_keys, taken_row};
 
 use crate::judges::Judges;

@@ -4,8 +4,8 @@ ghost use Rattle.std.specs.Prelude.{◌≡◌, ◌<◌, ◌+◌, ◌^◌, [], �
 ghost use Rattle.ruled_intake.specs.declared.message.Message.{Message as MessageValue};
 ghost use Rattle.ruled_intake.specs.Lanes.{IsWithin};
 ghost use Rattle.verdict_book.specs.Receipts.{IsOf};
-ghost use Rattle.flow_intake.specs.Messages.{batch as batch_of, ending, has_end};
-ghost use Rattle.flow_intake.specs.Opening.{Setting};
+ghost use Rattle.flow_worker.specs.Messages.{batch as batch_of, ending, has_end};
+ghost use Rattle.flow_worker.specs.Opening.{Setting};
 
 use crate::judges::Judges;
 use ruled_intake::{Batch, FileEnd, Message};

@@ -7,7 +7,7 @@ ghost use Rattle.timing_base.specs.Keys.{keys_of_file};
 ghost use Rattle.timing_base.specs.Routes.{route};
 ghost use Rattle.fail_interval.specs.Stands.{StandsFor};
 ghost use Rattle.verdict_book.specs.Receipts.{IsOf, row_of};
-ghost use Rattle.flow_intake.specs.Opening.{Setting};
+ghost use Rattle.flow_worker.specs.Opening.{Setting};
 ghost use Rattle.flow_worker.specs.Posting.{row_over};
 
 use fail_interval::FlowJudge;

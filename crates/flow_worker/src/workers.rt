@@ -2,7 +2,7 @@
 
 ghost use Rattle.std.specs.Prelude.{◌≡◌, ◌≤◌, ◌<◌, ◌^◌, ℕ, IfOk, IfSome, IsErr, IsTrue, length};
 ghost use Rattle.ruled_intake.specs.Lanes.{HasTaken, IsWithin, messages};
-ghost use Rattle.flow_intake.specs.Opening.{Setting};
+ghost use Rattle.flow_worker.specs.Opening.{Setting};
 ghost use Rattle.flow_worker.specs.Posting.{has_ends};
 ghost use Rattle.flow_worker.specs.Standing.{IsWorker, StandsFor};
 ghost use Rattle.flow_worker.specs.Works.{HasJudged, HasTakenNothing};

@@ -1,10 +1,10 @@
 //! The intake of captures in memory, with each message compared.
 
 ghost use Rattle.std.specs.Prelude.{◌≡◌, ◌≤◌, ◌∷◌, [], IfOk, length};
-ghost use Rattle.flow_intake.specs.Intakes.{AreOfFile, HaveSentNothing};
+ghost use Rattle.flow_worker.specs.Intakes.{AreOfFile, HaveSentNothing};
 
 use capture_gen::{capture_len, sdp_bytes, write_capture};
-use flow_intake::{IntakeDone, intake};
+use flow_worker::{IntakeDone, intake};
 use ruled_intake::{Closed, Halt, Lane, Message, SendPass, TakePass};
 use sdp_reader::read_sdp;
 use std::alloc::{AllocError, Global};

@@ -4,7 +4,7 @@ use Rattle.std.proofs.lemmas.Option.{IfSome_then}
 use Rattle.ruled_intake.specs.Lanes.{LaneId}
 use Rattle.timing_base.specs.Keys.{keys_of}
 use Rattle.flow_crew.specs.Judging.{IsWhole}
-use Rattle.intake_crew.specs.Threads.{AreIntakeJobs}
+use Rattle.flow_crew.specs.Reading.{AreIntakeJobs}
 use Rattle.flow_crew.specs.Threads.{AreWorkJobs}
 use Rattle.flow_crew.proofs.Finding.{each_long, found, if_both, keys-found, posted_count, read_on, run_is, some_posted}
 use Rattle.flow_crew.proofs.Running.{can_close}

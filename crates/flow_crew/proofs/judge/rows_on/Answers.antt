@@ -2,7 +2,7 @@ use Rattle.std.proofs.Common.{◌∙◌, map, ap}
 use Rattle.std.specs.Vec.Iter.{into_iter_items}
 use Rattle.timing_base.specs.Keys.{keys_of}
 use Rattle.flow_crew.proofs.Listing.{keys-are, keys-within, queued_by}
-use Rattle.intake_crew.proofs.Making.{on_ok}
+use Rattle.flow_crew.proofs.Making.{on_ok}
 use Rattle.flow_crew.proofs.judge.rows_on.Goals as goal
 
 pub gather-requires-clause-keys : goal.gather-requires-clause-keys

@@ -1,7 +1,7 @@
 use Rattle.std.proofs.Common.{◌≡◌, List, [], ◌∷◌, ◌++◌, sym, ap, ◌∙◌, subst}
 use Rattle.ruled_intake.specs.Lanes.{messages}
 use Rattle.ruled_intake.specs.declared.message.Message.{Message}
-use Rattle.flow_intake.specs.Opening.{Setting}
+use Rattle.flow_worker.specs.Opening.{Setting}
 use Rattle.flow_worker.specs.Standing.{StandsFor}
 use Rattle.flow_worker.proofs.TakerPasses.{judged_if, taken-few, taken-more}
 use Rattle.flow_worker.proofs.workers.judged.Goals as goal

@@ -1,6 +1,6 @@
 use Rattle.std.proofs.Common.{◌≡◌, ℕ}
 use Rattle.ruled_intake.specs.Lanes.{messages}
-use Rattle.flow_intake.specs.Opening.{Setting}
+use Rattle.flow_worker.specs.Opening.{Setting}
 use Rattle.flow_worker.specs.Standing.{StandsFor}
 use Rattle.flow_worker.proofs.workers.take_all.Given as goal
 

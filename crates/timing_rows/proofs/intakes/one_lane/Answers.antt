@@ -1,8 +1,8 @@
 use Rattle.std.proofs.Common.{◌≡◌, ◌<◌, ℕ, List, [], ◌∷◌, length, sym, ap, ◌∙◌, arith}
 use Rattle.std.specs.Prelude.{slice_index_or, Result, Ok, Err, IfOk}
 use Rattle.ruled_intake.specs.Lanes.{AreSenders, LaneId, Sender, sent_of}
-use Rattle.flow_intake.specs.Intakes.{HaveSentNothing}
-use Rattle.flow_intake.proofs.Passes.{sender-is, sent_of-at}
+use Rattle.flow_worker.specs.Intakes.{HaveSentNothing}
+use Rattle.flow_worker.proofs.Passes.{sender-is, sent_of-at}
 use Rattle.timing_rows.proofs.intakes.one_lane.Goals as goal
 
 -- the one sender of a lane, as the pass of file 0

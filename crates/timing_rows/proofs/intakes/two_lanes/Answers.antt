@@ -1,7 +1,7 @@
 use Rattle.std.proofs.Common.{◌≡◌, ◌<◌, ℕ, zero, suc, List, [], ◌∷◌, ◌++◌, refl, sym, subst, arith}
 use Rattle.std.specs.Prelude.{slice_index_or}
 use Rattle.ruled_intake.specs.Lanes.{LaneId, Sender}
-use Rattle.flow_intake.specs.Intakes.{HaveSentNothing}
+use Rattle.flow_worker.specs.Intakes.{HaveSentNothing}
 use Rattle.timing_rows.proofs.intakes.two_lanes.Goals as goal
 
 two-each : (a b : LaneId) (p q : Sender) → HaveSentNothing 0 (a ∷ []) (p ∷ []) → HaveSentNothing 0 (b ∷ []) (q ∷ []) → (w : ℕ) (d : Sender) (l : LaneId) → w < 2

@@ -1,5 +1,5 @@
 use Rattle.std.proofs.Common.{rules, [], false, refl}
-use Rattle.flow_intake.specs.Opening.{Setting}
+use Rattle.flow_worker.specs.Opening.{Setting}
 use Rattle.flow_worker.specs.Standing.{IsFile}
 use Rattle.flow_worker.specs.declared.apart_files.OneFile.{OneFile}
 use Rattle.flow_worker.proofs.ApartFiles.{file-new}

@@ -2,7 +2,7 @@ use Rattle.std.proofs.Common.{ℕ, List, map}
 use Rattle.std.specs.Prelude.{All}
 use Rattle.ruled_intake.specs.declared.message.Message.{Message}
 use Rattle.verdict_book.specs.Receipts.{IsOf, row_of}
-use Rattle.flow_intake.specs.Opening.{Setting}
+use Rattle.flow_worker.specs.Opening.{Setting}
 use Rattle.flow_worker.specs.Standing.{ApartStandsFor}
 use Rattle.flow_worker.proofs.ApartFiles.{HasFileRows}
 use Rattle.flow_worker.proofs.apart_files.Apart.post.Given as goal

@@ -2,7 +2,7 @@ use Rattle.std.proofs.Common.{rules, ◌≡◌, ◌≤◌, ◌<◌, ◌++◌, �
 use Rattle.std.specs.Prelude.{is_some}
 use Rattle.std.specs.Vec.{with_item}
 use Rattle.std.proofs.lemmas.List.{get_or_default}
-use Rattle.flow_intake.specs.Messages.{ending}
+use Rattle.flow_worker.specs.Messages.{ending}
 use Rattle.flow_worker.specs.declared.joined_files.Joined.{Joined}
 use Rattle.flow_worker.specs.declared.joined_files.Waiting.{Waiting}
 use Rattle.flow_worker.proofs.JoinedFiles.{joined-ended, joined-ended_if, joined-passed_end, tested_end, tested_none, waiting-at}

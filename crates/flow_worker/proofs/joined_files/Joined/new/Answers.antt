@@ -1,5 +1,5 @@
 use Rattle.std.proofs.Common.{rules, ◌≡◌, [], true, length, refl}
-use Rattle.flow_intake.specs.Opening.{Setting}
+use Rattle.flow_worker.specs.Opening.{Setting}
 use Rattle.flow_worker.specs.Standing.{IsWaiting}
 use Rattle.flow_worker.specs.declared.joined_files.Joined.{Joined}
 use Rattle.flow_worker.proofs.Each.{each-push-at}

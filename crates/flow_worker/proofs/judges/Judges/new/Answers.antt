@@ -1,7 +1,7 @@
 use Rattle.std.proofs.Common.{rules, [], eqb, sym, ap}
 use Rattle.timing_base.specs.Keys.{key_of}
 use Rattle.flow_worker.specs.Judging.{IsPlace}
-use Rattle.flow_intake.specs.Opening.{Setting}
+use Rattle.flow_worker.specs.Opening.{Setting}
 use Rattle.flow_worker.proofs.Each.{each-push-at}
 use Rattle.flow_worker.proofs.Fed.{place-new}
 use Rattle.flow_worker.proofs.judges.Judges.new.Goals as goal

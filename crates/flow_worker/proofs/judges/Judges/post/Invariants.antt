@@ -3,7 +3,7 @@ use Rattle.std.specs.Prelude.{All}
 use Rattle.timing_base.specs.declared.key.FlowKey.{FlowKey}
 use Rattle.timing_base.specs.declared.packet.FlowPacket.{FlowPacket}
 use Rattle.verdict_book.specs.Receipts.{IsOf, row_of}
-use Rattle.flow_intake.specs.Opening.{Setting}
+use Rattle.flow_worker.specs.Opening.{Setting}
 use Rattle.flow_worker.specs.Judging.{AreFed}
 use Rattle.flow_worker.proofs.Posted.{HasRows}
 use Rattle.flow_worker.proofs.judges.Judges.post.Given as goal

@@ -1,5 +1,0 @@
-use Rattle.flow_intake.proofs.Whole.{lane_flow, messages_whole}
-use Rattle.flow_intake.proofs.laws.lanes_in_order.Goals as goal
-
-pub returns : goal.returns
-returns c = record { whole = messages_whole; flows = lane_flow }

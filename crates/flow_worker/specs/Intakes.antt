@@ -1,0 +1,66 @@
+-- What an intake has sent when it ends. Files and lanes count from 0.
+use Rattle.std.specs.Prelude.{◌≡◌, ◌<◌, ℕ, Bool, List, [], ◌++◌, length, slice_index_or}
+use Rattle.timing_base.specs.Captures.{Record}
+use Rattle.timing_base.specs.Media.{Media}
+use Rattle.timing_base.specs.declared.capture.FileNote.{FileNote}
+use Rattle.timing_base.specs.declared.capture.FileNote.TheVariants.{Refused, Stopped}
+use Rattle.timing_base.specs.declared.capture.PcapFault.TheVariants.{ReadFault}
+use Rattle.pcap_reader.specs.Readers.{GivesNote}
+use Rattle.ruled_intake.specs.Lanes.{LaneId, Sender}
+use Rattle.ruled_intake.specs.declared.message.Message.{Message}
+use Rattle.flow_worker.specs.Messages.{IsPrefix}
+use Rattle.flow_worker.specs.Opening.{Capture, Setting, file_sends, for_lane}
+
+-- the passes are those of a file for these lanes, in order, and by them these messages were sent
+pub record HaveSent (file : ℕ) (lanes : List LaneId) (sent : (lane : ℕ) → List Message) (passes : List Sender) : Type 0 where
+  pub count : length passes ≡ length lanes
+  pub each : (lane : ℕ) (d : Sender) (l : LaneId) → lane < length lanes
+      → slice_index_or passes lane d ≡ record { lane = slice_index_or lanes lane l; from = file; sent = sent lane }
+
+-- nothing was sent
+abbrev pub HaveSentNothing : (file : ℕ) → List LaneId → List Sender → Type 0
+HaveSentNothing file lanes passes = HaveSent file lanes (λ lane. []) passes
+
+-- something was sent, or nothing
+abbrev pub AreOfFile : (file : ℕ) → List LaneId → List Sender → Type 0
+AreOfFile file lanes passes = (sent : (lane : ℕ) → List Message) × HaveSent file lanes sent passes
+
+-- the run of an intake: it knows of no seconds that are added to stamps
+abbrev pub intake_setting : List Media → (workers : ℕ) → (joined : Bool) → Setting
+intake_setting media workers joined = record { media = media; workers = workers; joined = joined; tai = 0 }
+
+-- what a file has to send to a lane
+abbrev pub lane_sends : Setting → (file : ℕ) → Capture → (lane : ℕ) → List Message
+lane_sends s file c lane = for_lane lane (file_sends 256 s file c)
+
+-- what there is to send of a capture: all of it, or where a read failed the records before
+pub record IsToSend (whole part : Capture) : Type 0 where
+  pub later : List Record
+  pub records_are : whole.records ≡ part.records ++ later
+  pub ends : GivesNote part.note later whole.note
+
+-- what was sent begins what the file had to send to each lane
+pub record HasBegun (s : Setting) (file : ℕ) (lanes : List LaneId) (c : Capture) (passes : List Sender) : Type 0 where
+  pub part : Capture
+  pub is_part : IsToSend c part
+  pub sent : (lane : ℕ) → List Message
+  pub have_sent : HaveSent file lanes sent passes
+  pub begins : (lane : ℕ) → IsPrefix (sent lane) (lane_sends s file part lane)
+
+-- a read failed: what was sent is all of the records before
+pub record HasBroken (s : Setting) (file : ℕ) (lanes : List LaneId) (items : List Record) (passes : List Sender) : Type 0 where
+  pub before : List Record
+  pub later : List Record
+  pub whole : items ≡ before ++ later
+  pub have_sent : HaveSent file lanes (lane_sends s file (record { records = before; note = Refused ReadFault })) passes
+
+-- the whole file was sent, and the note is how it ends
+pub record HasSentAll (s : Setting) (file : ℕ) (lanes : List LaneId) (c : Capture) (note : FileNote) (passes : List Sender) : Type 0 where
+  pub note_is : note ≡ c.note
+  pub have_sent : HaveSent file lanes (lane_sends s file c) passes
+
+-- what an intake with this note has sent of a capture
+abbrev pub HasTold : Setting → (file : ℕ) → List LaneId → Capture → FileNote → List Sender → Type 0
+HasTold s file lanes c Stopped passes = HasBegun s file lanes c passes
+HasTold s file lanes c (Refused ReadFault) passes = HasBroken s file lanes c.records passes
+HasTold s file lanes c note passes = HasSentAll s file lanes c note passes

@@ -1,4 +1,0 @@
-pub mod Dealing
-pub mod Making
-pub mod Telling
-pub mod Lists
