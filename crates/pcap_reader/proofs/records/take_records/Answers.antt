@@ -1,4 +1,4 @@
-use Rattle.std.proofs.Common.{◌≡◌, ◌+◌, ◌-◌, ◌^◌, rules, arith, refl, subst, sym}
+use Rattle.std.proofs.Common.{◌≡◌, ◌+◌, ◌-◌, ◌^◌, ◌++◌, rules, arith, refl, subst, sym}
 use Rattle.std.proofs.lemmas.Result.{err_from_is_err_and}
 use Rattle.pcap_reader.specs.Readers.{frame_count}
 use Rattle.pcap_reader.specs.Taken.{TakesFew}
@@ -81,3 +81,11 @@ returns-in_err-note-clause-told g c = λ items end given.
     rw (p.1, p.2)
     (taken-stops _ _ g.T.Taker.stops _ _ _ c.take_next.new.taker _ _ c.in_err-note.field-0.0 items end ends (c.loop-number.invariant.told items end given)
     (λ rest. c.in_err-note.ensures.told rest end))
+
+pub returns-in_err-note-clause-stopped : goal.returns-in_err-note-clause-stopped
+returns-in_err-note-clause-stopped g c =
+    let fed = c.loop-number.invariant.fed in
+    let at = c.in_err-note.ensures.stopped in
+    let ends = g.met.T.Taker.ends c.args.taker.now c.loop-number.taker c.take_next.new.taker c.in_err-note.field-0.0 in
+    let p = err_from_is_err_and c.from_residual.result c.from_residual.ensures.1 in
+    rw (p.1, p.2) (record { items = fed.items ++ at.items; stopped = ends fed.items at.items fed.taken at.stopped })
