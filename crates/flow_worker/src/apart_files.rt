@@ -34,11 +34,7 @@ impl Apart {
     ghost use Rattle.flow_worker.specs.Standing.{ApartStandsFor, MayTake, Takes, TellsEnds};
 
     /// So many files, of which nothing was taken yet. `Err` is want of memory.
-    pub fn new(
-        alloc: Global,
-        run: &RunSetting<'_>,
-        worker: u32,
-    ) -> Result<Apart, OutOfMemory>
+    pub fn new(alloc: Global, run: &RunSetting<'_>, worker: u32) -> Result<Apart, OutOfMemory>
         requires limits { IsWorker run.now worker }
         ensures stands { IfOk result (λ apart. ApartStandsFor (record { media = run.now.media.now; workers = length run.now.lanes.now; joined = false; tai = run.now.tai })
             run.now.files worker [] apart) }

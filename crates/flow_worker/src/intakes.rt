@@ -90,7 +90,8 @@ impl<R: Wait> Sorter<'_, R> {
             → Rose (S.faults (under reader.old)) (S.faults (under reader.new))) }
     {
         let taken = take_records(reader, 0, self)?;
-        self.outboxes.finish(self.rt, self.alloc, taken.note, taken.records)?;
+        self.outboxes
+            .finish(self.rt, self.alloc, taken.note, taken.records)?;
         Ok(taken.note)
     }
 }

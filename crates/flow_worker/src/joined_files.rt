@@ -40,11 +40,7 @@ impl Joined {
     ghost use Rattle.flow_worker.specs.Standing.{HasEnded, HasRows, JoinedIsAt, JoinedStandsFor, MayTake, Takes, TellsEnds};
 
     /// So many files, of which nothing was taken yet. `Err` is want of memory.
-    pub fn new(
-        alloc: Global,
-        run: &RunSetting<'_>,
-        worker: u32,
-    ) -> Result<Joined, OutOfMemory>
+    pub fn new(alloc: Global, run: &RunSetting<'_>, worker: u32) -> Result<Joined, OutOfMemory>
         requires limits { IsWorker run.now worker }
         ensures stands { IfOk result (λ joined. JoinedStandsFor (record { media = run.now.media.now; workers = length run.now.lanes.now; joined = true; tai = run.now.tai })
             run.now.files worker [] joined) }

@@ -23,11 +23,7 @@ impl Judging {
     ghost use Rattle.flow_worker.specs.Standing.{HasRows, MayTake, StandsFor, Takes, TellsEnds};
 
     /// The judges of a worker that has taken nothing yet. `Err` is want of memory.
-    pub fn new(
-        alloc: Global,
-        run: &RunSetting<'_>,
-        worker: u32,
-    ) -> Result<Judging, OutOfMemory>
+    pub fn new(alloc: Global, run: &RunSetting<'_>, worker: u32) -> Result<Judging, OutOfMemory>
         requires limits { IsWorker run.now worker }
         ensures stands { IfOk result (λ judging. StandsFor (setting_of run.now) run.now.files worker [] judging) }
     {

@@ -2,7 +2,7 @@
 use Rattle.std.specs.Prelude.{ℕ, List, ◌++◌, Bool, true, false, Option, Some, None, codes}
 use Rattle.std.specs.Fmt.{decimal}
 use Rattle.timing_base.specs.declared.capture.FileNote.{FileNote}
-use Rattle.timing_base.specs.declared.capture.FileNote.TheVariants.{End, Cut, Refused, Stopped}
+use Rattle.timing_base.specs.declared.capture.FileNote.TheVariants.{End, Cut, Refused}
 use Rattle.timing_base.specs.declared.capture.PcapFault.{PcapFault}
 use Rattle.timing_base.specs.declared.capture.PcapFault.TheVariants.{ReadFault, BadMagic, BadVersion, BadLink, BadStamp}
 use Rattle.timing_base.specs.declared.capture.PcapFault.TheVariants.{BadLength, TooLong}
@@ -68,10 +68,9 @@ pcap_fault_text (BadStamp rec) = codes "BadStamp at record " ++ decimal rec
 pcap_fault_text (BadLength rec) = codes "BadLength at record " ++ decimal rec
 pcap_fault_text TooLong = codes "TooLong"
 
--- how a capture ends; the place of a cut is a byte, counted from 0. No report tells of a failed read or of `Stopped`: a
+-- how a capture ends; the place of a cut is a byte, counted from 0. No report tells of a failed read: a
 -- run that meets one ends without a report.
 abbrev pub note_text : FileNote → List ℕ
 note_text End = codes "end"
 note_text (Cut at) = codes "cut at " ++ decimal at
 note_text (Refused fault) = codes "refused " ++ pcap_fault_text fault
-note_text Stopped = codes "stopped"

@@ -83,11 +83,7 @@ fn answer_over<H: Shelf>(
 
 /// The answer of a job, or why there is none. For each fail of the report, in its order, the captures
 /// of its flow are fetched anew; nothing is fetched for one whose flow isn't there.
-fn answer_report<H: Shelf>(
-    alloc: Global,
-    job: &ReportJob,
-    shelf: &mut H,
-) -> Result<Answer, Failure>
+fn answer_report<H: Shelf>(alloc: Global, job: &ReportJob, shelf: &mut H) -> Result<Answer, Failure>
     ensures follows { FollowsReport job.now (seen_of H.Shelf shelf.old shelf.new) result }
     ensures cause { HasCause result (ReportInputRose job.now (seen_of H.Shelf shelf.old shelf.new)) }
     ensures stays { StaysAs H.text H.lacks H.faults shelf.old shelf.new }

@@ -66,11 +66,7 @@ fn answer_over<H: Shelf>(
 
 /// The answer of a job, or why there is none. Where the description hasn't the media, the fail is not
 /// confirmed, and no capture is fetched.
-fn answer_verify<H: Shelf>(
-    alloc: Global,
-    job: &VerifyJob,
-    shelf: &mut H,
-) -> Result<Answer, Failure>
+fn answer_verify<H: Shelf>(alloc: Global, job: &VerifyJob, shelf: &mut H) -> Result<Answer, Failure>
     ensures follows { FollowsVerify job.now (seen_of H.Shelf shelf.old shelf.new) result }
     ensures cause { HasCause result (VerifyInputRose job.now (seen_of H.Shelf shelf.old shelf.new)) }
     ensures stays { StaysAs H.text H.lacks H.faults shelf.old shelf.new }
