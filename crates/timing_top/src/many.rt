@@ -20,7 +20,6 @@ use timing_base::{FileNote, Media, PcapFault};
 use timing_outside::{Gate, Shelf};
 use timing_report::Input;
 use timing_steps::{Failure, give_back_all};
-use timing_top::Found;
 
 /// The first capture that couldn't be read, counted from 0.
 fn first_unread(notes: &[FileNote]) -> Option<u32>
