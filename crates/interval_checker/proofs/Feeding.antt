@@ -1,10 +1,10 @@
 -- What the next packet of a flow says, whatever packets follow.
-use Rattle.std.proofs.Common.{◌≡◌, ◌≢◌, ◌≤◌, ◌<◌, ◌+◌, ℕ, Bool, true, false, List, [], ◌∷◌, ◌++◌, length, refl, ap, sym, ◌∙◌, subst, arith, length-append}
+use Rattle.std.proofs.Common.{◌≡◌, ◌<◌, ◌+◌, ℕ, false, List, [], ◌∷◌, ◌++◌, length, refl, ap, sym, ◌∙◌, subst, arith, length-append}
 use Rattle.std.proofs.Common.{append_assoc}
-use Rattle.std.specs.Prelude.{Option, Some, None, Result, Ok, Err, ◌==◌}
+use Rattle.std.specs.Prelude.{Some, Ok, Err, ◌==◌}
 use Rattle.std.proofs.Math.Seq.{get_or-append_seam}
 use Rattle.std.proofs.lemmas.Bool.Decides.{nat_tests}
-use Rattle.timing_base.specs.Flows.{FirstFault, cuts, fault, first_fault, first_fault_below, fault_if, first_of, no_packet, packet, reading_fault}
+use Rattle.timing_base.specs.Flows.{FirstFault, cuts, fault, first_fault, no_packet, packet}
 use Rattle.timing_base.specs.Judged.{judged, refusal}
 use Rattle.timing_base.specs.Media.{Media}
 use Rattle.timing_base.specs.declared.fail.FailProof.{FailProof}

@@ -1,5 +1,5 @@
 -- Sources that are read one after the other, and handed back.
-use Rattle.std.proofs.Common.{◌≡◌, ◌≤◌, ◌<◌, ◌+◌, ◌*◌, ◌^◌, ℕ, zero, suc, Bool, true, false, List, [], ◌∷◌, ◌++◌, length, map, refl, sym, ap, ◌∙◌, subst}
+use Rattle.std.proofs.Common.{◌≡◌, ◌≤◌, ◌<◌, ◌+◌, ◌*◌, ◌^◌, ℕ, suc, Bool, true, false, List, [], ◌∷◌, ◌++◌, length, map, refl, sym, ap, ◌∙◌, subst}
 use Rattle.std.proofs.Common.{append_assoc, append-nil, length-append, arith}
 use Rattle.std.specs.Prelude.{if◌then◌else◌, Option, Some, Result, Ok, Err, IfOk, IfErr, IsOk, OnOk, is_ok}
 use Rattle.timing_base.specs.Captures.{Record, joined, joined_after, raised}
@@ -11,7 +11,7 @@ use Rattle.pcap_reader.specs.Records.{AreRecords, Records}
 use Rattle.udp_rtp.specs.Flow.{flow}
 use Rattle.interval_checker.specs.Checked.{IfChecked, IfReadFault, Says}
 use Rattle.interval_checker.specs.Sources.{AreBack, RoseAt, TellTexts}
-use Rattle.interval_checker.specs.Taking.{Feeds, Goes, Hands, OnFlowFault, Refuses, StandsOn, TakesAll}
+use Rattle.interval_checker.specs.Taking.{Goes, Hands, OnFlowFault, StandsOn, TakesAll}
 use Rattle.interval_checker.specs.Walks.{StandsFor}
 use Rattle.interval_checker.specs.declared.claim.Claim.{Claim}
 use Rattle.interval_checker.specs.declared.fault.CheckFault.{CheckFault}

@@ -1,11 +1,11 @@
 -- A walk, one packet on.
-use Rattle.std.proofs.Common.{◌≡◌, ◌≢◌, ◌≤◌, ◌<◌, ◌+◌, ◌-◌, ◌*◌, ◌^◌, ℕ, zero, suc, Bool, true, false, List, [], ◌∷◌, ◌++◌, length, map, refl, ap, sym, ◌∙◌}
+use Rattle.std.proofs.Common.{◌≡◌, ◌≤◌, ◌<◌, ◌+◌, ◌-◌, ℕ, Bool, true, false, List, [], ◌∷◌, ◌++◌, length, map, refl, ap, sym, ◌∙◌}
 use Rattle.std.proofs.Common.{subst, arith, inl, inr, length-append}
-use Rattle.std.specs.Prelude.{Option, Some, None, Ok, slice_index, nat_lt, ◌&&◌}
+use Rattle.std.specs.Prelude.{Option, Some, None, Ok, nat_lt, ◌&&◌}
 use Rattle.std.specs.Option.{ForSome}
 use Rattle.std.proofs.lemmas.Bool.{cases_lt}
 use Rattle.std.proofs.lemmas.Bool.Decides.{nat_tests}
-use Rattle.timing_base.specs.Flows.{cuts, fault, first_fault_below, has_marker, is_cut, last_place, markers, markers_before, packet, rtp, run_start}
+use Rattle.timing_base.specs.Flows.{cuts, fault, has_marker, is_cut, last_place, markers, markers_before, packet, rtp, run_start}
 use Rattle.timing_base.specs.Judged.{FlowRun, run_at, runs_between}
 use Rattle.timing_base.specs.declared.packet.FlowPacket.{FlowPacket}
 use Rattle.timing_base.specs.declared.packet.Rtp.{Rtp}
@@ -15,7 +15,7 @@ use Rattle.timing_base.proofs.Grouped.{none-order}
 use Rattle.timing_base.proofs.Places.{cuts-here, cuts-other, markers-here, markers-other, places-none}
 use Rattle.timing_base.proofs.Sizes.{sized-enter, sized-next, sized-nil}
 use Rattle.interval_checker.specs.Checked.{SaysAt}
-use Rattle.interval_checker.specs.Markers.{AreMarked, AreMarks}
+use Rattle.interval_checker.specs.Markers.{AreMarked}
 use Rattle.interval_checker.specs.Packets.{ComesAfter, IsAfter, IsRead}
 use Rattle.interval_checker.specs.Samples.{IsSample}
 use Rattle.interval_checker.specs.Walks.{Keeps, stamp_behind}

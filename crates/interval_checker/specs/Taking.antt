@@ -1,17 +1,16 @@
 -- What a walk says of the records that it was fed, and which records of a reader were taken.
-use Rattle.std.specs.Prelude.{◌≡◌, ◌+◌, ℕ, Bool, true, false, List, [], ◌∷◌, ◌++◌, length, map, Option, Result, Ok, Err}
-use Rattle.std.specs.Prelude.{⊤}
+use Rattle.std.specs.Prelude.{◌≡◌, ◌≤◌, ◌+◌, ◌^◌, ℕ, List, [], ◌++◌, length, map, Option, Result, Ok, Err, ⊤}
+use Rattle.std.proofs.Common.{ap, append_assoc, append-nil, arith, refl, subst, sym, ◌∙◌}
 use Rattle.timing_base.specs.Captures.{Record, joined_after, raised}
 use Rattle.timing_base.specs.Judged.{judged}
 use Rattle.timing_base.specs.declared.capture.FileNote.{FileNote}
 use Rattle.timing_base.specs.declared.row.Unjudged.{Unjudged}
-use Rattle.pcap_reader.specs.Readers.{WillGive}
 use Rattle.pcap_reader.specs.Records.{AreRecords}
-use Rattle.pcap_reader.specs.declared.reader.PcapReader.{PcapReader}
 use Rattle.udp_rtp.specs.Flow.{flow}
 use Rattle.interval_checker.specs.Checked.{Says}
 use Rattle.interval_checker.specs.Sources.{AreBack, RoseAt, TellTexts}
-use Rattle.interval_checker.specs.Walks.{StandsFor}
+use Rattle.interval_checker.specs.Walks.{StandsFor, count_fed}
+use Rattle.interval_checker.specs.declared.records.Checking.{Checking}
 use Rattle.interval_checker.specs.declared.claim.Claim.{Claim}
 use Rattle.interval_checker.specs.declared.fault.CheckFault.{CheckFault}
 use Rattle.interval_checker.specs.declared.fault.CheckFault.TheVariants as check_fault
@@ -36,31 +35,51 @@ OnFlowFault (check_fault.FlowFault why) P = P why
 OnFlowFault (check_fault.ReadFault source) P = ⊤
 OnFlowFault check_fault.OutOfMemory P = ⊤
 
--- it is a flow's fault
-abbrev pub IsFlowFault : CheckFault → (Unjudged → Type 0) → Type 0
-IsFlowFault (check_fault.FlowFault why) P = P why
-IsFlowFault (check_fault.ReadFault source) P = ⊥
-IsFlowFault check_fault.OutOfMemory P = ⊥
+-- the walk of the same claim was then fed these records too
+pub record FeedsOn (old new : Checking) (more : List Record) : Type 0 where
+  pub claim : new.claim.now ≡ old.claim.now
+  pub feeds : Feeds old.claim.now old.walk new.walk more
 
--- a record was taken off what the reader was to give, and fed to the walk with its number raised; or there is none more;
--- or the flow isn't judged
-abbrev pub TakesNext : {S : Type 0} → (S → Option (List ℕ)) → Claim → (before : ℕ) → (old new : Walk) → PcapReader S → Result Bool CheckFault
-    → List Record → FileNote → Type 0
-TakesNext left claim before old new reader (Ok true) items end = (item : Record) × (later : List Record) × (items ≡ item ∷ later)
-    × WillGive left reader later end × Feeds claim old new (raised before item ∷ [])
-TakesNext left claim before old new reader (Ok false) items end = (items ≡ []) × (new ≡ old)
-TakesNext left claim before old new reader (Err fault) items end = OnFlowFault fault (Refuses claim old (map (raised before) items))
+-- with these records the flow isn't judged, whatever follows
+abbrev pub RefusesOn : (old new : Checking) → Unjudged → List Record → Type 0
+RefusesOn old new why more = Refuses old.claim.now old.walk more why
 
--- so many records were taken off what the reader was to give, and fed to the walk with their numbers raised; the others
--- are still to come
-pub record HasTaken {S : Type 0} (left : S → Option (List ℕ)) (claim : Claim) (before : ℕ) (old new : Walk) (reader : PcapReader S) (count : ℕ)
-    (items : List Record) (end : FileNote) : Type 0 where
-  pub taken : List Record
-  pub rest : List Record
-  pub whole : items ≡ taken ++ rest
-  pub given : WillGive left reader rest end
-  pub count_is : length taken ≡ count
-  pub fed : Feeds claim old new (map (raised before) taken)
+-- there is room for so many records more
+abbrev pub HasRoom : (number count : ℕ) → Checking → Type 0
+HasRoom number count c = count_fed c.walk + count ≤ 2 ^ 41
+
+-- no record changes nothing
+pub feeds_none : (x : Checking) → FeedsOn x x []
+feeds_none x = record { claim = refl; feeds = λ items h. subst (StandsOn x.claim.now x.walk) (sym (append-nil items)) h }
+
+-- some records, and then others
+pub feeds_more : (x y z : Checking) (a b : List Record) → FeedsOn x y a → FeedsOn y z b → FeedsOn x z (a ++ b)
+feeds_more x y z a b first second = record {
+  claim = second.claim ∙ first.claim;
+  feeds = λ items h.
+      subst (StandsOn x.claim.now z.walk) (append_assoc items a b)
+      (subst (λ claim. Feeds claim y.walk z.walk b) first.claim second.feeds (items ++ a) (first.feeds items h));
+}
+
+-- some records, and then others with which the flow isn't judged
+pub refuses_behind : (x y z : Checking) (why : Unjudged) (a b : List Record) → FeedsOn x y a → RefusesOn y z why b → RefusesOn x z why (a ++ b)
+refuses_behind x y z why a b first second items rest h =
+    let e : (items ++ a) ++ (b ++ rest) ≡ items ++ ((a ++ b) ++ rest)
+    = append_assoc items a (b ++ rest) ∙ ap (λ l. items ++ l) (sym (append_assoc a b rest)) in
+    let claim = x.claim.now in
+    subst (λ l. Says claim.media claim.kind claim.proof claim.run (judged (flow l claim.media) claim.media.pt claim.tai) (Err why)) e
+    (subst (λ claim. Refuses claim y.walk b why) first.claim second (items ++ a) rest (first.feeds items h))
+
+-- what follows changes nothing
+pub refuses_more : (x y : Checking) (why : Unjudged) (a b : List Record) → RefusesOn x y why a → RefusesOn x y why (a ++ b)
+refuses_more x y why a b refuses items rest h =
+    let claim = x.claim.now in
+    subst (λ l. Says claim.media claim.kind claim.proof claim.run (judged (flow (items ++ l) claim.media) claim.media.pt claim.tai) (Err why))
+    (sym (append_assoc a b rest)) (refuses items (b ++ rest) h)
+
+-- room for many records is room for few
+pub room_less : (number few many : ℕ) (x : Checking) → few ≤ many → HasRoom number many x → HasRoom number few x
+room_less number few many x less room = omega (arith, less, room)
 
 -- all records of a capture were fed to the walk with their numbers raised, and counted on; or the flow isn't judged
 abbrev pub TakesAll : Claim → (before : ℕ) → (old new : Walk) → Result ℕ CheckFault → List Record → Type 0

@@ -1,5 +1,5 @@
 -- What a `Walk` says of the packets that it was fed. Packets, runs and judged packets count from 0.
-use Rattle.std.specs.Prelude.{◌≡◌, ◌≤◌, ◌<◌, ◌+◌, ◌-◌, ℕ, List, [], ◌∷◌, ◌++◌, length, map, Option, Some, None}
+use Rattle.std.specs.Prelude.{◌≡◌, ◌≤◌, ◌<◌, ◌+◌, ◌-◌, ℕ, List, [], ◌∷◌, ◌++◌, length, map, Some, None}
 use Rattle.timing_base.specs.Flows.{cuts, first_fault_below, last_place, markers, packet}
 use Rattle.timing_base.specs.Grouped.{IsSized}
 use Rattle.timing_base.specs.Judged.{FlowRun, run_at, runs_between}

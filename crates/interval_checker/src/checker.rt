@@ -13,9 +13,9 @@ ghost use Rattle.interval_checker.specs.Sources.{AreBack, RoseAt, TellTexts};
 
 use crate::claim::Claim;
 use crate::fault::CheckFault;
-use crate::records::take_records;
+use crate::records::Checking;
 use crate::walk::Walk;
-use pcap_reader::{MOST, PcapReader};
+use pcap_reader::{MOST, PcapReader, take_records};
 use std::alloc::Global;
 use timing_base::{FailProof, Kind, Media};
 use timing_outside::Source;
@@ -124,8 +124,21 @@ fn check_source<S: Source>(
     };
     match PcapReader::start(alloc, source, MOST) {
         Ok(mut reader) => {
-            let taken = take_records(&mut reader, number, before, claim, walk);
-            (reader.into_source(), taken)
+            let mut checking = Checking { claim, walk: *walk };
+            let taken = take_records(&mut reader, before, &mut checking);
+            let after = match taken {
+                Ok(taken) => {
+                    if taken.read_failed() {
+                        Err(CheckFault::ReadFault { source: number })
+                    } else {
+                        // A capture that is cut or faulty has its records before that place.
+                        *walk = checking.walk;
+                        Ok(before + taken.records)
+                    }
+                }
+                Err(why) => Err(CheckFault::FlowFault(why)),
+            };
+            (reader.into_source(), after)
         }
         Err(source) => (source, Err(CheckFault::OutOfMemory)),
     }

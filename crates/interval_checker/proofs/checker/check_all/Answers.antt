@@ -1,4 +1,4 @@
-use Rattle.std.proofs.Common.{◌≡◌, ◌+◌, length, rules, arith}
+use Rattle.std.proofs.Common.{◌≡◌, length, rules, arith}
 use Rattle.std.specs.Prelude.{vec_len}
 use Rattle.timing_base.specs.Captures.{joined}
 use Rattle.interval_checker.proofs.Goings.{back-same, before-few, before-next, cons-length, failed-all, failed-more, goes-at, goes-none, goes-says, hands-all}

@@ -1,4 +1,4 @@
-use Rattle.std.proofs.Common.{◌≡◌, ◌≤◌, ◌+◌, ◌*◌, ◌^◌, ◌++◌, ℕ, List, length}
+use Rattle.std.proofs.Common.{◌≡◌, ◌≤◌, ◌+◌, ◌*◌, ◌^◌, ℕ, List, length}
 use Rattle.std.specs.Prelude.{IfOk, vec_capacity, vec_len}
 use Rattle.timing_base.specs.Captures.{Record, joined}
 use Rattle.timing_base.specs.declared.capture.FileNote.{FileNote}

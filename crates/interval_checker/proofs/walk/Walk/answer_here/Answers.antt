@@ -1,4 +1,4 @@
-use Rattle.std.proofs.Common.{◌≡◌, ◌≢◌, arith, rules}
+use Rattle.std.proofs.Common.{◌≡◌, ◌≢◌, arith}
 use Rattle.interval_checker.proofs.Outcomes.{answer-done, answer-open}
 use Rattle.interval_checker.proofs.walk.Walk.answer_here.Goals as goal
 

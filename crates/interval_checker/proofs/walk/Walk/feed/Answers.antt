@@ -1,6 +1,6 @@
 use Rattle.std.proofs.Common.{◌≡◌, ◌∷◌, ◌++◌, [], List, length, sym, ap, ◌∙◌, subst}
 use Rattle.std.specs.Prelude.{Some}
-use Rattle.timing_base.specs.Flows.{fault, packet}
+use Rattle.timing_base.specs.Flows.{fault}
 use Rattle.timing_base.specs.declared.packet.FlowPacket.{FlowPacket}
 use Rattle.interval_checker.specs.Walks.{StandsFor}
 use Rattle.interval_checker.specs.declared.walk.Walk.{Walk}

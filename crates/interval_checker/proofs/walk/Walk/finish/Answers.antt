@@ -1,4 +1,4 @@
-use Rattle.std.proofs.Common.{◌≡◌, ◌≢◌, arith}
+use Rattle.std.proofs.Common.{◌≢◌, arith}
 use Rattle.interval_checker.proofs.Outcomes.{finish-absent, finish-says}
 use Rattle.interval_checker.proofs.walk.Walk.finish.Goals as goal
 

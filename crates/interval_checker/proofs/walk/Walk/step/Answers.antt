@@ -1,5 +1,5 @@
-use Rattle.std.proofs.Common.{◌≡◌, Some, None, refl, sym, ap, ◌∙◌, rules}
-use Rattle.timing_base.specs.Flows.{first_of, is_cut, size_fault}
+use Rattle.std.proofs.Common.{sym, ap, ◌∙◌}
+use Rattle.timing_base.specs.Flows.{first_of, size_fault}
 use Rattle.timing_base.specs.declared.packet.Rtp.{Rtp}
 use Rattle.interval_checker.proofs.Faults.{fault-split, rtp-is}
 use Rattle.interval_checker.proofs.walk.Walk.step.Goals as goal
