@@ -1,6 +1,6 @@
 -- What the first reading of a flow finds. Packets count from 0.
-use Rattle.std.specs.Prelude.{◌≡◌, ◌+◌, ◌*◌, ◌^◌, ℕ, List, [], ◌++◌, slice_index}
-use Rattle.std.proofs.Common.{sym, subst, append-nil, append_assoc, ap, ◌∙◌}
+use Rattle.std.specs.Prelude.{◌≡◌, ◌≤◌, ◌+◌, ◌*◌, ◌^◌, ℕ, List, [], ◌++◌, slice_index}
+use Rattle.std.proofs.Common.{arith, sym, subst, append-nil, append_assoc, ap, ◌∙◌}
 use Rattle.std.proofs.lemmas.List.Elements.{filter_map-append}
 use Rattle.timing_base.specs.Captures.{Record}
 use Rattle.timing_base.specs.Judged.{JudgedRun, in_one_run, judged, whole_frames}
@@ -26,6 +26,13 @@ pub record IsJudging (m : Media) (key : FlowKey) (tai : ℕ) (j : Judging) (pack
 -- how many packets were passed
 abbrev pub count_judged : Judging → ℕ
 count_judged j = count_fed j.judge
+
+-- there is room for so many records more
+abbrev pub HasRoom : (number count : ℕ) → Judging → Type 0
+HasRoom number count j = count_judged j + count ≤ 2 ^ 41
+
+pub room_less : (number few many : ℕ) (j : Judging) → few ≤ many → HasRoom number many j → HasRoom number few j
+room_less number few many j less room = omega (arith, less, room)
 
 -- whatever packets were passed, the flow of these records was passed then, and nothing else
 abbrev pub JudgesOn : (old new : Judging) → List Record → Type 0

@@ -1,6 +1,6 @@
 -- Which records of a capture were taken for two flows that are compared.
-use Rattle.std.specs.Prelude.{◌≡◌, ℕ, Bool, true, false, max, List, [], ◌++◌}
-use Rattle.std.proofs.Common.{refl, sym, subst, append-nil, append_assoc, ap, ◌∙◌}
+use Rattle.std.specs.Prelude.{◌≡◌, ◌≤◌, ◌+◌, ◌^◌, ℕ, Bool, true, false, max, List, [], ◌++◌}
+use Rattle.std.proofs.Common.{arith, refl, sym, subst, append-nil, append_assoc, ap, ◌∙◌}
 use Rattle.std.proofs.lemmas.List.Elements.{filter_map-append}
 use Rattle.timing_base.specs.Captures.{Record}
 use Rattle.timing_base.specs.Media.{Media}
@@ -26,6 +26,13 @@ pub record PairsOn (old new : Pairing) (more : List Record) : Type 0 where
 -- the most packets that one flow has
 abbrev pub pair_given : Pairing → ℕ
 pair_given p = max (count_first p.skew) (count_second p.skew)
+
+-- there is room for so many records more
+abbrev pub HasRoom : (number count : ℕ) → Pairing → Type 0
+HasRoom number count p = pair_given p + count ≤ 2 ^ 41
+
+pub room_less : (number few many : ℕ) (p : Pairing) → few ≤ many → HasRoom number many p → HasRoom number few p
+room_less number few many p less room = omega (arith, less, room)
 
 -- no record, and some records and then others
 pub taken-none : (b : Bool) (m : Media) → taken_of b m [] ≡ []

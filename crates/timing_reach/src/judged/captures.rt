@@ -1,6 +1,6 @@
 //! The records of the one capture of a job.
 
-ghost use Rattle.std.specs.Prelude.{◌≡◌, ◌≤◌, ◌<◌, ◌+◌, ◌^◌, ℕ, List, Some, IfOk, IfErr};
+ghost use Rattle.std.specs.Prelude.{◌≡◌, ◌≤◌, ◌+◌, ◌^◌, ℕ, List, Some, IfOk, IfErr};
 ghost use Rattle.timing_outside.specs.Causes.{Rose};
 ghost use Rattle.timing_outside.specs.Shelves.{StaysAs};
 ghost use Rattle.pcap_reader.specs.Taken.{TakesFew};
@@ -9,25 +9,27 @@ ghost use Rattle.timing_steps.specs.Answers.{OnReadFault};
 ghost use Rattle.timing_steps.specs.Taken.{TakesText};
 
 use pcap_reader::{Taken, Taker};
-use std::alloc::Global;
+use std::alloc::{AllocError as OutOfMemory, Global};
 use timing_outside::Shelf;
 use timing_report::Input;
 use timing_steps::{Failure, fetch_classic, take_source};
 
 /// Takes the records of the one capture of a job, under this name: it is fetched for that, and goes back
 /// to the shelf.
-pub fn take_capture<H: Shelf, T: Taker>(
+pub fn take_capture<H: Shelf, T: Taker<Stop = OutOfMemory>>(
     alloc: Global,
     shelf: &mut H,
     name: &str,
     taker: &mut T,
 ) -> Result<Taken, Failure>
-    requires few { T.given taker.old + 2 ^ 36 < 2 ^ 41 }
+    requires room { T.room 1 (2 ^ 36) taker.old }
     ensures told { IfOk result (λ taken. (text : List ℕ)
         → classic_texts (H.text shelf.old) name.now ≡ Some text
         → TakesText T.takes text 0 taker.old taker.new taken) }
     ensures fed { IfOk result (λ _. TakesFew T.takes (2 ^ 36) taker.old taker.new) }
-    ensures count { T.given taker.new ≤ T.given taker.old + 2 ^ 36 }
+    ensures few { IfOk result (λ taken. taken.records ≤ 2 ^ 36) }
+    ensures room { (count : ℕ) → IfOk result (λ taken. T.room 1 (taken.records + count) taker.old
+        → T.room (taken.records + 1) count taker.new) }
     ensures cause { IfErr result (λ e. OnReadFault e (λ i. (i ≡ Input.Capture 0)
         × Rose (H.faults shelf.old name.now) (H.faults shelf.new name.now))) }
     ensures there { IfOk result (λ _. ¬ H.lacks shelf.old name.now) }

@@ -68,15 +68,27 @@ impl Judging {
 }
 
 impl Taker for Judging {
-    ghost use Rattle.timing_reach.specs.judged.Readings.{JudgesOn, count_judged, judges_more, judges_none};
+    ghost use Rattle.pcap_reader.specs.Taken.{StopsAnyhow};
+    ghost use Rattle.timing_reach.specs.judged.Readings.{HasRoom, JudgesOn, judges_more, judges_none, room_less};
+
+    /// Want of memory.
+    type Stop = OutOfMemory;
 
     ghost takes = { JudgesOn };
 
-    ghost given = { count_judged };
+    ghost stops = { StopsAnyhow };
+
+    ghost room = { HasRoom };
 
     ghost none = { judges_none };
 
     ghost more = { judges_more };
+
+    ghost ends = { λ _ _ _ _ _ _ _ _. tt };
+
+    ghost halts = { λ _ _ _ _ _ _. tt };
+
+    ghost less = { room_less };
 
     #[inline(always)]
     fn take(&mut self, number: u64, at: u64, frame: &[u8]) -> Result<(), OutOfMemory> {

@@ -18,7 +18,7 @@ use timing_steps::Answer;
 /// one after the other.
 pub trait Look {
     /// What takes the records.
-    type Meter: Taker + Drop;
+    type Meter: Taker<Stop = OutOfMemory> + Drop;
 
     /// The answer on this run of a media's flow, in a capture of these records. `tai` is in seconds.
     ghost answers: { Self → (tai : ℕ) → MediaValue → List Record → JudgedRun → AnswerValue → Type 0 };
@@ -39,7 +39,7 @@ pub trait Look {
         requires tai { tai ≤ 1000 }
         requires first { IsStamp first }
         requires few { judged.now.packets ≤ 2 ^ 36 }
-        ensures given { IfOk result (λ meter. Self.Meter.given meter ≡ 0) }
+        ensures room { IfOk result (λ meter. Self.Meter.room 1 (2 ^ 36) meter) }
         ensures fresh { IfOk result (λ meter. fresh self.now tai media.now judged.now first meter) };
 
     /// The answer on a flow that was judged so and ends here.

@@ -162,15 +162,28 @@ impl Shaping {
 }
 
 impl Taker for Shaping {
+    ghost use Rattle.pcap_reader.specs.Taken.{StopsAnyhow};
+    ghost use Rattle.std.specs.Prelude.{⊤};
     ghost use Rattle.timing_reach.specs.shape.Shaping.{ShapesOn, shapes_more, shapes_none};
+
+    /// Want of memory.
+    type Stop = OutOfMemory;
 
     ghost takes = { ShapesOn };
 
-    ghost given = { λ _. 0 };
+    ghost stops = { StopsAnyhow };
+
+    ghost room = { λ _ _ _. ⊤ };
 
     ghost none = { shapes_none };
 
     ghost more = { shapes_more };
+
+    ghost ends = { λ _ _ _ _ _ _ _ _. tt };
+
+    ghost halts = { λ _ _ _ _ _ _. tt };
+
+    ghost less = { λ _ _ _ _ _ _. tt };
 
     #[inline(always)]
     fn take(&mut self, number: u64, at: u64, frame: &[u8]) -> Result<(), OutOfMemory> {

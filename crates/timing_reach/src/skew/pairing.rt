@@ -73,15 +73,27 @@ impl Pairing {
 }
 
 impl Taker for Pairing {
-    ghost use Rattle.timing_reach.specs.skew.Pairs.{PairsOn, pair_given, pairs_more, pairs_none};
+    ghost use Rattle.pcap_reader.specs.Taken.{StopsAnyhow};
+    ghost use Rattle.timing_reach.specs.skew.Pairs.{HasRoom, PairsOn, pairs_more, pairs_none, room_less};
+
+    /// Want of memory.
+    type Stop = OutOfMemory;
 
     ghost takes = { PairsOn };
 
-    ghost given = { pair_given };
+    ghost stops = { StopsAnyhow };
+
+    ghost room = { HasRoom };
 
     ghost none = { pairs_none };
 
     ghost more = { pairs_more };
+
+    ghost ends = { λ _ _ _ _ _ _ _ _. tt };
+
+    ghost halts = { λ _ _ _ _ _ _. tt };
+
+    ghost less = { room_less };
 
     #[inline(always)]
     fn take(&mut self, number: u64, at: u64, frame: &[u8]) -> Result<(), OutOfMemory> {

@@ -106,15 +106,28 @@ impl Gauge {
 }
 
 impl Taker for Gauge {
+    ghost use Rattle.pcap_reader.specs.Taken.{StopsAnyhow};
+    ghost use Rattle.std.specs.Prelude.{⊤};
     ghost use Rattle.timing_reach.specs.window.Gauging.{GaugesOn, gauges_more, gauges_none};
+
+    /// Want of memory.
+    type Stop = OutOfMemory;
 
     ghost takes = { GaugesOn };
 
-    ghost given = { λ _. 0 };
+    ghost stops = { StopsAnyhow };
+
+    ghost room = { λ _ _ _. ⊤ };
 
     ghost none = { gauges_none };
 
     ghost more = { gauges_more };
+
+    ghost ends = { λ _ _ _ _ _ _ _ _. tt };
+
+    ghost halts = { λ _ _ _ _ _ _. tt };
+
+    ghost less = { λ _ _ _ _ _ _. tt };
 
     #[inline(always)]
     fn take(&mut self, number: u64, at: u64, frame: &[u8]) -> Result<(), OutOfMemory> {

@@ -4,7 +4,7 @@ use Rattle.timing_reach.proofs.Judgments.{judgment-few, judgment-in}
 use Rattle.timing_reach.proofs.judged.judging.judge_flow.Goals as goal
 
 pub finish-requires : goal.finish-requires
-finish-requires g c = omega (arith, c.in_ok-take_capture.ensures.count, c.new-judging.ensures.count)
+finish-requires g c = omega (arith, c.in_ok-take_capture.ensures.room 1 (omega (arith, c.in_ok-take_capture.ensures.few, c.new-judging.ensures.count)))
 
 pub returns-clause-told : goal.returns-clause-told
 returns-clause-told g c = λ text whole.
