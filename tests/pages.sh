@@ -23,7 +23,7 @@ not_run=(
     'rt ci|the time of the whole gate, and runs by itself'
 )
 # Tools that a machine may lack.
-tools='jq xargs column parallel tcpdump editcap mergecap capinfos tshark'
+tools='jq xargs column parallel tcpdump editcap mergecap reordercap capinfos tshark gzip'
 
 top=$(cd "$(dirname "$(readlink -f "$0")")/.." && pwd) || exit 2
 folder=$(mktemp -d) || exit 2
