@@ -5,7 +5,7 @@ ghost use Rattle.flow_worker.specs.Intakes.{AreOfFile, HaveSentNothing};
 
 use capture_gen::examples::{FRAME, HEAD, source_of};
 use capture_gen::{capture_len, sdp_bytes, write_capture};
-use flow_worker::{IntakeDone, intake};
+use flow_worker::{IntakeDone, RunSetting, intake};
 use ruled_intake::{Closed, Halt, Lane, Message, SendPass, TakePass};
 use sdp_reader::read_sdp;
 use std::alloc::{AllocError, Global};
@@ -49,18 +49,14 @@ fn taken_in<R: Wait + Abort + AllocGlobal, S: Source>(
     ensures passes { AreOfFile 0 lanes.now result.passes.items }
 {
     let halt = Halt::new();
-    let (done, raised) = intake(
-        rt,
-        rt.alloc(),
-        0,
-        false,
+    let run = RunSetting {
         media,
-        source,
         lanes,
-        passes,
-        &halt,
-        &NoGate,
-    );
+        files: 1,
+        joined: false,
+        tai: 0,
+    };
+    let (done, raised) = intake(rt, rt.alloc(), &run, 0, source, passes, &halt, &NoGate);
     assert!(rt; raised.is_none());
     assert!(rt; halt.raised().is_none());
     done
@@ -120,7 +116,7 @@ fn batches(rt: HostRuntime) -> Result<(), Fail> {
     let source = source_of(alloc, made(alloc)?.bytes(), 65_536, &[])?;
     let (lane, passes, mut taker) = one_lane(alloc)?;
     let done = taken_in(&rt, media, source, slice::from_ref(&lane), passes);
-    assert_eq!(rt; done.note, FileNote::End);
+    assert_eq!(rt; done.note, Some(FileNote::End));
     let first: Vec<u64> = (1..257).collect(alloc)?;
     is_batch(&rt, take(&rt, &lane, &mut taker), 0, &first);
     is_batch(
@@ -147,7 +143,7 @@ fn failed_read(rt: HostRuntime) -> Result<(), Fail> {
     let (lane, passes, mut taker) = one_lane(alloc)?;
     let done = taken_in(&rt, media, source, slice::from_ref(&lane), passes);
     let note = FileNote::Refused(PcapFault::ReadFault);
-    assert_eq!(rt; done.note, note);
+    assert_eq!(rt; done.note, Some(note));
     let before: Vec<u64> = (1..100).collect(alloc)?;
     is_batch(&rt, take(&rt, &lane, &mut taker), 0, &before);
     is_end(&rt, take(&rt, &lane, &mut taker), note, 99);
@@ -180,7 +176,7 @@ fn two_lanes(rt: HostRuntime) -> Result<(), Fail> {
     passes.append(&mut more)?;
     let lanes = [first, second];
     let done = taken_in(&rt, &media, source, &lanes, passes);
-    assert_eq!(rt; done.note, FileNote::End);
+    assert_eq!(rt; done.note, Some(FileNote::End));
     is_batch(&rt, take(&rt, &lanes[0], &mut first_taker), 0, &[1, 5]);
     is_end(
         &rt,

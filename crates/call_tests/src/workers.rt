@@ -1,14 +1,14 @@
 //! A worker over messages that are laid out by hand, with each row read from the book.
 
-ghost use Rattle.std.specs.Prelude.{◌≡◌, ◌≤◌, ◌<◌, All, IfOk, IfSome, length};
-ghost use Rattle.ruled_intake.specs.Lanes.{AreSenders};
+ghost use Rattle.std.specs.Prelude.{◌≡◌, ◌≤◌, ◌<◌, All, IfOk, IfSome, length, slice_index_or};
+ghost use Rattle.ruled_intake.specs.Lanes.{AreSenders, LaneId};
+ghost use Rattle.flow_worker.specs.Works.{HasTakenNothing};
 ghost use Rattle.verdict_book.specs.Receipts.{IsOf};
 
-use flow_worker::work;
-use ruled_intake::{Batch, FileEnd, Halt, Lane, Message, Packet, SendPass};
+use flow_worker::{RunSetting, work};
+use ruled_intake::{Batch, FileEnd, Halt, Lane, Message, Packet, SendPass, TakePass};
 use std::alloc::{AllocError, Global};
 use std::process::Abort;
-use std::slice;
 use std::sync::Wait;
 use std::test::Fail;
 use timing_base::worked::{reading, undeclared_to};
@@ -79,17 +79,47 @@ fn send_all<R: Wait + Abort>(rt: &R, lane: &Lane, passes: Vec<SendPass>, message
     }
 }
 
-// What is asked of a worker.
+/// What is asked of a worker.
 #[derive(Clone, Copy)]
 struct Asked {
-    worker: u32,
-    workers: u32,
+    /// Whether it is the last of three workers, and not the only one.
+    third: bool,
     joined: bool,
-    // Whether the halt is raised before it begins.
+    /// Whether the halt is raised before it begins.
     halted: bool,
 }
 
-// The receipts of a worker that takes these messages, of two media and two files.
+/// The receipts of one worker of these lanes, which takes what its lane holds.
+fn worked_on<R: Wait + Abort>(
+    rt: &R,
+    alloc: Global,
+    asked: Asked,
+    lanes: &[Lane],
+    worker: u32,
+    taker: TakePass,
+    book: &Book,
+) -> Option<Vec<Receipt>>
+    requires worker { worker < length lanes.now }
+    requires few { length lanes.now ≤ 16 }
+    requires taker { (l : LaneId) → HasTakenNothing (slice_index_or lanes.now worker l) taker }
+    ensures { IfSome result (λ receipts. All (IsOf book.now) receipts.items) }
+{
+    let halt = Halt::new();
+    if asked.halted {
+        halt.raise(rt, lanes);
+    }
+    let media = [undeclared_to(50_000); 2];
+    let run = RunSetting {
+        media: &media,
+        lanes,
+        files: 2,
+        joined: asked.joined,
+        tai: 37,
+    };
+    work(rt, alloc, &run, worker, taker, book, &halt, &NoGate).receipts
+}
+
+/// The receipts of a worker that takes these messages, of two media and two files.
 fn worked<R: Wait + Abort>(
     rt: &R,
     alloc: Global,
@@ -99,24 +129,17 @@ fn worked<R: Wait + Abort>(
 ) -> Result<Option<Vec<Receipt>>, AllocError>
     ensures { IfOk result (λ some. IfSome some (λ receipts. All (IsOf book.now) receipts.items)) }
 {
-    let Asked {
-        worker,
-        workers,
-        joined,
-        halted,
-    } = asked;
-    assert!(rt; worker < workers && workers <= 16);
     let (lane, passes, taker) = Lane::new(alloc, 1)?;
     send_all(rt, &lane, passes, messages);
-    let halt = Halt::new();
-    if halted {
-        halt.raise(rt, slice::from_ref(&lane));
+    if asked.third {
+        let (first, ..) = Lane::new(alloc, 1)?;
+        let (second, ..) = Lane::new(alloc, 1)?;
+        let lanes = [first, second, lane];
+        Ok(worked_on(rt, alloc, asked, &lanes, 2, taker, book))
+    } else {
+        let lanes = [lane];
+        Ok(worked_on(rt, alloc, asked, &lanes, 0, taker, book))
     }
-    let media = [undeclared_to(50_000); 2];
-    let done = work(
-        rt, alloc, worker, workers, joined, &media, 2, 37, &lane, taker, book, &halt, &NoGate,
-    );
-    Ok(done.receipts)
 }
 
 // Asserts that a row is that of this flow, which isn't judged.
@@ -163,8 +186,7 @@ fn files_each_for_itself(rt: HostRuntime) -> Result<(), Fail> {
     messages.push(two(alloc, 0, [packet(0, 5, 2), short(1, 6)])?)?;
     messages.push(end(0, 6))?;
     let asked = Asked {
-        worker: 0,
-        workers: 1,
+        third: false,
         joined: false,
         halted: false,
     };
@@ -200,8 +222,7 @@ fn second_file_waits_for_the_first(rt: HostRuntime) -> Result<(), Fail> {
     messages.push(end(0, 6))?;
     messages.push(two(alloc, 0, [short(0, 7), short(1, 8)])?)?;
     let asked = Asked {
-        worker: 0,
-        workers: 1,
+        third: false,
         joined: true,
         halted: false,
     };
@@ -239,8 +260,7 @@ fn flows_of_others_are_passed_over(rt: HostRuntime) -> Result<(), Fail> {
     messages.push(end(0, 2))?;
     messages.push(end(1, 2))?;
     let asked = Asked {
-        worker: 2,
-        workers: 3,
+        third: true,
         joined: false,
         halted: false,
     };
@@ -258,8 +278,7 @@ fn halt_stops_without_receipts(rt: HostRuntime) -> Result<(), Fail> {
     let mut messages = Vec::new(alloc);
     messages.push(end(1, 2))?;
     let asked = Asked {
-        worker: 0,
-        workers: 1,
+        third: false,
         joined: true,
         halted: true,
     };

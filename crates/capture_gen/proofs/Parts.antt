@@ -7,7 +7,7 @@ use Rattle.std.specs.List.{flat_map, range_with_len}
 use Rattle.capture_gen.specs.declared.flaw.Flaw.{Flaw}
 use Rattle.capture_gen.specs.declared.frame.Frame.{Frame}
 use Rattle.capture_gen.specs.Flaws.{flaw_of, is_left_out}
-use Rattle.capture_gen.specs.Heads.{file_head}
+use Rattle.pcap_reader.specs.WrittenHeads.{file_head}
 use Rattle.capture_gen.specs.Packets.{record_of}
 use Rattle.capture_gen.specs.Capture.{capture, frame_of, head_packet, packet_of, packets, packets_of}
 use Rattle.capture_gen.specs.Writing.{bytes_of_frame, frame_bytes, frames_bytes, place_bytes}

@@ -9,7 +9,7 @@ use Rattle.capture_gen.specs.declared.flaw.Flaw.TheVariants.{Clean, Burst, Slow,
 use Rattle.capture_gen.specs.declared.frame.Frame.{Frame}
 use Rattle.capture_gen.specs.declared.packet.Packet.{Packet}
 use Rattle.capture_gen.specs.Flaws.{flaw_of, is_left_out}
-use Rattle.capture_gen.specs.Heads.{file_head}
+use Rattle.pcap_reader.specs.WrittenHeads.{file_head}
 use Rattle.capture_gen.specs.Packets.{record_of}
 use Rattle.capture_gen.specs.Capture.{capture, frame_of, packet_of, packets, packets_of}
 use Rattle.capture_gen.proofs.Lists.{flat_map-range_more}

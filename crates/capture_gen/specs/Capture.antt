@@ -6,7 +6,7 @@ use Rattle.capture_gen.specs.declared.flaw.Flaw.{Flaw}
 use Rattle.capture_gen.specs.declared.frame.Frame.{Frame}
 use Rattle.capture_gen.specs.declared.packet.Packet.{Packet}
 use Rattle.capture_gen.specs.Flaws.{flaw_of, spacing, is_bunched, is_left_out, marked_place}
-use Rattle.capture_gen.specs.Heads.{file_head}
+use Rattle.pcap_reader.specs.WrittenHeads.{file_head}
 use Rattle.capture_gen.specs.Packets.{record_of}
 
 -- the whole second at which frame 0 begins

@@ -2,7 +2,7 @@
 use Rattle.std.specs.Prelude.{ℕ, ◌+◌, ◌/◌, ◌%◌, Bool, true, false, List, [], ◌∷◌, ◌++◌}
 use Rattle.byteorder.specs.Endian.{big_bytes}
 use Rattle.capture_gen.specs.declared.packet.Packet.{Packet}
-use Rattle.capture_gen.specs.Heads.{record_head}
+use Rattle.pcap_reader.specs.WrittenHeads.{record_head}
 
 -- Ethernet II: the group's address (RFC 1112, section 6.4), the source, the type IPv4
 abbrev pub ethernet_header : List ℕ

@@ -8,7 +8,7 @@ ghost use Rattle.capture_gen.specs.Writing.{frames_bytes};
 
 use crate::flaw::Flaw;
 use crate::frame::{Frame, head};
-use crate::heads::file_head;
+use pcap_reader::file_head;
 use timing_outside::{Failed, Sink, put_all};
 
 const FILE_HEAD_LEN: u64 = 24;

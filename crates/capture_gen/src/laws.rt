@@ -4,7 +4,7 @@
 ghost use Rattle.std.specs.Prelude.{◌≡◌, [], ◌∷◌, true, false, length, map, take, drop};
 ghost use Rattle.capture_gen.specs.Capture.{capture, frame_of, head_packet, packet_of, packets, packets_of, start};
 ghost use Rattle.capture_gen.specs.Flaws.{flaw_of};
-ghost use Rattle.capture_gen.specs.Heads.{file_head};
+ghost use Rattle.pcap_reader.specs.WrittenHeads.{file_head};
 ghost use Rattle.capture_gen.specs.Packets.{extended_number, record_of, rtp_header};
 ghost use Rattle.capture_gen.specs.Sdp.{sdp_text};
 

@@ -2,8 +2,8 @@
 
 ghost use Rattle.std.specs.Prelude.{◌≡◌, ◌<◌, ◌*◌, ◌^◌, ◌++◌};
 
-use crate::heads::record_head;
 use byteorder::{BigEndian, ByteOrder};
+use pcap_reader::record_head;
 
 /// Captured and original length of each packet: its Ethernet frame, in bytes.
 const ETHERNET_LEN: u32 = 56;

@@ -59,14 +59,42 @@ one_more b c f g i s same up n =
       ];
       begin_load = elim (cases_lt 1 c.count) as (λ _. excess g c.begin (i + 1) ≡ c.count) [
         | inl some ↦
-            omega (arith, s.begin_load, some, n.kept some, ap g (n.kept some), same b.begin s.begins, here, n.count, rising, s.last_tick, s.begins, rises_to g (i + 1) up b.begin i s.begins (omega arith))
+            omega (
+              arith,
+              s.begin_load,
+              some,
+              n.kept some,
+              ap g (n.kept some),
+              same b.begin s.begins,
+              here,
+              n.count,
+              rising,
+              s.last_tick,
+              s.begins,
+              rises_to g (i + 1) up b.begin i s.begins (omega arith),
+            )
         | inr none ↦ let e : c.begin ≡ i + 1 = omega (arith, n.fresh (omega (arith, none, n.count)), s.seen) in omega (arith, e, ap g e, none, n.count)
       ];
       latest = λ j m e. elim (cases_lt 1 c.count) as (λ _. j ≤ c.begin) [
         | inl some ↦ elim (cases_lt i j) as (λ _. j ≤ c.begin) [
           | inl late ↦ let k : j ≡ i + 1 = omega (arith, late, m) in omega (arith, k, ap g k, e, some)
           | inr early ↦
-              omega (arith, n.kept some, s.latest j early (omega (arith, e, some, n.count, rising, here, same j early, s.last_tick, early, rises_to g (i + 1) up j i early (omega arith))))
+              omega (
+                arith,
+                n.kept some,
+                s.latest j early (omega (
+                  arith,
+                  e,
+                  some,
+                  n.count,
+                  rising,
+                  here,
+                  same j early,
+                  s.last_tick,
+                  early,
+                  rises_to g (i + 1) up j i early (omega arith),
+                )),
+              )
         ]
         | inr none ↦ omega (arith, n.fresh (omega (arith, none, n.count)), s.seen, m)
       ];
@@ -116,7 +144,13 @@ falls-append stamps at h last j i order few =
             | inl before ↦
                 let k = i - 1 in
                 let size : length stamps ≡ k + 1 = omega (arith, here, before) in
-                omega (arith, there, get_or_append_left stamps (at ∷ []) 0 j (omega (arith, here, before)), h j k (omega (arith, before)) (omega (arith, size)), last k size)
+                omega (
+                  arith,
+                  there,
+                  get_or_append_left stamps (at ∷ []) 0 j (omega (arith, here, before)),
+                  h j k (omega (arith, before)) (omega (arith, size)),
+                  last k size,
+                )
             | inr same ↦
                 let e : j ≡ i = omega (arith, order, same) in
                 omega (arith, ap (slice_index new) e)
@@ -193,7 +227,8 @@ fed_more params b c clock (x ∷ xs) at s f n tick stands =
     } in
     let start : x ≡ c.origin = was.origin ∙ sym n.origin in
     let next : IsAfter params c new (i + 1) =
-    is_after params c clock new (i + 1) start tick (subst (StandsAt params.drain clock c.origin) (sym there) stands) (one_more b c (ticks_at m params.n old) (ticks_at m params.n new) i before same up fed) in
+    is_after params c clock new (i + 1) start tick (subst (StandsAt params.drain clock c.origin) (sym there) stands)
+    (one_more b c (ticks_at m params.n old) (ticks_at m params.n new) i before same up fed) in
     record {
       ordered = falls;
       seen = omega (arith, n.seen, s.seen, long);

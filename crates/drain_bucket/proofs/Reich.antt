@@ -57,7 +57,15 @@ load_below clock (suc i) h j k =
     let same : clock (suc i) ≡ clock (i + 1) = ap clock (omega arith) in
     elim (cases_lt i j) as (λ _. excess clock j (suc i) ≤ count_after clock (suc i)) [
       | inl late ↦ let e : clock j ≡ clock (suc i) = ap clock (omega (arith, late, k)) in omega (arith, e, step, k, late)
-      | inr early ↦ omega (arith, load_below clock i (rises-less clock i h) j early, rises_to clock (suc i) h j i early (omega arith), h i (omega arith), same, step, early)
+      | inr early ↦ omega (
+        arith,
+        load_below clock i (rises-less clock i h) j early,
+        rises_to clock (suc i) h j i early (omega arith),
+        h i (omega arith),
+        same,
+        step,
+        early,
+      )
     ]
 
 -- and some interval's load is the count
@@ -69,7 +77,20 @@ load_reached clock (suc i) h =
     let before = load_reached clock i (rises-less clock i h) in
     let j = before.0 in
     elim (cases_lt (clock (i + 1) - clock i) (count_after clock i)) as (λ _. (j : ℕ) × (j ≤ suc i) × (excess clock j (suc i) ≡ count_after clock (suc i))) [
-      | inl some ↦ (j, omega (arith, before.1), omega (arith, before.1, before.2, rises_to clock (suc i) h j i before.1 (omega arith), h i (omega arith), same, step, some))
+      | inl some ↦ (
+        j,
+        omega (arith, before.1),
+        omega (
+          arith,
+          before.1,
+          before.2,
+          rises_to clock (suc i) h j i before.1 (omega arith),
+          h i (omega arith),
+          same,
+          step,
+          some,
+        ),
+      )
       | inr none ↦ (suc i, omega arith, omega (arith, step, none))
     ]
 

@@ -19,7 +19,7 @@ fn fed(rt: &impl Abort, params: &Params, bucket: &mut Bucket, at: u64) -> u64 {
     bucket.feed(params, at)
 }
 
-// The same of the plain video, so many nanoseconds after the first packet.
+// A packet of the plain video, so many nanoseconds after the first one.
 fn fed_late(rt: &impl Abort, bucket: &mut Bucket, late: u64) -> u64 {
     fed(rt, &plain(), bucket, FIRST.saturating_add(late))
 }

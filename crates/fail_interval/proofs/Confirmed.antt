@@ -25,7 +25,8 @@ use Rattle.fail_interval.specs.Fails.{broken_at, is_overfull, kind_verdict, late
 use Rattle.fail_interval.proofs.Verdicts.{arrived-first, broken_by, by_read, none-broken, pass-before}
 
 -- where the verdict is Pass the limits are kept
-pub pass-keeps : (m : Media) (n : ℕ) (stamps : List ℕ) (kind : Kind) → IsMedia m → 1 ≤ n → NeverFall stamps → kind_verdict m n stamps kind ≡ Pass → Keeps m n stamps kind
+pub pass-keeps : (m : Media) (n : ℕ) (stamps : List ℕ) (kind : Kind) → IsMedia m → 1 ≤ n → NeverFall stamps → kind_verdict m n stamps kind ≡ Pass
+    → Keeps m n stamps kind
 pass-keeps m n stamps kind is some falls e =
     let none = λ (i : ℕ) (few : i < length stamps). none-broken m n stamps kind i (pass-before m n stamps kind (length stamps) i e few) in
     record {
@@ -40,14 +41,16 @@ tests-none false true late e f g = cc
 tests-none false false true e f g = cc
 tests-none false false false e f g = refl
 
-pass-all : (m : Media) (n : ℕ) (stamps : List ℕ) (kind : Kind) (count : ℕ) → ((i : ℕ) → i < count → broken_at m n stamps kind i ≡ None) → verdict_below m n stamps kind count ≡ Pass
+pass-all : (m : Media) (n : ℕ) (stamps : List ℕ) (kind : Kind) (count : ℕ) → ((i : ℕ) → i < count → broken_at m n stamps kind i ≡ None)
+    → verdict_below m n stamps kind count ≡ Pass
 pass-all m n stamps kind zero none = refl
 pass-all m n stamps kind (suc i) none =
     ap (λ v. verdict_next v (proof_if m n stamps kind i (broken_at m n stamps kind i))) (pass-all m n stamps kind i (λ j low. none j (omega (arith, low))))
     ∙ ap (λ b. verdict_next Pass (proof_if m n stamps kind i b)) (none i (omega arith))
 
 -- and where the limits are kept the verdict is Pass
-pub keeps-pass : (m : Media) (n : ℕ) (stamps : List ℕ) (kind : Kind) → IsMedia m → 1 ≤ n → NeverFall stamps → Keeps m n stamps kind → kind_verdict m n stamps kind ≡ Pass
+pub keeps-pass : (m : Media) (n : ℕ) (stamps : List ℕ) (kind : Kind) → IsMedia m → 1 ≤ n → NeverFall stamps → Keeps m n stamps kind
+    → kind_verdict m n stamps kind ≡ Pass
 keeps-pass m n stamps kind is some falls keeps =
     pass-all m n stamps kind (length stamps) (λ i few.
     tests-none (is_overfull m n stamps kind i) (is_over m n stamps kind i) (is_empty m n stamps kind i)
@@ -81,7 +84,8 @@ first-case m n stamps kind i f Pass (Some model) e b is earlier = record {
   before = λ j low. pass-before m n stamps kind i j e low;
 }
 
-first-broken : (m : Media) (n : ℕ) (stamps : List ℕ) (kind : Kind) (count : ℕ) (f : FailProof) → verdict_below m n stamps kind count ≡ Fail f → FirstBroken m n stamps kind count f
+first-broken : (m : Media) (n : ℕ) (stamps : List ℕ) (kind : Kind) (count : ℕ) (f : FailProof) → verdict_below m n stamps kind count ≡ Fail f
+    → FirstBroken m n stamps kind count f
 first-broken m n stamps kind zero f e = cc
 first-broken m n stamps kind (suc i) f e =
     first-case m n stamps kind i f (verdict_below m n stamps kind i) (broken_at m n stamps kind i) refl refl e (first-broken m n stamps kind i f)
@@ -110,7 +114,8 @@ found-case m n stamps i j k false e few low load earlier =
           absurd (test_differs (load_of m n stamps (suc j) i) (bucket_of m n stamps i) e (ap (λ x. load_of m n stamps x i) (sym same) ∙ load))
     ]
 
-latest-found : (m : Media) (n : ℕ) (stamps : List ℕ) (i j k : ℕ) → j ≤ i → k ≤ j → load_of m n stamps k i ≡ bucket_of m n stamps i → IsStart m n stamps i (latest_up_to m n stamps i j)
+latest-found : (m : Media) (n : ℕ) (stamps : List ℕ) (i j k : ℕ) → j ≤ i → k ≤ j → load_of m n stamps k i ≡ bucket_of m n stamps i
+    → IsStart m n stamps i (latest_up_to m n stamps i j)
 latest-found m n stamps i zero k few low load =
     let none : k ≡ 0 = omega (arith, low) in
     record { order = few; load = ap (λ x. load_of m n stamps x i) (sym none) ∙ load }
@@ -147,7 +152,8 @@ confirms-at m n stamps kind i Bucket is some falls few e before =
     let over = ltb-true (c_max_of m n kind) (bucket_of m n stamps i) (model-full _ (is_over m n stamps kind i) (is_empty m n stamps kind i) e) in
     record { ordered = start.order; judged = few; breaks = (refl, sym start.load, over) }
 confirms-at m n stamps kind i Over is some falls few e before =
-    let over = ltb-true (vrx_full_of m n kind) (held_at m n stamps (gapped_of kind) i) (model-over (is_overfull m n stamps kind i) _ (is_empty m n stamps kind i) e) in
+    let over = ltb-true (vrx_full_of m n kind) (held_at m n stamps (gapped_of kind) i)
+    (model-over (is_overfull m n stamps kind i) _ (is_empty m n stamps kind i) e) in
     record { ordered = omega arith; judged = few; breaks = (refl, refl, refl, over) }
 confirms-at m n stamps kind i Empty is some falls few e before =
     let late = model-late (is_overfull m n stamps kind i) (is_over m n stamps kind i) (is_empty m n stamps kind i) e in
@@ -155,14 +161,16 @@ confirms-at m n stamps kind i Empty is some falls few e before =
     record { ordered = omega arith; judged = few; breaks = (refl, refl, refl, omega (arith, count)) }
 
 -- so is the interval of a fail
-pub fail-confirms : (m : Media) (n : ℕ) (stamps : List ℕ) (kind : Kind) (f : FailProof) → IsMedia m → 1 ≤ n → NeverFall stamps → kind_verdict m n stamps kind ≡ Fail f → Confirms m n stamps kind f
+pub fail-confirms : (m : Media) (n : ℕ) (stamps : List ℕ) (kind : Kind) (f : FailProof) → IsMedia m → 1 ≤ n → NeverFall stamps
+    → kind_verdict m n stamps kind ≡ Fail f → Confirms m n stamps kind f
 fail-confirms m n stamps kind f is some falls e =
     let first = first-broken m n stamps kind (length stamps) f e in
     subst (Confirms m n stamps kind) (sym first.is)
     (confirms-at m n stamps kind first.index first.model is some falls first.within first.breaks first.before)
 
 -- the packets up to one that came by its read came by it
-arrived-most : (m : Media) (n : ℕ) (stamps : List ℕ) (kind : Kind) (i : ℕ) → NeverFall stamps → i < length stamps → is_empty m n stamps kind i ≡ false → i < arrived_by_read m n stamps kind i
+arrived-most : (m : Media) (n : ℕ) (stamps : List ℕ) (kind : Kind) (i : ℕ) → NeverFall stamps → i < length stamps → is_empty m n stamps kind i ≡ false
+    → i < arrived_by_read m n stamps kind i
 arrived-most m n stamps kind i falls few e =
     let read = read_of m n (anchor_of m (slice_index stamps 0)) (gapped_of kind) i in
     let came = came-some stamps read falls in
@@ -175,7 +183,8 @@ arrived-most m n stamps kind i falls few e =
           absurd (omega (arith, ints, by, late))
     ]
 
-refutes-by : (m : Media) (n : ℕ) (stamps : List ℕ) (kind : Kind) (f : FailProof) (model : Broken) → IsMedia m → 1 ≤ n → NeverFall stamps → f.from ≤ f.to → f.to < length stamps
+refutes-by : (m : Media) (n : ℕ) (stamps : List ℕ) (kind : Kind) (f : FailProof) (model : Broken) → IsMedia m → 1 ≤ n → NeverFall stamps → f.from ≤ f.to
+    → f.to < length stamps
     → BreaksLimit m n stamps kind f model
     → Keeps m n stamps kind → ⊥
 refutes-by m n stamps kind f Bucket is some falls order few b keeps = omega (arith, b.0, b.1, b.2, keeps.bucket f.from f.to order few)
@@ -186,5 +195,6 @@ refutes-by m n stamps kind f Empty is some falls order few b keeps =
     omega (arith, b.0, b.2, b.3, arrived-most m n stamps kind f.to falls few (keep-empty m n stamps kind f.to is some falls keeps.buffer few))
 
 -- and whatever is confirmed, the limits aren't kept
-pub confirmed-refutes : (m : Media) (n : ℕ) (stamps : List ℕ) (kind : Kind) (f : FailProof) → IsMedia m → 1 ≤ n → NeverFall stamps → Confirms m n stamps kind f → Keeps m n stamps kind → ⊥
+pub confirmed-refutes : (m : Media) (n : ℕ) (stamps : List ℕ) (kind : Kind) (f : FailProof) → IsMedia m → 1 ≤ n → NeverFall stamps → Confirms m n stamps kind f
+    → Keeps m n stamps kind → ⊥
 confirmed-refutes m n stamps kind f is some falls c keeps = refutes-by m n stamps kind f f.model is some falls c.ordered c.judged c.breaks keeps

@@ -94,8 +94,10 @@ fits-next flow packets rec_number at seen cut open_run c e none answer =
     let o : IsOpen flow.media flow.tai all i (cuts all i) c.stands.so_far flow.done.items open_run =
     subst (λ x. OpensAt flow.media flow.tai all i c.stands.so_far flow.done.items x) e (c.stands.runs (p ∷ [])) in
     let is : so_far_next c.stands.so_far (at + flow.tai * 1000000000) seen.marker ≡ so_far_at all flow.tai (last_place (0 ∷ cuts all (i + 1))) (i + 1) =
-    goes_on-so_far all flow.tai i rec_number (at + flow.tai * 1000000000) seen c.stands.so_far (comes packets [] flow.tai rec_number at seen) (not_cut packets [] p flow.media.pt cut answer none) o.so_far_is in
-    let no_fault : first_fault all flow.media.pt ≡ None = ap (first_fault_below all flow.media.pt) long ∙ (cut-answered all flow.media.pt i cut (answer [])).0 in
+    goes_on-so_far all flow.tai i rec_number (at + flow.tai * 1000000000) seen c.stands.so_far (comes packets [] flow.tai rec_number at seen)
+    (not_cut packets [] p flow.media.pt cut answer none) o.so_far_is in
+    let no_fault : first_fault all flow.media.pt ≡ None =
+    ap (first_fault_below all flow.media.pt) long ∙ (cut-answered all flow.media.pt i cut (answer [])).0 in
     let fits = fits-at all flow.media.pt flow.tai no_fault (omega (arith, long, c.few)) c.stands.seconds (stamped-more packets p c.stamped c.stamp) in
     subst Fits (ap (λ k. so_far_at all flow.tai (last_place (0 ∷ cuts all k)) k) long ∙ sym is) fits
 
@@ -113,7 +115,8 @@ can_take flow packets rec_number at seen cut open_run c e none answer =
 pub sound-next : (flow : Flow) (packets : List FlowPacket) (rec_number at : ℕ) (seen : Rtp) (cut : Option ℕ)
     → IsAnswered packets (read_packet rec_number at seen) flow.media.pt cut
     → (rest : List FlowPacket)
-    → first_fault_below ((packets ++ read_packet rec_number at seen ∷ []) ++ rest) flow.media.pt (length (packets ++ read_packet rec_number at seen ∷ [])) ≡ None
+    → first_fault_below ((packets ++ read_packet rec_number at seen ∷ []) ++ rest) flow.media.pt (length (packets ++ read_packet rec_number at seen ∷ []))
+    ≡ None
 sound-next flow packets rec_number at seen cut answer =
     let p = read_packet rec_number at seen in
     shift (λ all n. first_fault_below all flow.media.pt n ≡ None) packets p
@@ -131,7 +134,8 @@ with_parts flow grouper open_run = record {
 }
 
 -- the open run goes on with the packet
-pub goes_on : (flow : Flow) (packets : List FlowPacket) (rec_number at : ℕ) (seen : Rtp) (cut : Option ℕ) (grouper : Grouper) (open_run : OpenRun) (judge : RunJudge)
+pub goes_on : (flow : Flow) (packets : List FlowPacket) (rec_number at : ℕ) (seen : Rtp) (cut : Option ℕ) (grouper : Grouper) (open_run : OpenRun)
+    (judge : RunJudge)
     → flow.open ≡ Some open_run → cut ≡ None
     → IsAnswered packets (read_packet rec_number at seen) flow.media.pt cut
     → GrouperStandsFor flow.media.pt grouper (packets ++ read_packet rec_number at seen ∷ [])
@@ -153,14 +157,16 @@ goes_on flow packets rec_number at seen cut grouper open_run judge e none answer
       so_far = more;
       runs = shift (λ all n. OpensAt flow.media flow.tai all n more flow.done.items (Some with_it)) packets p
           (λ rest.
-          let o : IsOpen flow.media flow.tai (packets ++ p ∷ rest) (length packets) (cuts (packets ++ p ∷ rest) (length packets)) c.stands.so_far flow.done.items open_run =
+          let o : IsOpen flow.media flow.tai (packets ++ p ∷ rest) (length packets)
+          (cuts (packets ++ p ∷ rest) (length packets)) c.stands.so_far flow.done.items open_run =
           subst (λ x. OpensAt flow.media flow.tai (packets ++ p ∷ rest) (length packets) c.stands.so_far flow.done.items x) e (c.stands.runs (p ∷ rest)) in
           goes_on-next flow.media (packets ++ p ∷ rest) flow.tai (length packets) rec_number stamp seen c.stands.so_far flow.done.items open_run judge
           (comes packets rest flow.tai rec_number at seen) (not_cut packets rest p flow.media.pt cut answer none) o stands);
       room = c.stands.room;
     }
 
-starts-case : (packets : List FlowPacket) (i : ℕ) (open_run : Option OpenRun) → ((run : OpenRun) → open_run ≡ Some run → is_cut packets i ≡ true) → StartsAt packets i open_run
+starts-case : (packets : List FlowPacket) (i : ℕ) (open_run : Option OpenRun) → ((run : OpenRun) → open_run ≡ Some run → is_cut packets i ≡ true)
+    → StartsAt packets i open_run
 starts-case packets i None h = tt
 starts-case packets i (Some run) h = h run refl
 
@@ -203,7 +209,7 @@ begins-from flow new packets rec_number at seen cut grouper media tai same_group
       room = room c.stands.room;
     }
 
--- the same after the grouper took the packet
+-- a run begins with a packet that the grouper took
 pub begins : (flow between new : Flow) (packets : List FlowPacket) (rec_number at : ℕ) (seen : Rtp) (cut : Option ℕ) (grouper : Grouper)
     → between ≡ with_parts flow grouper flow.open
     → new.media ≡ between.media → new.tai ≡ between.tai → new.grouper ≡ between.grouper
@@ -241,7 +247,8 @@ seconds-known flow at known = ∥∥₁_elim known (hlevel props) (λ (packets, 
 
 -- the open run can take the packet
 pub take-known : (flow : Flow) (rec_number at : ℕ) (seen : Rtp) (cut : Option ℕ) (open_run : OpenRun) → flow.open ≡ Some open_run → cut ≡ None
-    → ((packets : List FlowPacket) → GrouperStandsFor flow.media.pt flow.grouper packets → IsAnswered packets (read_packet rec_number at seen) flow.media.pt cut)
+    → ((packets : List FlowPacket) → GrouperStandsFor flow.media.pt flow.grouper packets
+    → IsAnswered packets (read_packet rec_number at seen) flow.media.pt cut)
     → Known flow at
     → ∥ ((so_far : SoFar) × CanTake flow.media open_run.judge so_far (at + flow.tai * 1000000000) seen.marker) ∥₁
 take-known flow rec_number at seen cut open_run e none answer known =
@@ -252,7 +259,8 @@ pub ends : (flow : Flow) (packets rest : List FlowPacket) (rec_number at : ℕ) 
     → Err fault ≡ answer_at (packets ++ read_packet rec_number at seen ∷ rest) flow.media.pt (length packets)
     → has_fault (packets ++ read_packet rec_number at seen ∷ rest) flow.media.pt (length packets) fault
 ends flow packets rest rec_number at seen fault c answer =
-    fault-is (packets ++ read_packet rec_number at seen ∷ rest) flow.media.pt (length packets) fault (c.stands.sound (read_packet rec_number at seen ∷ rest)) answer
+    fault-is (packets ++ read_packet rec_number at seen ∷ rest) flow.media.pt (length packets) fault (c.stands.sound (read_packet rec_number at seen ∷ rest))
+    answer
 
 -- an option that is none, and one that is some
 pub none-of : (o : Option ℕ) → is_some o ≡ false → o ≡ None
@@ -264,7 +272,8 @@ some-of None e = cc
 some-of (Some n) e = (n, refl)
 
 -- a packet that was not read has a fault
-unread-fault : (packets : List FlowPacket) (pt i : ℕ) (fault_here : PacketFault) → (packet packets i).rtp ≡ Err fault_here → fault packets pt i ≡ Some fault_here
+unread-fault : (packets : List FlowPacket) (pt i : ℕ) (fault_here : PacketFault) → (packet packets i).rtp ≡ Err fault_here
+    → fault packets pt i ≡ Some fault_here
 unread-fault packets pt i fault_here e =
     ap (λ r. first_of (first_of (reading_fault r)
     (first_of (fault_if (is_other_payload packets pt i) PayloadType) (fault_if (is_second_source packets i) SecondSource)))

@@ -9,7 +9,7 @@ use Rattle.std.proofs.lemmas.Bool.{cases_lt}
 use Rattle.sender_params.specs.declared.params.Params.{Params}
 use Rattle.fail_interval.specs.Meters.{AreWithin, CanFollow}
 use Rattle.fail_interval.specs.SoFar.{AreStamps}
-use Rattle.fail_interval.specs.declared.meters.Meters.{Meters}
+use Rattle.fail_interval.specs.declared.meters.RunMeters.{RunMeters}
 
 -- the last of some stamps is not below the first
 pub first-low : (stamps : List ℕ) (at : ℕ) → AreStamps (stamps ++ at ∷ []) → 1 ≤ length stamps → slice_index stamps 0 ≤ at
@@ -28,12 +28,12 @@ last-early stamps at fit =
 pub before-few : (stamps : List ℕ) (at : ℕ) → AreStamps (stamps ++ at ∷ []) → length stamps < 2 ^ 41
 before-few stamps at fit = omega (arith, fit.few, length-append stamps (at ∷ []))
 
-pub record Bounds (params : Params) (meters : Meters) (at : ℕ) : Type 0 where
+pub record Bounds (params : Params) (meters : RunMeters) (at : ℕ) : Type 0 where
   pub begun : meters.bucket.origin ≤ at
   pub few : meters.bucket.seen < 2 ^ 41
   pub within : AreWithin meters.narrow meters.narrow_linear meters.wide at
 
-pub bounds : (params : Params) (meters : Meters) (stamps : List ℕ) (at : ℕ) → CanFollow params meters stamps at → Bounds params meters at
+pub bounds : (params : Params) (meters : RunMeters) (stamps : List ℕ) (at : ℕ) → CanFollow params meters stamps at → Bounds params meters at
 bounds params meters stamps at c = record {
   begun = elim (cases_lt 0 (length stamps)) as (λ _. meters.bucket.origin ≤ at) [
     | inl some ↦ omega (arith, c.stands.fed.first some, first-low stamps at c.fit some)
@@ -48,5 +48,5 @@ bounds params meters stamps at c = record {
   };
 }
 
-pub bounds-known : (params : Params) (meters : Meters) (at : ℕ) → ∥ ((stamps : List ℕ) × CanFollow params meters stamps at) ∥₁ → Bounds params meters at
+pub bounds-known : (params : Params) (meters : RunMeters) (at : ℕ) → ∥ ((stamps : List ℕ) × CanFollow params meters stamps at) ∥₁ → Bounds params meters at
 bounds-known params meters at known = ∥∥₁_elim known (hlevel props) (λ (stamps, c). bounds params meters stamps at c)

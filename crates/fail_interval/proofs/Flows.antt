@@ -45,7 +45,8 @@ earlier-case None n (Some fault_here) cut f none e = let same : fault_here ≡ f
 earlier-case (Some first) n here cut f none e = cc
 
 -- the first packet that is answered with a fault has it
-pub fault-is : (packets : List FlowPacket) (pt i : ℕ) (f : PacketFault) → first_fault_below packets pt i ≡ None → Err f ≡ answer_at packets pt i → has_fault packets pt i f
+pub fault-is : (packets : List FlowPacket) (pt i : ℕ) (f : PacketFault) → first_fault_below packets pt i ≡ None → Err f ≡ answer_at packets pt i
+    → has_fault packets pt i f
 fault-is packets pt i f none e =
     let next : i + 1 ≡ suc i = omega arith in
     let told : Err f ≡ unless_fault (first_fault_below packets pt (suc i)) (cut_at packets i) =
@@ -80,14 +81,16 @@ goes_on-so_far packets tai i rec_number at seen so_far next e is =
     ∙ ap (λ places. so_far_at packets tai (last_place (0 ∷ places)) (i + 1)) (sym (cuts-other packets i e)))
 
 -- packet i goes on with the open run
-pub goes_on-next : (m : Media) (packets : List FlowPacket) (tai i rec_number at : ℕ) (seen : Rtp) (so_far : SoFar) (done : List Run) (open_run : OpenRun) (judge : RunJudge)
+pub goes_on-next : (m : Media) (packets : List FlowPacket) (tai i rec_number at : ℕ) (seen : Rtp) (so_far : SoFar) (done : List Run) (open_run : OpenRun)
+    (judge : RunJudge)
     → ComesNext packets tai i rec_number at seen → is_cut packets i ≡ false → IsOpen m tai packets i (cuts packets i) so_far done open_run
     → RunStandsFor m judge (so_far_next so_far at seen.marker)
     → IsOpen m tai packets (i + 1) (cuts packets (i + 1)) (so_far_next so_far at seen.marker) done (with_judge open_run judge)
 goes_on-next m packets tai i rec_number at seen so_far done open_run judge next e o stands =
     let from = last_place (0 ∷ cuts packets i) in
     let order : from ≤ i = last_place-le (is_cut packets) i in
-    subst (λ places. IsOpen m tai packets (i + 1) places (so_far_next so_far at seen.marker) done (with_judge open_run judge)) (sym (cuts-other packets i e)) record {
+    subst (λ places. IsOpen m tai packets (i + 1) places (so_far_next so_far at seen.marker) done (with_judge open_run judge))
+    (sym (cuts-other packets i e)) record {
       some = omega arith;
       rec = o.rec;
       number = o.number;
@@ -99,12 +102,14 @@ goes_on-next m packets tai i rec_number at seen so_far done open_run judge next 
     }
 
 -- the run that starts with packet i
-started : (m : Media) (packets : List FlowPacket) (tai i rec_number at : ℕ) (seen : Rtp) (places : List ℕ) (expected : Option ℕ) (done : List Run) (judge : RunJudge)
+started : (m : Media) (packets : List FlowPacket) (tai i rec_number at : ℕ) (seen : Rtp) (places : List ℕ) (expected : Option ℕ) (done : List Run)
+    (judge : RunJudge)
     → ComesNext packets tai i rec_number at seen → last_place (0 ∷ places) ≡ i → expected ≡ expected_at packets i
     → RunStandsFor m judge (so_far_next (in_head 0) at seen.marker)
     → length done ≡ length places
     → ((to : ℕ) → map (run_of m) (runs_between packets tai to 0 places) ≡ done ++ run_of m (run_at packets tai (last_place (0 ∷ places)) to) ∷ [])
-    → IsOpen m tai packets (i + 1) places (so_far_next (in_head 0) at seen.marker) done (record { rec = rec_number; number = seen.number; expected = expected; judge = judge })
+    → IsOpen m tai packets (i + 1) places (so_far_next (in_head 0) at seen.marker) done
+    (record { rec = rec_number; number = seen.number; expected = expected; judge = judge })
 started m packets tai i rec_number at seen places expected done judge next start expects stands count runs = record {
   some = omega arith;
   rec = sym next.rec ∙ ap (λ k. (packet packets k).rec) (sym start);
@@ -114,7 +119,8 @@ started m packets tai i rec_number at seen places expected done judge next start
   so_far_is =
       let fresh : so_far_next (so_far_at packets tai i i) at seen.marker ≡ so_far_next (in_head 0) at seen.marker =
       ap (λ so_far. so_far_next so_far at seen.marker) (so_far_at-start packets tai i) in
-      let is : so_far_at packets tai i (i + 1) ≡ so_far_next (in_head 0) at seen.marker = more-is packets tai i i rec_number at seen next (omega arith) ∙ fresh in
+      let is : so_far_at packets tai i (i + 1) ≡ so_far_next (in_head 0) at seen.marker =
+      more-is packets tai i i rec_number at seen next (omega arith) ∙ fresh in
       sym (ap (λ k. so_far_at packets tai k (i + 1)) start ∙ is);
   count = count;
   runs = runs;
@@ -124,21 +130,25 @@ started m packets tai i rec_number at seen places expected done judge next start
 cut-later : (i : ℕ) (b : Bool) → (nat_lt 0 i && b) ≡ true → (i == 0) ≡ false
 cut-later i b e = grind (arith, nat_tests)
 
-expects-at : (packets : List FlowPacket) (i : ℕ) (expected : Option ℕ) → is_cut packets i ≡ true → expected ≡ cut_at packets i → expected ≡ expected_at packets i
+expects-at : (packets : List FlowPacket) (i : ℕ) (expected : Option ℕ) → is_cut packets i ≡ true → expected ≡ cut_at packets i
+    → expected ≡ expected_at packets i
 expects-at packets i expected e f =
     f ∙ (ap (λ b. if b then Some (expected_number packets i) else None) e
     ∙ sym (ap (λ b. if b then None else Some (expected_number packets i)) (cut-later i _ e)))
 
 -- the first packet of a flow starts a run
-pub first-next : (m : Media) (packets : List FlowPacket) (tai i rec_number at : ℕ) (seen : Rtp) (expected : Option ℕ) (so_far : SoFar) (done : List Run) (judge : RunJudge)
+pub first-next : (m : Media) (packets : List FlowPacket) (tai i rec_number at : ℕ) (seen : Rtp) (expected : Option ℕ) (so_far : SoFar) (done : List Run)
+    (judge : RunJudge)
     → ComesNext packets tai i rec_number at seen → expected ≡ cut_at packets i
     → RunStandsFor m judge (so_far_next (in_head 0) at seen.marker)
     → OpensAt m tai packets i so_far done None
-    → OpensAt m tai packets (i + 1) (so_far_next (in_head 0) at seen.marker) done (Some (record { rec = rec_number; number = seen.number; expected = expected; judge = judge }))
+    → OpensAt m tai packets (i + 1) (so_far_next (in_head 0) at seen.marker) done
+    (Some (record { rec = rec_number; number = seen.number; expected = expected; judge = judge }))
 first-next m packets tai (suc i) rec_number at seen expected so_far done judge next expects stands o = absurd (omega (arith, o.0))
 first-next m packets tai zero rec_number at seen expected so_far (run ∷ done) judge next expects stands o = cc
 first-next m packets tai zero rec_number at seen expected so_far [] judge next expects stands o =
-    subst (λ places. IsOpen m tai packets 1 places (so_far_next (in_head 0) at seen.marker) [] (record { rec = rec_number; number = seen.number; expected = expected; judge = judge }))
+    subst (λ places. IsOpen m tai packets 1 places (so_far_next (in_head 0) at seen.marker) []
+    (record { rec = rec_number; number = seen.number; expected = expected; judge = judge }))
     (sym (cuts-other packets 0 refl))
     (started m packets tai 0 rec_number at seen [] expected [] judge next refl expects stands refl (λ to. refl))
 
@@ -151,22 +161,26 @@ run-same : (a b : ℕ) (c d : ℕ) (e f : Option ℕ) (v w : RunVerdict) → a �
 run-same a b c d e f v w p q r s = cc
 
 -- a cut ends the open run and starts the next
-pub cut-next : (m : Media) (packets : List FlowPacket) (tai i rec_number at : ℕ) (seen : Rtp) (expected : Option ℕ) (so_far : SoFar) (done : List Run) (open_run : OpenRun) (verdict : RunVerdict) (judge : RunJudge)
+pub cut-next : (m : Media) (packets : List FlowPacket) (tai i rec_number at : ℕ) (seen : Rtp) (expected : Option ℕ) (so_far : SoFar) (done : List Run)
+    (open_run : OpenRun) (verdict : RunVerdict) (judge : RunJudge)
     → ComesNext packets tai i rec_number at seen → expected ≡ cut_at packets i
     → RunStandsFor m judge (so_far_next (in_head 0) at seen.marker)
     → verdict ≡ run_verdict_of m (outcome_of so_far)
     → is_cut packets i ≡ true
     → OpensAt m tai packets i so_far done (Some open_run)
-    → OpensAt m tai packets (i + 1) (so_far_next (in_head 0) at seen.marker) (done ++ record { rec = open_run.rec; number = open_run.number; expected = open_run.expected; verdict = verdict } ∷ [])
+    → OpensAt m tai packets (i + 1) (so_far_next (in_head 0) at seen.marker)
+    (done ++ record { rec = open_run.rec; number = open_run.number; expected = open_run.expected; verdict = verdict } ∷ [])
     (Some (record { rec = rec_number; number = seen.number; expected = expected; judge = judge }))
 cut-next m packets tai i rec_number at seen expected so_far done open_run verdict judge next expects stands says e o =
     let from = last_place (0 ∷ cuts packets i) in
     let over : Run = record { rec = open_run.rec; number = open_run.number; expected = open_run.expected; verdict = verdict } in
     let told : verdict ≡ run_verdict_of m (run_outcome packets tai from i) =
-    says ∙ (ap (λ s. run_verdict_of m (outcome_of s)) o.so_far_is ∙ ap (run_verdict_of m) (sym (outcome-so_far packets tai from i (omega (arith, next.within))))) in
+    says ∙ (ap (λ s. run_verdict_of m (outcome_of s)) o.so_far_is ∙ ap (run_verdict_of m)
+    (sym (outcome-so_far packets tai from i (omega (arith, next.within))))) in
     let is : over ≡ run_of m (run_at packets tai from i) = run-same _ _ _ _ _ _ _ _ o.rec o.number o.expected told in
     let places : cuts packets (i + 1) ≡ cuts packets i ++ i ∷ [] = cuts-here packets i e in
-    subst (λ places. IsOpen m tai packets (i + 1) places (so_far_next (in_head 0) at seen.marker) (done ++ over ∷ []) (record { rec = rec_number; number = seen.number; expected = expected; judge = judge })) (sym places)
+    subst (λ places. IsOpen m tai packets (i + 1) places (so_far_next (in_head 0) at seen.marker) (done ++ over ∷ [])
+    (record { rec = rec_number; number = seen.number; expected = expected; judge = judge })) (sym places)
     (started m packets tai i rec_number at seen (cuts packets i ++ i ∷ []) expected (done ++ over ∷ []) judge next (last_place-push (0 ∷ cuts packets i) i)
     (expects-at packets i expected e expects) stands
     (omega (arith, o.count, length-append done (over ∷ []), length-append (cuts packets i) (i ∷ [])))
@@ -184,7 +198,8 @@ open-same : (a b c d : ℕ) (e f : Option ℕ) (judge : RunJudge) → a ≡ b �
 open-same a b c d e f judge p q r = cc
 
 -- what starts with packet i
-pub begins-next : (m : Media) (packets : List FlowPacket) (tai i rec_number at : ℕ) (seen : Rtp) (expected : Option ℕ) (so_far : SoFar) (done new : List Run) (open_run : Option OpenRun) (run : OpenRun)
+pub begins-next : (m : Media) (packets : List FlowPacket) (tai i rec_number at : ℕ) (seen : Rtp) (expected : Option ℕ) (so_far : SoFar) (done new : List Run)
+    (open_run : Option OpenRun) (run : OpenRun)
     → ComesNext packets tai i rec_number at seen → expected ≡ cut_at packets i → StartsAt packets i open_run
     → run.rec ≡ rec_number → run.number ≡ seen.number → run.expected ≡ expected
     → RunStandsFor m run.judge (so_far_next (in_head 0) at seen.marker)
@@ -193,16 +208,19 @@ pub begins-next : (m : Media) (packets : List FlowPacket) (tai i rec_number at :
     → OpensAt m tai packets (i + 1) (so_far_next (in_head 0) at seen.marker) new (Some run)
 begins-next m packets tai i rec_number at seen expected so_far done new None run next expects starts rec number expects_run stands closed o =
     subst (λ runs. OpensAt m tai packets (i + 1) (so_far_next (in_head 0) at seen.marker) runs (Some run)) (sym closed)
-    (subst (λ r. OpensAt m tai packets (i + 1) (so_far_next (in_head 0) at seen.marker) done (Some r)) (open-same _ _ _ _ _ _ _ (sym rec) (sym number) (sym expects_run))
+    (subst (λ r. OpensAt m tai packets (i + 1) (so_far_next (in_head 0) at seen.marker) done (Some r))
+    (open-same _ _ _ _ _ _ _ (sym rec) (sym number) (sym expects_run))
     (first-next m packets tai i rec_number at seen expected so_far done run.judge next expects stands o))
 begins-next m packets tai i rec_number at seen expected so_far done new (Some open_run) run next expects starts rec number expects_run stands closed o =
     subst (λ runs. OpensAt m tai packets (i + 1) (so_far_next (in_head 0) at seen.marker) runs (Some run)) (sym (closed _ o.judge))
-    (subst (λ r. OpensAt m tai packets (i + 1) (so_far_next (in_head 0) at seen.marker) (done ++ run_by open_run.rec open_run.number open_run.expected (run_verdict_of m (outcome_of so_far)) ∷ []) (Some r))
+    (subst (λ r. OpensAt m tai packets (i + 1) (so_far_next (in_head 0) at seen.marker)
+    (done ++ run_by open_run.rec open_run.number open_run.expected (run_verdict_of m (outcome_of so_far)) ∷ []) (Some r))
     (open-same _ _ _ _ _ _ _ (sym rec) (sym number) (sym expects_run))
     (cut-next m packets tai i rec_number at seen expected so_far done open_run _ run.judge next expects stands refl starts o))
 
--- the same where the media, the seconds and the marker are known by equations
-pub begins-as : (m more_m : Media) (packets : List FlowPacket) (tai more_tai i rec_number at : ℕ) (seen : Rtp) (marker : Bool) (expected : Option ℕ) (so_far : SoFar) (done new : List Run) (open_run : Option OpenRun) (run : OpenRun)
+-- what starts with packet i, where the media, the seconds and the marker are known by equations
+pub begins-as : (m more_m : Media) (packets : List FlowPacket) (tai more_tai i rec_number at : ℕ) (seen : Rtp) (marker : Bool) (expected : Option ℕ)
+    (so_far : SoFar) (done new : List Run) (open_run : Option OpenRun) (run : OpenRun)
     → more_m ≡ m → more_tai ≡ tai
     → ComesNext packets tai i rec_number at seen → expected ≡ cut_at packets i → StartsAt packets i open_run
     → run.rec ≡ rec_number → run.number ≡ seen.number → run.expected ≡ expected
@@ -211,7 +229,8 @@ pub begins-as : (m more_m : Media) (packets : List FlowPacket) (tai more_tai i r
     → IsClosed m done open_run new
     → OpensAt m tai packets i so_far done open_run
     → OpensAt more_m more_tai packets (i + 1) (so_far_next (in_head 0) at seen.marker) new (Some run)
-begins-as m more_m packets tai more_tai i rec_number at seen marker expected so_far done new open_run run e f next expects starts rec number expects_run marked stood closed o =
+begins-as m more_m packets tai more_tai i rec_number at seen marker expected so_far done new open_run run e f next expects starts rec number expects_run marked
+    stood closed o =
     let stands = subst (λ b. RunStandsFor more_m run.judge (so_far_next (in_head 0) at b)) marked stood in
     subst (λ k. OpensAt k more_tai packets (i + 1) (so_far_next (in_head 0) at seen.marker) new (Some run)) (sym e)
     (subst (λ t. OpensAt m t packets (i + 1) (so_far_next (in_head 0) at seen.marker) new (Some run)) (sym f)

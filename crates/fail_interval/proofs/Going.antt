@@ -29,7 +29,8 @@ groups-known m judge groups at marker e known =
     let at_groups : Known m (Groups groups) at marker = subst (λ j. Known m j at marker) e known in
     ∥∥₁_map at_groups (λ (so_far, c). groups-case m groups so_far at marker c)
 
-first-most : (m : Media) (head : ℕ) (stamps : Vec ℕ Global) (so_far : SoFar) (at : ℕ) (marker : Bool) → marker ≡ true → CanGoOn m (First head stamps) so_far at marker
+first-most : (m : Media) (head : ℕ) (stamps : Vec ℕ Global) (so_far : SoFar) (at : ℕ) (marker : Bool) → marker ≡ true
+    → CanGoOn m (First head stamps) so_far at marker
     → length (stamps.items ++ at ∷ []) ≤ 262144
 first-most m head stamps (in_head h) at marker e c = absurd c.stands
 first-most m head stamps (in_first h seen) at true e c = subst (λ xs. length (xs ++ at ∷ []) ≤ 262144) (sym c.stands.1) c.fits.most
@@ -43,7 +44,8 @@ first-most-known m judge head stamps at marker e marked known =
     let at_first : Known m (First head stamps) at marker = subst (λ j. Known m j at marker) e known in
     ∥∥₁_elim at_first (hlevel props) (λ (so_far, c). first-most m head stamps so_far at marker marked c)
 
-first-fit : (m : Media) (head : ℕ) (stamps : Vec ℕ Global) (so_far : SoFar) (at : ℕ) (marker : Bool) → marker ≡ true → CanGoOn m (First head stamps) so_far at marker
+first-fit : (m : Media) (head : ℕ) (stamps : Vec ℕ Global) (so_far : SoFar) (at : ℕ) (marker : Bool) → marker ≡ true
+    → CanGoOn m (First head stamps) so_far at marker
     → AreStamps (stamps.items ++ at ∷ [])
 first-fit m head stamps (in_head h) at marker e c = absurd c.stands
 first-fit m head stamps (in_first h seen) at true e c = subst (λ xs. AreStamps (xs ++ at ∷ [])) (sym c.stands.1) c.fits.stamps
@@ -58,7 +60,8 @@ first-fit-known m judge head stamps at marker e marked known =
     ∥∥₁_elim at_first (hlevel props) (λ (so_far, c). first-fit m head stamps so_far at marker marked c)
 
 -- a first group that ends with this packet is within the limits
-pub first-known : (m : Media) (judge : RunJudge) (head : ℕ) (stamps : Vec ℕ Global) (all : List ℕ) (at : ℕ) (marker : Bool) → judge ≡ First head stamps → all ≡ stamps.items ++ at ∷ [] → marker ≡ true
+pub first-known : (m : Media) (judge : RunJudge) (head : ℕ) (stamps : Vec ℕ Global) (all : List ℕ) (at : ℕ) (marker : Bool) → judge ≡ First head stamps
+    → all ≡ stamps.items ++ at ∷ [] → marker ≡ true
     → Known m judge at marker → FitsWhole all
 first-known m judge head stamps all at marker e is marked known =
     subst FitsWhole (sym is) record {

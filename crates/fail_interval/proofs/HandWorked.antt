@@ -40,7 +40,8 @@ joined-next m e = search rules
 pub joined-rows : (tai : ℕ) (a b : Media) → target_of a ≡ group → target_of b ≡ next_port
     → rows_of tai 0 (a ∷ b ∷ []) joined_captures
     ≡ row (packet_at 4 130 ∷ packet_at 5 140 ∷ []) (key_of 0 0) a tai ∷ row (packet_at 1 100 ∷ packet_at 6 200 ∷ []) (key_of 0 1) b tai ∷ []
-joined-rows tai a b e f = rows-by tai 0 a b joined_captures (packet_at 4 130 ∷ packet_at 5 140 ∷ []) (packet_at 1 100 ∷ packet_at 6 200 ∷ []) (joined-flow a e) (joined-next b f)
+joined-rows tai a b e f =
+    rows-by tai 0 a b joined_captures (packet_at 4 130 ∷ packet_at 5 140 ∷ []) (packet_at 1 100 ∷ packet_at 6 200 ∷ []) (joined-flow a e) (joined-next b f)
 
 pub file-rows : (tai : ℕ) (a b : Media) → target_of a ≡ group → target_of b ≡ next_port
     → rows_of_files tai 0 (a ∷ b ∷ []) (first_capture ∷ second_capture ∷ [])

@@ -23,7 +23,8 @@ packet_with : Record → Datagram → FlowPacket
 packet_with r d = record { rec = r.number; at = r.stamp; rtp = reading d.payload }
 
 -- a record with a datagram is a packet of the media's flow, or not, by its target alone
-packet_by : (m : Media) (r : Record) (d : Datagram) (target : Target) (b : Bool) → datagram_of r.bytes ≡ Some d → target ≡ target_of m → is_same_target d.target target ≡ b
+packet_by : (m : Media) (r : Record) (d : Datagram) (target : Target) (b : Bool) → datagram_of r.bytes ≡ Some d → target ≡ target_of m
+    → is_same_target d.target target ≡ b
     → flow_packet m r ≡ (if b then Some (packet_with r d) else None)
 unfolding packet_with
 packet_by m r d target b is media same =
@@ -45,7 +46,8 @@ takes_none j r d is other m file number tai items h = record {
 }
 
 -- a datagram that goes to the media is fed
-pub takes_packet : (old new : MediaJudge) (r : Record) (d : Datagram) (rtp : Result Rtp PacketFault) → datagram_of r.bytes ≡ Some d → is_same_target d.target old.target ≡ true
+pub takes_packet : (old new : MediaJudge) (r : Record) (d : Datagram) (rtp : Result Rtp PacketFault) → datagram_of r.bytes ≡ Some d
+    → is_same_target d.target old.target ≡ true
     → new.target ≡ old.target → rtp ≡ reading d.payload
     → ((m : Media) (key : FlowKey) (tai : ℕ) (packets : List FlowPacket) → StandsFor m key tai old.judge packets
     → StandsFor m key tai new.judge (packets ++ record { rec = r.number; at = r.stamp; rtp = rtp } ∷ []))
@@ -54,14 +56,17 @@ unfolding packet_with
 takes_packet old new r d rtp is same target read feeds m file number tai items h =
     let packet : FlowPacket = record { rec = r.number; at = r.stamp; rtp = rtp } in
     let kept : flow_packet m r ≡ Some packet =
-    packet_by m r d old.target true is h.target same ∙ ap (λ (x : Result Rtp PacketFault). Some (record { rec = r.number; at = r.stamp; rtp = x })) (sym read) in
+    packet_by m r d old.target true is h.target same ∙ ap (λ (x : Result Rtp PacketFault). Some (record { rec = r.number; at = r.stamp; rtp = x }))
+    (sym read) in
     record {
       target = target ∙ h.target;
-      judge = subst (StandsFor m (key_of file number) tai new.judge) (sym (flow-append_some m items r packet kept)) (feeds m (key_of file number) tai (flow items m) h.judge);
+      judge = subst (StandsFor m (key_of file number) tai new.judge) (sym (flow-append_some m items r packet kept))
+          (feeds m (key_of file number) tai (flow items m) h.judge);
     }
 
 -- where it could be fed
-pub takes_packet_if : {T E : Type 0} (result : Result T E) (old new : MediaJudge) (n stamp : ℕ) (d : Datagram) (rtp : Result Rtp PacketFault) → is_same_target d.target old.target ≡ true
+pub takes_packet_if : {T E : Type 0} (result : Result T E) (old new : MediaJudge) (n stamp : ℕ) (d : Datagram) (rtp : Result Rtp PacketFault)
+    → is_same_target d.target old.target ≡ true
     → new.target ≡ old.target → rtp ≡ reading d.payload
     → ((m : Media) (key : FlowKey) (tai : ℕ) (packets : List FlowPacket) → StandsFor m key tai old.judge packets
     → OnOk result (StandsFor m key tai new.judge (packets ++ record { rec = n; at = stamp; rtp = rtp } ∷ [])))

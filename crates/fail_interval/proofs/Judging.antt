@@ -41,7 +41,8 @@ flow-known fed at state flow e known few stamp =
     ∥∥₁_map of_flow (λ (packets, f). (packets, can_go_on flow fed at packets f few stamp))
 
 -- it knows so of the flow with one packet more
-pub known-more : (fed rec at : ℕ) (rtp : Result Rtp PacketFault) (state : State) (flow new : Flow) → state ≡ Going flow → ∥ IsKnown fed state ∥₁ → fed < 2 ^ 41 → IsStamp at
+pub known-more : (fed rec at : ℕ) (rtp : Result Rtp PacketFault) (state : State) (flow new : Flow) → state ≡ Going flow → ∥ IsKnown fed state ∥₁ → fed < 2 ^ 41
+    → IsStamp at
     → Took flow new (fed_packet rec at rtp) → ∥ IsKnown (fed + 1) (Going new) ∥₁
 known-more fed rec at rtp state flow new e known few stamp goes =
     let of_flow : ∥ IsKnown fed (Going flow) ∥₁ = subst (λ s. ∥ IsKnown fed s ∥₁) e known in
@@ -59,7 +60,8 @@ abbrev judge_by : FlowKey → (fed : ℕ) (state : State) → ∥ IsKnown fed st
 judge_by key fed state known = record { key = key; fed = fed; state = state; known = known }
 
 -- the judge stands for one packet more, where its flow does
-more : (m : Media) (key : FlowKey) (tai rec at : ℕ) (rtp : Result Rtp PacketFault) (judge : FlowJudge) (state : State) (known : ∥ IsKnown (judge.fed + 1) state ∥₁) (packets : List FlowPacket)
+more : (m : Media) (key : FlowKey) (tai rec at : ℕ) (rtp : Result Rtp PacketFault) (judge : FlowJudge) (state : State)
+    (known : ∥ IsKnown (judge.fed + 1) state ∥₁) (packets : List FlowPacket)
     → IsStamp at → StandsFor m key tai judge packets → IsAt m tai (packets ++ fed_packet rec at rtp ∷ []) state
     → StandsFor m key tai (judge_by judge.key (judge.fed + 1) state known) (packets ++ fed_packet rec at rtp ∷ [])
 more m key tai rec at rtp judge state known packets stamp s is = record {
@@ -69,11 +71,13 @@ more m key tai rec at rtp judge state known packets stamp s is = record {
   state = is;
 }
 
-at-flow : (m : Media) (tai at : ℕ) (state : State) (flow : Flow) (packets : List FlowPacket) → state ≡ Going flow → IsAt m tai packets state → (flow.media ≡ m) × (flow.tai ≡ tai) × FlowStandsFor flow packets
+at-flow : (m : Media) (tai at : ℕ) (state : State) (flow : Flow) (packets : List FlowPacket) → state ≡ Going flow → IsAt m tai packets state
+    → (flow.media ≡ m) × (flow.tai ≡ tai) × FlowStandsFor flow packets
 at-flow m tai at state flow packets e is = subst (IsAt m tai packets) e is
 
 -- a call that took a packet of a judge that isn't spent
-took : {T E : Type 0} (result : Result T E) (rec at : ℕ) (rtp : Result Rtp PacketFault) (judge : FlowJudge) (state : State) (known : ∥ IsKnown (judge.fed + 1) state ∥₁)
+took : {T E : Type 0} (result : Result T E) (rec at : ℕ) (rtp : Result Rtp PacketFault) (judge : FlowJudge) (state : State)
+    (known : ∥ IsKnown (judge.fed + 1) state ∥₁)
     → IsOk result
     → (judge.state ≡ Spent → ⊥)
     → ((m : Media) (key : FlowKey) (tai : ℕ) (packets : List FlowPacket) → StandsFor m key tai judge packets
@@ -88,7 +92,8 @@ took (Ok value) rec at rtp judge state known ok goes_on stands = record {
 }
 
 -- the flow goes on
-pub going-more : {T E : Type 0} (value : T) (rec at : ℕ) (rtp : Result Rtp PacketFault) (judge : FlowJudge) (flow new : Flow) (known : ∥ IsKnown (judge.fed + 1) (Going new) ∥₁)
+pub going-more : {T E : Type 0} (value : T) (rec at : ℕ) (rtp : Result Rtp PacketFault) (judge : FlowJudge) (flow new : Flow)
+    (known : ∥ IsKnown (judge.fed + 1) (Going new) ∥₁)
     → judge.state ≡ Going flow → judge.fed < 2 ^ 41 → IsStamp at
     → new.media ≡ flow.media → new.tai ≡ flow.tai
     → Took flow new (fed_packet rec at rtp)
@@ -100,7 +105,7 @@ going-more value rec at rtp judge flow new known e few stamp media seconds goes 
     let c : CanGoOn flow packets at = record { stands = is.2; stamped = s.stamped; stamp = stamp; few = omega (arith, s.fed, few) } in
     more m key tai rec at rtp judge (Going new) known packets stamp s (media ∙ is.0, seconds ∙ is.1, goes packets c))
 
--- the same judge with a state that is the same
+-- a judge stands for its packets with a state that equals its own
 pub same-state : (m : Media) (key : FlowKey) (tai : ℕ) (judge : FlowJudge) (state : State) (known : ∥ IsKnown judge.fed state ∥₁) (packets : List FlowPacket)
     → state ≡ judge.state
     → StandsFor m key tai judge packets
@@ -113,13 +118,15 @@ same-state m key tai judge state known packets e s = record {
 }
 
 -- what is known of a flow that went on
-pub went-known : (fed rec at : ℕ) (rtp : Rtp) (old new : State) → GoesOn old new at rtp → ∥ IsKnown fed old ∥₁ → fed < 2 ^ 41 → IsStamp at → ∥ IsKnown (fed + 1) new ∥₁
+pub went-known : (fed rec at : ℕ) (rtp : Rtp) (old new : State) → GoesOn old new at rtp → ∥ IsKnown fed old ∥₁ → fed < 2 ^ 41 → IsStamp at
+    → ∥ IsKnown (fed + 1) new ∥₁
 went-known fed rec at rtp old new went known few stamp =
     subst (λ s. ∥ IsKnown (fed + 1) s ∥₁) (sym went.becomes)
     (known-more fed rec at (Ok rtp) old went.flow went.later went.is known few stamp (went.goes rec))
 
 -- its judge stands for one packet more
-pub went-on : (m : Media) (key : FlowKey) (tai rec at : ℕ) (rtp : Rtp) (judge : FlowJudge) (new : State) (known : ∥ IsKnown (judge.fed + 1) new ∥₁) (packets : List FlowPacket)
+pub went-on : (m : Media) (key : FlowKey) (tai rec at : ℕ) (rtp : Rtp) (judge : FlowJudge) (new : State) (known : ∥ IsKnown (judge.fed + 1) new ∥₁)
+    (packets : List FlowPacket)
     → GoesOn judge.state new at rtp → judge.fed < 2 ^ 41 → IsStamp at
     → StandsFor m key tai judge packets
     → StandsFor m key tai (judge_by judge.key (judge.fed + 1) new known) (packets ++ fed_packet rec at (Ok rtp) ∷ [])
@@ -130,7 +137,8 @@ went-on m key tai rec at rtp judge new known packets went few stamp s =
     (subst (IsAt m tai (packets ++ fed_packet rec at (Ok rtp) ∷ [])) (sym went.becomes) (went.media ∙ is.0, went.tai ∙ is.1, went.goes rec packets c))
 
 -- the first fault of a flow stays the first
-refused-more : (m : Media) (packets : List FlowPacket) (p : FlowPacket) (rec : ℕ) (fault : PacketFault) → IsRefused m packets rec fault → IsRefused m (packets ++ p ∷ []) rec fault
+refused-more : (m : Media) (packets : List FlowPacket) (p : FlowPacket) (rec : ℕ) (fault : PacketFault) → IsRefused m packets rec fault
+    → IsRefused m (packets ++ p ∷ []) rec fault
 refused-more m packets p rec fault r = record {
   index = r.index;
   first = shift (λ all n. first_fault_below all m.pt n ≡ Some (record { index = r.index; fault = fault })) packets p
@@ -139,7 +147,8 @@ refused-more m packets p rec fault r = record {
 }
 
 -- the flow ends with a fault
-pub refused-now : {T E : Type 0} (result : Result T E) (rec at : ℕ) (rtp : Result Rtp PacketFault) (fault : PacketFault) (judge : FlowJudge) (flow : Flow) (state : State) (known : ∥ IsKnown (judge.fed + 1) state ∥₁)
+pub refused-now : {T E : Type 0} (result : Result T E) (rec at : ℕ) (rtp : Result Rtp PacketFault) (fault : PacketFault) (judge : FlowJudge) (flow : Flow)
+    (state : State) (known : ∥ IsKnown (judge.fed + 1) state ∥₁)
     → judge.state ≡ Going flow → IsOk result × (state ≡ Refused rec fault) → judge.fed < 2 ^ 41 → IsStamp at
     → EndsBy flow (fed_packet rec at rtp) fault
     → Takes judge (judge_by judge.key (judge.fed + 1) state known) (fed_packet rec at rtp) result
@@ -158,7 +167,8 @@ refused-now result rec at rtp fault judge flow state known e (ok, ended) few sta
     more m key tai rec at rtp judge state known packets stamp s (subst (IsAt m tai (packets ++ p ∷ [])) (sym ended) refused))
 
 -- it ended before
-pub refused-before : {T E : Type 0} (result : Result T E) (rec at more_rec : ℕ) (rtp : Result Rtp PacketFault) (fault : PacketFault) (judge : FlowJudge) (state : State) (known : ∥ IsKnown (judge.fed + 1) state ∥₁)
+pub refused-before : {T E : Type 0} (result : Result T E) (rec at more_rec : ℕ) (rtp : Result Rtp PacketFault) (fault : PacketFault) (judge : FlowJudge)
+    (state : State) (known : ∥ IsKnown (judge.fed + 1) state ∥₁)
     → judge.state ≡ Refused more_rec fault → IsOk result × (state ≡ Refused more_rec fault) → IsStamp at
     → Takes judge (judge_by judge.key (judge.fed + 1) state known) (fed_packet rec at rtp) result
 refused-before result rec at more_rec rtp fault judge state known e (ok, stays) stamp =
@@ -166,10 +176,12 @@ refused-before result rec at more_rec rtp fault judge state known e (ok, stays) 
     (λ m key tai packets s.
     let p = fed_packet rec at rtp in
     let is : IsRefused m packets more_rec fault = subst (IsAt m tai packets) e s.state in
-    more m key tai rec at rtp judge state known packets stamp s (subst (IsAt m tai (packets ++ p ∷ [])) (sym stays) (refused-more m packets p more_rec fault is)))
+    more m key tai rec at rtp judge state known packets stamp s (subst (IsAt m tai (packets ++ p ∷ [])) (sym stays)
+    (refused-more m packets p more_rec fault is)))
 
 -- memory was refused before
-spent-before : {T E : Type 0} (result : Result T E) (rec at : ℕ) (rtp : Result Rtp PacketFault) (judge : FlowJudge) (state : State) (known : ∥ IsKnown (judge.fed + 1) state ∥₁)
+spent-before : {T E : Type 0} (result : Result T E) (rec at : ℕ) (rtp : Result Rtp PacketFault) (judge : FlowJudge) (state : State)
+    (known : ∥ IsKnown (judge.fed + 1) state ∥₁)
     → IsErr result × (state ≡ Spent)
     → Takes judge (judge_by judge.key (judge.fed + 1) state known) (fed_packet rec at rtp) result
 spent-before (Ok value) rec at rtp judge state known (err, stays) = cc
@@ -180,7 +192,8 @@ spent-before (Err cause) rec at rtp judge state known (err, stays) = record {
   stays = λ spent. err;
 }
 
-refuses-case : {T E : Type 0} (result : Result T E) (rec at : ℕ) (rtp : Result Rtp PacketFault) (fault : PacketFault) (judge : FlowJudge) (old state : State) (known : ∥ IsKnown (judge.fed + 1) state ∥₁)
+refuses-case : {T E : Type 0} (result : Result T E) (rec at : ℕ) (rtp : Result Rtp PacketFault) (fault : PacketFault) (judge : FlowJudge) (old state : State)
+    (known : ∥ IsKnown (judge.fed + 1) state ∥₁)
     → judge.state ≡ old → Refuses judge.state state rec fault result → judge.fed < 2 ^ 41 → IsStamp at
     → ((flow : Flow) → EndsBy flow (fed_packet rec at rtp) fault)
     → Takes judge (judge_by judge.key (judge.fed + 1) state known) (fed_packet rec at rtp) result
@@ -191,24 +204,27 @@ refuses-case result rec at rtp fault judge (Refused first earlier) state known e
 refuses-case result rec at rtp fault judge Spent state known e r few stamp ends = spent-before result rec at rtp judge state known (r.spent e)
 
 -- a packet that ends each flow by its fault
-pub refuses : {T E : Type 0} (result : Result T E) (rec at : ℕ) (rtp : Result Rtp PacketFault) (fault : PacketFault) (judge : FlowJudge) (state : State) (known : ∥ IsKnown (judge.fed + 1) state ∥₁)
+pub refuses : {T E : Type 0} (result : Result T E) (rec at : ℕ) (rtp : Result Rtp PacketFault) (fault : PacketFault) (judge : FlowJudge) (state : State)
+    (known : ∥ IsKnown (judge.fed + 1) state ∥₁)
     → Refuses judge.state state rec fault result → judge.fed < 2 ^ 41 → IsStamp at
     → ((flow : Flow) → EndsBy flow (fed_packet rec at rtp) fault)
     → Takes judge (judge_by judge.key (judge.fed + 1) state known) (fed_packet rec at rtp) result
 refuses result rec at rtp fault judge state known r few stamp ends =
     refuses-case result rec at rtp fault judge judge.state state known refl r few stamp ends
 
--- of such a state nothing is to be known
+-- of a flow that is refused nothing is to be known
 known-here : (fed : ℕ) (state : State) (rec : ℕ) (fault : PacketFault) → state ≡ Refused rec fault → ∥ IsKnown fed state ∥₁
 known-here fed state rec fault e = subst (λ s. ∥ IsKnown fed s ∥₁) (sym e) ∣ tt ∣₁
 
-pub refuses-known : {T E : Type 0} (result : Result T E) (fed rec : ℕ) (fault : PacketFault) (old state : State) → Refuses old state rec fault result → ∥ IsKnown fed state ∥₁
+pub refuses-known : {T E : Type 0} (result : Result T E) (fed rec : ℕ) (fault : PacketFault) (old state : State) → Refuses old state rec fault result
+    → ∥ IsKnown fed state ∥₁
 refuses-known result fed rec fault (Going flow) state r = known-here fed state rec fault (r.going flow refl).1
 refuses-known result fed rec fault (Refused first earlier) state r = known-here fed state first earlier (r.refused first earlier refl).1
 refuses-known result fed rec fault Spent state r = subst (λ s. ∥ IsKnown fed s ∥₁) (sym (r.spent refl).1) ∣ tt ∣₁
 
 -- what is known where the flow ends
-pub stands-known : (fed : ℕ) (state : State) (flow : Flow) → state ≡ Going flow → ∥ IsKnown fed state ∥₁ → ∥ ((packets : List FlowPacket) × FlowStandsFor flow packets) ∥₁
+pub stands-known : (fed : ℕ) (state : State) (flow : Flow) → state ≡ Going flow → ∥ IsKnown fed state ∥₁
+    → ∥ ((packets : List FlowPacket) × FlowStandsFor flow packets) ∥₁
 stands-known fed state flow e known =
     let of_flow : ∥ IsKnown fed (Going flow) ∥₁ = subst (λ s. ∥ IsKnown fed s ∥₁) e known in
     ∥∥₁_map of_flow (λ (packets, f). (packets, f.stands))
@@ -221,7 +237,8 @@ row-same : (a b : FlowKey) (v w : Verdict) → a ≡ b → v ≡ w → row_by a 
 row-same a b v w e f = cc
 
 -- the row of a flow that has no fault
-pub row-going : (m : Media) (key : FlowKey) (tai : ℕ) (judge : FlowJudge) (flow : Flow) (told verdict : Verdict) (packets : List FlowPacket) → judge.state ≡ Going flow
+pub row-going : (m : Media) (key : FlowKey) (tai : ℕ) (judge : FlowJudge) (flow : Flow) (told verdict : Verdict) (packets : List FlowPacket)
+    → judge.state ≡ Going flow
     → ((packets : List FlowPacket) → FlowStandsFor flow packets → verdict ≡ verdict_of flow.media (judged packets flow.media.pt flow.tai))
     → told ≡ verdict
     → StandsFor m key tai judge packets
@@ -233,7 +250,8 @@ row-going m key tai judge flow told verdict packets e says is s =
     ∙ (ap (λ (k : Media). verdict_of k (judged packets k.pt flow.tai)) at.0 ∙ ap (λ t. verdict_of m (judged packets m.pt t)) at.1)))
 
 -- and of one that has
-pub row-refused : (m : Media) (key : FlowKey) (tai rec : ℕ) (fault : PacketFault) (judge : FlowJudge) (told verdict : Verdict) (packets : List FlowPacket) → judge.state ≡ Refused rec fault
+pub row-refused : (m : Media) (key : FlowKey) (tai rec : ℕ) (fault : PacketFault) (judge : FlowJudge) (told verdict : Verdict) (packets : List FlowPacket)
+    → judge.state ≡ Refused rec fault
     → ((m : Media) → verdict ≡ verdict_of m (refusal rec fault))
     → told ≡ verdict
     → StandsFor m key tai judge packets

@@ -33,9 +33,15 @@ stamps-fit packets tai from to within few seconds stamped rise =
       ordered = λ j i order below.
           let later : (packet packets (from + j)).at ≤ (packet packets (from + i)).at =
           rise (from + j) (from + i) no_packet (omega (arith, order)) (omega (arith, below, long, within)) in
-          omega (arith, later, stamps_from-at packets tai from to j within (omega (arith, order, below, long)), stamps_from-at packets tai from to i within (omega (arith, below, long)));
+          omega (
+            arith,
+            later,
+            stamps_from-at packets tai from to j within (omega (arith, order, below, long)),
+            stamps_from-at packets tai from to i within (omega (arith, below, long)),
+          );
       early =
-          let part : All (λ (p : FlowPacket). p.at < 2 ^ 32 * 10 ^ 9) (slice_range packets from to) = all_range (λ (p : FlowPacket). p.at < 2 ^ 32 * 10 ^ 9) packets from to stamped in
+          let part : All (λ (p : FlowPacket). p.at < 2 ^ 32 * 10 ^ 9) (slice_range packets from to) =
+          all_range (λ (p : FlowPacket). p.at < 2 ^ 32 * 10 ^ 9) packets from to stamped in
           All-map (λ at. at < 2 ^ 62) (stamp_of tai) (slice_range packets from to) (λ k d below. let early = part k d below in omega (arith, early, seconds));
       few = omega (arith, long, within, few);
     }
@@ -59,7 +65,13 @@ fits-by packets tai from to (a ∷ b ∷ rest) within few seconds stamped rise s
       head = omega (arith, sized.begun (omega arith), within, few);
       some = omega (arith, some);
       most = omega (arith, sized.few two);
-      groups = omega (arith, few-groups a (b - a) (length (a ∷ b ∷ rest) - 1) (last_place (a ∷ b ∷ rest)) (omega (arith, some)) (sized.whole two), sized.later two, within, few);
+      groups = omega (
+        arith,
+        few-groups a (b - a) (length (a ∷ b ∷ rest) - 1) (last_place (a ∷ b ∷ rest)) (omega (arith, some)) (sized.whole two),
+        sized.later two,
+        within,
+        few,
+      );
       stamps = stamps-fit packets tai (a + 1) to within few seconds stamped rise;
     }
 

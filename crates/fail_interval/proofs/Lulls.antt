@@ -60,8 +60,10 @@ calm-quiet params origin meter left brim b stamps at first in_time some held cal
 -- a call of `go_on` from one span to the next
 abbrev pub GoesOn : Between → Between → Type 0
 GoesOn b c =
-    ((m : Media) (n : ℕ) (anchor : ℤ) (gapped : Bool) (early left : ℕ) → IsFrom m n anchor gapped early (left + 1) b → IsFrom m n anchor gapped (early + 1) left c)
-    × ((m : Media) (n : ℕ) (anchor : ℤ) (gapped : Bool) (late left : ℕ) → IsUpTo m n anchor gapped late (left + 1) b → IsUpTo m n anchor gapped (late + 1) left c)
+    ((m : Media) (n : ℕ) (anchor : ℤ) (gapped : Bool) (early left : ℕ) → IsFrom m n anchor gapped early (left + 1) b
+    → IsFrom m n anchor gapped (early + 1) left c)
+    × ((m : Media) (n : ℕ) (anchor : ℤ) (gapped : Bool) (late left : ℕ) → IsUpTo m n anchor gapped late (left + 1) b
+    → IsUpTo m n anchor gapped (late + 1) left c)
 
 -- after it the lull goes on
 pub calm-next : (params : Params) (origin also : ℕ) (meter new : KindMeter) (left more brim : ℕ) (b c : Between)
@@ -88,12 +90,14 @@ calm-next params origin also meter new left more brim b c same one few kind seen
       within = λ pass. omega (arith, calm.within (sym verdict ∙ pass), c_max);
       due = subst (λ a. IsFrom m n a (gapped_of new.vrx.kind) (new.vrx.seen - new.vrx.peak) left c) anchor
           (subst (λ k. IsFrom m n (anchor_of m origin) k (new.vrx.seen - new.vrx.peak) left c) g
-          (subst (λ x. IsFrom m n (anchor_of m origin) (gapped_of meter.vrx.kind) x left c) early (goes.0 m n (anchor_of m origin) (gapped_of meter.vrx.kind) (meter.vrx.seen - meter.vrx.peak) left due)));
+          (subst (λ x. IsFrom m n (anchor_of m origin) (gapped_of meter.vrx.kind) x left c) early
+          (goes.0 m n (anchor_of m origin) (gapped_of meter.vrx.kind) (meter.vrx.seen - meter.vrx.peak) left due)));
       ahead = λ none.
           let up_to = subst (λ k. IsUpTo m n (anchor_of m origin) (gapped_of meter.vrx.kind) meter.vrx.seen k b) (sym one) (calm.ahead (sym fault ∙ none)) in
           subst (λ a. IsUpTo m n a (gapped_of new.vrx.kind) new.vrx.seen left c) anchor
           (subst (λ k. IsUpTo m n (anchor_of m origin) k new.vrx.seen left c) g
-          (subst (λ x. IsUpTo m n (anchor_of m origin) (gapped_of meter.vrx.kind) x left c) (sym seen) (goes.1 m n (anchor_of m origin) (gapped_of meter.vrx.kind) meter.vrx.seen left up_to)));
+          (subst (λ x. IsUpTo m n (anchor_of m origin) (gapped_of meter.vrx.kind) x left c) (sym seen)
+          (goes.1 m n (anchor_of m origin) (gapped_of meter.vrx.kind) meter.vrx.seen left up_to)));
     }
 
 -- a lull begins
@@ -116,7 +120,8 @@ calm-begins params origin meter left brim early late gapped b kind first last wi
     }
 
 -- reads that are due stay so
-pub stands-later : (m : Media) (n : ℕ) (anchor : ℤ) (gapped : Bool) (s : Schedule) (a b : ℕ) → a ≤ b → StandsBy m n anchor gapped s a → StandsBy m n anchor gapped s b
+pub stands-later : (m : Media) (n : ℕ) (anchor : ℤ) (gapped : Bool) (s : Schedule) (a b : ℕ) → a ≤ b → StandsBy m n anchor gapped s a
+    → StandsBy m n anchor gapped s b
 stands-later m n anchor gapped s a b order stood =
     let parts : (a + 2 ^ 49) * s.grid.den ≤ (b + 2 ^ 49) * s.grid.den = mul-le-mul_right s.grid.den (omega (arith, order)) in
     record {

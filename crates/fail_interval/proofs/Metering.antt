@@ -34,7 +34,7 @@ use Rattle.fail_interval.specs.Row.{judged_values}
 use Rattle.fail_interval.specs.SoFar.{AreStamps}
 use Rattle.fail_interval.specs.declared.kind.KindMeter.{KindMeter}
 use Rattle.fail_interval.specs.declared.lull.Lull.{Lull}
-use Rattle.fail_interval.specs.declared.meters.Meters.{Meters}
+use Rattle.fail_interval.specs.declared.meters.RunMeters.{RunMeters}
 use Rattle.fail_interval.proofs.Lulls.{calm-over, calm-quiet, stands-later}
 
 greatest-most : (f : ℕ → ℕ) (count peak : ℕ) → ((k : ℕ) → k < count → f k ≤ peak) → greatest f count ≤ peak
@@ -50,7 +50,8 @@ greatest-le f (suc i) k low =
     ]
 
 -- the greatest value, as it is reached
-pub greatest-is : (f : ℕ → ℕ) (count peak : ℕ) → ((k : ℕ) → k < count → f k ≤ peak) → (0 < peak → (k : ℕ) × (k < count) × (f k ≡ peak)) → peak ≡ greatest f count
+pub greatest-is : (f : ℕ → ℕ) (count peak : ℕ) → ((k : ℕ) → k < count → f k ≤ peak) → (0 < peak → (k : ℕ) × (k < count) × (f k ≡ peak))
+    → peak ≡ greatest f count
 greatest-is f count peak most reached =
     elim (cases_lt 0 peak) as (λ _. peak ≡ greatest f count) [
       | inl some ↦ let at = reached some in omega (arith, greatest-most f count peak most, greatest-le f count at.0 at.1, at.2)
@@ -58,7 +59,8 @@ greatest-is f count peak most reached =
     ]
 
 -- the peak of the bucket
-bucket-peak : (params : Params) (bucket : Bucket) (stamps : List ℕ) → BucketStandsFor params bucket stamps → bucket.peak ≡ greatest (bucket_of params.media params.n stamps) (length stamps)
+bucket-peak : (params : Params) (bucket : Bucket) (stamps : List ℕ) → BucketStandsFor params bucket stamps
+    → bucket.peak ≡ greatest (bucket_of params.media params.n stamps) (length stamps)
 bucket-peak params bucket stamps s =
     elim (cases_lt 0 (length stamps)) as (λ _. bucket.peak ≡ greatest (bucket_of params.media params.n stamps) (length stamps)) [
       | inl some ↦
@@ -93,27 +95,32 @@ judged_by n frames packets head bucket gapped linear kinds = record {
   kinds = kinds;
 }
 
-judged-same : (n frames packets count head bucket also gapped too linear more : ℕ) (a b c d e f : KindVerdict) → packets ≡ count → bucket ≡ also → gapped ≡ too → linear ≡ more → a ≡ d → b ≡ e → c ≡ f
+judged-same : (n frames packets count head bucket also gapped too linear more : ℕ) (a b c d e f : KindVerdict) → packets ≡ count → bucket ≡ also → gapped ≡ too
+    → linear ≡ more → a ≡ d → b ≡ e → c ≡ f
     → judged_by n frames packets head bucket gapped linear (a ∷ b ∷ c ∷ []) ≡ judged_by n frames count head also too more (d ∷ e ∷ f ∷ [])
 judged-same n frames packets count head bucket also gapped too linear more a b c d e f p q r s t u v = cc
 
-kind-verdict-is : (params : Params) (meter : KindMeter) (stamps : List ℕ) (kind : Kind) → meter.vrx.kind ≡ kind → KindStandsFor params meter stamps → meter.verdict ≡ kind_verdict params.media params.n stamps kind
+kind-verdict-is : (params : Params) (meter : KindMeter) (stamps : List ℕ) (kind : Kind) → meter.vrx.kind ≡ kind → KindStandsFor params meter stamps
+    → meter.verdict ≡ kind_verdict params.media params.n stamps kind
 kind-verdict-is params meter stamps kind e s = s.verdict ∙ ap (kind_verdict params.media params.n stamps) e
 
 -- what the meters say of a run without a tail
-pub says : (params : Params) (meters : Meters) (stamps : List ℕ) (frames head : ℕ) → StandsFor params meters stamps
+pub says : (params : Params) (meters : RunMeters) (stamps : List ℕ) (frames head : ℕ) → StandsFor params meters stamps
     → judged_by params.n frames meters.bucket.seen head meters.bucket.peak meters.narrow.vrx.peak meters.narrow_linear.vrx.peak
     (meters.narrow.verdict ∷ meters.narrow_linear.verdict ∷ meters.wide.verdict ∷ [])
     ≡ judged_values params.media (record { n = params.n; groups = frames; head = head; tail = 0; stamps = stamps })
 says params meters stamps frames head s =
     let f = s.fed in
     judged-same params.n frames _ _ head _ _ _ _ _ _ _ _ _ _ _ _ f.bucket.seen (bucket-peak params meters.bucket stamps f.bucket)
-    (vrx-peak params meters.narrow.vrx stamps N f.narrow_kind f.narrow.vrx) (vrx-peak params meters.narrow_linear.vrx stamps NL f.narrow_linear_kind f.narrow_linear.vrx)
-    (kind-verdict-is params meters.narrow stamps N f.narrow_kind f.narrow) (kind-verdict-is params meters.narrow_linear stamps NL f.narrow_linear_kind f.narrow_linear)
+    (vrx-peak params meters.narrow.vrx stamps N f.narrow_kind f.narrow.vrx)
+    (vrx-peak params meters.narrow_linear.vrx stamps NL f.narrow_linear_kind f.narrow_linear.vrx)
+    (kind-verdict-is params meters.narrow stamps N f.narrow_kind f.narrow)
+    (kind-verdict-is params meters.narrow_linear stamps NL f.narrow_linear_kind f.narrow_linear)
     (kind-verdict-is params meters.wide stamps W f.wide_kind f.wide)
 
 -- the first stamp of one packet more
-pub first-is : (params : Params) (meters : Meters) (stamps : List ℕ) (at : ℕ) → CanFollow params meters stamps at → slice_index (stamps ++ at ∷ []) 0 ≡ meters.bucket.origin
+pub first-is : (params : Params) (meters : RunMeters) (stamps : List ℕ) (at : ℕ) → CanFollow params meters stamps at
+    → slice_index (stamps ++ at ∷ []) 0 ≡ meters.bucket.origin
 first-is params meters [] at c = c.first refl
 first-is params meters (x ∷ stamps) at c = c.stands.fed.first (omega arith)
 
@@ -142,7 +149,8 @@ last-is stamps at =
     ap (slice_index (stamps ++ at ∷ [])) long ∙ get_or-append_seam stamps at [] 0
 
 -- the packet may follow those that the bucket was fed
-pub bucket-follows : (params : Params) (meters : Meters) (stamps : List ℕ) (at : ℕ) → CanFollow params meters stamps at → BucketCanFollow meters.bucket stamps at
+pub bucket-follows : (params : Params) (meters : RunMeters) (stamps : List ℕ) (at : ℕ) → CanFollow params meters stamps at
+    → BucketCanFollow meters.bucket stamps at
 bucket-follows params meters stamps at c = record {
   first = c.first;
   later = λ i size.
@@ -152,17 +160,21 @@ bucket-follows params meters stamps at c = record {
 
 -- a call of the bucket's `feed`
 abbrev pub BucketFed : Params → Bucket → Bucket → ℕ → Type 0
-BucketFed params bucket new at = (stamps : List ℕ) → BucketStandsFor params bucket stamps → BucketCanFollow bucket stamps at → BucketStandsFor params new (stamps ++ at ∷ [])
+BucketFed params bucket new at =
+    (stamps : List ℕ) → BucketStandsFor params bucket stamps → BucketCanFollow bucket stamps at → BucketStandsFor params new (stamps ++ at ∷ [])
 
 -- a call of a schedule's `advance`
 abbrev pub Advanced : Schedule → Schedule → Due → ℕ → Type 0
 Advanced schedule new due at =
-    ((m : Media) (n : ℕ) (anchor : ℤ) (gapped : Bool) (before : ℕ) → before ≤ at → StandsBy m n anchor gapped schedule before → IsDueAt m n anchor gapped at due)
-    × ((m : Media) (n : ℕ) (anchor : ℤ) (gapped : Bool) (before : ℕ) → before ≤ at → StandsBy m n anchor gapped schedule before → StandsBy m n anchor gapped new at)
+    ((m : Media) (n : ℕ) (anchor : ℤ) (gapped : Bool) (before : ℕ) → before ≤ at → StandsBy m n anchor gapped schedule before
+    → IsDueAt m n anchor gapped at due)
+    × ((m : Media) (n : ℕ) (anchor : ℤ) (gapped : Bool) (before : ℕ) → before ≤ at → StandsBy m n anchor gapped schedule before
+    → StandsBy m n anchor gapped new at)
 
 -- a call of a sender type's `feed`
 abbrev pub KindFed : Params → Bucket → Due → KindMeter → KindMeter → Type 0
-KindFed params bucket due meter new = (stamps : List ℕ) (at : ℕ) → KindStandsFor params meter stamps → ComesNext params bucket due meter.vrx.kind stamps at → KindStandsFor params new (stamps ++ at ∷ [])
+KindFed params bucket due meter new = (stamps : List ℕ) (at : ℕ) → KindStandsFor params meter stamps → ComesNext params bucket due meter.vrx.kind stamps at
+    → KindStandsFor params new (stamps ++ at ∷ [])
 
 -- what comes next for a sender type
 comes : (params : Params) (origin : ℕ) (bucket : Bucket) (due : Due) (kind k : Kind) (stamps : List ℕ) (at : ℕ) → NeverFall (stamps ++ at ∷ [])
@@ -179,7 +191,7 @@ comes params origin bucket due kind k stamps at ordered first stands is e = reco
 }
 
 -- meters by their parts
-abbrev pub meters_by : Bucket → Schedule → Schedule → KindMeter → KindMeter → KindMeter → Lull → Meters
+abbrev pub meters_by : Bucket → Schedule → Schedule → KindMeter → KindMeter → KindMeter → Lull → RunMeters
 meters_by bucket gapped linear narrow narrow_linear wide lull = record {
   bucket = bucket;
   gapped = gapped;
@@ -191,7 +203,8 @@ meters_by bucket gapped linear narrow narrow_linear wide lull = record {
 }
 
 -- the meters were fed one packet more
-pub fed : (params : Params) (meters : Meters) (lull : Lull) (at : ℕ) (gapped linear : Schedule) (due_gapped due_linear : Due) (narrow narrow_linear wide : KindMeter)
+pub fed : (params : Params) (meters : RunMeters) (lull : Lull) (at : ℕ) (gapped linear : Schedule) (due_gapped due_linear : Due)
+    (narrow narrow_linear wide : KindMeter)
     → Advanced meters.gapped gapped due_gapped at
     → Advanced meters.linear linear due_linear at
     → narrow.vrx.kind ≡ meters.narrow.vrx.kind
@@ -205,7 +218,8 @@ pub fed : (params : Params) (meters : Meters) (lull : Lull) (at : ℕ) (gapped l
     → meters.bucket.origin ≡ before.origin
     → BucketStandsFor params meters.bucket (stamps ++ at ∷ [])
     → AreFed params (meters_by meters.bucket gapped linear narrow narrow_linear wide lull) (stamps ++ at ∷ [])
-fed params meters lull at gapped linear due_gapped due_linear narrow narrow_linear wide gapped_more linear_more n_kind n_fed nl_kind nl_fed w_kind w_fed before stamps c origin stands =
+fed params meters lull at gapped linear due_gapped due_linear narrow narrow_linear wide gapped_more linear_more n_kind n_fed nl_kind nl_fed w_kind w_fed before
+    stamps c origin stands =
     let m = params.media in
     let n = params.n in
     let anchor = anchor_of m before.origin in
@@ -222,15 +236,18 @@ fed params meters lull at gapped linear due_gapped due_linear narrow narrow_line
       linear = subst (λ a. StandsBy m n (anchor_of m a) false linear (last_stamp (stamps ++ at ∷ []))) (sym origin)
           (subst (StandsBy m n anchor false linear) (sym (last-is stamps at)) (linear_more.1 m n anchor false (last_stamp stamps) low s.linear));
       narrow_kind = n_kind ∙ s.narrow_kind;
-      narrow = n_fed stamps at s.narrow (comes params before.origin meters.bucket due_gapped meters.narrow.vrx.kind N stamps at c.fit.ordered first stands gapped_due s.narrow_kind);
+      narrow = n_fed stamps at s.narrow (comes params before.origin meters.bucket due_gapped meters.narrow.vrx.kind N stamps at c.fit.ordered first stands
+          gapped_due s.narrow_kind);
       narrow_linear_kind = nl_kind ∙ s.narrow_linear_kind;
-      narrow_linear = nl_fed stamps at s.narrow_linear (comes params before.origin meters.bucket due_linear meters.narrow_linear.vrx.kind NL stamps at c.fit.ordered first stands linear_due s.narrow_linear_kind);
+      narrow_linear = nl_fed stamps at s.narrow_linear (comes params before.origin meters.bucket due_linear meters.narrow_linear.vrx.kind NL stamps at
+          c.fit.ordered first stands linear_due s.narrow_linear_kind);
       wide_kind = w_kind ∙ s.wide_kind;
-      wide = w_fed stamps at s.wide (comes params before.origin meters.bucket due_linear meters.wide.vrx.kind W stamps at c.fit.ordered first stands linear_due s.wide_kind);
+      wide = w_fed stamps at s.wide (comes params before.origin meters.bucket due_linear meters.wide.vrx.kind W stamps at c.fit.ordered first stands linear_due
+          s.wide_kind);
     }
 
 -- whatever the lull
-pub fed-again : (params : Params) (meters : Meters) (lull : Lull) (stamps : List ℕ) → AreFed params meters stamps
+pub fed-again : (params : Params) (meters : RunMeters) (lull : Lull) (stamps : List ℕ) → AreFed params meters stamps
     → AreFed params (meters_by meters.bucket meters.gapped meters.linear meters.narrow meters.narrow_linear meters.wide lull) stamps
 fed-again params meters lull stamps s = record {
   first = s.first;
@@ -246,7 +263,8 @@ fed-again params meters lull stamps s = record {
 }
 
 -- a schedule stands by the next packet, too
-pub later-by : (params : Params) (gapped : Bool) (schedule : Schedule) (origin also : ℕ) (stamps : List ℕ) (at : ℕ) → origin ≡ also → NeverFall (stamps ++ at ∷ [])
+pub later-by : (params : Params) (gapped : Bool) (schedule : Schedule) (origin also : ℕ) (stamps : List ℕ) (at : ℕ) → origin ≡ also
+    → NeverFall (stamps ++ at ∷ [])
     → StandsBy params.media params.n (anchor_of params.media origin) gapped schedule (last_stamp stamps)
     → StandsBy params.media params.n (anchor_of params.media also) gapped schedule (last_stamp (stamps ++ at ∷ []))
 later-by params gapped schedule origin also stamps at same falls stood =
@@ -256,7 +274,8 @@ later-by params gapped schedule origin also stamps at same falls stood =
 
 -- a sender type lets the packet pass in a lull
 pub kind-passes : (params : Params) (meter new : KindMeter) (bucket : Bucket) (origin left brim : ℕ) (b : Between) (stamps : List ℕ) (at : ℕ)
-    → ((params : Params) (bucket : Bucket) (stamps : List ℕ) (at : ℕ) → KindStandsFor params meter stamps → PassesBy params bucket meter stamps at → KindStandsFor params new (stamps ++ at ∷ []))
+    → ((params : Params) (bucket : Bucket) (stamps : List ℕ) (at : ℕ) → KindStandsFor params meter stamps → PassesBy params bucket meter stamps at
+    → KindStandsFor params new (stamps ++ at ∷ []))
     → NeverFall (stamps ++ at ∷ [])
     → BucketStandsFor params bucket (stamps ++ at ∷ [])
     → slice_index (stamps ++ at ∷ []) 0 ≡ origin
@@ -291,7 +310,8 @@ pub fresh : (params : Params) (origin : ℕ) (n0 : ℤ) (bucket : Bucket) (gappe
     → lull.left ≡ 0
     → lull.brim ≡ 0
     → StandsFor params (meters_by bucket gapped linear narrow narrow_linear wide lull) []
-fresh params origin n0 bucket gapped linear narrow narrow_linear wide lull e anchor stands by_gapped by_linear n_kind n_stands nl_kind nl_stands w_kind w_stands left brim =
+fresh params origin n0 bucket gapped linear narrow narrow_linear wide lull e anchor stands by_gapped by_linear n_kind n_stands nl_kind nl_stands w_kind w_stands
+    left brim =
     let is : n0 ≡ anchor_of params.media bucket.origin = anchor ∙ ap (anchor_of params.media) (sym e) in
     record {
       fed = record {
@@ -326,7 +346,7 @@ stamps-take stamps k few fit =
     }
 
 -- the next stamp of a list that the meters are fed
-pub next-follows : (params : Params) (meters : Meters) (stamps : List ℕ) (i : ℕ) → AreStamps stamps → i < length stamps
+pub next-follows : (params : Params) (meters : RunMeters) (stamps : List ℕ) (i : ℕ) → AreStamps stamps → i < length stamps
     → meters.bucket.origin ≡ slice_index stamps 0
     → StandsFor params meters (take i stamps)
     → CanFollow params meters (take i stamps) (slice_index stamps i)
@@ -340,7 +360,7 @@ next-follows params meters stamps i fit few origin s =
     }
 
 -- and so on
-pub next-stands : (params : Params) (new : Meters) (stamps : List ℕ) (i : ℕ) → i < length stamps
+pub next-stands : (params : Params) (new : RunMeters) (stamps : List ℕ) (i : ℕ) → i < length stamps
     → StandsFor params new (take i stamps ++ slice_index stamps i ∷ [])
     → StandsFor params new (take (i + 1) stamps)
 next-stands params new stamps i few s =
@@ -349,6 +369,7 @@ next-stands params new stamps i few s =
     subst (StandsFor params new) (sym same) s
 
 -- to the end
-pub all-stands : (params : Params) (meters : Meters) (stamps : List ℕ) (i : ℕ) → i ≤ length stamps → length stamps ≤ i → StandsFor params meters (take i stamps) → StandsFor params meters stamps
+pub all-stands : (params : Params) (meters : RunMeters) (stamps : List ℕ) (i : ℕ) → i ≤ length stamps → length stamps ≤ i
+    → StandsFor params meters (take i stamps) → StandsFor params meters stamps
 all-stands params meters stamps i few many s =
     let all : take i stamps ≡ stamps = take_all i stamps many in subst (StandsFor params meters) all s

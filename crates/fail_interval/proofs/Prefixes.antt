@@ -39,7 +39,8 @@ load_of-append m n stamps at j i low few =
     let second = ticks_at-append m n stamps at i few in
     ap (λ t. (i - j + 1) - (t - ticks_at m n (stamps ++ at ∷ []) j)) second ∙ ap (λ t. (i - j + 1) - (ticks_at m n stamps i - t)) first
 
-latest-append : (m : Media) (n : ℕ) (stamps : List ℕ) (at i j : ℕ) → j ≤ i → i < length stamps → latest_up_to m n (stamps ++ at ∷ []) i j ≡ latest_up_to m n stamps i j
+latest-append : (m : Media) (n : ℕ) (stamps : List ℕ) (at i j : ℕ) → j ≤ i → i < length stamps
+    → latest_up_to m n (stamps ++ at ∷ []) i j ≡ latest_up_to m n stamps i j
 latest-append m n stamps at i zero low few = refl
 latest-append m n stamps at i (suc j) low few =
     let load = load_of-append m n stamps at (suc j) i low few in
@@ -49,7 +50,8 @@ latest-append m n stamps at i (suc j) low few =
     ∙ (ap (λ k. if load_of m n stamps (suc j) i == k then suc j else latest_up_to m n (stamps ++ at ∷ []) i j) count
     ∙ ap (λ k. if load_of m n stamps (suc j) i == bucket_of m n stamps i then suc j else k) rest)
 
-is_empty-append : (m : Media) (n : ℕ) (stamps : List ℕ) (at : ℕ) (kind : Kind) (k : ℕ) → k < length stamps → is_empty m n (stamps ++ at ∷ []) kind k ≡ is_empty m n stamps kind k
+is_empty-append : (m : Media) (n : ℕ) (stamps : List ℕ) (at : ℕ) (kind : Kind) (k : ℕ) → k < length stamps
+    → is_empty m n (stamps ++ at ∷ []) kind k ≡ is_empty m n stamps kind k
 is_empty-append m n stamps at kind k few =
     let first : slice_index (stamps ++ at ∷ []) 0 ≡ slice_index stamps 0 = get_or_append_left stamps (at ∷ []) 0 0 (omega (arith, few)) in
     let here : slice_index (stamps ++ at ∷ []) k ≡ slice_index stamps k = get_or_append_left stamps (at ∷ []) 0 k few in
@@ -83,17 +85,21 @@ early_from m n kind i count latest held late =
     pick (proof_by Bucket latest i count (c_max_of m n kind)) (proof_by Over 0 i held (vrx_full_of m n kind)) (proof_by Empty i i i (i + 1))
     (broken_by (nat_lt (c_max_of m n kind) count) (nat_lt (vrx_full_of m n kind) held) late)
 
-from-same : (m : Media) (n : ℕ) (kind : Kind) (i count more latest later held also : ℕ) (late too : Bool) → count ≡ more → latest ≡ later → held ≡ also → late ≡ too
+from-same : (m : Media) (n : ℕ) (kind : Kind) (i count more latest later held also : ℕ) (late too : Bool) → count ≡ more → latest ≡ later → held ≡ also
+    → late ≡ too
     → early_from m n kind i count latest held late ≡ early_from m n kind i more later also too
 from-same m n kind i count more latest later held also late too e f g h = cc
 
-early_at-append : (m : Media) (n : ℕ) (stamps : List ℕ) (at : ℕ) (kind : Kind) (i : ℕ) → i < length stamps → early_at m n (stamps ++ at ∷ []) kind i ≡ early_at m n stamps kind i
+early_at-append : (m : Media) (n : ℕ) (stamps : List ℕ) (at : ℕ) (kind : Kind) (i : ℕ) → i < length stamps
+    → early_at m n (stamps ++ at ∷ []) kind i ≡ early_at m n stamps kind i
 early_at-append m n stamps at kind i few =
     let new = stamps ++ at ∷ [] in
     pick-is m n new kind i (broken_at m n new kind i)
-    ∙ (from-same m n kind i (bucket_of m n new i) (bucket_of m n stamps i) (latest_start m n new i) (latest_start m n stamps i) (held_at m n new (gapped_of kind) i) (held_at m n stamps (gapped_of kind) i)
+    ∙ (from-same m n kind i (bucket_of m n new i) (bucket_of m n stamps i) (latest_start m n new i) (latest_start m n stamps i)
+    (held_at m n new (gapped_of kind) i) (held_at m n stamps (gapped_of kind) i)
     (is_empty m n new kind i) (is_empty m n stamps kind i)
-    (bucket_of-append m n stamps at i few) (latest-append m n stamps at i i (omega arith) few) (held_at-append m n stamps at (gapped_of kind) i few) (is_empty-append m n stamps at kind i few)
+    (bucket_of-append m n stamps at i few) (latest-append m n stamps at i i (omega arith) few) (held_at-append m n stamps at (gapped_of kind) i few)
+    (is_empty-append m n stamps at kind i few)
     ∙ sym (pick-is m n stamps kind i (broken_at m n stamps kind i)))
 
 early_below-append : (m : Media) (n : ℕ) (stamps : List ℕ) (at : ℕ) (kind : Kind) (count : ℕ) → count ≤ length stamps
@@ -116,7 +122,8 @@ verdict-more m n stamps at kind is some falls =
     let new = stamps ++ at ∷ [] in
     let long : length new ≡ suc (length stamps) = omega (arith, length-append stamps (at ∷ [])) in
     let before : early_below m n new kind (length stamps) ≡ kind_verdict m n stamps kind =
-    early_below-append m n stamps at kind (length stamps) (omega arith) ∙ early_below-is m n stamps kind (length stamps) is some (falls-before stamps at falls) (omega arith) in
+    early_below-append m n stamps at kind (length stamps) (omega arith) ∙ early_below-is m n stamps kind (length stamps) is some (falls-before stamps at falls)
+    (omega arith) in
     sym (early_below-is m n new kind (length new) is some falls (omega arith))
     ∙ (ap (early_below m n new kind) long ∙ ap (λ v. verdict_next v (early_at m n new kind (length stamps))) before)
 
@@ -136,7 +143,8 @@ latest-from m n stamps i begin (suc j) low few is latest =
       | inl before ↦
           let other : (load_of m n stamps (suc j) i == bucket_of m n stamps i) ≡ false =
           not_equal (load_of m n stamps (suc j) i) (bucket_of m n stamps i) (λ e. omega (arith, latest (suc j) few e, before)) in
-          ap (λ b. if b then suc j else latest_up_to m n stamps i j) other ∙ latest-from m n stamps i begin j (omega (arith, before)) (omega (arith, few)) is latest
+          ap (λ b. if b then suc j else latest_up_to m n stamps i j) other ∙ latest-from m n stamps i begin j (omega (arith, before))
+          (omega (arith, few)) is latest
       | inr here ↦
           let same : begin ≡ suc j = omega (arith, here, low) in
           let told : (load_of m n stamps (suc j) i == bucket_of m n stamps i) ≡ true =

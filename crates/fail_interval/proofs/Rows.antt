@@ -37,7 +37,8 @@ some-is n h = grind (arith, nat_tests)
 
 -- what is judged of no packets
 pub judged-none : (packets : List FlowPacket) (pt tai : ℕ) → length packets ≡ 0 → judged packets pt tai ≡ absent
-judged-none packets pt tai e = ap (λ b. if b then absent else refused_or packets (first_fault packets pt) (judged_runs packets tai)) (none-is (length packets) e)
+judged-none packets pt tai e =
+    ap (λ b. if b then absent else refused_or packets (first_fault packets pt) (judged_runs packets tai)) (none-is (length packets) e)
 
 -- of a flow without a fault
 judged-sound : (packets : List FlowPacket) (pt tai : ℕ) → 0 < length packets → first_fault packets pt ≡ None → judged packets pt tai ≡ judged_runs packets tai
@@ -64,8 +65,10 @@ pub no_fault : (flow : Flow) (packets : List FlowPacket) → StandsFor flow pack
 no_fault flow packets s = subst (λ (all : List FlowPacket). first_fault_below all flow.media.pt (length packets) ≡ None) (append-nil packets) (s.sound [])
 
 -- and these runs
-pub opens : (flow : Flow) (packets : List FlowPacket) → (s : StandsFor flow packets) → OpensAt flow.media flow.tai packets (length packets) s.so_far flow.done.items flow.open
-opens flow packets s = subst (λ (all : List FlowPacket). OpensAt flow.media flow.tai all (length packets) s.so_far flow.done.items flow.open) (append-nil packets) (s.runs [])
+pub opens : (flow : Flow) (packets : List FlowPacket) → (s : StandsFor flow packets)
+    → OpensAt flow.media flow.tai packets (length packets) s.so_far flow.done.items flow.open
+opens flow packets s =
+    subst (λ (all : List FlowPacket). OpensAt flow.media flow.tai all (length packets) s.so_far flow.done.items flow.open) (append-nil packets) (s.runs [])
 
 -- a flow that has no packet is absent
 pub verdict-absent : (flow : Flow) (packets : List FlowPacket) → flow.open ≡ None → StandsFor flow packets
@@ -88,7 +91,8 @@ abbrev pub Says : OpenRun → RunVerdict → Type 0
 Says open_run told = (m : Media) (so_far : SoFar) → RunStandsFor m open_run.judge so_far → told ≡ run_verdict_of m (outcome_of so_far)
 
 -- a flow of one run
-pub verdict-one : (flow : Flow) (packets : List FlowPacket) (open_run : OpenRun) (told : RunVerdict) (result : Verdict) → flow.open ≡ Some open_run → length flow.done.items ≡ 0
+pub verdict-one : (flow : Flow) (packets : List FlowPacket) (open_run : OpenRun) (told : RunVerdict) (result : Verdict) → flow.open ≡ Some open_run
+    → length flow.done.items ≡ 0
     → Says open_run told
     → ((m : Media) (outcome : RunOutcome) → told ≡ run_verdict_of m outcome → result ≡ one_run_verdict m outcome)
     → StandsFor flow packets
@@ -126,7 +130,8 @@ all-runs flow packets open_run told e says s =
     ap (λ (x : Run). flow.done.items ++ x ∷ []) (run-same _ _ _ _ _ _ _ _ o.rec o.number o.expected is) ∙ sym (o.runs n)
 
 -- a flow of several runs
-pub verdict-many : (flow : Flow) (packets : List FlowPacket) (open_run : OpenRun) (told : RunVerdict) (list : List Run) → flow.open ≡ Some open_run → 0 < length flow.done.items
+pub verdict-many : (flow : Flow) (packets : List FlowPacket) (open_run : OpenRun) (told : RunVerdict) (list : List Run) → flow.open ≡ Some open_run
+    → 0 < length flow.done.items
     → Says open_run told
     → list ≡ flow.done.items ++ run_by open_run.rec open_run.number open_run.expected told ∷ []
     → StandsFor flow packets
@@ -141,7 +146,8 @@ expects-map m [] e = tt
 expects-map m (run ∷ rest) e = (e.0, All-map (λ (later : Run). IsSome later.expected) (run_of m) rest e.1)
 
 -- they are as many as a flow may have
-are-runs : (flow : Flow) (packets : List FlowPacket) (open_run : OpenRun) (told : RunVerdict) (list : List Run) → flow.open ≡ Some open_run → 0 < length flow.done.items
+are-runs : (flow : Flow) (packets : List FlowPacket) (open_run : OpenRun) (told : RunVerdict) (list : List Run) → flow.open ≡ Some open_run
+    → 0 < length flow.done.items
     → Says open_run told
     → list ≡ flow.done.items ++ run_by open_run.rec open_run.number open_run.expected told ∷ []
     → StandsFor flow packets
@@ -150,7 +156,8 @@ are-runs flow packets open_run told list e some says is s =
     let n = length packets in
     let o = some-open flow packets open_run e s in
     let few = few_cuts packets flow.media.pt (no_fault flow packets s) n (omega arith) in
-    let long : length list ≡ length flow.done.items + 1 = ap length is ∙ length-append flow.done.items (run_by open_run.rec open_run.number open_run.expected told ∷ []) in
+    let long : length list ≡ length flow.done.items + 1 =
+    ap length is ∙ length-append flow.done.items (run_by open_run.rec open_run.number open_run.expected told ∷ []) in
     record {
       some = omega (arith, long, some);
       few = omega (arith, long, o.count, few.few);
@@ -172,7 +179,8 @@ are-runs-known flow open_run told list e some says is known =
     ∥∥₁_elim known (hlevel (props, expect-prop)) (λ (packets, s). are-runs flow packets open_run told list e some says is s)
 
 -- there is room for the open run
-pub room-known : (flow : Flow) → ∥ ((packets : List FlowPacket) × StandsFor flow packets) ∥₁ → 1 ≤ vec_len flow.done → vec_len flow.done < vec_capacity flow.done
+pub room-known : (flow : Flow) → ∥ ((packets : List FlowPacket) × StandsFor flow packets) ∥₁ → 1 ≤ vec_len flow.done
+    → vec_len flow.done < vec_capacity flow.done
 room-known flow known some = ∥∥₁_elim known (hlevel props) (λ (packets, s). s.room some)
 
 -- a list after a push that found room
@@ -196,8 +204,10 @@ pub refused-verdict : (m : Media) (tai : ℕ) (packets : List FlowPacket) (rec :
     → judged packets m.pt tai ≡ refusal rec fault
 refused-verdict m tai packets rec fault r =
     let first : first_fault packets m.pt ≡ Some (record { index = r.index; fault = fault }) =
-    subst (λ (all : List FlowPacket). first_fault_below all m.pt (length packets) ≡ Some (record { index = r.index; fault = fault })) (append-nil packets) (r.first []) in
+    subst (λ (all : List FlowPacket). first_fault_below all m.pt (length packets) ≡ Some (record { index = r.index; fault = fault })) (append-nil packets)
+    (r.first []) in
     let rec_is : (packet packets r.index).rec ≡ rec = subst (λ (all : List FlowPacket). (packet all r.index).rec ≡ rec) (append-nil packets) (r.rec_is []) in
-    ap (λ b. if b then absent else refused_or packets (first_fault packets m.pt) (judged_runs packets tai)) (some-is (length packets) (some-packets packets m.pt _ first))
+    ap (λ b. if b then absent else refused_or packets (first_fault packets m.pt) (judged_runs packets tai))
+    (some-is (length packets) (some-packets packets m.pt _ first))
     ∙ (ap (λ f. refused_or packets f (judged_runs packets tai)) first
     ∙ ap (λ k. refusal k fault) rec_is)

@@ -63,7 +63,8 @@ pub places-below : (test : ℕ → Bool) (from n : ℕ) → 1 ≤ length (places
     → (slice_index (places test from n) 0 ≤ last_place (places test from n)) × (last_place (places test from n) < n)
 places-below test from zero some = absurd (omega arith)
 places-below test from (suc n) some =
-    elim (leb_tells from n) as (λ _. (slice_index (places test from (suc n)) 0 ≤ last_place (places test from (suc n))) × (last_place (places test from (suc n)) < suc n)) [
+    elim (leb_tells from n) as (λ _. (slice_index (places test from (suc n)) 0 ≤ last_place (places test from (suc n)))
+    × (last_place (places test from (suc n)) < suc n)) [
       | inl l ↦ (rw add-one at (below-case test from n (test n) refl l.1 (places-below test from n))) some
       | inr l ↦ absurd (let none : length (places test from (suc n)) ≡ 0 = ap length (places-none test from (suc n) (omega (arith, l.1))) in omega arith)
     ]
@@ -116,7 +117,12 @@ marked-next packets tai from to (a ∷ []) order within begun =
     let more = stamps_from-next packets tai (a + 1) to (omega (arith, low)) within in
     let now = stamps_from packets tai (a + 1) to ++ stamp_of tai (packet packets to) ∷ [] in
     let size : to - a ≡ length now =
-    omega (arith, length-stamps_from packets tai (a + 1) to (omega (arith, within)), low, length-append (stamps_from packets tai (a + 1) to) (stamp_of tai (packet packets to) ∷ [])) in
+    omega (
+      arith,
+      length-stamps_from packets tai (a + 1) to (omega (arith, within)),
+      low,
+      length-append (stamps_from packets tai (a + 1) to) (stamp_of tai (packet packets to) ∷ []),
+    ) in
     groups_by-same (a + 1 - from) (to - a) (length now) _ 1 _ _ _ _ size refl more more
 marked-next packets tai from to (a ∷ b ∷ rest) order within begun =
     let low : a < to = begun (omega arith) in

@@ -36,7 +36,8 @@ use Rattle.fail_interval.proofs.Verdicts.{broken_by, none-broken, pass-before}
 abbrev proof_by : Broken → ℕ → ℕ → ℕ → ℕ → FailProof
 proof_by model from to count limit = record { model = model; from = from; to = to; count = count; limit = limit }
 
-proof-same : (model : Broken) (from also to : ℕ) (count more limit most : ℕ) → from ≡ also → count ≡ more → limit ≡ most → Some (proof_by model from to count limit) ≡ Some (proof_by model also to more most)
+proof-same : (model : Broken) (from also to : ℕ) (count more limit most : ℕ) → from ≡ also → count ≡ more → limit ≡ most
+    → Some (proof_by model from to count limit) ≡ Some (proof_by model also to more most)
 proof-same model from also to count more limit most e f g = cc
 
 over_test : (limit count : ℕ) → limit < count → nat_lt limit count ≡ true
@@ -46,7 +47,8 @@ within_test : (limit count : ℕ) → count ≤ limit → nat_lt limit count ≡
 within_test limit count h = grind (arith, nat_tests)
 
 -- the packet breaks the bucket's model
-pub full-is : (params : Params) (bucket : Bucket) (stamps : List ℕ) (kind : Kind) (i limit : ℕ) → IsAfter params bucket stamps i → limit ≡ c_max_of params.media params.n kind → limit < bucket.count
+pub full-is : (params : Params) (bucket : Bucket) (stamps : List ℕ) (kind : Kind) (i limit : ℕ) → IsAfter params bucket stamps i
+    → limit ≡ c_max_of params.media params.n kind → limit < bucket.count
     → Some (proof_by broken.Bucket bucket.begin i bucket.count limit) ≡ early_at params.media params.n stamps kind i
 full-is params bucket stamps kind i limit after e over =
     let m = params.media in
@@ -54,10 +56,12 @@ full-is params bucket stamps kind i limit after e over =
     let test : is_overfull m n stamps kind i ≡ true = over_test (c_max_of m n kind) (bucket_of m n stamps i) (omega (arith, e, over, after.count)) in
     let latest : latest_start m n stamps i ≡ bucket.begin =
     latest-is m n stamps i bucket.begin after.begins (after.begin_load ∙ after.count) (λ k low load. after.latest k low (load ∙ sym after.count)) in
-    proof-same broken.Bucket bucket.begin (latest_start m n stamps i) i bucket.count (bucket_of m n stamps i) limit (c_max_of m n kind) (sym latest) after.count e
+    proof-same broken.Bucket bucket.begin (latest_start m n stamps i) i bucket.count (bucket_of m n stamps i) limit (c_max_of m n kind)
+    (sym latest) after.count e
     ∙ sym (ap (λ b. early_by m n stamps kind i (broken_by b (is_over m n stamps kind i) (is_empty m n stamps kind i))) test)
 
-not_full : (params : Params) (bucket : Bucket) (stamps : List ℕ) (kind : Kind) (i limit : ℕ) → IsAfter params bucket stamps i → limit ≡ c_max_of params.media params.n kind → bucket.count ≤ limit
+not_full : (params : Params) (bucket : Bucket) (stamps : List ℕ) (kind : Kind) (i limit : ℕ) → IsAfter params bucket stamps i
+    → limit ≡ c_max_of params.media params.n kind → bucket.count ≤ limit
     → is_overfull params.media params.n stamps kind i ≡ false
 not_full params bucket stamps kind i limit after e within =
     within_test (c_max_of params.media params.n kind) (bucket_of params.media params.n stamps i) (omega (arith, e, within, after.count))
@@ -66,7 +70,8 @@ not_full params bucket stamps kind i limit after e within =
 abbrev fault_by : ℕ → ℕ → Bool → Bool → Option VrxFault
 fault_by i held over late = if over then Some (Over i held) else if late then Some (Empty i) else None
 
-over-case : (i held packet more : ℕ) (over late : Bool) → Some (Over packet more) ≡ fault_by i held over late → (broken_by false over late ≡ Some broken.Over) × (more ≡ held)
+over-case : (i held packet more : ℕ) (over late : Bool) → Some (Over packet more) ≡ fault_by i held over late
+    → (broken_by false over late ≡ Some broken.Over) × (more ≡ held)
 over-case i held packet more true late e = (refl, cc)
 over-case i held packet more false true e = cc
 over-case i held packet more false false e = cc
@@ -82,7 +87,8 @@ none-case i held false true e = cc
 none-case i held false false e = refl
 
 -- the packet breaks the buffer's model alone
-pub over-is : (params : Params) (bucket : Bucket) (stamps : List ℕ) (kind : Kind) (i limit packet held full : ℕ) → IsAfter params bucket stamps i → limit ≡ c_max_of params.media params.n kind → bucket.count ≤ limit
+pub over-is : (params : Params) (bucket : Bucket) (stamps : List ℕ) (kind : Kind) (i limit packet held full : ℕ) → IsAfter params bucket stamps i
+    → limit ≡ c_max_of params.media params.n kind → bucket.count ≤ limit
     → Some (Over packet held) ≡ fault_at params.media params.n stamps kind i → full ≡ vrx_full_of params.media params.n kind
     → Some (proof_by broken.Over 0 i held full) ≡ early_at params.media params.n stamps kind i
 over-is params bucket stamps kind i limit packet held full after e within fault f =
@@ -90,28 +96,33 @@ over-is params bucket stamps kind i limit packet held full after e within fault 
     let n = params.n in
     let told = over-case i (held_at m n stamps (gapped_of kind) i) packet held (is_over m n stamps kind i) (is_empty m n stamps kind i) fault in
     proof-same broken.Over 0 0 i held (held_at m n stamps (gapped_of kind) i) full (vrx_full_of m n kind) refl told.1 f
-    ∙ sym (ap (λ b. early_by m n stamps kind i (broken_by b (is_over m n stamps kind i) (is_empty m n stamps kind i))) (not_full params bucket stamps kind i limit after e within)
+    ∙ sym (ap (λ b. early_by m n stamps kind i (broken_by b (is_over m n stamps kind i) (is_empty m n stamps kind i)))
+    (not_full params bucket stamps kind i limit after e within)
     ∙ ap (early_by m n stamps kind i) told.0)
 
-pub empty-is : (params : Params) (bucket : Bucket) (stamps : List ℕ) (kind : Kind) (i limit packet : ℕ) → IsAfter params bucket stamps i → limit ≡ c_max_of params.media params.n kind → bucket.count ≤ limit
+pub empty-is : (params : Params) (bucket : Bucket) (stamps : List ℕ) (kind : Kind) (i limit packet : ℕ) → IsAfter params bucket stamps i
+    → limit ≡ c_max_of params.media params.n kind → bucket.count ≤ limit
     → Some (Empty packet) ≡ fault_at params.media params.n stamps kind i
     → Some (proof_by broken.Empty i i i (i + 1)) ≡ early_at params.media params.n stamps kind i
 empty-is params bucket stamps kind i limit packet after e within fault =
     let m = params.media in
     let n = params.n in
     let told = empty-case i (held_at m n stamps (gapped_of kind) i) packet (is_over m n stamps kind i) (is_empty m n stamps kind i) fault in
-    sym (ap (λ b. early_by m n stamps kind i (broken_by b (is_over m n stamps kind i) (is_empty m n stamps kind i))) (not_full params bucket stamps kind i limit after e within)
+    sym (ap (λ b. early_by m n stamps kind i (broken_by b (is_over m n stamps kind i) (is_empty m n stamps kind i)))
+    (not_full params bucket stamps kind i limit after e within)
     ∙ ap (early_by m n stamps kind i) told)
 
 -- the packet breaks no model
-pub none-is : (params : Params) (bucket : Bucket) (stamps : List ℕ) (kind : Kind) (i limit : ℕ) → IsAfter params bucket stamps i → limit ≡ c_max_of params.media params.n kind → bucket.count ≤ limit
+pub none-is : (params : Params) (bucket : Bucket) (stamps : List ℕ) (kind : Kind) (i limit : ℕ) → IsAfter params bucket stamps i
+    → limit ≡ c_max_of params.media params.n kind → bucket.count ≤ limit
     → None ≡ fault_at params.media params.n stamps kind i
     → None ≡ early_at params.media params.n stamps kind i
 none-is params bucket stamps kind i limit after e within fault =
     let m = params.media in
     let n = params.n in
     let told = none-case i (held_at m n stamps (gapped_of kind) i) (is_over m n stamps kind i) (is_empty m n stamps kind i) fault in
-    sym (ap (λ b. early_by m n stamps kind i (broken_by b (is_over m n stamps kind i) (is_empty m n stamps kind i))) (not_full params bucket stamps kind i limit after e within)
+    sym (ap (λ b. early_by m n stamps kind i (broken_by b (is_over m n stamps kind i) (is_empty m n stamps kind i)))
+    (not_full params bucket stamps kind i limit after e within)
     ∙ ap (early_by m n stamps kind i) told)
 
 -- what is found of the packet, by its number
@@ -119,20 +130,23 @@ pub found : (params : Params) (bucket : Bucket) (due : Due) (kind : Kind) (stamp
     → seen ≡ length stamps
     → ComesNext params bucket due kind stamps at
     → fault ≡ fault_at params.media params.n (stamps ++ at ∷ []) kind (length stamps)
-    → ((all : List ℕ) → IsAfter params bucket all seen → fault ≡ fault_at params.media params.n all kind seen → here ≡ early_at params.media params.n all kind seen)
+    → ((all : List ℕ) → IsAfter params bucket all seen → fault ≡ fault_at params.media params.n all kind seen
+    → here ≡ early_at params.media params.n all kind seen)
     → here ≡ early_at params.media params.n (stamps ++ at ∷ []) kind (length stamps)
 found params bucket due kind stamps at seen fault here e next is says =
     let all = stamps ++ at ∷ [] in
     let long : length all ≡ seen + 1 = omega (arith, length-append stamps (at ∷ []), e) in
     says all (next.bucket_is.fed seen long) (is ∙ ap (fault_at params.media params.n all kind) (sym e)) ∙ ap (early_at params.media params.n all kind) e
 
--- the same of a verdict
-pub found-verdict : (params : Params) (bucket : Bucket) (due : Due) (kind : Kind) (stamps : List ℕ) (at seen : ℕ) (fault : Option VrxFault) (before here : KindVerdict)
+-- the verdict where the last packet is the first that breaks a model
+pub found-verdict : (params : Params) (bucket : Bucket) (due : Due) (kind : Kind) (stamps : List ℕ) (at seen : ℕ) (fault : Option VrxFault)
+    (before here : KindVerdict)
     → before ≡ Pass
     → seen ≡ length stamps
     → ComesNext params bucket due kind stamps at
     → fault ≡ fault_at params.media params.n (stamps ++ at ∷ []) kind (length stamps)
-    → ((all : List ℕ) → IsAfter params bucket all seen → fault ≡ fault_at params.media params.n all kind seen → here ≡ verdict_next Pass (early_at params.media params.n all kind seen))
+    → ((all : List ℕ) → IsAfter params bucket all seen → fault ≡ fault_at params.media params.n all kind seen
+    → here ≡ verdict_next Pass (early_at params.media params.n all kind seen))
     → here ≡ verdict_next before (early_at params.media params.n (stamps ++ at ∷ []) kind (length stamps))
 found-verdict params bucket due kind stamps at seen fault before here pass e next is says =
     let all = stamps ++ at ∷ [] in
@@ -146,11 +160,13 @@ no-fault None e = refl
 no-fault (Some f) e = cc
 
 -- nothing is found
-pub next-none : (before : KindVerdict) (found_here here : Option FailProof) → before ≡ Pass → found_here ≡ None → found_here ≡ here → before ≡ verdict_next before here
+pub next-none : (before : KindVerdict) (found_here here : Option FailProof) → before ≡ Pass → found_here ≡ None → found_here ≡ here
+    → before ≡ verdict_next before here
 next-none before found_here here e f g = e ∙ (ap (verdict_next Pass) (sym f ∙ g) ∙ ap (λ v. verdict_next v here) (sym e))
 
 -- a packet that breaks no model leaves the verdict
-pub unbroken-verdict : (params : Params) (bucket : Bucket) (due : Due) (kind : Kind) (stamps : List ℕ) (at limit : ℕ) (fault : Option VrxFault) (before : KindVerdict)
+pub unbroken-verdict : (params : Params) (bucket : Bucket) (due : Due) (kind : Kind) (stamps : List ℕ) (at limit : ℕ) (fault : Option VrxFault)
+    (before : KindVerdict)
     → before ≡ Pass
     → ComesNext params bucket due kind stamps at
     → fault ≡ fault_at params.media params.n (stamps ++ at ∷ []) kind (length stamps)
@@ -164,7 +180,8 @@ unbroken-verdict params bucket due kind stamps at limit fault before pass next i
     (none-is params bucket all kind (length stamps) limit after e within (no-fault fault none ∙ is))
 
 -- the verdict after it
-pub next-some : (before : KindVerdict) (proof : FailProof) (found_here here : Option FailProof) → before ≡ Pass → found_here ≡ Some proof → found_here ≡ here → Fail proof ≡ verdict_next before here
+pub next-some : (before : KindVerdict) (proof : FailProof) (found_here here : Option FailProof) → before ≡ Pass → found_here ≡ Some proof → found_here ≡ here
+    → Fail proof ≡ verdict_next before here
 next-some before proof found_here here e f g = ap (verdict_next Pass) (sym f ∙ g) ∙ ap (λ v. verdict_next v here) (sym e)
 
 pub next-kept : (before : KindVerdict) (here : Option FailProof) → (before ≡ Pass → ⊥) → before ≡ verdict_next before here
@@ -194,7 +211,8 @@ kind-more params meter vrx verdict bucket due stamps at s next kind stands is = 
 }
 
 -- as long as the verdict is Pass, no packet breaks the buffer's model
-pub pass-nowhere : (params : Params) (meter : KindMeter) (stamps : List ℕ) → StandsFor params meter stamps → meter.verdict ≡ Pass → BreaksNowhere params.media params.n stamps meter.vrx.kind
+pub pass-nowhere : (params : Params) (meter : KindMeter) (stamps : List ℕ) → StandsFor params meter stamps → meter.verdict ≡ Pass
+    → BreaksNowhere params.media params.n stamps meter.vrx.kind
 pass-nowhere params meter stamps s pass i few =
     let m = params.media in
     let n = params.n in
@@ -232,7 +250,8 @@ filled-verdict params bucket due kind stamps at seen before here e next none say
     ∙ ap (λ i. verdict_next before (early_at params.media params.n all kind i)) e
 
 -- after a verdict of Pass
-pub next-pass : (before found_here : KindVerdict) (here : Option FailProof) → before ≡ Pass → found_here ≡ verdict_next Pass here → found_here ≡ verdict_next before here
+pub next-pass : (before found_here : KindVerdict) (here : Option FailProof) → before ≡ Pass → found_here ≡ verdict_next Pass here
+    → found_here ≡ verdict_next before here
 next-pass before found_here here e is = is ∙ ap (λ v. verdict_next v here) (sym e)
 
 -- the meter stands for one packet more, where its parts are known by equations
@@ -266,7 +285,8 @@ passed-verdict : (params : Params) (bucket : Bucket) (due : Due) (kind : Kind) (
     → (before ≡ Pass → bucket.count ≤ limit)
     → (before ≡ Pass → fault_at params.media params.n (stamps ++ at ∷ []) kind (length stamps) ≡ None)
     → before ≡ verdict_next before (early_at params.media params.n (stamps ++ at ∷ []) kind (length stamps))
-passed-verdict params bucket due kind stamps at limit Pass next e within none = quiet-verdict params bucket due kind stamps at limit Pass next e (within refl) none
+passed-verdict params bucket due kind stamps at limit Pass next e within none =
+    quiet-verdict params bucket due kind stamps at limit Pass next e (within refl) none
 passed-verdict params bucket due kind stamps at limit (Fail proof) next e within none = refl
 
 -- a packet that passes by
@@ -281,4 +301,5 @@ passes-by params meter vrx bucket stamps at s passes kind stands none =
     let due = due-some-at params meter.vrx.kind stamps at in
     let next : ComesNext params bucket due.0 meter.vrx.kind stamps at = record { ordered = passes.ordered; bucket_is = passes.bucket_is; due_is = due.1 } in
     kind-more params meter vrx meter.verdict bucket due.0 stamps at s next kind stands
-    (passed-verdict params bucket due.0 meter.vrx.kind stamps at meter.c_max meter.verdict next s.c_max passes.within (λ pass. none (pass-nowhere params meter stamps s pass)))
+    (passed-verdict params bucket due.0 meter.vrx.kind stamps at meter.c_max meter.verdict next s.c_max passes.within
+    (λ pass. none (pass-nowhere params meter stamps s pass)))

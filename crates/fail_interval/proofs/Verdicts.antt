@@ -76,22 +76,26 @@ arrived-first m n stamps kind i is some falls within before late =
       within = omega (arith, within);
       came = λ j low.
           let there : j + (i - j) ≡ i = omega (arith, low) in
-          at_most-at_most (whole (slice_index stamps j)) (read_of m n anchor g j) (read_of m n anchor g i) (read_of-den m n anchor g j is some) (by_read m n stamps kind j (before j low))
+          at_most-at_most (whole (slice_index stamps j)) (read_of m n anchor g j) (read_of m n anchor g i) (read_of-den m n anchor g j is some)
+          (by_read m n stamps kind j (before j low))
           (subst (λ k. AtMost (read_of m n anchor g j) (read_of m n anchor g k)) there (read-order m n stamps g j (i - j) is some));
       ahead = λ j from size.
           let rise = falls i j from size in
           let later : AtMost (whole (slice_index stamps i)) (whole (slice_index stamps j)) = omega (arith, ints, rise) in
-          below-at_most (read_of m n anchor g i) (whole (slice_index stamps i)) (whole (slice_index stamps j)) (omega arith) (after_read m n stamps kind i late) later;
+          below-at_most (read_of m n anchor g i) (whole (slice_index stamps i)) (whole (slice_index stamps j)) (omega arith)
+          (after_read m n stamps kind i late) later;
     }
 
 -- the verdict stays Pass only where no packet breaks a model
-pass-none : (m : Media) (n : ℕ) (stamps : List ℕ) (kind : Kind) (here : Option Broken) (before : KindVerdict) (i : ℕ) → verdict_next before (proof_if m n stamps kind i here) ≡ Pass → (before ≡ Pass) × (here ≡ None)
+pass-none : (m : Media) (n : ℕ) (stamps : List ℕ) (kind : Kind) (here : Option Broken) (before : KindVerdict) (i : ℕ)
+    → verdict_next before (proof_if m n stamps kind i here) ≡ Pass → (before ≡ Pass) × (here ≡ None)
 pass-none m n stamps kind None Pass i e = (refl, refl)
 pass-none m n stamps kind None (Fail proof) i e = cc
 pass-none m n stamps kind (Some b) Pass i e = cc
 pass-none m n stamps kind (Some b) (Fail proof) i e = cc
 
-pub pass-before : (m : Media) (n : ℕ) (stamps : List ℕ) (kind : Kind) (count j : ℕ) → verdict_below m n stamps kind count ≡ Pass → j < count → broken_at m n stamps kind j ≡ None
+pub pass-before : (m : Media) (n : ℕ) (stamps : List ℕ) (kind : Kind) (count j : ℕ) → verdict_below m n stamps kind count ≡ Pass → j < count
+    → broken_at m n stamps kind j ≡ None
 pass-before m n stamps kind zero j e low = absurd (omega (arith, low))
 pass-before m n stamps kind (suc i) j e low =
     let both = pass-none m n stamps kind (broken_at m n stamps kind i) (verdict_below m n stamps kind i) i e in

@@ -9,7 +9,7 @@ use Rattle.fail_interval.specs.Groups.{CanGoOn, IsWhole}
 use Rattle.fail_interval.specs.Meters.{CanFollow, StandsFor}
 use Rattle.fail_interval.specs.Row.{judged_values}
 use Rattle.fail_interval.specs.SoFar.{Groups, groups_first, groups_next}
-use Rattle.fail_interval.specs.declared.meters.Meters.{Meters}
+use Rattle.fail_interval.specs.declared.meters.RunMeters.{RunMeters}
 use Rattle.fail_interval.specs.declared.run.WholeGroups.{WholeGroups}
 use Rattle.fail_interval.proofs.Fit.{before-few}
 
@@ -23,7 +23,8 @@ pub record HasRoom (judge : WholeGroups) : Type 0 where
   pub tail : judge.tail < 2 ^ 41
   pub groups : judge.groups ≤ 2 ^ 41
 
-groups-case : (groups : ℕ) (marker : Bool) → (groups_next (record { head = 0; n = 0; groups = groups; whole = []; stamps = [] }) 0 marker).groups ≤ 2 ^ 41 → groups ≤ 2 ^ 41
+groups-case : (groups : ℕ) (marker : Bool) → (groups_next (record { head = 0; n = 0; groups = groups; whole = []; stamps = [] }) 0 marker).groups ≤ 2 ^ 41
+    → groups ≤ 2 ^ 41
 groups-case groups true h = omega (arith, h)
 groups-case groups false h = h
 
@@ -37,7 +38,7 @@ pub room-known : (judge : WholeGroups) (at : ℕ) (marker : Bool) → ∥ ((m : 
 room-known judge at marker known = ∥∥₁_elim known (hlevel props) (λ (m, so_far, c). has_room m judge so_far at marker c)
 
 -- a packet that has no marker is of the tail for now
-pub plain_more : (m : Media) (judge : WholeGroups) (so_far : Groups) (at : ℕ) (marker : Bool) (meters : Meters)
+pub plain_more : (m : Media) (judge : WholeGroups) (so_far : Groups) (at : ℕ) (marker : Bool) (meters : RunMeters)
     → ((stamps : List ℕ) → CanFollow judge.params judge.meters stamps at → StandsFor judge.params meters (stamps ++ at ∷ []))
     → marker ≡ false
     → CanGoOn m judge so_far at marker
@@ -64,7 +65,7 @@ judged-same : (m k : Media) (n more_n groups more_groups head more_head : ℕ) (
 judged-same m k n more_n groups more_groups head more_head stamps e f g h = cc
 
 -- a packet with the marker ends a group, and the verdict is on all packets so far
-pub marked_more : (m : Media) (judge : WholeGroups) (so_far : Groups) (at : ℕ) (marker : Bool) (meters : Meters) (judged : Judged)
+pub marked_more : (m : Media) (judge : WholeGroups) (so_far : Groups) (at : ℕ) (marker : Bool) (meters : RunMeters) (judged : Judged)
     → ((stamps : List ℕ) → CanFollow judge.params judge.meters stamps at → StandsFor judge.params meters (stamps ++ at ∷ []))
     → ((stamps : List ℕ) → StandsFor judge.params meters stamps → judged
     ≡ judged_values judge.params.media (record { n = judge.params.n; groups = judge.groups + 1; head = judge.head; tail = 0; stamps = stamps }))
@@ -89,12 +90,13 @@ marked_more m judge so_far at true meters judged fed says e c =
     }
 
 -- the first group is whole
-pub first-whole : (m : Media) (params : Params) (meters : Meters) (judged : Judged) (head : ℕ) (stamps : List ℕ)
+pub first-whole : (m : Media) (params : Params) (meters : RunMeters) (judged : Judged) (head : ℕ) (stamps : List ℕ)
     → params.media ≡ m
     → params.n ≡ length stamps
     → 1 ≤ length stamps
     → StandsFor params meters stamps
-    → ((stamps : List ℕ) → StandsFor params meters stamps → judged ≡ judged_values params.media (record { n = params.n; groups = 1; head = head; tail = 0; stamps = stamps }))
+    → ((stamps : List ℕ) → StandsFor params meters stamps → judged ≡ judged_values params.media
+    (record { n = params.n; groups = 1; head = head; tail = 0; stamps = stamps }))
     → IsWhole m (record { params = params; head = head; groups = 1; meters = meters; judged = judged; tail = 0 }) (groups_first head stamps)
 first-whole m params meters judged head stamps media n some stands says = record {
   media = media;
@@ -109,14 +111,15 @@ first-whole m params meters judged head stamps media n some stands says = record
 }
 
 -- a run with a whole group by its parts
-abbrev whole_by : Params → ℕ → ℕ → Meters → Judged → ℕ → WholeGroups
+abbrev whole_by : Params → ℕ → ℕ → RunMeters → Judged → ℕ → WholeGroups
 whole_by params head groups meters judged tail = record { params = params; head = head; groups = groups; meters = meters; judged = judged; tail = tail }
 
-whole-same : (a b : Params) (c d e f : ℕ) (g h : Meters) (judged : Judged) (k l : ℕ) → a ≡ b → c ≡ d → e ≡ f → g ≡ h → k ≡ l → whole_by a c e g judged k ≡ whole_by b d f h judged l
+whole-same : (a b : Params) (c d e f : ℕ) (g h : RunMeters) (judged : Judged) (k l : ℕ) → a ≡ b → c ≡ d → e ≡ f → g ≡ h → k ≡ l
+    → whole_by a c e g judged k ≡ whole_by b d f h judged l
 whole-same a b c d e f g h judged k l p q r s t = cc
 
--- the same of a run that is known by equations
-pub marked_as : (m : Media) (judge new : WholeGroups) (so_far : Groups) (at : ℕ) (marker : Bool) (meters : Meters)
+-- the marker ends a group, of a run whose parts are known by equations
+pub marked_as : (m : Media) (judge new : WholeGroups) (so_far : Groups) (at : ℕ) (marker : Bool) (meters : RunMeters)
     → new.params ≡ judge.params → new.head ≡ judge.head → new.groups ≡ judge.groups + 1 → new.meters ≡ meters → new.tail ≡ 0
     → ((stamps : List ℕ) → CanFollow judge.params judge.meters stamps at → StandsFor judge.params meters (stamps ++ at ∷ []))
     → ((stamps : List ℕ) → StandsFor judge.params meters stamps → new.judged
@@ -126,5 +129,6 @@ pub marked_as : (m : Media) (judge new : WholeGroups) (so_far : Groups) (at : �
     → IsWhole m new (groups_next so_far at marker)
 marked_as m judge new so_far at marker meters params head groups same tail fed says e c =
     subst (λ (w : WholeGroups). IsWhole m w (groups_next so_far at marker))
-    (sym (whole-same new.params judge.params new.head judge.head new.groups (judge.groups + 1) new.meters meters new.judged new.tail 0 params head groups same tail))
+    (sym (whole-same new.params judge.params new.head judge.head new.groups (judge.groups + 1) new.meters meters new.judged new.tail 0 params head groups same
+    tail))
     (marked_more m judge so_far at marker meters new.judged fed says e c)

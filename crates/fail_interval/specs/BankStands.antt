@@ -21,7 +21,8 @@ abbrev pub AreJudgesOf : (tai file number : ℕ) → List Media → List MediaJu
 AreJudgesOf tai file number [] [] items = ⊤
 AreJudgesOf tai file number [] (j ∷ js) items = ⊥
 AreJudgesOf tai file number (m ∷ ms) [] items = ⊥
-AreJudgesOf tai file number (m ∷ ms) (j ∷ js) items = IsJudgeOf m file number tai j items × AreJudgesOf tai file (number + 1) ms js items
+AreJudgesOf tai file number (m ∷ ms) (j ∷ js) items =
+    IsJudgeOf m file number tai j items × AreJudgesOf tai file (number + 1) ms js items
 
 -- the bank was fed these records of one file and no others
 abbrev pub StandsFor : List Media → (file tai : ℕ) → Bank → List Record → Type 0
@@ -38,7 +39,8 @@ feeds_none bank media file tai items h = subst (StandsFor media file tai bank) (
 
 pub feeds_more : (old mid new : Bank) (a b : List Record) → Feeds old mid a → Feeds mid new b → Feeds old new (a ++ b)
 feeds_more old mid new a b first second media file tai items h =
-    subst (StandsFor media file tai new) (append_assoc items a b) (second media file tai (items ++ a) (first media file tai items h))
+    subst (StandsFor media file tai new) (append_assoc items a b)
+    (second media file tai (items ++ a) (first media file tai items h))
 
 -- the records that were taken
 abbrev pub records : Bank → ℕ

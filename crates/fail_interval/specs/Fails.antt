@@ -1,6 +1,6 @@
--- The fail of a sender type: the first judged packet that breaks a model (SMPTE ST 2110-21), and the interval that shows
--- it. m is the video, n the packets of one group, and the stamps are those of the judged packets, in nanoseconds of TAI,
--- counted from 0. Which packet is named, and which model where both are broken, is this project's profile.
+-- The fail of a sender type: the first judged packet that breaks a model (SMPTE ST 2110-21), and the interval that
+-- shows it. m is the video, n the packets of one group, and the stamps are those of the judged packets, in nanoseconds
+-- of TAI, counted from 0. Which packet is named, and which model where both are broken, is this project's profile.
 use Rattle.std.specs.Prelude.{ℕ, zero, suc, ◌+◌, ◌==◌, nat_lt, max, Bool, if◌then◌else◌, List, length, Option, Some}
 use Rattle.std.specs.Prelude.{None}
 use Rattle.timing_base.specs.Media.{Media}

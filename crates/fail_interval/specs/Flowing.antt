@@ -17,7 +17,8 @@ use Rattle.fail_interval.specs.declared.flow.Flow.{Flow}
 use Rattle.fail_interval.specs.declared.flow.OpenRun.{OpenRun}
 
 -- the packets before packet i, with cuts at these places, are those of the runs that are over, and of the open one
-pub record IsOpen (m : Media) (tai : ℕ) (packets : List FlowPacket) (i : ℕ) (places : List ℕ) (so_far : SoFar) (done : List Run) (open_run : OpenRun) : Type 0 where
+pub record IsOpen (m : Media) (tai : ℕ) (packets : List FlowPacket) (i : ℕ) (places : List ℕ) (so_far : SoFar)
+    (done : List Run) (open_run : OpenRun) : Type 0 where
   pub some : 0 < i
   pub rec : open_run.rec ≡ (packet packets (last_place (0 ∷ places))).rec
   pub number : open_run.number ≡ (rtp packets (last_place (0 ∷ places))).number
@@ -54,7 +55,8 @@ pub record StandsFor (flow : Flow) (packets : List FlowPacket) : Type 0 where
   pub grouper : GrouperStandsFor flow.media.pt flow.grouper packets
   pub sound : (rest : List FlowPacket) → first_fault_below (packets ++ rest) flow.media.pt (length packets) ≡ None
   pub so_far : SoFar
-  pub runs : (rest : List FlowPacket) → OpensAt flow.media flow.tai (packets ++ rest) (length packets) so_far flow.done.items flow.open
+  pub runs : (rest : List FlowPacket) → OpensAt flow.media flow.tai (packets ++ rest)
+      (length packets) so_far flow.done.items flow.open
   pub room : HasRoom flow
 
 -- packet i came so

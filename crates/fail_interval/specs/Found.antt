@@ -6,7 +6,8 @@ use Rattle.timing_base.specs.declared.row.Row.{Row}
 use Rattle.pcap_reader.specs.Records.{AreRecords}
 
 -- the captures of these texts end so, and have these rows, which go by their records
-pub record AreFound (texts : List (List ℕ)) (rows_by : List (List Record) → List Row) (notes : List FileNote) (rows : List Row) : Type 0 where
+pub record AreFound (texts : List (List ℕ)) (rows_by : List (List Record) → List Row) (notes : List FileNote)
+    (rows : List Row) : Type 0 where
   pub files : List (List Record)
   pub records : AreRecords texts files notes
   pub rows_are : rows ≡ rows_by files

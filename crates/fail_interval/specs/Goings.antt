@@ -20,5 +20,6 @@ pub record GoesOn (old new : State) (at : ℕ) (rtp : Rtp) : Type 0 where
 -- a packet with this fault came: the flow's first is kept with its record
 pub record Refuses {T E : Type 0} (old new : State) (rec : ℕ) (fault : PacketFault) (result : Result T E) : Type 0 where
   pub going : (flow : Flow) → old ≡ Going flow → IsOk result × (new ≡ Refused rec fault)
-  pub refused : (first : ℕ) (earlier : PacketFault) → old ≡ Refused first earlier → IsOk result × (new ≡ Refused first earlier)
+  pub refused : (first : ℕ) (earlier : PacketFault) → old ≡ Refused first earlier
+      → IsOk result × (new ≡ Refused first earlier)
   pub spent : old ≡ Spent → IsErr result × (new ≡ Spent)

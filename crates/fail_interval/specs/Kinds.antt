@@ -22,10 +22,12 @@ pub record StandsFor (params : Params) (meter : KindMeter) (stamps : List ℕ) :
   pub c_max : meter.c_max ≡ c_max_of params.media params.n meter.vrx.kind
 
 -- the next packet comes at this instant, with this bucket after it and so much due by the schedule of this type
-pub record ComesNext (params : Params) (bucket : Bucket) (due : Due) (kind : Kind) (stamps : List ℕ) (at : ℕ) : Type 0 where
+pub record ComesNext (params : Params) (bucket : Bucket) (due : Due) (kind : Kind) (stamps : List ℕ)
+    (at : ℕ) : Type 0 where
   pub ordered : NeverFall (stamps ++ at ∷ [])
   pub bucket_is : BucketStandsFor params bucket (stamps ++ at ∷ [])
-  pub due_is : IsDueAt params.media params.n (anchor_of params.media (slice_index (stamps ++ at ∷ []) 0)) (gapped_of kind) at due
+  pub due_is : IsDueAt params.media params.n (anchor_of params.media (slice_index (stamps ++ at ∷ []) 0))
+      (gapped_of kind) at due
 
 -- the next packet comes at this instant, with this bucket after it, and changes neither peak nor verdict
 pub record PassesBy (params : Params) (bucket : Bucket) (meter : KindMeter) (stamps : List ℕ) (at : ℕ) : Type 0 where

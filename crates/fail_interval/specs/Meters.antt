@@ -1,4 +1,4 @@
--- What `Meters` say of the judged packets of a run.
+-- What `RunMeters` say of the judged packets of a run.
 use Rattle.std.specs.Prelude.{◌≡◌, ◌≤◌, ◌<◌, ◌^◌, ℕ, ◌-◌, true, false, List, [], ◌∷◌, ◌++◌, length, slice_index}
 use Rattle.drain_bucket.specs.Stands.{StandsFor as BucketStandsFor}
 use Rattle.drain_bucket.specs.declared.bucket.Bucket.{Bucket}
@@ -10,18 +10,20 @@ use Rattle.fail_interval.specs.Kinds.{StandsFor as KindStandsFor}
 use Rattle.fail_interval.specs.Lulls.{IsLull}
 use Rattle.fail_interval.specs.SoFar.{AreStamps}
 use Rattle.fail_interval.specs.declared.kind.KindMeter.{KindMeter}
-use Rattle.fail_interval.specs.declared.meters.Meters.{Meters}
+use Rattle.fail_interval.specs.declared.meters.RunMeters.{RunMeters}
 
 -- the last stamp, or 0
 abbrev pub last_stamp : List ℕ → ℕ
 last_stamp stamps = slice_index stamps (length stamps - 1)
 
 -- the meters were fed packets with these stamps and no others, whatever lull there is
-pub record AreFed (params : Params) (meters : Meters) (stamps : List ℕ) : Type 0 where
+pub record AreFed (params : Params) (meters : RunMeters) (stamps : List ℕ) : Type 0 where
   pub first : 1 ≤ length stamps → slice_index stamps 0 ≡ meters.bucket.origin
   pub bucket : BucketStandsFor params meters.bucket stamps
-  pub gapped : StandsBy params.media params.n (anchor_of params.media meters.bucket.origin) true meters.gapped (last_stamp stamps)
-  pub linear : StandsBy params.media params.n (anchor_of params.media meters.bucket.origin) false meters.linear (last_stamp stamps)
+  pub gapped : StandsBy params.media params.n (anchor_of params.media meters.bucket.origin) true meters.gapped
+      (last_stamp stamps)
+  pub linear : StandsBy params.media params.n (anchor_of params.media meters.bucket.origin) false meters.linear
+      (last_stamp stamps)
   pub narrow_kind : meters.narrow.vrx.kind ≡ N
   pub narrow : KindStandsFor params meters.narrow stamps
   pub narrow_linear_kind : meters.narrow_linear.vrx.kind ≡ NL
@@ -30,7 +32,7 @@ pub record AreFed (params : Params) (meters : Meters) (stamps : List ℕ) : Type
   pub wide : KindStandsFor params meters.wide stamps
 
 -- the meters were fed packets with these stamps and no others
-pub record StandsFor (params : Params) (meters : Meters) (stamps : List ℕ) : Type 0 where
+pub record StandsFor (params : Params) (meters : RunMeters) (stamps : List ℕ) : Type 0 where
   pub fed : AreFed params meters stamps
   pub lull : IsLull params meters.bucket.origin meters.narrow meters.narrow_linear meters.wide meters.lull
 
@@ -42,13 +44,13 @@ pub record AreWithin (narrow narrow_linear wide : KindMeter) (at : ℕ) : Type 0
   pub wide_few : wide.vrx.seen < 2 ^ 41
 
 -- a packet at this instant may be the next one
-pub record CanFollow (params : Params) (meters : Meters) (stamps : List ℕ) (at : ℕ) : Type 0 where
+pub record CanFollow (params : Params) (meters : RunMeters) (stamps : List ℕ) (at : ℕ) : Type 0 where
   pub stands : StandsFor params meters stamps
   pub first : length stamps ≡ 0 → at ≡ meters.bucket.origin
   pub fit : AreStamps (stamps ++ at ∷ [])
 
--- the same meters with another bucket
-abbrev pub with_bucket : Meters → Bucket → Meters
+-- these meters with another bucket
+abbrev pub with_bucket : RunMeters → Bucket → RunMeters
 with_bucket meters bucket = record {
   bucket = bucket;
   gapped = meters.gapped;
@@ -60,7 +62,7 @@ with_bucket meters bucket = record {
 }
 
 -- the packet at this instant went into the bucket, and now goes into all meters
-abbrev pub TakesNext : Params → (old new : Meters) → (at : ℕ) → Type 0
+abbrev pub TakesNext : Params → (old new : RunMeters) → (at : ℕ) → Type 0
 TakesNext params old new at = (before : Bucket) (stamps : List ℕ) → CanFollow params (with_bucket old before) stamps at
     → old.bucket.origin ≡ before.origin
     → BucketStandsFor params old.bucket (stamps ++ at ∷ [])

@@ -29,7 +29,8 @@ judged_values m run = record {
   bucket_peak = greatest (bucket_of m run.n run.stamps) (length run.stamps);
   gapped_peak = greatest (held_at m run.n run.stamps true) (length run.stamps);
   linear_peak = greatest (held_at m run.n run.stamps false) (length run.stamps);
-  kinds = kind_verdict m run.n run.stamps N ∷ kind_verdict m run.n run.stamps NL ∷ kind_verdict m run.n run.stamps W ∷ [];
+  kinds = kind_verdict m run.n run.stamps N ∷ kind_verdict m run.n run.stamps NL ∷ kind_verdict m run.n run.stamps W
+      ∷ [];
 }
 
 -- the verdict on a run between gaps

@@ -10,7 +10,8 @@ use Rattle.fail_interval.specs.Row.{row}
 -- the rows of these media, the first of them with this number, over the records of one file
 abbrev pub rows_from : (tai file number : ℕ) → List Media → List Record → List Row
 rows_from tai file number [] items = []
-rows_from tai file number (m ∷ ms) items = row (flow items m) (key_of file number) m tai ∷ rows_from tai file (number + 1) ms items
+rows_from tai file number (m ∷ ms) items =
+    row (flow items m) (key_of file number) m tai ∷ rows_from tai file (number + 1) ms items
 
 -- the rows of all media over the records of one file
 abbrev pub rows_of : (tai file : ℕ) → List Media → List Record → List Row
@@ -19,8 +20,10 @@ rows_of tai file media items = rows_from tai file 0 media items
 -- the rows of files, the first of them with this number, by rising file and then media
 abbrev pub rows_of_files : (tai first : ℕ) → List Media → List (List Record) → List Row
 rows_of_files tai first media [] = []
-rows_of_files tai first media (items ∷ files) = rows_of tai first media items ++ rows_of_files tai (first + 1) media files
+rows_of_files tai first media (items ∷ files) =
+    rows_of tai first media items ++ rows_of_files tai (first + 1) media files
 
 -- the rows over files: of each for itself, or where they are joined, of all as one
 abbrev pub rows_over : (joined : Bool) → (tai : ℕ) → List Media → List (List Record) → List Row
-rows_over joined tai media files = if joined then rows_of tai 0 media (joined_records files) else rows_of_files tai 0 media files
+rows_over joined tai media files =
+    if joined then rows_of tai 0 media (joined_records files) else rows_of_files tai 0 media files

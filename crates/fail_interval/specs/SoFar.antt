@@ -1,5 +1,5 @@
--- What a run has come to, packet by packet: its head, the stamps of its first group, and then those of its whole groups.
--- Stamps are nanoseconds of TAI.
+-- What a run has come to, packet by packet: its head, the stamps of its first group, and then those of its whole
+-- groups. Stamps are nanoseconds of TAI.
 use Rattle.std.specs.Prelude.{◌≤◌, ◌<◌, ℕ, ◌+◌, ◌-◌, ◌^◌, Bool, true, false, if◌then◌else◌, List, [], ◌∷◌, ◌++◌, length}
 use Rattle.std.specs.Prelude.{map, slice_range, All}
 use Rattle.timing_base.specs.Flows.{last_place, markers}
@@ -17,7 +17,7 @@ pub record Groups : Type 0 where
   pub groups : ℕ
   -- the stamps of their packets
   pub whole : List ℕ
-  -- the same with the packets after the last marker
+  -- the stamps of all packets after the first marker
   pub stamps : List ℕ
 
 -- a run before its first marker, in its first group, or after that

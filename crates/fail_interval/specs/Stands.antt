@@ -18,7 +18,8 @@ IsSpent judge = judge.state ≡ Spent
 
 -- the judge of the flow with this key, of packets of this media, with so many seconds added to their stamps, was fed
 -- these packets and no others, as far as later calls can tell
-pub record StandsFor (m : Media) (key : FlowKey) (tai : ℕ) (judge : FlowJudge) (packets : List FlowPacket) : Type 0 where
+pub record StandsFor (m : Media) (key : FlowKey) (tai : ℕ) (judge : FlowJudge)
+    (packets : List FlowPacket) : Type 0 where
   pub key_is : judge.key ≡ key
   pub fed : count_fed judge ≡ length packets
   pub stamped : AreStamped packets

@@ -21,7 +21,8 @@ TakesUpTo r (suc i) (o ∷ os) [] = ⊥
 TakesUpTo r (suc i) (o ∷ os) (n ∷ ns) = TakesRecord r o n × TakesUpTo r i os ns
 
 -- with the rows of the judges that are left, these are the rows of all media behind those that were there before
-pub record HasRows (tai file : ℕ) (media : List Media) (items : List Record) (before rows : List Row) (left : List MediaJudge) : Type 0 where
+pub record HasRows (tai file : ℕ) (media : List Media) (items : List Record) (before rows : List Row)
+    (left : List MediaJudge) : Type 0 where
   pub number : ℕ
   pub rest : List Media
   pub stands : AreJudgesOf tai file number rest left items

@@ -1,5 +1,5 @@
--- Small flows on which the row is worked by hand: two packets in each group, and the first packet alone in the head. At 50
--- frames per second with two packets per frame, T_DRAIN is 9,090,909 1/11 ns, gapped T_RS 9,600,000 ns, linear T_RS
+-- Small flows on which the row is worked by hand: two packets in each group, and the first packet alone in the head. At
+-- 50 frames per second with two packets per frame, T_DRAIN is 9,090,909 1/11 ns, gapped T_RS 9,600,000 ns, linear T_RS
 -- 10,000,000 ns and TR_OFFSET 764,444 4/9 ns. Of interlaced video at 25 with two packets per field, TR_OFFSET is
 -- 782,222 2/9 ns, and the other times are those.
 use Rattle.std.specs.Prelude.{ℕ, true, false, List, [], ◌∷◌, Option, Some, None}
@@ -29,7 +29,7 @@ abbrev pub four : ℕ → ℕ → ℕ → ℕ → List FlowPacket
 four a b c d =
     sent 11 0 6 0 true ∷ sent 12 a 7 1 false ∷ sent 13 b 8 1 true ∷ sent 14 c 9 2 false ∷ sent 15 d 10 2 true ∷ []
 
--- the same with one packet more, which no marker ends
+-- four packets in two groups, and one packet more, which no marker ends
 abbrev pub four_and_tail : ℕ → ℕ → ℕ → ℕ → ℕ → List FlowPacket
 four_and_tail a b c d e =
     sent 11 0 6 0 true ∷ sent 12 a 7 1 false ∷ sent 13 b 8 1 true ∷ sent 14 c 9 2 false ∷ sent 15 d 10 2 true
@@ -74,7 +74,9 @@ abbrev pub runs_row : Run → Run → Row
 runs_row first second = record { key = a_key; verdict = verdict.Runs (first ∷ second ∷ []) }
 
 abbrev pub judged_run : (rec number : ℕ) → Option ℕ → Judged → Run
-judged_run rec number expected judged = record { rec = rec; number = number; expected = expected; verdict = run_verdict.Judged judged }
+judged_run rec number expected judged =
+    record { rec = rec; number = number; expected = expected; verdict = run_verdict.Judged judged }
 
 abbrev pub headed_run : (rec number : ℕ) → Option ℕ → (head : ℕ) → Run
-headed_run rec number expected head = record { rec = rec; number = number; expected = expected; verdict = run_verdict.NoWholeFrame head }
+headed_run rec number expected head =
+    record { rec = rec; number = number; expected = expected; verdict = run_verdict.NoWholeFrame head }

@@ -101,7 +101,7 @@ impl KindMeter {
         }
     }
 
-    /// The same as long as the verdict is Pass.
+    /// Takes the next judged packet as long as the verdict is Pass.
     #[inline(never)]
     fn feed_passing(&mut self, params: &Params, bucket: &Bucket, due: Due)
         requires few { self.old.vrx.seen < 2 ^ 41 }

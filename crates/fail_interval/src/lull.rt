@@ -12,9 +12,9 @@ pub struct Lull {
     pub left: u64,
     /// The most packets that the bucket may hold.
     pub brim: u64,
-    /// The instants, by the gapped reads.
+    /// The instants at which it holds, by the gapped reads.
     pub gapped: Between,
-    /// And by the linear ones.
+    /// The instants at which it holds, by the linear reads.
     pub linear: Between,
 }
 

@@ -14,7 +14,7 @@ use vrx_buffer::VrxFault;
 
 /// What the two models say of the judged packets of one run.
 #[derive(Clone, Copy)]
-pub struct Meters {
+pub struct RunMeters {
     bucket: Bucket,
     gapped: Schedule,
     linear: Schedule,
@@ -24,19 +24,19 @@ pub struct Meters {
     lull: Lull,
 }
 
-impl Meters {
+impl RunMeters {
     ghost use Rattle.fail_interval.specs.Lulls.{Holds, IsLull};
     ghost use Rattle.fail_interval.specs.Meters.{AreFed, AreWithin, CanFollow, StandsFor, TakesNext};
     ghost use Rattle.sender_params.specs.declared.params.Params.{Params as ParamsValue};
 
     /// The meters before the first packet, which comes at `origin` in nanoseconds of TAI.
-    fn new(params: &Params, origin: u64) -> Meters
+    fn new(params: &Params, origin: u64) -> RunMeters
         requires { origin < 2 ^ 62 }
         ensures origin { result.bucket.origin ≡ origin }
         ensures stands { StandsFor params.now result [] }
     {
         let n0 = params.anchor(origin);
-        Meters {
+        RunMeters {
             bucket: Bucket::new(origin),
             gapped: Schedule::new(params, true, n0),
             linear: Schedule::new(params, false, n0),
@@ -48,12 +48,12 @@ impl Meters {
     }
 
     /// The meters after the first group of a run.
-    pub fn of(params: &Params, stamps: &[u64]) -> Meters
+    pub fn of(params: &Params, stamps: &[u64]) -> RunMeters
         requires some { 1 ≤ length stamps.now }
         requires fit { AreStamps stamps.now }
         ensures { StandsFor params.now result stamps.now }
     {
-        let mut meters = Meters::new(params, stamps[0]);
+        let mut meters = RunMeters::new(params, stamps[0]);
         for at in stamps {
             meters.feed(params, *at);
         }
@@ -92,7 +92,7 @@ impl Meters {
         self.lull.linear.go_on(at);
     }
 
-    /// The same in no lull.
+    /// Takes the next judged packet, which went into the bucket, in no lull.
     #[inline(never)]
     fn tell(&mut self, params: &Params, at: u64)
         requires { AreWithin self.old.narrow self.old.narrow_linear self.old.wide at }

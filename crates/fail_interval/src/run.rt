@@ -6,7 +6,7 @@ ghost use Rattle.fail_interval.specs.SoFar.{AreStamps, Groups, SoFar, groups_fir
 ghost use Rattle.fail_interval.specs.SoFar.{in_first, in_groups, in_head, outcome_of, so_far_next};
 ghost use Rattle.fail_interval.specs.Row.{judged_values, run_verdict_of};
 
-use crate::meters::Meters;
+use crate::meters::RunMeters;
 use sender_params::Params;
 use std::alloc::{AllocError as OutOfMemory, Global};
 use timing_base::{Judged, Media, RunVerdict};
@@ -20,7 +20,7 @@ pub struct WholeGroups {
     /// The whole groups.
     groups: u64,
     /// The meters of all packets after the first marker.
-    meters: Meters,
+    meters: RunMeters,
     /// The verdict on the whole groups, with no tail.
     judged: Judged,
     /// The packets after the last marker.
@@ -39,7 +39,7 @@ impl WholeGroups {
         ensures { IsWhole media.now result (groups_first head stamps.now) }
     {
         let params = Params::of(media, stamps.len() as u32);
-        let meters = Meters::of(&params, stamps);
+        let meters = RunMeters::of(&params, stamps);
         WholeGroups {
             params,
             head,

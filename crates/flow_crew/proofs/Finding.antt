@@ -8,7 +8,7 @@ use Rattle.timing_base.specs.Captures.{joined as joined_records}
 use Rattle.timing_base.specs.Keys.{key_of}
 use Rattle.timing_base.specs.Routes.{route}
 use Rattle.timing_base.specs.declared.capture.FileNote.{FileNote}
-use Rattle.timing_base.specs.declared.capture.FileNote.TheVariants.{Cut, End, Refused, Stopped}
+use Rattle.timing_base.specs.declared.capture.FileNote.TheVariants.{Cut, End, Refused}
 use Rattle.timing_base.specs.declared.capture.PcapFault.TheVariants as fault
 use Rattle.timing_base.specs.declared.key.FlowKey.{FlowKey}
 use Rattle.timing_base.specs.declared.row.Row.{Row}
@@ -48,7 +48,7 @@ use Rattle.flow_crew.proofs.Lists.{at_map, filter-agree, map-same, map_kept-agre
 use Rattle.flow_crew.specs.Closing.{AreClosed}
 use Rattle.flow_crew.specs.Columns.{dealt_all}
 use Rattle.flow_crew.proofs.Running.{HasRun, HaveSentAll, taken_begins}
-use Rattle.flow_crew.proofs.Starting.{AreRows, job_number, read_at, row_at, row_count, rows_are, taker_count, takers_are, work_count}
+use Rattle.flow_crew.proofs.Starting.{AreNotes, AreRows, job_number, read_at, row_at, row_count, rows_are, taker_count, takers_are, work_count}
 
 -- of receipts that are there
 receipts_are : (P : List Receipt → Type 0) (o : Option (Vec Receipt Global)) → IfSome o (λ v. P v.items) → IfSome (receipts_in o) P
@@ -152,8 +152,7 @@ rows_posted s captures book lanes columns jobs dones posted is made worked e beg
     (λ f m h k own. row_right s captures w f m (slice_index_or dones w d).pass.taken is h k (begins w d there) ended own))
 
 -- what was told of a file that is whole
-sent_whole : (s : Setting) (file : ℕ) (lanes : List LaneId) (c : Capture) (note : FileNote) (passes : List Sender) → IsWhole note → HasTold s file lanes c note passes → HasSentAll s file lanes c note passes
-sent_whole s file lanes c Stopped passes whole h = absurd (false≢true whole)
+sent_whole : (s : Setting) (file : ℕ) (lanes : List LaneId) (c : Capture) (note : FileNote) (passes : List Sender) → IsWhole note → HasTold s file lanes c (Some note) passes → HasSentAll s file lanes c note passes
 sent_whole s file lanes c End passes whole h = h
 sent_whole s file lanes c (Cut at) passes whole h = h
 sent_whole s file lanes c (Refused fault.ReadFault) passes whole h = absurd (false≢true whole)
@@ -194,7 +193,7 @@ text_count left (u ∷ us) (y ∷ ys) are = ap suc (text_count left us ys are.1)
 -- each file that is whole was sent whole
 all_sent : {S : Type 0} (name : S → List ℕ) (left : S → Option (List ℕ)) (faults : S → ℕ) (s : Setting) (lanes : List LaneId) (columns : List (List Sender)) (sources : List S)
     (jobs : List (IntakeJob S)) (dones : List (IntakeDone S)) (texts : List (List ℕ)) (notes : List FileNote) (rows : List (Vec SendPass Global)) (f : ℕ) (c : Capture) (n : FileNote)
-    → AreIntakes sources columns jobs → AreRead name left faults s lanes jobs dones → AreTexts left texts sources → notes ≡ map (λ d. d.note) dones → rows ≡ map (λ d. d.passes) dones
+    → AreIntakes sources columns jobs → AreRead name left faults s lanes jobs dones → AreTexts left texts sources → AreNotes notes dones → rows ≡ map (λ d. d.passes) dones
     → All IsWhole notes → f < length sources
     → HasSentAll s f lanes (slice_index_or (map capture_of texts) f c) (slice_index_or notes f n) (slice_index_or (map (λ v. v.items) rows) f [])
 unfolding capture_of
@@ -207,18 +206,19 @@ all_sent {S} name left faults s lanes columns sources jobs dones texts notes row
     let has = (read_at name left faults s lanes columns sources jobs dones f j d are read h).3 in
     let number = (read_at name left faults s lanes columns sources jobs dones f j d are read h).2 in
     let in_texts : f < length texts = let k = text_count left texts sources are_texts in omega (arith, h, k) in
-    let in_notes : f < length notes = let k : length notes ≡ length dones = ap length a ∙ length-map dones (λ (x : IntakeDone S). x.note) in omega (arith, there, k) in
+    let in_notes : f < length notes =
+    let k = length-map notes (λ (x : FileNote). Some x) in let m = ap length a in let q = length-map dones (λ (x : IntakeDone S). x.note) in omega (arith, there, k, m, q) in
     let text : List ℕ = slice_index_or texts f [] in
     let source : slice_index_or sources f j.source ≡ (slice_index_or jobs f j).source = at_map (λ (x : IntakeJob S). x.source) jobs sources f j j.source (sym are.file_sources) here in
     let left_is : left (slice_index_or jobs f j).source ≡ Some text = ap left (sym source) ∙ text_at left texts sources f [] j.source are_texts h in
     let told : HasTold s f lanes (capture_of text) done.note done.passes.items =
     subst (λ m. HasTold s m lanes (capture_of text) done.note done.passes.items) number (has.told text (capture_of text).records (capture_of text).note left_is (records_of text)) in
-    let note : slice_index_or notes f n ≡ done.note = at_map (λ (x : IntakeDone S). x.note) dones notes f d n a there in
-    let is_whole : IsWhole done.note = subst IsWhole note (whole f n in_notes) in
-    let sent = sent_whole s f lanes (capture_of text) done.note done.passes.items is_whole told in
+    let note : done.note ≡ Some (slice_index_or notes f n) =
+    sym (at_map (λ (x : IntakeDone S). x.note) dones (map Some notes) f d (Some n) a there) ∙ at_map (λ (x : FileNote). Some x) notes (map Some notes) f n (Some n) refl in_notes in
+    let here_told = subst (λ (o : Option FileNote). HasTold s f lanes (capture_of text) o done.passes.items) note told in
+    let sent = sent_whole s f lanes (capture_of text) (slice_index_or notes f n) done.passes.items (whole f n in_notes) here_told in
     subst (λ (x : Capture). HasSentAll s f lanes x (slice_index_or notes f n) (slice_index_or (map (λ v. v.items) rows) f [])) (sym (at_map capture_of texts (map capture_of texts) f [] c refl in_texts))
-    (subst (λ (x : FileNote). HasSentAll s f lanes (capture_of text) x (slice_index_or (map (λ v. v.items) rows) f [])) (sym note)
-    (subst (HasSentAll s f lanes (capture_of text) done.note) (sym (row_at dones rows f d b there)) sent))
+    (subst (HasSentAll s f lanes (capture_of text) (slice_index_or notes f n)) (sym (row_at dones rows f d b there)) sent)
 
 rows-over_by : (s : Setting) (captures : List Capture) (b : Bool) → s.joined ≡ b
     → rows_of_files s.tai 0 s.media (if b then joined_records (map (λ (c : Capture). c.records) captures) ∷ [] else map (λ (c : Capture). c.records) captures)
@@ -258,7 +258,7 @@ pub found : {S : Type 0} (name : S → List ℕ) (left : S → Option (List ℕ)
     (wjobs : List WorkJob) (wdones : List WorkDone) (takers : List Taker) (posted : List (Option (Vec Receipt Global))) (ijobs : List (IntakeJob S)) (idones : List (IntakeDone S)) (notes : List FileNote)
     (passes : List (Vec SendPass Global)) (senders : List (List Sender)) (rows : List Row) (texts : List (List ℕ))
     → IsSetting s → AreMade files s.workers lanes wjobs columns → AreIntakes sources columns ijobs → length sources ≡ files → AreWorked s files book wjobs wdones → takers ≡ map (λ d. d.pass) wdones
-    → posted ≡ map (λ d. d.receipts) wdones → AreRead name left faults s lanes ijobs idones → notes ≡ map (λ d. d.note) idones → passes ≡ map (λ d. d.passes) idones
+    → posted ≡ map (λ d. d.receipts) wdones → AreRead name left faults s lanes ijobs idones → AreNotes notes idones → passes ≡ map (λ d. d.passes) idones
     → senders ≡ dealt_all (map (λ v. v.items) passes) (replicate s.workers []) → AreClosed senders takers → All IsWhole notes
     → ((row_for : FlowKey → Row) → ArePosted book row_for (length s.media) s.workers (keys s files) posted → rows ≡ map row_for (keys s files))
     → AreTexts left texts sources → AreFound texts (rows_over s.joined s.tai s.media) notes rows
@@ -322,3 +322,9 @@ read_on name left faults s lanes news jobs dones e read = subst (λ (l : List La
 pub if_both : {T : Type 0} (o : Option T) (P Q R : T → Type 0) → IfSome o P → IfSome o Q → ((x : T) → P x → Q x → R x) → IfSome o R
 if_both None P Q R a b more = a
 if_both (Some x) P Q R a b more = more x a b
+
+-- lanes of a run that are so many
+pub made_on : (files workers : ℕ) (lanes news : List LaneId) (jobs : List WorkJob) (columns : List (List Sender)) → news ≡ lanes
+    → AreMade files workers lanes jobs columns → AreMade files (length news) lanes jobs columns
+made_on files workers lanes news jobs columns e made =
+    subst (λ n. AreMade files n lanes jobs columns) (sym (ap length e ∙ made.lane_count)) made

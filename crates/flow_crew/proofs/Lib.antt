@@ -1,6 +1,5 @@
 pub mod Dealing
 pub mod Making
-pub mod Telling
 pub mod Lists
 pub mod Keys
 pub mod Queues

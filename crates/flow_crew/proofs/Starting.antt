@@ -1,6 +1,6 @@
 -- What the threads of a run begin with, and what they leave, place by place.
 use Rattle.std.proofs.Common.{◌≡◌, ◌≤◌, ◌<◌, ℕ, suc, List, [], ◌∷◌, length, map, slice_index_or, refl, sym, ap, ◌∙◌, subst, arith, Vec, Global}
-use Rattle.std.specs.Prelude.{Option}
+use Rattle.std.specs.Prelude.{Option, Some, None, drop}
 use Rattle.std.proofs.lemmas.List.{length-map}
 use Rattle.timing_base.specs.declared.capture.FileNote.{FileNote}
 use Rattle.ruled_intake.specs.Lanes.{LaneId, Sender, Taker}
@@ -141,23 +141,35 @@ rows_are {S} name left faults s lanes columns sources jobs dones rows are read e
     subst (AreOfFile f lanes) (sym (row_at dones rows f d e there))
     (subst (λ (n : ℕ). AreOfFile n lanes (slice_index_or dones f d).passes.items) has.2 has.3.passes)
 
--- the sources come back
-back_by : {S : Type 0} (name : S → List ℕ) (left : S → Option (List ℕ)) (faults : S → ℕ) (s : Setting) (lanes : List LaneId) (jobs : List (IntakeJob S)) (dones : List (IntakeDone S))
-    → length dones ≡ length jobs
-    → ((f : ℕ) (j : IntakeJob S) (d : IntakeDone S) → f < length jobs → HasRead name left faults s lanes (slice_index_or jobs f j) (slice_index_or dones f d))
-    → AreBack name faults (map (λ j. j.source) jobs) (map (λ d. d.note) dones) (map (λ d. d.source) dones)
-back_by name left faults s lanes [] [] long each = tt
-back_by name left faults s lanes [] (d ∷ ds) long each = absurd (omega (arith, long))
-back_by name left faults s lanes (j ∷ js) [] long each = absurd (omega (arith, long))
-back_by name left faults s lanes (j ∷ js) (d ∷ ds) long each =
-    let has = each 0 j d (omega arith) in
-    (has.name_is, has.later, has.failed, back_by name left faults s lanes js ds (omega (arith, long)) (λ f k e h. each (suc f) k e (omega (arith, h))))
+-- the notes that intakes have
+abbrev pub AreNotes : {S : Type 0} → List FileNote → List (IntakeDone S) → Type 0
+AreNotes {S} notes dones = map Some notes ≡ map (λ (d : IntakeDone S). d.note) dones
 
-pub sources_back : {S : Type 0} (name : S → List ℕ) (left : S → Option (List ℕ)) (faults : S → ℕ) (s : Setting) (lanes : List LaneId) (columns : List (List Sender)) (olds news : List S)
-    (notes : List FileNote) (jobs : List (IntakeJob S)) (dones : List (IntakeDone S))
-    → AreIntakes olds columns jobs → AreRead name left faults s lanes jobs dones → notes ≡ map (λ d. d.note) dones → news ≡ map (λ d. d.source) dones → AreBack name faults olds notes news
+-- the sources come back
+back_by : {S : Type 0} (name : S → List ℕ) (left : S → Option (List ℕ)) (faults : S → ℕ) (s : Setting) (lanes : List LaneId)
+    (jobs : List (IntakeJob S)) (notes : List FileNote) (dones : List (IntakeDone S)) → length dones ≡ length jobs → AreNotes notes dones
+    → ((f : ℕ) (j : IntakeJob S) (d : IntakeDone S) → f < length jobs → HasRead name left faults s lanes (slice_index_or jobs f j) (slice_index_or dones f d))
+    → AreBack name faults (map (λ j. j.source) jobs) notes (map (λ d. d.source) dones)
+back_by name left faults s lanes [] [] [] long are each = tt
+back_by name left faults s lanes [] (n ∷ ns) [] long are each = absurd (omega (arith, ap length are))
+back_by name left faults s lanes [] ns (d ∷ ds) long are each = absurd (omega (arith, long))
+back_by name left faults s lanes (j ∷ js) ns [] long are each = absurd (omega (arith, long))
+back_by name left faults s lanes (j ∷ js) [] (d ∷ ds) long are each = absurd (omega (arith, ap length are))
+back_by name left faults s lanes (j ∷ js) (n ∷ ns) (d ∷ ds) long are each =
+    let has = each 0 j d (omega arith) in
+    let here : Some n ≡ d.note = ap (λ (l : List (Option FileNote)). slice_index_or l 0 None) are in
+    let later : AreNotes ns ds = ap (λ (l : List (Option FileNote)). drop 1 l) are in (
+      has.name_is,
+      has.later,
+      λ is. has.failed (sym here ∙ ap (λ (m : FileNote). Some m) is),
+      back_by name left faults s lanes js ns ds (omega (arith, long)) later (λ f k e h. each (suc f) k e (omega (arith, h))),
+    )
+
+pub sources_back : {S : Type 0} (name : S → List ℕ) (left : S → Option (List ℕ)) (faults : S → ℕ) (s : Setting) (lanes : List LaneId)
+    (columns : List (List Sender)) (olds news : List S) (notes : List FileNote) (jobs : List (IntakeJob S)) (dones : List (IntakeDone S))
+    → AreIntakes olds columns jobs → AreRead name left faults s lanes jobs dones → AreNotes notes dones → news ≡ map (λ d. d.source) dones
+    → AreBack name faults olds notes news
 sources_back {S} name left faults s lanes columns olds news notes jobs dones are read a b =
     subst (λ (l : List S). AreBack name faults l notes news) are.file_sources
-    (subst (λ (l : List FileNote). AreBack name faults (map (λ j. j.source) jobs) l news) (sym a)
-    (subst (λ (l : List S). AreBack name faults (map (λ j. j.source) jobs) (map (λ d. d.note) dones) l) (sym b)
-    (back_by name left faults s lanes jobs dones read.count read.each)))
+    (subst (λ (l : List S). AreBack name faults (map (λ j. j.source) jobs) notes l) (sym b)
+    (back_by name left faults s lanes jobs notes dones read.count a read.each))

@@ -11,7 +11,7 @@ use Rattle.verdict_book.specs.Receipts.{IsOf, row_of}
 use Rattle.verdict_book.specs.declared.book.Book.{Book}
 use Rattle.verdict_book.specs.declared.book.Receipt.{Receipt}
 use Rattle.flow_crew.specs.Ends.{receipts_in}
-use Rattle.flow_crew.specs.declared.reading.Asked.{Asked}
+use Rattle.flow_worker.specs.declared.setting.RunSetting.{RunSetting}
 
 -- the key is that of one of so many media, in one of 16 files
 pub record IsKeyOf (media : ℕ) (key : FlowKey) : Type 0 where
@@ -33,19 +33,22 @@ abbrev pub ArePosted : Book → (row_for : FlowKey → Row) → (media workers :
 ArePosted book row_for media workers keys posted = (worker : ℕ) → worker < length posted
     → ForSome (slice_index_or (map receipts_in posted) worker None) (IsQueue book row_for (filter (λ key. route key media workers == worker) keys))
 
--- there are at most 64 media, 16 files and 16 workers, and each worker has receipts, if it has any, for its rows of some run
-pub record CanGather (book : Book) (media : ℕ) (asked : Asked) (posted : List (Option (Vec Receipt Global))) : Type 0 where
-  pub few_media : media ≤ 64
-  pub some_files : 1 ≤ asked.files
-  pub few_files : asked.files ≤ 16
-  pub some_workers : 1 ≤ asked.workers
-  pub few_workers : asked.workers ≤ 16
-  pub count : length posted ≡ asked.workers
+-- the keys of a run
+abbrev pub run_keys : RunSetting → List FlowKey
+run_keys run = keys_of run.joined run.files (length run.media.now)
+
+-- there are at most 64 media, 16 files and 16 workers, and each worker has receipts, if it has any, for its rows
+pub record CanGather (book : Book) (run : RunSetting) (posted : List (Option (Vec Receipt Global))) : Type 0 where
+  pub few_media : length run.media.now ≤ 64
+  pub few_files : run.files ≤ 16
+  pub some_workers : 1 ≤ length run.lanes.now
+  pub few_workers : length run.lanes.now ≤ 16
+  pub count : length posted ≡ length run.lanes.now
   pub row_for : FlowKey → Row
-  pub posted_are : ArePosted book row_for media asked.workers (keys_of asked.joined asked.files media) posted
+  pub posted_are : ArePosted book row_for (length run.media.now) (length run.lanes.now) (run_keys run) posted
 
 -- whatever rows the workers posted, these are the rows, in the order of their keys
-abbrev pub AreGathered : Book → (media : ℕ) → Asked → List (Option (Vec Receipt Global)) → List Row → Type 0
-AreGathered book media asked posted rows = (row_for : FlowKey → Row)
-    → ArePosted book row_for media asked.workers (keys_of asked.joined asked.files media) posted
-    → rows ≡ map row_for (keys_of asked.joined asked.files media)
+abbrev pub AreGathered : Book → RunSetting → List (Option (Vec Receipt Global)) → List Row → Type 0
+AreGathered book run posted rows = (row_for : FlowKey → Row)
+    → ArePosted book row_for (length run.media.now) (length run.lanes.now) (run_keys run) posted
+    → rows ≡ map row_for (run_keys run)

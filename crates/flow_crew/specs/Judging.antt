@@ -1,7 +1,7 @@
 -- What a run leaves, and what it makes of the texts of its files.
 use Rattle.std.specs.Prelude.{◌≡◌, ◌≤◌, ⊤, ℕ, Bool, true, false, List, [], ◌∷◌, Option, Some, IsTrue}
 use Rattle.timing_base.specs.declared.capture.FileNote.{FileNote}
-use Rattle.timing_base.specs.declared.capture.FileNote.TheVariants.{Cut, End, Refused, Stopped}
+use Rattle.timing_base.specs.declared.capture.FileNote.TheVariants.{Cut, End, Refused}
 use Rattle.timing_base.specs.declared.capture.PcapFault.{PcapFault}
 use Rattle.timing_base.specs.declared.capture.PcapFault.TheVariants.{ReadFault}
 use Rattle.timing_outside.specs.Causes.{Rose}
@@ -29,7 +29,6 @@ abbrev pub is_whole : FileNote → Bool
 is_whole End = true
 is_whole (Cut at) = true
 is_whole (Refused fault) = is_read fault
-is_whole Stopped = false
 
 abbrev pub IsWhole : FileNote → Type 0
 IsWhole note = IsTrue (is_whole note)

@@ -1,8 +1,7 @@
--- What a run is asked for, and what its intakes begin with and leave. Files and workers count from 0; there is a lane for
+-- The limits of a run, and what its intakes begin with and leave. Files and workers count from 0; there is a lane for
 -- each worker.
 use Rattle.std.specs.Prelude.{◌≡◌, ◌≤◌, ◌<◌, ◌^◌, ℕ, List, length, slice_index_or, Option, Some}
 use Rattle.timing_base.specs.Captures.{Record}
-use Rattle.timing_base.specs.Media.{Media}
 use Rattle.timing_base.specs.declared.capture.FileNote.{FileNote}
 use Rattle.timing_base.specs.declared.capture.FileNote.TheVariants.{Refused}
 use Rattle.timing_base.specs.declared.capture.PcapFault.TheVariants.{ReadFault}
@@ -12,22 +11,18 @@ use Rattle.ruled_intake.specs.Lanes.{LaneId}
 use Rattle.flow_worker.specs.Intakes.{AreOfFile, HasTold, HaveSentNothing}
 use Rattle.flow_worker.specs.Opening.{Setting}
 use Rattle.flow_worker.specs.declared.intakes.IntakeDone.{IntakeDone}
+use Rattle.flow_worker.specs.declared.setting.RunSetting.{RunSetting}
 use Rattle.flow_crew.specs.declared.jobs.IntakeJob.{IntakeJob}
-use Rattle.flow_crew.specs.declared.reading.Asked.{Asked}
 
--- what is asked, with the media of the session
-abbrev pub setting_of : List Media → Asked → Setting
-setting_of media asked = record { media = media; workers = asked.workers; joined = asked.joined; tai = asked.tai }
-
--- 1 to 64 media, 1 to 16 files and workers, and at most 1,000 seconds are asked for
-pub record IsAsked (media : List Media) (asked : Asked) : Type 0 where
-  pub some_media : 1 ≤ length media
-  pub few_media : length media ≤ 64
-  pub some_files : 1 ≤ asked.files
-  pub few_files : asked.files ≤ 16
-  pub some_workers : 1 ≤ asked.workers
-  pub few_workers : asked.workers ≤ 16
-  pub tai : asked.tai ≤ 1000
+-- there are 1 to 64 media, 1 to 16 files and workers, and at most 1,000 seconds
+pub record IsRun (run : RunSetting) : Type 0 where
+  pub some_media : 1 ≤ length run.media.now
+  pub few_media : length run.media.now ≤ 64
+  pub some_files : 1 ≤ run.files
+  pub few_files : run.files ≤ 16
+  pub some_workers : 1 ≤ length run.lanes.now
+  pub few_workers : length run.lanes.now ≤ 16
+  pub tai : run.tai ≤ 1000
 
 -- the intake has the file's passes of these lanes, and sent nothing
 pub record IsIntakeJob {S : Type 0} (lanes : List LaneId) (job : IntakeJob S) : Type 0 where
@@ -42,7 +37,7 @@ pub record HasRead {S : Type 0} (name : S → List ℕ) (left : S → Option (Li
       → HasTold s job.file lanes (record { records = items; note = end }) done.note done.passes.items
   pub name_is : name done.source ≡ name job.source
   pub later : faults job.source ≤ faults done.source
-  pub failed : done.note ≡ Refused ReadFault → Rose (faults job.source) (faults done.source)
+  pub failed : done.note ≡ Some (Refused ReadFault) → Rose (faults job.source) (faults done.source)
 
 -- the same of all intakes
 pub record AreRead {S : Type 0} (name : S → List ℕ) (left : S → Option (List ℕ)) (faults : S → ℕ) (s : Setting)

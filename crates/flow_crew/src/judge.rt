@@ -8,18 +8,19 @@ ghost use Rattle.fail_interval.specs.Found.{AreFound};
 ghost use Rattle.fail_interval.specs.Rows.{rows_over};
 ghost use Rattle.flow_crew.specs.Judging.{AreBack, AreTexts, IsWhole, is_whole};
 ghost use Rattle.flow_crew.specs.Threads.{AreWorkJobs, AreWorked};
-ghost use Rattle.flow_crew.specs.Reading.{AreIntakeJobs, AreRead, IsAsked, setting_of};
+ghost use Rattle.flow_worker.specs.Settings.{setting_of};
+ghost use Rattle.flow_crew.specs.Reading.{AreIntakeJobs, AreRead, IsRun};
 
 use crate::close::close_all;
 use crate::columns::deal_all;
 use crate::ends::{Worked, take_posted, take_worked};
 use crate::gather::{gather, list_keys};
 use crate::jobs::{IntakeJob, Made, WorkJob, make_intakes, make_lanes};
-use crate::reading::{Asked, run_intakes};
+use crate::reading::run_intakes;
 use crate::reads::{Read, take_read};
 use crate::threads::run_workers;
-use flow_worker::{IntakeDone, WorkDone};
-use ruled_intake::{Halt, Lane};
+use flow_worker::{IntakeDone, RunSetting, WorkDone};
+use ruled_intake::Halt;
 use std::alloc::{AllocError as OutOfMemory, Global};
 use std::sync::Wait;
 use std::thread::{self, Threads};
@@ -43,7 +44,6 @@ fn is_whole(note: FileNote) -> bool
     ensures { result ≡ is_whole note }
 {
     match note {
-        FileNote::Stopped => false,
         FileNote::Refused(PcapFault::ReadFault) => false,
         _ => true,
     }
@@ -55,84 +55,78 @@ fn is_whole(note: FileNote) -> bool
 fn run_threads<R: Threads + Wait + Sync, S: Source, G: Gate>(
     rt: &R,
     alloc: Global,
-    asked: Asked,
-    media: &[Media],
-    lanes: &[Lane],
+    run: &RunSetting<'_>,
     book: &Book,
     gate: &G,
     workers: Vec<WorkJob>,
     intakes: Vec<IntakeJob<S>>,
 ) -> Result<(Vec<WorkDone>, Vec<IntakeDone<S>>), OutOfMemory>
-    requires asked { IsAsked media.now asked }
-    requires lanes { length lanes.now ≡ asked.workers }
-    requires workers { AreWorkJobs lanes.now workers.items }
-    requires intakes { AreIntakeJobs lanes.now intakes.items }
-    ensures worked { IfOk result (λ done. AreWorked (setting_of media.now asked) asked.files book.now
+    requires run { IsRun run.now }
+    requires workers { AreWorkJobs run.now.lanes.now workers.items }
+    requires intakes { AreIntakeJobs run.now.lanes.now intakes.items }
+    ensures worked { IfOk result (λ done. AreWorked (setting_of run.now) run.now.files book.now
         workers.items done.0.items) }
-    ensures read { IfOk result (λ done. AreRead S.name S.left S.faults (setting_of media.now asked)
-        lanes.now intakes.items done.1.items) }
+    ensures read { IfOk result (λ done. AreRead S.name S.left S.faults (setting_of run.now)
+        run.now.lanes.now intakes.items done.1.items) }
 {
     let halt = Halt::new();
     let stop = &halt;
     let (worked, read) = thread::join(
         rt,
         || -> Result<Vec<WorkDone>, OutOfMemory>
-            requires { IsAsked media.now asked × (length lanes.now ≡ asked.workers)
-                × AreWorkJobs lanes.now workers.items }
-            ensures { IfOk result (λ dones. AreWorked (setting_of media.entry.now asked) asked.files
+            requires { IsRun run.now × AreWorkJobs run.now.lanes.now workers.items }
+            ensures { IfOk result (λ dones. AreWorked (setting_of run.entry.now) run.entry.now.files
                 book.entry.now workers.items dones.items) }
-        { run_workers(rt, alloc, asked, media, lanes, book, stop, gate, workers) },
+        { run_workers(rt, alloc, run, book, stop, gate, workers) },
         || -> Result<Vec<IntakeDone<S>>, OutOfMemory>
-            requires { IsAsked media.now asked × (length lanes.now ≡ asked.workers)
-                × AreIntakeJobs lanes.now intakes.items }
-            ensures { IfOk result (λ dones. AreRead S.name S.left S.faults
-                (setting_of media.entry.now asked) lanes.entry.now intakes.items dones.items) }
-        { run_intakes(rt, alloc, asked, media, lanes, stop, gate, intakes) },
+            requires { IsRun run.now × AreIntakeJobs run.now.lanes.now intakes.items }
+            ensures { IfOk result (λ dones. AreRead S.name S.left S.faults (setting_of run.entry.now)
+                run.entry.now.lanes.now intakes.items dones.items) }
+        { run_intakes(rt, alloc, run, stop, gate, intakes) },
     );
     Ok((worked?, read?))
 }
 
 /// How many files the keys of a run are of: files that are joined are one.
-fn file_count(asked: Asked) -> u32
-    ensures { result ≡ (if asked.joined then 1 else asked.files) }
+fn file_count(run: &RunSetting<'_>) -> u32
+    ensures { result ≡ (if run.now.joined then 1 else run.now.files) }
 {
-    if asked.joined { 1 } else { asked.files }
+    if run.joined { 1 } else { run.files }
 }
 
 /// The rows of what the workers posted. `Err` is want of memory: also where a worker has no receipts.
 fn rows_on(
     alloc: Global,
-    asked: Asked,
-    media: u32,
+    run: &RunSetting<'_>,
     book: &Book,
     posted: Vec<Option<Vec<Receipt>>>,
 ) -> Result<Vec<Row>, OutOfMemory>
-    requires { CanGather book.now media asked posted.items }
-    ensures { IfOk result (λ rows. AreGathered book.now media asked posted.items rows.items) }
+    requires { CanGather book.now run.now posted.items }
+    ensures { IfOk result (λ rows. AreGathered book.now run.now posted.items rows.items) }
 {
-    let keys = list_keys(alloc, file_count(asked), media)?;
+    let media = run.media.len() as u32;
+    let keys = list_keys(alloc, file_count(run), media)?;
     let queues = take_posted(alloc, posted)?;
-    gather(alloc, book, &keys, media, asked.workers, queues)
+    gather(alloc, book, &keys, media, run.lanes.len() as u32, queues)
 }
 
 /// The rows, where each file was read to its end, or to where it is refused. `None` is also want of
 /// memory.
 fn rows_if_whole(
     alloc: Global,
-    asked: Asked,
-    media: u32,
+    run: &RunSetting<'_>,
     book: &Book,
     notes: &[FileNote],
     posted: Vec<Option<Vec<Receipt>>>,
 ) -> Option<Vec<Row>>
-    requires { CanGather book.now media asked posted.items }
+    requires { CanGather book.now run.now posted.items }
     ensures whole { IfSome result (λ rows. All IsWhole notes.now) }
-    ensures rows { IfSome result (λ rows. AreGathered book.now media asked posted.items rows.items) }
+    ensures rows { IfSome result (λ rows. AreGathered book.now run.now posted.items rows.items) }
 {
     if !notes.iter().all(|note| is_whole(*note)) {
         return None;
     }
-    rows_on(alloc, asked, media, book, posted).ok()
+    rows_on(alloc, run, book, posted).ok()
 }
 
 /// Judges the media in files, each by itself, or in all of them as in one where they are `joined`. The
@@ -168,29 +162,31 @@ pub fn judge_files<R: Threads + Wait + Sync, S: Source, G: Gate>(
         → AreTexts S.left texts sources.items
         → AreFound texts (rows_over joined tai media.now) judged.notes.items rows.items)) }
 {
-    let asked = Asked {
-        files: sources.len() as u32,
-        workers,
-        joined,
-        tai,
-    };
+    let files = sources.len() as u32;
     let Made {
         lanes,
         workers: jobs,
         columns,
-    } = make_lanes(alloc, asked.files, workers)?;
+    } = make_lanes(alloc, files, workers)?;
     let intakes = make_intakes(alloc, sources, columns)?;
     let book = Book::new(alloc)?;
-    let (worked, read) = run_threads(rt, alloc, asked, media, &lanes, &book, gate, jobs, intakes)?;
+    let run = RunSetting {
+        media,
+        lanes: &lanes,
+        files,
+        joined,
+        tai,
+    };
+    let (worked, read) = run_threads(rt, alloc, &run, &book, gate, jobs, intakes)?;
     let Read {
         sources,
         notes,
         rows,
     } = take_read(alloc, read)?;
     let Worked { takers, posted } = take_worked(alloc, worked)?;
-    let senders = deal_all(alloc, workers as usize, rows)?;
+    let senders = deal_all(alloc, run.lanes.len(), rows)?;
+    let rows = rows_if_whole(alloc, &run, &book, &notes, posted);
     close_all(rt, lanes, senders, takers);
-    let rows = rows_if_whole(alloc, asked, media.len() as u32, &book, &notes, posted);
     Ok(Judged {
         sources,
         notes,

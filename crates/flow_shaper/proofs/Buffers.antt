@@ -94,6 +94,7 @@ number-most m n anchor gapped last t next then after now low some early =
       | inr few ↦ few
       | inl many ↦
           let e : (t - 1) + 1 ≡ t = omega (arith, some) in
-          let due : AtMost (read_of m n anchor gapped (next.number + 1)) (whole ((t - 1) + 1)) = subst (λ k. AtMost (read_of m n anchor gapped (next.number + 1)) (whole k)) (sym e) (now.count.due (next.number + 1) many) in
+          let due : AtMost (read_of m n anchor gapped (next.number + 1)) (whole ((t - 1) + 1)) =
+          subst (λ k. AtMost (read_of m n anchor gapped (next.number + 1)) (whole k)) (sym e) (now.count.due (next.number + 1) many) in
           absurd (omega (arith, (after.due (t - 1) (omega (arith, low))).0 (after.apart (t - 1) due), early, some))
     ]

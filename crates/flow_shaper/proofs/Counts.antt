@@ -78,7 +78,19 @@ count-append w departures i count begin d drained count_now begin_now rises c si
       ];
       begin_load = elim (cases_lt 1 count_now) as (λ _. load w new begin_now (i + 1) (slice_index new (i + 1)) ≡ count_now) [
         | inl some ↦
-            omega (arith, kept some, ap (λ k. w.ticks (slice_index new k)) (kept some), is_last, ap w.ticks (there begin c.begins), low begin c.begins, c.begin_load, c.begins, ticks, is, some)
+            omega (
+              arith,
+              kept some,
+              ap (λ k. w.ticks (slice_index new k)) (kept some),
+              is_last,
+              ap w.ticks (there begin c.begins),
+              low begin c.begins,
+              c.begin_load,
+              c.begins,
+              ticks,
+              is,
+              some,
+            )
         | inr none ↦
             let same : begin_now ≡ i + 1 = fresh (omega (arith, none, is)) in
             omega (arith, ap (λ k. w.ticks (slice_index new k)) same, same, none, is)

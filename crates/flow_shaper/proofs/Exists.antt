@@ -118,7 +118,8 @@ earliest w departures a let_leave =
           buffer = omega (arith, read_is, let_leave.falls n read.0 d (omega arith));
         },
         λ e s.
-            let enough : most.0 ≤ w.ticks e = most.1.1 (w.ticks e) (λ j few. omega (arith, s.bucket j few, let_leave.rises (slice_index departures j) e (s.order j few))) in
+            let enough : most.0 ≤ w.ticks e =
+            most.1.1 (w.ticks e) (λ j few. omega (arith, s.bucket j few, let_leave.rises (slice_index departures j) e (s.order j few))) in
             omega (arith, s.after, order.1.1 e s.order, tick.2 e (le_test most.0 (w.ticks e) enough), read.2 e (le_test (w.held n e) w.vrx_full s.buffer)),
       ),
     )
@@ -206,7 +207,12 @@ let_leave m n kind a0 is some =
       falls = λ i a b order.
           let first = due-some m n anchor g (whole a) is some (omega arith) in
           let second = due-some m n anchor g (whole b) is some (omega arith) in
-          omega (arith, held-is m n kind a0 i a first.0 first.1, held-is m n kind a0 i b second.0 second.1, due-rises m n anchor g a b first.0 second.0 order first.1 second.1);
+          omega (
+            arith,
+            held-is m n kind a0 i a first.0 first.1,
+            held-is m n kind a0 i b second.0 second.1,
+            due-rises m n anchor g a b first.0 second.0 order first.1 second.1,
+          );
       empties = λ i.
           let far = read-reach m n anchor g i is some in
           let due = due-some m n anchor g (whole far.0) is some (omega arith) in

@@ -84,7 +84,8 @@ ready params s m arrivals departures i st a size =
       some = c_max-some media n s.kind params.media_is;
       tick = λ t. tick-due params m.tick s.origin d t stands;
       tick_one = tick-one params m.tick s.origin d stands;
-      room = λ t order small. held-room media n s.kind s.origin i d t w.vrx_full m.read params.media_is params.n_some after (least.plan.buffer i few) order small;
+      room = λ t order small. held-room media n s.kind s.origin i d t w.vrx_full m.read params.media_is params.n_some after (least.plan.buffer i few) order
+          small;
       ahead = elim (cases_lt d m.read.at) as (λ _. d < m.read.at) [
         | inl before ↦ before
         | inr come ↦
@@ -135,7 +136,8 @@ after-later params s old new arrivals departures i a d st was size came h in_tim
       tick = subst (λ x. StandsAt params.drain new.tick s.origin x) (sym p.last) drained.tick;
       read = subst (λ x. IsNextAfter media n s.n0 g x new.read) (sym p.last) read;
       reads = subst (λ x. StandsBy media n s.n0 g new.schedule x) (sym p.last) reads;
-      waits = λ delayed. waits-next w old arrivals departures i a d.at drained.drained new.count new.read.number d.bound r came h.bucket h.buffer h.chosen ticks drained.count number (omega (arith, delayed, here, there));
+      waits = λ delayed. waits-next w old arrivals departures i a d.at drained.drained new.count new.read.number d.bound r came h.bucket h.buffer h.chosen ticks
+          drained.count number (omega (arith, delayed, here, there));
     }
 
 -- the least plan of one packet more

@@ -60,7 +60,12 @@ plan-take w arrivals others a p =
       ordered = λ j i order few.
           omega (arith, same i (omega (arith, few, size)), same j (omega (arith, order, few, size)), p.ordered j i order (omega (arith, few, size, long)));
       bucket = λ j i order few.
-          omega (arith, ap w.ticks (same i (omega (arith, few, size))), ap w.ticks (same j (omega (arith, order, few, size))), p.bucket j i order (omega (arith, few, size, long)));
+          omega (
+            arith,
+            ap w.ticks (same i (omega (arith, few, size))),
+            ap w.ticks (same j (omega (arith, order, few, size))),
+            p.bucket j i order (omega (arith, few, size, long)),
+          );
       buffer = λ i few. omega (arith, ap (w.held i) (same i (omega (arith, few, size))), p.buffer i (omega (arith, few, size, long)));
     }
 
@@ -83,7 +88,12 @@ plan-serves w arrivals departures others a rises s p =
       after = omega (arith, last arrivals a n (omega arith), p.after n (omega (arith, length-append arrivals (a ∷ []))));
       order = λ j few. omega (arith, least j (omega (arith, few, size)), p.ordered j n (omega (arith, few, size)) (omega (arith, long)));
       bucket = λ j few.
-          omega (arith, size, rises (slice_index departures j) (slice_index others j) (least j (omega (arith, few, size))), p.bucket j n (omega (arith, few, size)) (omega (arith, long)));
+          omega (
+            arith,
+            size,
+            rises (slice_index departures j) (slice_index others j) (least j (omega (arith, few, size))),
+            p.bucket j n (omega (arith, few, size)) (omega (arith, long)),
+          );
       alone = omega (arith, p.bucket n n (omega arith) (omega (arith, long)));
       buffer = omega (arith, ap (λ k. w.held k e) size, p.buffer n (omega (arith, long)));
     }
@@ -99,9 +109,19 @@ least-append w arrivals departures a d rises s may earliest = record {
   plan = plan-append w arrivals departures a d s.plan may;
   least = λ others p i few. elim (seam arrivals a i few) as (λ _. slice_index (departures ++ d ∷ []) i ≤ slice_index others i) [
     | inl early ↦
-        omega (arith, before departures d i (omega (arith, early.0, s.plan.each)), s.least (take (length arrivals) others) (plan-take w arrivals others a p) i early.0, get_or-take (length arrivals) others i 0 early.0)
+        omega (
+          arith,
+          before departures d i (omega (arith, early.0, s.plan.each)),
+          s.least (take (length arrivals) others) (plan-take w arrivals others a p) i early.0,
+          get_or-take (length arrivals) others i 0 early.0,
+        )
     | inr late ↦
-        omega (arith, last departures d i (omega (arith, late.0, s.plan.each)), earliest (slice_index others (length arrivals)) (plan-serves w arrivals departures others a rises s p), ap (slice_index others) late.0)
+        omega (
+          arith,
+          last departures d i (omega (arith, late.0, s.plan.each)),
+          earliest (slice_index others (length arrivals)) (plan-serves w arrivals departures others a rises s p),
+          ap (slice_index others) late.0,
+        )
   ];
 }
 

@@ -124,7 +124,8 @@ bound-is w m arrivals departures i a d (Bucket from) r came arrival order tick r
     let news = departures ++ d ∷ [] in
     let here : slice_index news (i + 1) ≡ d = last departures d (i + 1) (sym r.left) in
     let there : slice_index (arrivals ++ a ∷ []) (i + 1) ≡ a = last arrivals a (i + 1) (sym r.came) in
-    let early : w.ticks (d - 1) ≤ w.ticks (slice_index departures i) = elim (cases_lt (w.ticks (slice_index departures i)) (w.ticks (d - 1))) as (λ _. w.ticks (d - 1) ≤ w.ticks (slice_index departures i)) [
+    let early : w.ticks (d - 1) ≤ w.ticks (slice_index departures i) =
+    elim (cases_lt (w.ticks (slice_index departures i)) (w.ticks (d - 1))) as (λ _. w.ticks (d - 1) ≤ w.ticks (slice_index departures i)) [
       | inl more ↦
           let come = (r.tick (d - 1)).1 more in
           let some : 0 < d = omega (arith, h.0, arrival) in
@@ -161,7 +162,14 @@ bound-is w m arrivals departures i a d (Buffer x) r came arrival order tick read
     let ready : w.c_max ≤ m.count → m.tick.due ≤ d - 1 =
     λ full. let ne = h.1 full in omega (arith, tick full, ne) in (
       λ e. h.0 (sym here ∙ e ∙ there),
-      λ over. omega (arith, over.2, ap w.ticks earlier, ap w.ticks (before departures d over.0 (omega (arith, over.1, r.left))), bucket-serves w m arrivals departures i (d - 1) r after ready over.0 (omega (arith, over.1, r.left)), r.left),
+      λ over. omega (
+        arith,
+        over.2,
+        ap w.ticks earlier,
+        ap w.ticks (before departures d over.0 (omega (arith, over.1, r.left))),
+        bucket-serves w m arrivals departures i (d - 1) r after ready over.0 (omega (arith, over.1, r.left)),
+        r.left,
+      ),
       (elim (cases_lt w.vrx_full (w.held (i + 1) (d - 1))) as (λ _. Overfills w (i + 1) (slice_index news (i + 1) - 1)) [
         | inl over ↦ omega (arith, over, ap (w.held (i + 1)) earlier)
         | inr room ↦ absurd (omega (arith, (r.room (d - 1) after (omega (arith, low))).0 room h.2, h.3, r.ahead))

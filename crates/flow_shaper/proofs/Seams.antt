@@ -10,7 +10,8 @@ pub seam : (xs : List ℕ) (y i : ℕ)
     → i < length (xs ++ y ∷ [])
     → ((i < length xs) × (slice_index (xs ++ y ∷ []) i ≡ slice_index xs i)) ⊎ ((i ≡ length xs) × (slice_index (xs ++ y ∷ []) i ≡ y))
 seam xs y i few =
-    elim (cases_lt i (length xs)) as (λ _. ((i < length xs) × (slice_index (xs ++ y ∷ []) i ≡ slice_index xs i)) ⊎ ((i ≡ length xs) × (slice_index (xs ++ y ∷ []) i ≡ y))) [
+    elim (cases_lt i (length xs)) as (λ _. ((i < length xs) × (slice_index (xs ++ y ∷ []) i ≡ slice_index xs i))
+    ⊎ ((i ≡ length xs) × (slice_index (xs ++ y ∷ []) i ≡ y))) [
       | inl early ↦ inl (early, get_or_append_left xs (y ∷ []) 0 i early)
       | inr late ↦
           let same : i ≡ length xs = omega (arith, late, few, length-append xs (y ∷ [])) in

@@ -99,7 +99,14 @@ plan-sooner w arrivals departures i d rises p within arrival sooner order bucket
         ]
         | inr other ↦ elim (cases_eq j i) as (λ _. load w news j k (slice_index news k) ≤ w.c_max) [
           | inl also ↦
-              omega (arith, p.bucket j k before (omega (arith, few, size)), ap w.ticks (there k other), ap w.ticks (at j also), rises d (slice_index departures i) sooner, ap (λ x. w.ticks (slice_index departures x)) also)
+              omega (
+                arith,
+                p.bucket j k before (omega (arith, few, size)),
+                ap w.ticks (there k other),
+                ap w.ticks (at j also),
+                rises d (slice_index departures i) sooner,
+                ap (λ x. w.ticks (slice_index departures x)) also,
+              )
           | inr first ↦
               omega (arith, p.bucket j k before (omega (arith, few, size)), ap w.ticks (there k other), ap w.ticks (there j first))
         ]
@@ -133,10 +140,11 @@ with-before w arrivals departures i rises s within delayed bucket buffer =
     omega (arith, s.least (set departures i d) sooner i within, get_or-set_same departures i d 0 long, delayed) in
     elim (cases_lt 0 i) as (λ _. (0 < i) × (slice_index departures i ≡ slice_index departures (i - 1))) [
       | inr none ↦ absurd (held (λ j few. absurd (omega (arith, few, none))))
-      | inl some ↦ elim (cases_lt (slice_index departures (i - 1)) (slice_index departures i)) as (λ _. (0 < i) × (slice_index departures i ≡ slice_index departures (i - 1))) [
-        | inl early ↦ absurd (held (λ j few. omega (arith, early, p.ordered j (i - 1) (omega (arith, few)) (omega (arith, long)))))
-        | inr late ↦ (some, omega (arith, late, p.ordered (i - 1) i (omega arith) long))
-      ]
+      | inl some ↦ elim (cases_lt (slice_index departures (i - 1)) (slice_index departures i))
+          as (λ _. (0 < i) × (slice_index departures i ≡ slice_index departures (i - 1))) [
+            | inl early ↦ absurd (held (λ j few. omega (arith, early, p.ordered j (i - 1) (omega (arith, few)) (omega (arith, long)))))
+            | inr late ↦ (some, omega (arith, late, p.ordered (i - 1) i (omega arith) long))
+          ]
     ]
 
 -- what overloads a nanosecond sooner is just full
@@ -176,7 +184,8 @@ bucket-some w arrivals departures i one p within delayed over =
         ),
       )
       | inr none ↦
-          let full = eq-eqb (load w departures over.0 i (slice_index departures i)) w.c_max (overloads-full w arrivals departures i over.0 one p within delayed over.1 over.2) in
+          let full = eq-eqb (load w departures over.0 i (slice_index departures i)) w.c_max
+          (overloads-full w arrivals departures i over.0 one p within delayed over.1 over.2) in
           let not_full = none over.0 over.1 in
           absurd (cc)
     ]
@@ -214,7 +223,11 @@ least-bound w arrivals departures i rises one s within =
           let is_over = λ (j : ℕ). nat_lt w.c_max (load w departures j i d) in
           elim (latest_below is_over i) as (λ _. (bound : Bound) × IsBound w arrivals departures i bound) [
             | inl found ↦
-                bucket-some w arrivals departures i one s.plan within delayed (found.at, found.below, ltb-true w.c_max (load w departures found.at i d) found.passes)
+                bucket-some w arrivals departures i one s.plan within delayed (
+                  found.at,
+                  found.below,
+                  ltb-true w.c_max (load w departures found.at i d) found.passes,
+                )
             | inr none ↦
                 other-some w arrivals departures i rises s within delayed (λ over.
                 let passes = lt-ltb w.c_max (load w departures over.0 i d) over.2 in

@@ -1,7 +1,8 @@
 -- Plans: when the packets of a flow could leave, so that neither the bucket nor the virtual receiver buffer of a sender
 -- type ever holds too many (SMPTE ST 2110-21). m is the video, n the packets of one group; arrivals and departures are
--- in nanoseconds of TAI, and packets, ticks and reads are counted from 0. Both models are the standard's. This project's
--- own is to delay packets, as little as possible, against the ticks and the reads that the first arrival sets.
+-- in nanoseconds of TAI, and packets, ticks and reads are counted from 0. Both models are the standard's. This
+-- project's own is to delay packets, as little as possible, against the ticks and the reads that the first arrival
+-- sets.
 use Rattle.std.specs.Prelude.{◌≡◌, ◌≤◌, ◌<◌, ◌+◌, ◌-◌, ℕ, List, length, slice_index}
 use Rattle.fraction128.specs.Fractions.{whole}
 use Rattle.timing_base.specs.Media.{Media}

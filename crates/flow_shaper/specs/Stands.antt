@@ -20,9 +20,10 @@ pub record IsCount (w : Models) (departures : List ℕ) (i count begin : ℕ) : 
   pub begin_load : load w departures begin i (slice_index departures i) ≡ count
   pub latest : (j : ℕ) → j ≤ i → load w departures j i (slice_index departures i) ≡ count → j ≤ begin
 
--- packet i was the last one to leave, of a flow that is shaped for this sender type, whose first packet came at `origin` as
--- one of group n0
-pub record IsAfter (params : Params) (kind : Kind) (n0 : ℤ) (origin : ℕ) (meters : Meters) (arrivals departures : List ℕ) (i : ℕ) : Type 0 where
+-- packet i was the last one to leave, of a flow that is shaped for this sender type, whose first packet came at
+-- `origin` as one of group n0
+pub record IsAfter (params : Params) (kind : Kind) (n0 : ℤ) (origin : ℕ) (meters : Meters)
+    (arrivals departures : List ℕ) (i : ℕ) : Type 0 where
   pub first : slice_index arrivals 0 ≡ origin
   pub last : meters.last ≡ slice_index departures i
   pub count : IsCount (models_of params.media params.n kind origin) departures i meters.count meters.begin

@@ -7,11 +7,13 @@ use Rattle.flow_shaper.specs.Plan.{Models, models_of}
 
 -- a tick each 10 ns and a read each 100 ns
 abbrev pub small : (c_max vrx_full : ℕ) → Models
-small c_max vrx_full = record { ticks = λ at. at / 10; held = λ i at. (i + 1) - at / 100; c_max = c_max; vrx_full = vrx_full }
+small c_max vrx_full =
+    record { ticks = λ at. at / 10; held = λ i at. (i + 1) - at / 100; c_max = c_max; vrx_full = vrx_full }
 
 -- a tick and a read each 10 ns
 abbrev pub even : (c_max vrx_full : ℕ) → Models
-even c_max vrx_full = record { ticks = λ at. at / 10; held = λ i at. (i + 1) - at / 10; c_max = c_max; vrx_full = vrx_full }
+even c_max vrx_full =
+    record { ticks = λ at. at / 10; held = λ i at. (i + 1) - at / 10; c_max = c_max; vrx_full = vrx_full }
 
 -- 1,600,000,000 s and 764,000 ns, where the packets of `at_once` come
 abbrev pub first : ℕ

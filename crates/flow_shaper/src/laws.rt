@@ -1,11 +1,14 @@
 //! What holds of plans, for every list of arrivals, and the definitions on numbers worked by hand. Each
 //! function is a theorem: it does nothing, and its clauses are proved.
 
-ghost use Rattle.std.specs.Prelude.{◌≡◌, ◌≤◌, ◌<◌, ◌+◌, ℕ, List, [], ◌∷◌, length, slice_index};
+ghost use Rattle.std.specs.Prelude.{◌≡◌, ◌≤◌, ◌<◌, ◌+◌, ℕ, List, Some, None, false, [], ◌∷◌, length, slice_index};
 ghost use Rattle.timing_base.specs.Media.{IsMedia, Media};
 ghost use Rattle.timing_base.specs.declared.media.Kind.{Kind};
-ghost use Rattle.timing_base.specs.declared.media.Kind.TheVariants.{N};
-ghost use Rattle.sender_params.specs.Worked.{at_once, hd_50};
+ghost use Rattle.timing_base.specs.declared.media.Kind.TheVariants.{N, NL};
+ghost use Rattle.sender_params.specs.Keeps.{held_at};
+ghost use Rattle.sender_params.specs.Limits.{gapped_of, vrx_full_of};
+ghost use Rattle.sender_params.specs.Ticks.{KeepsBucket};
+ghost use Rattle.sender_params.specs.Worked.{at_once, described, hd_50};
 ghost use Rattle.flow_shaper.specs.Bounds.{BoundAt, IsBound};
 ghost use Rattle.flow_shaper.specs.Plan.{IsLeast, IsPlan, Shaped, load, models_of};
 ghost use Rattle.flow_shaper.specs.Worked.{burst_shaped, even, first, hd_50_wide_bucket, narrow, small};
@@ -26,6 +29,15 @@ pub fn first_leaves_as_it_comes()
     ensures { (m : Media) (n : ℕ) (kind : Kind) (arrivals departures : List ℕ) → IsMedia m → 1 ≤ n
         → Shaped m n kind arrivals departures → 0 < length arrivals
         → slice_index departures 0 ≡ slice_index arrivals 0 }
+{}
+
+/// As departures they keep the bucket of the type, and at no packet the buffer holds more than VRX_FULL.
+pub fn shaped_keeps()
+    ensures bucket { (m : Media) (n : ℕ) (kind : Kind) (arrivals departures : List ℕ) → IsMedia m → 1 ≤ n
+        → Shaped m n kind arrivals departures → KeepsBucket m n departures kind }
+    ensures buffer { (m : Media) (n : ℕ) (kind : Kind) (arrivals departures : List ℕ) (i : ℕ)
+        → IsMedia m → 1 ≤ n → Shaped m n kind arrivals departures → i < length departures
+        → held_at m n departures (gapped_of kind) i ≤ vrx_full_of m n kind }
 {}
 
 /// In it each packet leaves when it comes, or the bucket, the buffer or the packet before it holds it
@@ -81,8 +93,8 @@ pub fn burst_by_hand()
     ensures bound { BoundAt hd_50 20 N (at_once 5) burst_shaped 4 (Bucket 0) }
 {}
 
-/// The same with CMAX=100, where VRX_FULL is 8: of nine packets at once the last waits for read 0, at
-/// 444 4/9 ns, and of ten the last for read 1, 960,000 ns after it.
+/// 1080p at 50 with 20 packets per frame and CMAX=100, where VRX_FULL is 8: of nine packets at once the
+/// last waits for read 0, at 444 4/9 ns, and of ten the last for read 1, 960,000 ns after it.
 pub fn buffer_by_hand()
     ensures c_max { (models_of hd_50_wide_bucket 20 N first).c_max ≡ 100 }
     ensures vrx_full { (models_of hd_50_wide_bucket 20 N first).vrx_full ≡ 8 }
@@ -90,4 +102,16 @@ pub fn buffer_by_hand()
     ensures full { (models_of hd_50_wide_bucket 20 N first).held 8 (first + 445) ≡ 8 }
     ensures next_over { (models_of hd_50_wide_bucket 20 N first).held 9 (first + 960444) ≡ 9 }
     ensures next_full { (models_of hd_50_wide_bucket 20 N first).held 9 (first + 960445) ≡ 8 }
+{}
+
+/// Of type NL with CMAX=100 twelve packets at once wait for linear reads 0 to 3, 1,000,000 ns apart.
+pub fn linear_buffer_by_hand()
+    ensures over { (models_of (described 1080 false 50 1 (Some NL) None (Some 100)) 20 NL first).held
+        8 (first + 444) ≡ 9 }
+    ensures full { (models_of (described 1080 false 50 1 (Some NL) None (Some 100)) 20 NL first).held
+        8 (first + 445) ≡ 8 }
+    ensures last_over { (models_of (described 1080 false 50 1 (Some NL) None (Some 100)) 20 NL first).held
+        11 (first + 3000444) ≡ 9 }
+    ensures last_full { (models_of (described 1080 false 50 1 (Some NL) None (Some 100)) 20 NL first).held
+        11 (first + 3000445) ≡ 8 }
 {}

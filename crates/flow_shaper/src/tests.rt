@@ -3,7 +3,7 @@
 ghost use Rattle.std.specs.Prelude.{◌<◌, ◌≤◌, ◌^◌};
 
 use super::*;
-use read_schedule::reads;
+use read_schedule::Schedule;
 use sender_params::Params;
 use sender_params::worked::video;
 use std::alloc::Global;
@@ -21,7 +21,7 @@ fn plain() -> Params {
     Params::of(&video(1080, false, 50, 1), 20)
 }
 
-// The same with CMAX=100.
+// 1080p at 50 with 20 packets per frame, declared narrow, with CMAX=100.
 fn wide_bucket() -> Params {
     let mut media = video(1080, false, 50, 1);
     media.cmax = Some(100);
@@ -104,8 +104,8 @@ fn keeps_limits(rt: &impl Abort, params: &Params, departures: &[u64]) -> bool {
         let (i, at) = (i as u64, *at);
         assert!(rt; FIRST <= at && at < 1 << 62);
         assert!(rt; i < 1 << 41);
-        let due = reads(params, true, n0, at);
-        keeps &= (i + 1).saturating_sub(due) <= params.vrx_full(Kind::N);
+        let due = Schedule::new(params, true, n0).advance(at);
+        keeps &= (i + 1).saturating_sub(due.count) <= params.vrx_full(Kind::N);
         let ticks = params.ticks(FIRST, at);
         for (j, from) in departures.iter().enumerate() {
             let (j, from) = (j as u64, *from);

@@ -1,7 +1,6 @@
 -- What a step of an intake does to its outboxes.
-use Rattle.std.proofs.Common.{◌≡◌, ◌<◌, ◌≤◌, ◌+◌, ℕ, suc, zero, List, [], ◌∷◌, ◌++◌, length, map, set, inl, inr, refl, sym, ap, ap₂, ◌∙◌, subst, arith}
-use Rattle.std.proofs.Common.{append-nil, append_assoc, length-append}
-use Rattle.std.specs.Prelude.{slice_index_or, Result, Ok, Err, IfOk, MatchResult, OnErr}
+use Rattle.std.proofs.Common.{◌≡◌, ◌<◌, ◌≤◌, ◌+◌, ℕ, suc, zero, List, [], ◌∷◌, ◌++◌, length, map, set, inl, inr, refl, sym, ap, ap₂, ◌∙◌, subst, arith, append-nil, append_assoc, length-append}
+use Rattle.std.specs.Prelude.{slice_index_or, Result, Ok, Err, IfErr, IfOk, MatchResult, OnErr}
 use Rattle.std.proofs.lemmas.Bool.{cases_eq, cases_lt}
 use Rattle.std.proofs.lemmas.List.{set-get_or}
 use Rattle.std.proofs.lemmas.List.Sums.{sum_by_push}
@@ -35,6 +34,11 @@ match_err {A = A} {E = E} r e P Q is h = let F : Result A E → Type 0 = λ x. M
 pub if_ok : {A E : Type 0} (r : Result A E) (P Q : A → Type 0) (R : E → Type 0) → ((x : A) → P x → Q x) → MatchResult r P R → IfOk r Q
 if_ok (Ok x) P Q R f h = f x h
 if_ok (Err e) P Q R f h = tt
+
+-- of one that may be an error
+pub if_err : {A E : Type 0} (r : Result A E) (P : A → Type 0) (R Q : E → Type 0) → ((e : E) → R e → Q e) → MatchResult r P R → IfErr r Q
+if_err (Ok x) P R Q f h = tt
+if_err (Err e) P R Q f h = f e h
 
 -- one batch more without a packet
 none-push : (xs : List (List Packet)) (b : List Packet) → ((w : ℕ) → slice_index_or xs w [] ≡ []) → b ≡ [] → (w : ℕ) → slice_index_or (xs ++ b ∷ []) w [] ≡ []

@@ -1,28 +1,28 @@
 -- The records of a file, as their packets are cut one after the other, and what an intake has sent of them when it ends.
-use Rattle.std.proofs.Common.{◌≡◌, ◌<◌, ◌+◌, ℕ, Bool, if◌then◌else◌, List, [], ◌∷◌, ◌++◌, length, inl, inr, refl, sym, ap, ◌∙◌, subst, append-nil, append_assoc}
-use Rattle.std.proofs.Common.{length-append, arith}
-use Rattle.std.specs.Prelude.{Option, None}
+use Rattle.std.proofs.Common.{◌≡◌, ◌<◌, ◌+◌, ℕ, Bool, if◌then◌else◌, List, [], ◌∷◌, ◌++◌, length, inl, inr, refl, sym, ap, ◌∙◌, subst, append-nil, append_assoc, length-append, arith}
+use Rattle.std.specs.Prelude.{map, Option, None, Some}
 use Rattle.std.proofs.lemmas.Bool.{cases_lt}
 use Rattle.std.proofs.lemmas.List.Elements.{filter_map-append}
-use Rattle.timing_base.specs.Captures.{Record}
+use Rattle.timing_base.specs.Captures.{Record, raised}
 use Rattle.timing_base.specs.Keys.{key_of}
 use Rattle.timing_base.specs.Media.{Media}
 use Rattle.timing_base.specs.Routes.{route}
 use Rattle.timing_base.specs.declared.capture.FileNote.{FileNote}
 use Rattle.timing_base.specs.declared.capture.FileNote.TheVariants as file_note
 use Rattle.timing_base.specs.declared.capture.PcapFault.TheVariants as fault
-use Rattle.pcap_reader.specs.Readers.{GivesNote, WillGive}
-use Rattle.pcap_reader.specs.Records.{IsGiven}
-use Rattle.pcap_reader.specs.declared.reader.PcapReader.{PcapReader}
+use Rattle.pcap_reader.specs.Readers.{GivesNote}
+use Rattle.pcap_reader.specs.Taken.{HasTaken}
+use Rattle.pcap_reader.proofs.Captures.{map-raised}
 use Rattle.ruled_intake.specs.Lanes.{LaneId, Sender}
 use Rattle.ruled_intake.specs.Packets.{Packet}
 use Rattle.ruled_intake.specs.declared.message.Message.{Message}
 use Rattle.flow_worker.specs.Cut.{HasCut}
-use Rattle.flow_worker.specs.Intakes.{HasBegun, HasSentAll, HasTold, HaveSent, HaveSentNothing, intake_setting, lane_sends}
+use Rattle.flow_worker.specs.Intakes.{HasBegun, HasSentAll, HasTold, HaveSent, HaveSentNothing, lane_sends}
 use Rattle.flow_worker.specs.Messages.{IsPrefix, ending}
 use Rattle.flow_worker.specs.Opening.{Capture, Setting, for_lane, full_batches, lane_packets, packet_from, rest, sent_of, session_packets}
-use Rattle.flow_worker.specs.Sending.{AreCut, AreSame, CutsNext, HasBegunFile, HasCutAll, HasCutSome, HasLeftOff, HasSentFile, open_for, route_of, sends_to}
-use Rattle.flow_worker.specs.Sending.{sent_to, with_end}
+use Rattle.flow_worker.specs.Sending.{AreCut, AreSame, HasBegunFile, HasCutAll, HasLeftOff, HasSentFile, open_for, route_of, sends_to, sent_to, with_end}
+use Rattle.flow_worker.specs.Sorting.{LeavesOff, Sorts}
+use Rattle.flow_worker.specs.declared.intakes.Sorter.{Sorter}
 use Rattle.flow_worker.specs.declared.outboxes.Outboxes.{Outboxes}
 use Rattle.flow_worker.specs.declared.routing.Routing.{Routing}
 use Rattle.flow_worker.proofs.Cutting.{HasCut-all, HasCut-prefix}
@@ -32,22 +32,30 @@ use Rattle.flow_worker.proofs.Passes.{HaveSent-as, sent_of-past}
 pub session_packets-append : (ms : List Media) (xs ys : List Record) → session_packets ms (xs ++ ys) ≡ session_packets ms xs ++ session_packets ms ys
 session_packets-append ms xs ys = filter_map-append (packet_from 0 ms) xs ys
 
--- one record more is cut
-pub cut-more : {S : Type 0} (left : S → Option (List ℕ)) (r : Routing) (old new : Outboxes) (reader next : PcapReader S) (count more : ℕ) (o : Option FileNote) (items : List Record) (end : FileNote)
-    → o ≡ None → more ≡ count + 1 → HasCutSome left r old reader count items end
-    → ((later : List Record) → WillGive left reader later end → CutsNext left r old new next o later end) → HasCutSome left r new next more items end
-cut-more left r old new reader next count more o items end e one h takes =
-    let t = subst (λ (x : Option FileNote). CutsNext left r old new next x h.later end) e (takes h.later h.given) in
-    record {
-      before = h.before ++ t.0 ∷ [];
-      later = t.1;
-      whole = h.whole ∙ ap (λ l. h.before ++ l) t.2 ∙ sym (append_assoc h.before (t.0 ∷ []) t.1);
-      given = t.3;
-      count_is = length-append h.before (t.0 ∷ []) ∙ omega (arith, h.count_is, one);
-      cut =
-          subst (λ (ps : List Packet). AreCut (route_of r) ps new) (sym (session_packets-append r.media.now h.before (t.0 ∷ [])))
-          (t.4 (session_packets r.media.now h.before) h.cut);
-    }
+-- the packets of all records that were taken were cut
+pub taken-cut : {R : Type 0} (old new : Sorter R) (note : FileNote) (count : ℕ) (items : List Record) (end : FileNote)
+    → AreCut (route_of old.routing) [] old.outboxes → HasTaken Sorts 0 old new note count items end
+    → HasCutAll old.routing new.outboxes note count items end
+taken-cut old new note count items end none h = record {
+  before = h.taken;
+  later = h.rest;
+  whole = h.whole;
+  ends = h.ends;
+  count_is = h.count_is;
+  cut =
+      subst (λ (l : List Record). AreCut (route_of old.routing) (session_packets old.routing.media.now l) new.outboxes) (map-raised h.taken)
+      (h.fed.cuts [] none);
+}
+
+-- the packets of the records before the one at which memory ran out were cut
+pub taken-left : {R : Type 0} (old new : Sorter R) (items : List Record) → AreCut (route_of old.routing) [] old.outboxes
+    → LeavesOff old new (map (raised 0) items) → HasLeftOff old.routing new.outboxes items
+taken-left old new items none h = record {
+  before = h.before;
+  later = h.later;
+  whole = sym (map-raised items) ∙ h.whole;
+  full = λ w below. h.full [] none w below;
+}
 
 -- all that is sent to a lane, once its packets are cut
 ends-are : (r : Routing) (o : Outboxes) (note : FileNote) (count w : ℕ) (items : List Record) → length items ≡ count → w < r.lanes
@@ -99,7 +107,6 @@ gives-all (file_note.Refused fault.BadLink) = (refl, refl)
 gives-all (file_note.Refused (fault.BadStamp n)) = (refl, refl)
 gives-all (file_note.Refused (fault.BadLength n)) = (refl, refl)
 gives-all (file_note.Refused fault.TooLong) = (refl, refl)
-gives-all file_note.Stopped = (refl, refl)
 
 -- memory ran out at a record
 pub begun-early : (r : Routing) (o : Outboxes) (items : List Record) (end : FileNote) → HasLeftOff r o items → HasBegunFile r o items end
@@ -124,10 +131,14 @@ begun-early r o items end h =
           );
     }
 
+-- the setting by which a file is routed
+abbrev setting_by : Routing → (joined : Bool) → (tai : ℕ) → Setting
+setting_by r joined tai = record { media = r.media.now; workers = r.lanes; joined = joined; tai = tai }
+
 -- what is to be sent of a file, for the whole run
-sends-are : (r : Routing) (joined : Bool) (file w : ℕ) (items : List Record) (note : FileNote) → r.file ≡ (if joined then 0 else file)
-    → sends_to r file w items note ≡ lane_sends (intake_setting r.media.now r.lanes joined) file (record { records = items; note = note }) w
-sends-are r joined file w items note e =
+sends-are : (r : Routing) (joined : Bool) (tai file w : ℕ) (items : List Record) (note : FileNote) → r.file ≡ (if joined then 0 else file)
+    → sends_to r file w items note ≡ lane_sends (setting_by r joined tai) file (record { records = items; note = note }) w
+sends-are r joined tai file w items note e =
     ap (λ (f : ℕ). for_lane w (sent_of 256 file (λ p. route (key_of f p.media) (length r.media.now) r.lanes) (session_packets r.media.now items) r.lanes (ending file note (length items)))) e
 
 -- what is to be sent of a file with such a note was sent by these passes
@@ -146,26 +157,25 @@ told-all s file lanes passes note end items before later whole ends sent =
     }
 
 -- what an intake tells by its note
-told-by : (s : Setting) (file : ℕ) (lanes : List LaneId) (passes : List Sender) (note end : FileNote) (items before later : List Record) → IsGiven note
+told-by : (s : Setting) (file : ℕ) (lanes : List LaneId) (passes : List Sender) (note end : FileNote) (items before later : List Record)
     → items ≡ before ++ later → GivesNote note later end → SentTo s file lanes passes before note
-    → HasTold s file lanes (record { records = items; note = end }) note passes
-told-by s file lanes passes file_note.End end items before later given whole ends sent = told-all s file lanes passes file_note.End end items before later whole ends sent
-told-by s file lanes passes (file_note.Cut at) end items before later given whole ends sent = told-all s file lanes passes (file_note.Cut at) end items before later whole ends sent
-told-by s file lanes passes (file_note.Refused fault.ReadFault) end items before later given whole ends sent =
+    → HasTold s file lanes (record { records = items; note = end }) (Some note) passes
+told-by s file lanes passes file_note.End end items before later whole ends sent = told-all s file lanes passes file_note.End end items before later whole ends sent
+told-by s file lanes passes (file_note.Cut at) end items before later whole ends sent = told-all s file lanes passes (file_note.Cut at) end items before later whole ends sent
+told-by s file lanes passes (file_note.Refused fault.ReadFault) end items before later whole ends sent =
     record { before = before; later = later; whole = whole; have_sent = sent }
-told-by s file lanes passes (file_note.Refused fault.BadMagic) end items before later given whole ends sent =
+told-by s file lanes passes (file_note.Refused fault.BadMagic) end items before later whole ends sent =
     told-all s file lanes passes (file_note.Refused fault.BadMagic) end items before later whole ends sent
-told-by s file lanes passes (file_note.Refused fault.BadVersion) end items before later given whole ends sent =
+told-by s file lanes passes (file_note.Refused fault.BadVersion) end items before later whole ends sent =
     told-all s file lanes passes (file_note.Refused fault.BadVersion) end items before later whole ends sent
-told-by s file lanes passes (file_note.Refused fault.BadLink) end items before later given whole ends sent =
+told-by s file lanes passes (file_note.Refused fault.BadLink) end items before later whole ends sent =
     told-all s file lanes passes (file_note.Refused fault.BadLink) end items before later whole ends sent
-told-by s file lanes passes (file_note.Refused (fault.BadStamp n)) end items before later given whole ends sent =
+told-by s file lanes passes (file_note.Refused (fault.BadStamp n)) end items before later whole ends sent =
     told-all s file lanes passes (file_note.Refused (fault.BadStamp n)) end items before later whole ends sent
-told-by s file lanes passes (file_note.Refused (fault.BadLength n)) end items before later given whole ends sent =
+told-by s file lanes passes (file_note.Refused (fault.BadLength n)) end items before later whole ends sent =
     told-all s file lanes passes (file_note.Refused (fault.BadLength n)) end items before later whole ends sent
-told-by s file lanes passes (file_note.Refused fault.TooLong) end items before later given whole ends sent =
+told-by s file lanes passes (file_note.Refused fault.TooLong) end items before later whole ends sent =
     told-all s file lanes passes (file_note.Refused fault.TooLong) end items before later whole ends sent
-told-by s file lanes passes file_note.Stopped end items before later given whole ends sent = absurd (given refl)
 
 -- passes of outboxes that are of the same file
 pub of-same : (old new : Outboxes) → AreSame old new → HaveSent old.file old.lanes.now (sent_to new) new.passes.items
@@ -175,25 +185,25 @@ of-same old new same =
     subst (λ (l : List LaneId). HaveSent old.file l (sent_to new) new.passes.items) same.lanes first
 
 -- all was sent, or all of the records before a read that failed
-pub told-file : (r : Routing) (old new : Outboxes) (joined : Bool) (note end : FileNote) (items : List Record) → r.file ≡ (if joined then 0 else old.file) → AreSame old new → IsGiven note
+pub told-file : (r : Routing) (old new : Outboxes) (joined : Bool) (tai : ℕ) (note end : FileNote) (items : List Record) → r.file ≡ (if joined then 0 else old.file) → AreSame old new
     → HasSentFile r new note items end
-    → HasTold (intake_setting r.media.now r.lanes joined) old.file old.lanes.now (record { records = items; note = end }) note new.passes.items
-told-file r old new joined note end items e same given h =
-    let s = intake_setting r.media.now r.lanes joined in
+    → HasTold (setting_by r joined tai) old.file old.lanes.now (record { records = items; note = end }) (Some note) new.passes.items
+told-file r old new joined tai note end items e same h =
+    let s = setting_by r joined tai in
     let sent : SentTo s old.file old.lanes.now new.passes.items h.before note =
     HaveSent-as old.file old.lanes.now new.passes.items (sent_to new) (lane_sends s old.file (record { records = h.before; note = note }))
     (λ w below.
     let within : w < length new.lanes.now = omega (arith, ap length same.lanes) in
-    h.all w within ∙ ap (λ (f : ℕ). sends_to r f w h.before note) same.file ∙ sends-are r joined old.file w h.before note e)
+    h.all w within ∙ ap (λ (f : ℕ). sends_to r f w h.before note) same.file ∙ sends-are r joined tai old.file w h.before note e)
     (of-same old new same) in
-    told-by s old.file old.lanes.now new.passes.items note end items h.before h.later given h.whole h.ends sent
+    told-by s old.file old.lanes.now new.passes.items note end items h.before h.later h.whole h.ends sent
 
 -- memory ran out
-pub told-stopped : (r : Routing) (old new : Outboxes) (joined : Bool) (end : FileNote) (items : List Record) → r.file ≡ (if joined then 0 else old.file) → AreSame old new
+pub told-stopped : (r : Routing) (old new : Outboxes) (joined : Bool) (tai : ℕ) (end : FileNote) (items : List Record) → r.file ≡ (if joined then 0 else old.file) → AreSame old new
     → HasBegunFile r new items end
-    → HasBegun (intake_setting r.media.now r.lanes joined) old.file old.lanes.now (record { records = items; note = end }) new.passes.items
-told-stopped r old new joined end items e same h =
-    let s = intake_setting r.media.now r.lanes joined in
+    → HasBegun (setting_by r joined tai) old.file old.lanes.now (record { records = items; note = end }) new.passes.items
+told-stopped r old new joined tai end items e same h =
+    let s = setting_by r joined tai in
     let have = of-same old new same in
     record {
       part = record { records = h.before; note = h.note };
@@ -206,7 +216,7 @@ told-stopped r old new joined end items e same h =
             | inl below ↦
                 let within : w < length new.lanes.now = omega (arith, below, ap length same.lanes) in
                 let t = h.begins w within in
-                (t.0, t.1 ∙ ap (λ (f : ℕ). sends_to r f w h.before h.note) same.file ∙ sends-are r joined old.file w h.before h.note e)
+                (t.0, t.1 ∙ ap (λ (f : ℕ). sends_to r f w h.before h.note) same.file ∙ sends-are r joined tai old.file w h.before h.note e)
             | inr past ↦ (whole, ap (λ (l : List Message). l ++ whole) (sent_of-past new.passes.items w (omega (arith, past, have.count))))
           ];
     }
@@ -223,8 +233,8 @@ told-nothing s file lanes passes items end h = record {
 }
 
 -- memory ran out, and the passes are those that were left
-pub told-stop : (s : Setting) (file : ℕ) (lanes : List LaneId) (c : Capture) (passes now : List Sender) (note : FileNote) → note ≡ file_note.Stopped → now ≡ passes
+pub told-stop : (s : Setting) (file : ℕ) (lanes : List LaneId) (c : Capture) (passes now : List Sender) (note : Option FileNote) → note ≡ None → now ≡ passes
     → HasBegun s file lanes c passes → HasTold s file lanes c note now
 told-stop s file lanes c passes now note e same h =
     let here : HasBegun s file lanes c now = subst (λ (ps : List Sender). HasBegun s file lanes c ps) (sym same) h in
-    subst (λ (x : FileNote). HasTold s file lanes c x now) (sym e) here
+    subst (λ (x : Option FileNote). HasTold s file lanes c x now) (sym e) here

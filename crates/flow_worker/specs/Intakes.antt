@@ -1,9 +1,8 @@
 -- What an intake has sent when it ends. Files and lanes count from 0.
-use Rattle.std.specs.Prelude.{◌≡◌, ◌<◌, ℕ, Bool, List, [], ◌++◌, length, slice_index_or}
+use Rattle.std.specs.Prelude.{◌≡◌, ◌<◌, ℕ, List, [], ◌++◌, length, slice_index_or, Option, Some, None}
 use Rattle.timing_base.specs.Captures.{Record}
-use Rattle.timing_base.specs.Media.{Media}
 use Rattle.timing_base.specs.declared.capture.FileNote.{FileNote}
-use Rattle.timing_base.specs.declared.capture.FileNote.TheVariants.{Refused, Stopped}
+use Rattle.timing_base.specs.declared.capture.FileNote.TheVariants.{Refused}
 use Rattle.timing_base.specs.declared.capture.PcapFault.TheVariants.{ReadFault}
 use Rattle.pcap_reader.specs.Readers.{GivesNote}
 use Rattle.ruled_intake.specs.Lanes.{LaneId, Sender}
@@ -24,10 +23,6 @@ HaveSentNothing file lanes passes = HaveSent file lanes (λ lane. []) passes
 -- something was sent, or nothing
 abbrev pub AreOfFile : (file : ℕ) → List LaneId → List Sender → Type 0
 AreOfFile file lanes passes = (sent : (lane : ℕ) → List Message) × HaveSent file lanes sent passes
-
--- the run of an intake: it knows of no seconds that are added to stamps
-abbrev pub intake_setting : List Media → (workers : ℕ) → (joined : Bool) → Setting
-intake_setting media workers joined = record { media = media; workers = workers; joined = joined; tai = 0 }
 
 -- what a file has to send to a lane
 abbrev pub lane_sends : Setting → (file : ℕ) → Capture → (lane : ℕ) → List Message
@@ -59,8 +54,8 @@ pub record HasSentAll (s : Setting) (file : ℕ) (lanes : List LaneId) (c : Capt
   pub note_is : note ≡ c.note
   pub have_sent : HaveSent file lanes (lane_sends s file c) passes
 
--- what an intake with this note has sent of a capture
-abbrev pub HasTold : Setting → (file : ℕ) → List LaneId → Capture → FileNote → List Sender → Type 0
-HasTold s file lanes c Stopped passes = HasBegun s file lanes c passes
-HasTold s file lanes c (Refused ReadFault) passes = HasBroken s file lanes c.records passes
-HasTold s file lanes c note passes = HasSentAll s file lanes c note passes
+-- what an intake with this note has sent of a capture; without one memory ran out
+abbrev pub HasTold : Setting → (file : ℕ) → List LaneId → Capture → Option FileNote → List Sender → Type 0
+HasTold s file lanes c None passes = HasBegun s file lanes c passes
+HasTold s file lanes c (Some (Refused ReadFault)) passes = HasBroken s file lanes c.records passes
+HasTold s file lanes c (Some note) passes = HasSentAll s file lanes c note passes

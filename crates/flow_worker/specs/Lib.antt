@@ -1,6 +1,7 @@
 -- what is promised
 pub mod Messages
 pub mod Opening
+pub mod Settings
 pub mod Cut
 pub mod Intakes
 pub mod Posting
@@ -13,5 +14,6 @@ pub mod SmallRun
 -- these only serve proofs
 pub mod Targeted
 pub mod Sending
+pub mod Sorting
 pub mod Judging
 pub mod Standing

@@ -1,11 +1,10 @@
 -- What an intake sends by, and what each part of its work leaves. Lanes count from 0.
-use Rattle.std.specs.Prelude.{◌≡◌, ◌≤◌, ◌<◌, ◌+◌, ◌^◌, ℕ, List, [], ◌∷◌, ◌++◌, length, map, slice_index_or, Option}
-use Rattle.std.specs.Prelude.{Some, None}
+use Rattle.std.specs.Prelude.{◌≡◌, ◌≤◌, ◌<◌, ◌+◌, ◌^◌, ℕ, List, [], ◌∷◌, ◌++◌, length, map, slice_index_or, None}
 use Rattle.timing_base.specs.Captures.{Record}
 use Rattle.timing_base.specs.Keys.{key_of}
 use Rattle.timing_base.specs.Routes.{route}
 use Rattle.timing_base.specs.declared.capture.FileNote.{FileNote}
-use Rattle.pcap_reader.specs.Readers.{GivesNote, WillGive, end_note, frame_count, most_of}
+use Rattle.pcap_reader.specs.Readers.{GivesNote, end_note, frame_count, most_of}
 use Rattle.pcap_reader.specs.declared.reader.PcapReader.{PcapReader}
 use Rattle.ruled_intake.specs.Lanes.{packets, sent_of as sent_by}
 use Rattle.ruled_intake.specs.Packets.{Packet}
@@ -116,23 +115,6 @@ pub record BeginsFile {S : Type 0} (r : Routing) (reader : PcapReader S) (o : Ou
 -- whatever packets were cut, now those and these are
 abbrev pub Cuts : (Packet → ℕ) → (old new : Outboxes) → List Packet → Type 0
 Cuts lane old new more = (ps : List Packet) → AreCut lane ps old → AreCut lane (ps ++ more) new
-
--- a record was taken off what the reader was to give, and cut; or there is no record more
-abbrev pub CutsNext : {S : Type 0} → (S → Option (List ℕ)) → Routing → (old new : Outboxes) → PcapReader S → Option FileNote
-    → List Record → FileNote → Type 0
-CutsNext left r old new reader None items end = (item : Record) × (later : List Record) × (items ≡ item ∷ later)
-    × WillGive left reader later end × Cuts (route_of r) old new (session_packets r.media.now (item ∷ []))
-CutsNext left r old new reader (Some note) items end = GivesNote note items end × (new ≡ old)
-
--- so many records were taken off what the reader was to give, and their packets cut; the others are still to come
-pub record HasCutSome {S : Type 0} (left : S → Option (List ℕ)) (r : Routing) (o : Outboxes) (reader : PcapReader S) (count : ℕ)
-    (items : List Record) (end : FileNote) : Type 0 where
-  pub before : List Record
-  pub later : List Record
-  pub whole : items ≡ before ++ later
-  pub given : WillGive left reader later end
-  pub count_is : length before ≡ count
-  pub cut : AreCut (route_of r) (session_packets r.media.now before) o
 
 -- of these records so many were read, and their packets cut, up to an end with this note: all, unless a read failed
 pub record HasCutAll (r : Routing) (o : Outboxes) (note : FileNote) (count : ℕ) (items : List Record) (end : FileNote) : Type 0 where

@@ -1,8 +1,6 @@
 -- What the judges of a worker stand for: for what it took, where files are judged each for itself, and where they are
 -- joined. Files and workers count from 0.
-use Rattle.std.specs.Prelude.{◌≡◌, ◌≤◌, ◌<◌, ◌+◌, ◌*◌, ◌^◌, ℕ, Bool, true, false, List, ◌++◌, ◌∷◌, [], IsTrue, length}
-use Rattle.std.specs.Prelude.{map, min, Option, Some, None}
-use Rattle.timing_base.specs.Media.{Media}
+use Rattle.std.specs.Prelude.{◌≡◌, ◌≤◌, ◌<◌, ◌+◌, ◌*◌, ◌^◌, ℕ, Bool, true, false, List, ◌++◌, ◌∷◌, [], IsTrue, length, map, min, Option, Some, None}
 use Rattle.timing_base.specs.declared.key.FlowKey.{FlowKey}
 use Rattle.timing_base.specs.declared.packet.FlowPacket.{FlowPacket}
 use Rattle.ruled_intake.specs.Lanes.{IsWithin}
@@ -100,12 +98,3 @@ abbrev pub HasRows : {X : Type 0} → (Setting → ℕ → ℕ → List Message 
 HasRows Stands x receipts = (s : Setting) (files worker : ℕ) (taken : List Message)
     → Stands s files worker taken x → IsTrue (has_ends files taken)
     → map row_of receipts ≡ map (taken_row s files taken) (own_keys s files worker)
-
--- the worker is one of at most 16, and the media, files and seconds of its run are within their limits
-pub record IsWorker (media : List Media) (files worker workers tai : ℕ) : Type 0 where
-  pub worker_is : worker < workers
-  pub few_workers : workers ≤ 16
-  pub few_media : length media ≤ 64
-  pub some_files : 1 ≤ files
-  pub few_files : files ≤ 16
-  pub few_seconds : tai ≤ 1000

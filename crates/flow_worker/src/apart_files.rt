@@ -1,18 +1,19 @@
 //! Files that are judged each for itself.
 
-ghost use Rattle.std.specs.Prelude.{◌≡◌, ◌<◌, [], ℕ, List, All, false, IfOk, map};
+ghost use Rattle.std.specs.Prelude.{◌≡◌, ◌<◌, [], ℕ, List, All, false, IfOk, length, map};
 ghost use Rattle.std.specs.List.{list_all};
 ghost use Rattle.ruled_intake.specs.declared.message.Message.{Message as MessageValue};
 ghost use Rattle.verdict_book.specs.Receipts.{IsOf, row_of};
 ghost use Rattle.flow_worker.specs.Messages.{batch as batch_of, ending};
 ghost use Rattle.flow_worker.specs.Opening.{Setting};
+ghost use Rattle.flow_worker.specs.Settings.{IsWorker};
 ghost use Rattle.flow_worker.specs.Posting.{own_keys, taken_row};
 
 use crate::judges::Judges;
+use crate::setting::RunSetting;
 use ruled_intake::{Batch, FileEnd, Message};
 use std::alloc::{AllocError as OutOfMemory, Global};
 use std::sync::Wait;
-use timing_base::Media;
 use verdict_book::{Book, Receipt};
 
 /// A file that is judged for itself.
@@ -30,24 +31,17 @@ pub struct Apart {
 }
 
 impl Apart {
-    ghost use Rattle.flow_worker.specs.Standing.{ApartStandsFor, IsWorker, MayTake, Takes, TellsEnds};
+    ghost use Rattle.flow_worker.specs.Standing.{ApartStandsFor, MayTake, Takes, TellsEnds};
 
     /// So many files, of which nothing was taken yet. `Err` is want of memory.
-    pub fn new(
-        alloc: Global,
-        media: &[Media],
-        files: u32,
-        worker: u32,
-        workers: u32,
-        tai: u64,
-    ) -> Result<Apart, OutOfMemory>
-        requires limits { IsWorker media.now files worker workers tai }
-        ensures stands { IfOk result (λ apart. ApartStandsFor (record { media = media.now; workers = workers; joined = false; tai = tai })
-            files worker [] apart) }
+    pub fn new(alloc: Global, run: &RunSetting<'_>, worker: u32) -> Result<Apart, OutOfMemory>
+        requires limits { IsWorker run.now worker }
+        ensures stands { IfOk result (λ apart. ApartStandsFor (record { media = run.now.media.now; workers = length run.now.lanes.now; joined = false; tai = run.now.tai })
+            run.now.files worker [] apart) }
     {
         let mut all = Vec::new(alloc);
-        for file in 0..files {
-            let judges = Judges::new(alloc, media, file, worker, workers, tai)?;
+        for file in 0..run.files {
+            let judges = Judges::new(alloc, run, file, worker)?;
             all.push(OneFile {
                 judges,
                 ended: false,
@@ -71,7 +65,7 @@ impl Apart {
         }
     }
 
-    // Feeds a batch to the judges of its file.
+    /// Feeds a batch to the judges of its file.
     fn feed(&mut self, batch: &Batch) -> Result<(), OutOfMemory>
         requires few { MayTake ApartStandsFor (batch_of batch.now.file batch.now.packets) self.old }
         ensures stands { IfOk result (λ _. Takes ApartStandsFor (batch_of batch.now.file batch.now.packets) self.old self.new) }
@@ -83,7 +77,7 @@ impl Apart {
         self.files[file].judges.take(batch.packets.as_slice(), 0)
     }
 
-    // Marks a file as ended.
+    /// Marks a file as ended.
     fn end(&mut self, end: &FileEnd)
         ensures stands { Takes ApartStandsFor (ending end.now.file end.now.note end.now.records) self.old self.new }
     {

@@ -6,13 +6,14 @@ ghost use Rattle.ruled_intake.specs.Lanes.{IsWithin};
 ghost use Rattle.verdict_book.specs.Receipts.{IsOf};
 ghost use Rattle.flow_worker.specs.Messages.{batch as batch_of, ending, has_end};
 ghost use Rattle.flow_worker.specs.Opening.{Setting};
+ghost use Rattle.flow_worker.specs.Settings.{IsWorker};
 
 use crate::judges::Judges;
+use crate::setting::RunSetting;
 use ruled_intake::{Batch, FileEnd, Message};
 use std::alloc::{AllocError as OutOfMemory, Global};
 use std::mem;
 use std::sync::Wait;
-use timing_base::Media;
 use verdict_book::{Book, Receipt};
 
 /// What came of one of the files.
@@ -36,24 +37,17 @@ pub struct Joined {
 }
 
 impl Joined {
-    ghost use Rattle.flow_worker.specs.Standing.{HasEnded, HasRows, IsWorker, JoinedIsAt, JoinedStandsFor, MayTake, Takes, TellsEnds};
+    ghost use Rattle.flow_worker.specs.Standing.{HasEnded, HasRows, JoinedIsAt, JoinedStandsFor, MayTake, Takes, TellsEnds};
 
     /// So many files, of which nothing was taken yet. `Err` is want of memory.
-    pub fn new(
-        alloc: Global,
-        media: &[Media],
-        files: u32,
-        worker: u32,
-        workers: u32,
-        tai: u64,
-    ) -> Result<Joined, OutOfMemory>
-        requires limits { IsWorker media.now files worker workers tai }
-        ensures stands { IfOk result (λ joined. JoinedStandsFor (record { media = media.now; workers = workers; joined = true; tai = tai })
-            files worker [] joined) }
+    pub fn new(alloc: Global, run: &RunSetting<'_>, worker: u32) -> Result<Joined, OutOfMemory>
+        requires limits { IsWorker run.now worker }
+        ensures stands { IfOk result (λ joined. JoinedStandsFor (record { media = run.now.media.now; workers = length run.now.lanes.now; joined = true; tai = run.now.tai })
+            run.now.files worker [] joined) }
     {
-        let judges = Judges::new(alloc, media, 0, worker, workers, tai)?;
+        let judges = Judges::new(alloc, run, 0, worker)?;
         let mut all = Vec::new(alloc);
-        for _ in 0..files {
+        for _ in 0..run.files {
             all.push(Waiting {
                 batches: Vec::new(alloc),
                 end: None,
@@ -80,7 +74,7 @@ impl Joined {
         }
     }
 
-    // Feeds a batch of the next file, and keeps one of a file behind it.
+    /// Feeds a batch of the next file, and keeps one of a file behind it.
     fn feed(&mut self, batch: Batch) -> Result<(), OutOfMemory>
         requires few { MayTake JoinedStandsFor (batch_of batch.file batch.packets) self.old }
         ensures stands { IfOk result (λ _. Takes JoinedStandsFor (batch_of batch.file batch.packets) self.old self.new) }
@@ -96,7 +90,7 @@ impl Joined {
         Ok(())
     }
 
-    // Notes the end of a file, and goes on behind each file that has ended.
+    /// Notes the end of a file, and goes on behind each file that has ended.
     fn end(&mut self, end: FileEnd) -> Result<(), OutOfMemory>
         requires few { MayTake JoinedStandsFor (ending end.file end.note end.records) self.old }
         ensures stands { IfOk result (λ _. Takes JoinedStandsFor (ending end.file end.note end.records) self.old self.new) }
@@ -109,7 +103,7 @@ impl Joined {
         self.advance()
     }
 
-    // Goes on behind each file that has ended.
+    /// Goes on behind each file that has ended.
     fn advance(&mut self) -> Result<(), OutOfMemory>
         requires few { (s : Setting) × (files : ℕ) × (worker : ℕ) × (taken : List MessageValue)
             × JoinedIsAt s files worker taken self.old × IsWithin (2 ^ 41) taken }
@@ -123,7 +117,7 @@ impl Joined {
         Ok(())
     }
 
-    // The records of the next file, if it is there and has ended.
+    /// The records of the next file, if it is there and has ended.
     fn ended(&self) -> Option<u64>
         ensures some { IfSome result (λ records. (s : Setting) (files worker : ℕ)
             (taken : List MessageValue) → JoinedIsAt s files worker taken self.now
@@ -141,8 +135,8 @@ impl Joined {
         }
     }
 
-    // Goes on to the file behind the next one, which has ended with so many records, and feeds what
-    // waited of it.
+    /// Goes on to the file behind the next one, which has ended with so many records, and feeds what
+    /// waited of it.
     fn go_on(&mut self, records: u64) -> Result<(), OutOfMemory>
         requires few { (s : Setting) × (files : ℕ) × (worker : ℕ) × (taken : List MessageValue)
             × JoinedIsAt s files worker taken self.old × IsWithin (2 ^ 41) taken

@@ -9,7 +9,9 @@ ghost use Rattle.fail_interval.specs.Stands.{StandsFor};
 ghost use Rattle.verdict_book.specs.Receipts.{IsOf, row_of};
 ghost use Rattle.flow_worker.specs.Opening.{Setting};
 ghost use Rattle.flow_worker.specs.Posting.{row_over};
+ghost use Rattle.flow_worker.specs.Settings.{IsWorker};
 
+use crate::setting::RunSetting;
 use fail_interval::FlowJudge;
 use ruled_intake::{Batch, Packet};
 use std::alloc::{AllocError as OutOfMemory, Global};
@@ -31,29 +33,25 @@ impl Judges {
     /// want of memory.
     pub fn new(
         alloc: Global,
-        media: &[Media],
+        run: &RunSetting<'_>,
         file: u32,
         worker: u32,
-        workers: u32,
-        tai: u64,
     ) -> Result<Judges, OutOfMemory>
         requires file { file < 16 }
-        requires few_media { length media.now ≤ 64 }
-        requires worker { worker < workers }
-        requires few_workers { workers ≤ 16 }
-        requires tai { tai ≤ 1000 }
+        requires limits { IsWorker run.now worker }
         ensures fed { IfOk result (λ judges. (joined : Bool) → IsDealt joined file
-            → AreFed (record { media = media.now; workers = workers; joined = joined; tai = tai })
+            → AreFed (record { media = run.now.media.now; workers = length run.now.lanes.now; joined = joined; tai = run.now.tai })
             worker file (λ key. []) judges) }
     {
+        let media = run.media;
         let mut places = Vec::new(alloc);
         for (number, each) in media.iter().enumerate() {
             let key = FlowKey {
                 file,
                 media: number as u32,
             };
-            let own = route(key, media.len() as u32, workers) == worker;
-            places.push(own_judge(alloc, each, key, tai, own))?;
+            let own = route(key, media.len() as u32, run.lanes.len() as u32) == worker;
+            places.push(own_judge(alloc, each, key, run.tai, own))?;
         }
         Ok(Judges { places })
     }
@@ -86,7 +84,7 @@ impl Judges {
         Ok(())
     }
 
-    // Feeds one packet to the judge of its media, if there is one.
+    /// Feeds one packet to the judge of its media, if there is one.
     #[inline(always)]
     fn feed(&mut self, packet: &Packet, before: u64) -> Result<(), OutOfMemory>
         requires before { before ≤ 2 ^ 41 }
@@ -131,7 +129,7 @@ impl Judges {
     }
 }
 
-// The judge of a flow that is the worker's own.
+/// The judge of a flow that is the worker's own.
 fn own_judge(alloc: Global, media: &Media, key: FlowKey, tai: u64, own: bool) -> Option<FlowJudge>
     requires { tai ≤ 1000 }
     ensures judge { IfSome result (λ judge. IsTrue own × StandsFor media.now key tai judge []) }
@@ -144,7 +142,7 @@ fn own_judge(alloc: Global, media: &Media, key: FlowKey, tai: u64, own: bool) ->
     }
 }
 
-// Posts a row, and puts its receipt at the end of a list.
+/// Posts a row, and puts its receipt at the end of a list.
 fn post_row<R: Wait>(
     rt: &R,
     book: &Book,

@@ -2,13 +2,14 @@
 
 ghost use Rattle.std.specs.Prelude.{◌<◌, [], All, IfOk};
 ghost use Rattle.verdict_book.specs.Receipts.{IsOf};
+ghost use Rattle.flow_worker.specs.Settings.{IsWorker, setting_of};
 
 use crate::apart_files::Apart;
 use crate::joined_files::Joined;
+use crate::setting::RunSetting;
 use ruled_intake::Message;
 use std::alloc::{AllocError as OutOfMemory, Global};
 use std::sync::Wait;
-use timing_base::Media;
 use verdict_book::{Book, Receipt};
 
 /// The judges of a worker's flows.
@@ -19,28 +20,18 @@ pub enum Judging {
 }
 
 impl Judging {
-    ghost use Rattle.flow_worker.specs.Standing.{HasRows, IsWorker, MayTake, StandsFor, Takes, TellsEnds};
+    ghost use Rattle.flow_worker.specs.Standing.{HasRows, MayTake, StandsFor, Takes, TellsEnds};
 
     /// The judges of a worker that has taken nothing yet. `Err` is want of memory.
-    pub fn new(
-        alloc: Global,
-        worker: u32,
-        workers: u32,
-        joined: bool,
-        media: &[Media],
-        files: u32,
-        tai: u64,
-    ) -> Result<Judging, OutOfMemory>
-        requires limits { IsWorker media.now files worker workers tai }
-        ensures stands { IfOk result (λ judging. StandsFor
-            (record { media = media.now; workers = workers; joined = joined; tai = tai })
-            files worker [] judging) }
+    pub fn new(alloc: Global, run: &RunSetting<'_>, worker: u32) -> Result<Judging, OutOfMemory>
+        requires limits { IsWorker run.now worker }
+        ensures stands { IfOk result (λ judging. StandsFor (setting_of run.now) run.now.files worker [] judging) }
     {
-        if joined {
-            let files = Joined::new(alloc, media, files, worker, workers, tai)?;
+        if run.joined {
+            let files = Joined::new(alloc, run, worker)?;
             Ok(Judging::Joined(files))
         } else {
-            let files = Apart::new(alloc, media, files, worker, workers, tai)?;
+            let files = Apart::new(alloc, run, worker)?;
             Ok(Judging::Apart(files))
         }
     }

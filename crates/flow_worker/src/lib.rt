@@ -15,7 +15,9 @@ pub mod laws;
 mod open_batch;
 mod outboxes;
 mod routing;
+mod setting;
 mod workers;
 
 pub use intakes::{IntakeDone, intake};
+pub use setting::RunSetting;
 pub use workers::{WorkDone, work};

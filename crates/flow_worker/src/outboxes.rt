@@ -64,6 +64,13 @@ impl<'a> Outboxes<'a> {
         }
     }
 
+    /// The lanes.
+    pub fn lanes(&self) -> &'a [Lane]
+        ensures { result.now ≡ self.now.lanes.now }
+    {
+        self.lanes
+    }
+
     /// The passes, in the order of the lanes.
     pub fn into_passes(self) -> Vec<SendPass>
         ensures { result ≡ self.entry.passes }

@@ -1,18 +1,19 @@
 //! A worker: it takes the messages of one lane, and judges the flows that are dealt to it.
 
-ghost use Rattle.std.specs.Prelude.{◌≡◌, ◌≤◌, ◌<◌, ◌^◌, ℕ, IfOk, IfSome, IsErr, IsTrue, length};
-ghost use Rattle.ruled_intake.specs.Lanes.{HasTaken, IsWithin, messages};
+ghost use Rattle.std.specs.Prelude.{◌≡◌, ◌^◌, ℕ, IfOk, IfSome, IsErr, IsTrue, slice_index_or};
+ghost use Rattle.ruled_intake.specs.Lanes.{HasTaken, IsWithin, LaneId, messages};
 ghost use Rattle.flow_worker.specs.Opening.{Setting};
 ghost use Rattle.flow_worker.specs.Posting.{has_ends};
-ghost use Rattle.flow_worker.specs.Standing.{IsWorker, StandsFor};
+ghost use Rattle.flow_worker.specs.Settings.{IsWorker, setting_of};
+ghost use Rattle.flow_worker.specs.Standing.{StandsFor};
 ghost use Rattle.flow_worker.specs.Works.{HasJudged, HasTakenNothing};
 
 use crate::judging::Judging;
+use crate::setting::RunSetting;
 use crossbeam_utils::Backoff;
 use ruled_intake::{Halt, Lane, Message, TakePass};
 use std::alloc::{AllocError as OutOfMemory, Global};
 use std::sync::Wait;
-use timing_base::Media;
 use timing_outside::Gate;
 use verdict_book::{Book, Receipt};
 
@@ -29,7 +30,7 @@ pub struct WorkDone {
 /// and posts their rows. It meets the gate as number `16 + worker` before it takes, and as number
 /// `32 + worker` directly after its first message.
 ///
-/// Where the files are `joined`, what came of a file waits until the files before have ended; the
+/// Where the files are joined, what came of a file waits until the files before have ended; the
 /// record numbers are raised by those of the files before.
 ///
 /// A message of a file that isn't there, of a flow that isn't its own, or behind its file's first end
@@ -38,67 +39,50 @@ pub struct WorkDone {
 pub fn work<R: Wait, G: Gate>(
     rt: &R,
     alloc: Global,
+    run: &RunSetting<'_>,
     worker: u32,
-    workers: u32,
-    joined: bool,
-    media: &[Media],
-    files: u32,
-    tai: u64,
-    lane: &Lane,
     pass: TakePass,
     book: &Book,
     halt: &Halt,
     gate: &G,
 ) -> WorkDone
-    requires worker { worker < workers }
-    requires few_workers { workers ≤ 16 }
-    requires some_media { 1 ≤ length media.now }
-    requires few_media { length media.now ≤ 64 }
-    requires some_files { 1 ≤ files }
-    requires few_files { files ≤ 16 }
-    requires tai { tai ≤ 1000 }
-    requires pass { HasTakenNothing lane.now pass }
-    ensures lane { result.pass.lane ≡ lane.now }
+    requires limits { IsWorker run.now worker }
+    requires pass { (l : LaneId) → HasTakenNothing (slice_index_or run.now.lanes.now worker l) pass }
+    ensures lane { result.pass.lane ≡ pass.lane }
     ensures senders { result.pass.senders ≡ pass.senders }
-    ensures receipts { IfSome result.receipts (λ receipts. HasJudged
-        (record { media = media.now; workers = workers; joined = joined; tai = tai })
-        files worker result.pass book.now receipts.items) }
+    ensures receipts { IfSome result.receipts (λ receipts. HasJudged (setting_of run.now)
+        run.now.files worker result.pass book.now receipts.items) }
 {
     let mut pass = pass;
-    let receipts = judged(
-        rt, alloc, worker, workers, joined, media, files, tai, lane, &mut pass, book, halt, gate,
-    );
+    let lane = &run.lanes[worker as usize];
+    let receipts = judged(rt, alloc, run, worker, lane, &mut pass, book, halt, gate);
     WorkDone {
         pass,
         receipts: receipts.ok(),
     }
 }
 
-// Takes messages until an end of each file came, and posts the rows.
+/// Takes messages until an end of each file came, and posts the rows. `Err` is want of memory, the
+/// worker's own or an intake's.
 fn judged<R: Wait, G: Gate>(
     rt: &R,
     alloc: Global,
+    run: &RunSetting<'_>,
     worker: u32,
-    workers: u32,
-    joined: bool,
-    media: &[Media],
-    files: u32,
-    tai: u64,
     lane: &Lane,
     pass: &mut TakePass,
     book: &Book,
     halt: &Halt,
     gate: &G,
 ) -> Result<Vec<Receipt>, OutOfMemory>
-    requires limits { IsWorker media.now files worker workers tai }
+    requires limits { IsWorker run.now worker }
     requires pass { HasTakenNothing lane.now pass.old }
     ensures lane { pass.new.lane ≡ lane.now }
     ensures senders { pass.new.senders ≡ pass.old.senders }
-    ensures receipts { IfOk result (λ receipts. HasJudged
-        (record { media = media.now; workers = workers; joined = joined; tai = tai })
-        files worker pass.new book.now receipts.items) }
+    ensures receipts { IfOk result (λ receipts. HasJudged (setting_of run.now)
+        run.now.files worker pass.new book.now receipts.items) }
 {
-    let mut judging = Judging::new(alloc, worker, workers, joined, media, files, tai)?;
+    let mut judging = Judging::new(alloc, run, worker)?;
     gate.meet(rt, 16 + u64::from(worker));
     let first = next_message(rt, lane, pass, halt)?;
     gate.meet(rt, 32 + u64::from(worker));
@@ -107,7 +91,7 @@ fn judged<R: Wait, G: Gate>(
     judging.post(rt, alloc, book)
 }
 
-// Takes the messages that are left, until an end of each file came.
+/// Takes the messages that are left, until an end of each file came.
 fn take_all<R: Wait>(
     rt: &R,
     lane: &Lane,
@@ -135,8 +119,8 @@ fn take_all<R: Wait>(
     Ok(())
 }
 
-// Takes the next message, and waits for it. `Err` says that the lane held nothing and the halt was
-// raised.
+/// Takes the next message, and waits for it. `Err` says that the lane held nothing and the halt was
+/// raised.
 fn next_message<R: Wait>(
     rt: &R,
     lane: &Lane,

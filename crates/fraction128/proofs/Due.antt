@@ -82,7 +82,19 @@ next-leap num den origin count due slack t more rest up left some come lots few 
     let count_is : (count + (1 + more) + 1) * num ≡ ((count + 1) + (more + 1)) * num = ap (λ k. k * num) (omega arith) in
     record {
       least = small;
-      reached = omega (arith, product, count_is, add-mul ((due - origin) + (t - due)) up den, add-mul (due - origin) (t - due) den, add-mul (count + 1) (more + 1) num, add-mul more 1 num, next.reached, lots, few, ahead);
+      reached = omega (
+        arith,
+        product,
+        count_is,
+        add-mul ((due - origin) + (t - due)) up den,
+        add-mul (due - origin) (t - due) den,
+        add-mul (count + 1) (more + 1) num,
+        add-mul more 1 num,
+        next.reached,
+        lots,
+        few,
+        ahead,
+      );
     }
 
 -- and they have all come
@@ -96,7 +108,15 @@ leap-passed num den origin count due slack t more rest some come lots next =
     let far : t - origin ≡ (due - origin) + (t - due) = omega (arith, come, after_origin num den origin count due slack some next) in
     let product : (t - origin) * den ≡ ((due - origin) + (t - due)) * den = ap (λ d. d * den) far in
     let count_is : (count + (1 + more)) * num ≡ ((count + 1) + more) * num = ap (λ k. k * num) (omega arith) in
-    le-div (count + (1 + more)) ((t - origin) * den) num some (omega (arith, product, count_is, add-mul (due - origin) (t - due) den, add-mul (count + 1) more num, next.reached, lots))
+    le-div (count + (1 + more)) ((t - origin) * den) num some (omega (
+      arith,
+      product,
+      count_is,
+      add-mul (due - origin) (t - due) den,
+      add-mul (count + 1) more num,
+      next.reached,
+      lots,
+    ))
 
 -- no more instants than whole numbers, but for what the slack brings
 pub leap-few : (num den gap slack more rest most : ℕ)

@@ -8,16 +8,8 @@ fn floors(rt: HostRuntime) {
     assert_eq!(rt; floor_signed(-7, 2), -4);
 }
 
-#[test]
-fn comparisons(rt: HostRuntime) {
-    assert!(rt; at_or_before(1, 3, 2, 6));
-    assert!(rt; !at_or_before(1, 2, 1, 3));
-    assert!(rt; at_or_before_signed(-1, 2, -1, 3));
-    assert!(rt; !at_or_before_signed(1, 3, -1, 2));
-    assert!(rt; at_or_before_signed(-1, 3, 0, 2));
-}
-
-// The same ticks, each counted once: none before the first, two steps, and leaps over the others.
+// Ticks 10,000,000 / 11 ns apart from 7 on, each counted once: none before the first, two steps, and
+// leaps over the others.
 #[test]
 fn instants(rt: HostRuntime) {
     let line = Line::of(10_000_000, 11);

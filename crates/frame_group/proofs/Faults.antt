@@ -49,7 +49,8 @@ fault-is : (packets : List FlowPacket) (pt i at : ℕ) (r : Rtp)
     → fault packets pt i ≡ first_of (first_of (fault_if (not (r.pt == pt)) PayloadType) (fault_if (is_second_source packets i) SecondSource))
     (first_of (order_fault 1024 packets i) (size_fault 262144 packets i))
 fault-is packets pt i at r is =
-    ap (λ (read : Result Rtp PacketFault). first_of (first_of (reading_fault read) (first_of (fault_if (not ((read_or_zeros read).pt == pt)) PayloadType) (fault_if (is_second_source packets i) SecondSource)))
+    ap (λ (read : Result Rtp PacketFault). first_of (first_of (reading_fault read)
+    (first_of (fault_if (not ((read_or_zeros read).pt == pt)) PayloadType) (fault_if (is_second_source packets i) SecondSource)))
     (first_of (order_fault 1024 packets i) (size_fault 262144 packets i))) is.rtp
 
 regroup : (a b c : Option PacketFault) → first_of a (first_of b c) ≡ first_of (first_of a b) c
@@ -63,7 +64,8 @@ fault-same : (packets : List FlowPacket) (pt i at : ℕ) (r : Rtp)
     → fault packets pt i ≡ first_of (first_of (fault_if (is_second_source packets i) SecondSource) (order_fault 1024 packets i)) (size_fault 262144 packets i)
 fault-same packets pt i at r is same =
     let e : (r.pt == pt) ≡ true = grind (arith, nat_tests) in
-    fault-is packets pt i at r is ∙ (rw e (regroup (fault_if (is_second_source packets i) SecondSource) (order_fault 1024 packets i) (size_fault 262144 packets i)))
+    fault-is packets pt i at r is ∙ (rw e (regroup (fault_if (is_second_source packets i) SecondSource) (order_fault 1024 packets i)
+    (size_fault 262144 packets i)))
 
 -- a fault by the packets before
 pub fault-earlier : (packets : List FlowPacket) (pt i at : ℕ) (r : Rtp) (f : PacketFault)

@@ -42,11 +42,13 @@ group-next packets i true group e here other = subst (λ marks. IsIn marks (i + 
 group-next packets i false group e here other = subst (λ marks. IsIn marks (i + 1) group) (sym (markers-other packets i e)) (other refl)
 
 -- the cut at the packet is counted
-pub count-here : (packets : List FlowPacket) (i n so_far : ℕ) → cut_at packets i ≡ Some n → so_far ≡ length (cuts packets i) → so_far + 1 ≡ length (cuts packets (i + 1))
+pub count-here : (packets : List FlowPacket) (i n so_far : ℕ) → cut_at packets i ≡ Some n → so_far ≡ length (cuts packets i)
+    → so_far + 1 ≡ length (cuts packets (i + 1))
 count-here packets i n so_far e h = rw (cuts-here packets i (cut-some packets i n e), length-append) (omega (arith, h))
 
 -- no cut, and none is counted
-pub count-other : (packets : List FlowPacket) (i so_far : ℕ) → cut_at packets i ≡ None → so_far ≡ length (cuts packets i) → so_far ≡ length (cuts packets (i + 1))
+pub count-other : (packets : List FlowPacket) (i so_far : ℕ) → cut_at packets i ≡ None → so_far ≡ length (cuts packets i)
+    → so_far ≡ length (cuts packets (i + 1))
 count-other packets i so_far e h = rw (cuts-other packets i (cut-none packets i e)) h
 
 what-first : (first : Option FirstFault) (n : ℕ) (here : Option PacketFault) → what (earlier_or first n here) ≡ first_of (what first) here
@@ -55,7 +57,8 @@ what-first None n None = refl
 what-first None n (Some f) = refl
 
 -- the first fault with packet i is the one before, or else its own
-pub what-next : (packets : List FlowPacket) (pt i : ℕ) → what (first_fault_below packets pt (i + 1)) ≡ first_of (what (first_fault_below packets pt i)) (fault packets pt i)
+pub what-next : (packets : List FlowPacket) (pt i : ℕ) → what (first_fault_below packets pt (i + 1))
+    ≡ first_of (what (first_fault_below packets pt i)) (fault packets pt i)
 what-next packets pt i =
     let next : i + 1 ≡ suc i = omega arith in
     ap (λ n. what (first_fault_below packets pt n)) next ∙ what-first (first_fault_below packets pt i) i (fault packets pt i)
@@ -69,7 +72,8 @@ ok-case None cut e = refl
 ok-case (Some first) cut e = cc
 
 -- a fault with the packet is told
-pub answer-err : (packets : List FlowPacket) (pt i : ℕ) (f : PacketFault) → what (first_fault_below packets pt (i + 1)) ≡ Some f → answer_at packets pt i ≡ Err f
+pub answer-err : (packets : List FlowPacket) (pt i : ℕ) (f : PacketFault) → what (first_fault_below packets pt (i + 1)) ≡ Some f
+    → answer_at packets pt i ≡ Err f
 answer-err packets pt i f e = err-case (first_fault_below packets pt (i + 1)) f (cut_at packets i) e
 
 -- else the cut
@@ -81,7 +85,8 @@ answer-ok packets pt i cut e is =
     ap (λ (c : Option ℕ). let r : Result (Option ℕ) PacketFault = Ok c in r) is ∙ sym (ok-case (first_fault_below packets pt (i + 1)) (cut_at packets i) e)
 
 -- the packet that is fed comes after those before it
-pub read-seam : (packets rest : List FlowPacket) (rec at : ℕ) (r : Rtp) → IsRead (packets ++ record { rec = rec; at = at; rtp = Ok r } ∷ rest) (length packets) at r
+pub read-seam : (packets rest : List FlowPacket) (rec at : ℕ) (r : Rtp)
+    → IsRead (packets ++ record { rec = rec; at = at; rtp = Ok r } ∷ rest) (length packets) at r
 read-seam packets rest rec at r =
     let here : packet (packets ++ record { rec = rec; at = at; rtp = Ok r } ∷ rest) (length packets) ≡ record { rec = rec; at = at; rtp = Ok r } =
     get_or-append_seam packets record { rec = rec; at = at; rtp = Ok r } rest no_packet in
@@ -106,7 +111,8 @@ stands-next pt g after packets p s same more next =
     }
 
 -- a fault before the packet stays the first
-pub before-kept : (packets : List FlowPacket) (pt i : ℕ) (g : Grouper) (f : PacketFault) → StandsBefore packets pt i g → g.fault ≡ Some f → what (first_fault_below packets pt (i + 1)) ≡ Some f
+pub before-kept : (packets : List FlowPacket) (pt i : ℕ) (g : Grouper) (f : PacketFault) → StandsBefore packets pt i g → g.fault ≡ Some f
+    → what (first_fault_below packets pt (i + 1)) ≡ Some f
 before-kept packets pt i g f s e = what-next packets pt i ∙ ap (λ first. first_of first (fault packets pt i)) (sym s.fault ∙ e)
 
 -- no fault before it, so its own
@@ -118,7 +124,8 @@ pub before-none : (packets : List FlowPacket) (pt i : ℕ) (g : Grouper) (here :
 before-none packets pt i g here s e is = what-next packets pt i ∙ (ap (λ first. first_of first (fault packets pt i)) (sym s.fault ∙ e) ∙ sym is)
 
 -- after a fault nothing else is kept
-pub stands-fault : (packets : List FlowPacket) (pt i : ℕ) (after : Grouper) (f : PacketFault) → after.fault ≡ Some f → what (first_fault_below packets pt i) ≡ Some f → StandsBefore packets pt i after
+pub stands-fault : (packets : List FlowPacket) (pt i : ℕ) (after : Grouper) (f : PacketFault) → after.fault ≡ Some f
+    → what (first_fault_below packets pt i) ≡ Some f → StandsBefore packets pt i after
 stands-fault packets pt i after f e is = record { fault = e ∙ sym is; kept = λ none. cc }
 
 -- what is told with the packet, where none before it has a fault: the last three arguments are clauses of `fault_at`,

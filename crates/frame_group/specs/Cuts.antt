@@ -13,7 +13,7 @@ abbrev pub unless_fault : Option FirstFault → Option ℕ → Result (Option �
 unless_fault (Some first) cut = Err first.fault
 unless_fault None cut = Ok cut
 
--- what is said of packet i of a flow with this payload type: the first fault of the flow, from its packet on, and before
--- it the cut
+-- what is said of packet i of a flow with this payload type: the first fault of the flow, from its packet on, and
+-- before it the cut
 abbrev pub answer_at : List FlowPacket → ℕ → ℕ → Result (Option ℕ) PacketFault
 answer_at packets pt i = unless_fault (first_fault_below packets pt (i + 1)) (cut_at packets i)

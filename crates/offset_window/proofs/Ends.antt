@@ -170,7 +170,8 @@ lower-moved broken count here x binding (At y bound) falls is h late by =
         record {
           within = omega arith;
           here = is (y - 1) ∙ by.under;
-          first = λ j low. false_from_ne_true (broken (y - 1) j) (λ holds. clash (broken x j) (falls x (y - 1) j (omega (arith, above)) holds) (h.serves j low));
+          first = λ j low. false_from_ne_true (broken (y - 1) j) (λ holds. clash (broken x j) (falls x (y - 1) j (omega (arith, above)) holds)
+              (h.serves j low));
         },
       );
     }
@@ -219,7 +220,8 @@ upper-moved broken count here x binding (At y bound) rises rises_here is h early
         record {
           within = omega arith;
           here = next;
-          first = λ j low. false_from_ne_true (broken (y + 1) j) (λ holds. clash (broken x j) (rises (y + 1) x j (omega (arith, under)) h.most holds) (h.serves j low));
+          first = λ j low. false_from_ne_true (broken (y + 1) j) (λ holds. clash (broken x j) (rises (y + 1) x j (omega (arith, under)) h.most holds)
+              (h.serves j low));
         },
       );
     }

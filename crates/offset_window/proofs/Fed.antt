@@ -63,7 +63,8 @@ upper-fed m n anchor stamps at kind g i packet full old end is some grid ef ei e
     let long : length new ≡ count + 1 = length-append stamps (at ∷ []) in
     let last : slice_index new count ≡ at = get_or-append_seam stamps at [] 0 in
     let kept = upper-same (is_over_with m n anchor stamps kind) over count old
-    (λ y k few. ap (λ a. nat_lt most ((k + 1) - due_among (with_offset m y) n anchor gapped (k + 1) (whole a))) (sym (get_or_append_left stamps (at ∷ []) 0 k few))) h in
+    (λ y k few. ap (λ a. nat_lt most ((k + 1) - due_among (with_offset m y) n anchor gapped (k + 1) (whole a)))
+    (sym (get_or_append_left stamps (at ∷ []) 0 k few))) h in
     subst (λ k. IsUpperEnd over k end) (sym long)
     (elim (cases_lt count most) as (λ _. IsUpperEnd over (count + 1) end) [
       | inl few ↦ subst (IsUpperEnd over (count + 1)) (sym (room (omega (arith, few, ef, ep))))

@@ -201,7 +201,8 @@ empty-own m n stamps kind micros i e =
 pub over-own : (m : Media) (n : ℕ) (stamps : List ℕ) (kind : Kind) (micros i : ℕ) → m.troff ≡ Some micros
     → is_over_with m n (anchor_of m (slice_index stamps 0)) stamps kind micros i ≡ is_over m n stamps kind i
 over-own m n stamps kind micros i e =
-    ap (λ v. nat_lt (vrx_full_of m n kind) ((i + 1) - due_among v n (anchor_of m (slice_index stamps 0)) (gapped_of kind) (i + 1) (whole (slice_index stamps i)))) (with_own m micros e)
+    ap (λ v. nat_lt (vrx_full_of m n kind) ((i + 1) - due_among v n (anchor_of m (slice_index stamps 0)) (gapped_of kind) (i + 1)
+    (whole (slice_index stamps i)))) (with_own m micros e)
 
 -- each offset from the lower end on serves, and each one up to the upper end
 pub from-lower : (m : Media) (n : ℕ) (stamps : List ℕ) (kind : Kind) (w : Window) (micros other : ℕ) (binding : Option ℕ)
@@ -226,7 +227,8 @@ to-upper m n stamps kind w micros other binding video some is e order i few =
     let broken = is_over_with m n (anchor_of m (slice_index stamps 0)) stamps kind in
     let greatest : IsGreatest broken (length stamps) micros binding = subst (IsUpperEnd broken (length stamps)) e is.upper in
     false_from_ne_true (broken other i)
-    (λ holds. clash (broken micros i) (over-rises m n (anchor_of m (slice_index stamps 0)) stamps kind video some other micros i order greatest.most holds) (greatest.serves i few))
+    (λ holds. clash (broken micros i) (over-rises m n (anchor_of m (slice_index stamps 0)) stamps kind video some other micros i order greatest.most holds)
+    (greatest.serves i few))
 
 -- the packets up to i less all reads that are due
 pub held_with-is : (m : Media) (n : ℕ) (anchor : ℤ) (stamps : List ℕ) (gapped : Bool) (micros i count : ℕ)

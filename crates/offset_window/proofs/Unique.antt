@@ -38,17 +38,19 @@ found_least : (broken : ℕ → ℕ → Bool) (count k : ℕ)
     ⊎ ((x : ℕ) → x < k → Serves broken count x → ⊥)
 found_least broken count zero = inr (λ x few _. omega (arith, few))
 found_least broken count (suc k) =
-    elim (found_least broken count k) as (λ _. ((x : ℕ) × ((x < suc k) × Serves broken count x × ((y : ℕ) → y < x → Serves broken count y → ⊥))) ⊎ ((x : ℕ) → x < suc k → Serves broken count x → ⊥)) [
+    elim (found_least broken count k) as (λ _. ((x : ℕ) × ((x < suc k) × Serves broken count x × ((y : ℕ) → y < x → Serves broken count y → ⊥)))
+    ⊎ ((x : ℕ) → x < suc k → Serves broken count x → ⊥)) [
       | inl f ↦ inl (f.0, (omega (arith, f.1.0), f.1.1, f.1.2))
-      | inr none ↦ elim (found_first broken k count) as (λ _. ((x : ℕ) × ((x < suc k) × Serves broken count x × ((y : ℕ) → y < x → Serves broken count y → ⊥))) ⊎ ((x : ℕ) → x < suc k → Serves broken count x → ⊥)) [
-        | inr serves ↦ inl (k, (omega arith, serves, none))
-        | inl f ↦ inr (λ x few serves. elim (cases_lt x k) as (λ _. ⊥) [
-          | inl early ↦ none x early serves
-          | inr late ↦
-              let same : x ≡ k = omega (arith, few, late) in
-              clash (broken k f.0) f.1.here (ap (λ y. broken y f.0) (sym same) ∙ serves f.0 f.1.within)
-        ])
-      ]
+      | inr none ↦ elim (found_first broken k count) as (λ _. ((x : ℕ) × ((x < suc k) × Serves broken count x × ((y : ℕ) → y < x → Serves broken count y → ⊥)))
+          ⊎ ((x : ℕ) → x < suc k → Serves broken count x → ⊥)) [
+            | inr serves ↦ inl (k, (omega arith, serves, none))
+            | inl f ↦ inr (λ x few serves. elim (cases_lt x k) as (λ _. ⊥) [
+              | inl early ↦ none x early serves
+              | inr late ↦
+                  let same : x ≡ k = omega (arith, few, late) in
+                  clash (broken k f.0) f.1.here (ap (λ y. broken y f.0) (sym same) ∙ serves f.0 f.1.within)
+            ])
+          ]
     ]
 
 -- a greatest offset up to k serves, or none does
@@ -57,13 +59,15 @@ found_greatest : (broken : ℕ → ℕ → Bool) (count k : ℕ)
     ⊎ ((x : ℕ) → x < k → Serves broken count x → ⊥)
 found_greatest broken count zero = inr (λ x few _. omega (arith, few))
 found_greatest broken count (suc k) =
-    elim (found_first broken k count) as (λ _. ((x : ℕ) × ((x < suc k) × Serves broken count x × ((y : ℕ) → x < y → y < suc k → Serves broken count y → ⊥))) ⊎ ((x : ℕ) → x < suc k → Serves broken count x → ⊥)) [
+    elim (found_first broken k count) as (λ _. ((x : ℕ) × ((x < suc k) × Serves broken count x × ((y : ℕ) → x < y → y < suc k → Serves broken count y → ⊥)))
+    ⊎ ((x : ℕ) → x < suc k → Serves broken count x → ⊥)) [
       | inr serves ↦ inl (k, (omega arith, serves, λ y high low _. omega (arith, high, low)))
       | inl f ↦
           let gone : (x : ℕ) → k ≤ x → x < suc k → Serves broken count x → ⊥ = λ x high low serves.
           let same : x ≡ k = omega (arith, high, low) in
           clash (broken k f.0) f.1.here (ap (λ y. broken y f.0) (sym same) ∙ serves f.0 f.1.within) in
-          elim (found_greatest broken count k) as (λ _. ((x : ℕ) × ((x < suc k) × Serves broken count x × ((y : ℕ) → x < y → y < suc k → Serves broken count y → ⊥))) ⊎ ((x : ℕ) → x < suc k → Serves broken count x → ⊥)) [
+          elim (found_greatest broken count k) as (λ _. ((x : ℕ) × ((x < suc k) × Serves broken count x
+          × ((y : ℕ) → x < y → y < suc k → Serves broken count y → ⊥))) ⊎ ((x : ℕ) → x < suc k → Serves broken count x → ⊥)) [
             | inl g ↦ inl (
               g.0,
               (
@@ -165,7 +169,8 @@ lower-once broken count (At x b) (At y c) f g =
         | inr equal ↦ omega (arith, rest, equal)
       ]
     ] in
-    let binding : b ≡ c = binds-once (y ≡ 0) (0 < y) broken count (y - 1) b c (λ last on. omega (arith, last, on)) (subst (λ z. BindsLower broken count z b) same f.binds) g.binds in
+    let binding : b ≡ c = binds-once (y ≡ 0) (0 < y) broken count (y - 1) b c (λ last on. omega (arith, last, on))
+    (subst (λ z. BindsLower broken count z b) same f.binds) g.binds in
     ap (λ z. At z b) same ∙ ap (At y) binding
 
 upper-once : (broken : ℕ → ℕ → Bool) (count : ℕ) (a b : WindowEnd) → IsUpperEnd broken count a → IsUpperEnd broken count b → a ≡ b
@@ -180,7 +185,8 @@ upper-once broken count (At x b) (At y c) f g =
         | inr equal ↦ omega (arith, rest, equal)
       ]
     ] in
-    let binding : b ≡ c = binds-once (y ≡ 1000000) (y < 1000000) broken count (y + 1) b c (λ last on. omega (arith, last, on)) (subst (λ z. BindsUpper broken count z b) same f.binds) g.binds in
+    let binding : b ≡ c = binds-once (y ≡ 1000000) (y < 1000000) broken count (y + 1) b c (λ last on. omega (arith, last, on))
+    (subst (λ z. BindsUpper broken count z b) same f.binds) g.binds in
     ap (λ z. At z b) same ∙ ap (At y) binding
 
 pub window-once : (m : Media) (n : ℕ) (stamps : List ℕ) (kind : Kind) (w other : Window)

@@ -1,6 +1,7 @@
--- The offsets with which the packets of a flow would keep the virtual receiver buffer of SMPTE ST 2110-21. m is the video,
--- n the packets of one group, `anchor` the number of the group to which the first packet belongs, and the stamps are those
--- of the judged packets, in nanoseconds of TAI, counted from 0. An offset is a whole number of microseconds from 0 to
+-- The offsets with which the packets of a flow would keep the virtual receiver buffer of SMPTE ST 2110-21. m is the
+-- video, n the packets of one group, `anchor` the number of the group to which the first packet belongs, and the stamps
+-- are those of the judged packets, in nanoseconds of TAI, counted from 0. An offset is a whole number of microseconds
+-- from 0 to
 -- 1,000,000, as TROFF gives it. The buffer and its reads are the standard's. The window is this project's own: only the
 -- offset varies, while the group of the first packet, the schedule and the limits stay those of the video as described.
 use Rattle.std.specs.Prelude.{◌≡◌, ◌+◌, ◌-◌, ◌≤◌, ◌<◌, ℕ, ℤ, Bool, true, false, nat_lt, List, length, slice_index}
@@ -28,8 +29,9 @@ abbrev pub is_empty_with : Media → ℕ → ℤ → List ℕ → Kind → (micr
 is_empty_with m n anchor stamps kind micros i =
     below (read_with m n anchor (gapped_of kind) micros i) (whole (slice_index stamps i))
 
--- with this offset the buffer holds so many packets just after packet i came: those up to i, less the reads that are due
--- by then, and 0 where the reads are more. Of the reads the first i + 1 decide: where they are due, nothing is held.
+-- with this offset the buffer holds so many packets just after packet i came: those up to i, less the reads that are
+-- due by then, and 0 where the reads are more. Of the reads the first i + 1 decide: where they are due, nothing is
+-- held.
 abbrev pub held_with : Media → ℕ → ℤ → List ℕ → Bool → (micros i : ℕ) → ℕ
 held_with m n anchor stamps gapped micros i =
     (i + 1) - due_among (with_offset m micros) n anchor gapped (i + 1) (whole (slice_index stamps i))
@@ -49,7 +51,8 @@ pub record IsFirstBroken (broken : ℕ → ℕ → Bool) (count micros i : ℕ) 
   pub here : broken micros i ≡ true
   pub first : (j : ℕ) → j < i → broken micros j ≡ false
 
--- what keeps an end from going on: nothing where it can't, else the first packet that is broken with the offset beyond it
+-- what keeps an end from going on: nothing where it can't, else the first packet that is broken with the offset beyond
+-- it
 abbrev pub Binds : (is_last goes_on : Type 0) → (broken : ℕ → ℕ → Bool) → (count beyond : ℕ) → Option ℕ → Type 0
 Binds is_last goes_on broken count beyond None = is_last
 Binds is_last goes_on broken count beyond (Some i) = goes_on × IsFirstBroken broken count beyond i

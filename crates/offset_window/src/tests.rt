@@ -1,7 +1,7 @@
 //! The window's part of worked rows, and windows against offsets that are tried one by one.
 
 use super::*;
-use read_schedule::{is_late, reads};
+use read_schedule::{Due, Schedule};
 use sender_params::Params;
 use sender_params::worked::video;
 use std::alloc::{AllocError, Global};
@@ -195,18 +195,20 @@ impl Flow<'_> {
         Params::of(&media, self.params.n())
     }
 
+    // What is due at `at` by these numbers.
+    fn due(&self, rt: &impl Abort, with: &Params, at: u64) -> Due {
+        assert!(rt; self.n0 >= -480 && self.n0 <= 1 << 42);
+        assert!(rt; at < 1 << 62);
+        Schedule::new(with, self.kind == Kind::N, self.n0).advance(at)
+    }
+
     // Whether packet i, which came at `at`, is broken by these numbers.
     fn is_broken(&self, rt: &impl Abort, with: &Params, fault: Fault, i: u64, at: u64) -> bool {
-        let gapped = self.kind == Kind::N;
-        assert!(rt; self.n0 >= -480 && self.n0 <= 1 << 42);
         assert!(rt; i < 1 << 41);
-        assert!(rt; at < 1 << 62);
+        let due = self.due(rt, with, at);
         match fault {
-            Fault::Empty => is_late(with, gapped, self.n0, i, at),
-            Fault::Over => {
-                let held = (i + 1).saturating_sub(reads(with, gapped, self.n0, at));
-                held > self.params.vrx_full(self.kind)
-            }
+            Fault::Empty => due.count > i + 1 || due.count == i + 1 && !due.on_time,
+            Fault::Over => (i + 1).saturating_sub(due.count) > self.params.vrx_full(self.kind),
         }
     }
 

@@ -37,15 +37,28 @@ module _ (order : Extreme → Extreme → Ordering) (total : IsTotalOrder order)
   not_before_itself : (e : Extreme) → is_gt (order e e) ≡ false
   not_before_itself e = rw (tied_itself total e) refl
 
-  one-first : (e : Extreme) (es : List Extreme) → (o : Option Extreme) → o ≡ earliest order es → (o ≡ None → es ≡ []) → ((b : Extreme) → o ≡ Some b → IsFirst order es b) → IsFirst order (e ∷ es) (earlier_of order e o)
+  one-first : (e : Extreme) (es : List Extreme) → (o : Option Extreme) → o ≡ earliest order es → (o ≡ None → es ≡ [])
+      → ((b : Extreme) → o ≡ Some b → IsFirst order es b) → IsFirst order (e ∷ es) (earlier_of order e o)
   one-first e es None is empty first =
       let gone = empty refl in
-      record { member = (0, omega arith, refl); first = All-cons (λ x. is_gt (order e x) ≡ false) e es (not_before_itself e) (subst (All (λ x. is_gt (order e x) ≡ false)) (sym gone) (All-nil (λ x. is_gt (order e x) ≡ false))) }
+      record {
+        member = (0, omega arith, refl);
+        first = All-cons (λ x. is_gt (order e x) ≡ false) e es (not_before_itself e)
+            (subst (All (λ x. is_gt (order e x) ≡ false)) (sym gone) (All-nil (λ x. is_gt (order e x) ≡ false)));
+      }
   one-first e es (Some b) is empty first =
       let was = first b refl in
       elim (cases_Bool (is_gt (order e b))) as (λ _. IsFirst order (e ∷ es) (earlier order e b)) [
-        | inl above ↦ rw above record { member = Contains-behind e es b was.member; first = All-cons (λ x. is_gt (order b x) ≡ false) e es (reversed (order b e) (order e b) (total.antisymm b e) above) was.first }
-        | inr below ↦ rw below record { member = (0, omega arith, refl); first = All-cons (λ x. is_gt (order e x) ≡ false) e es (not_before_itself e) (All-weaker (λ x. is_gt (order b x) ≡ false) (λ x. is_gt (order e x) ≡ false) (λ x h. upto total e b x below h) es was.first) }
+        | inl above ↦ rw above record {
+          member = Contains-behind e es b was.member;
+          first = All-cons (λ x. is_gt (order b x) ≡ false) e es (reversed (order b e) (order e b) (total.antisymm b e) above) was.first;
+        }
+        | inr below ↦ rw below record {
+          member = (0, omega arith, refl);
+          first =
+              All-cons (λ x. is_gt (order e x) ≡ false) e es (not_before_itself e)
+              (All-weaker (λ x. is_gt (order b x) ≡ false) (λ x. is_gt (order e x) ≡ false) (λ x h. upto total e b x below h) es was.first);
+        }
       ]
 
   earliest-none : (es : List Extreme) → earliest order es ≡ None → es ≡ []
@@ -95,7 +108,8 @@ least-is es e is =
     record {
       member = first.member;
       least = All-weaker (λ x. is_gt (rising e x) ≡ false) (λ x. e.skew ≤ℤ x.skew) (λ x h. int_upto e.skew x.skew (then-says _ _ h).0) es first.first;
-      earliest = All-weaker (λ x. is_gt (rising e x) ≡ false) (λ x. x.skew ≡ e.skew → e.first_rec ≤ x.first_rec) (λ x h same. nat_upto e.first_rec x.first_rec (then-says _ _ ((then-says _ _ h).1 (int_tie e.skew x.skew (sym same)))).0) es first.first;
+      earliest = All-weaker (λ x. is_gt (rising e x) ≡ false) (λ x. x.skew ≡ e.skew → e.first_rec ≤ x.first_rec)
+          (λ x h same. nat_upto e.first_rec x.first_rec (then-says _ _ ((then-says _ _ h).1 (int_tie e.skew x.skew (sym same)))).0) es first.first;
     }
 
 -- the first in falling order is the greatest
@@ -105,5 +119,6 @@ greatest-is es e is =
     record {
       member = first.member;
       greatest = All-weaker (λ x. is_gt (falling e x) ≡ false) (λ x. x.skew ≤ℤ e.skew) (λ x h. int_upto x.skew e.skew (then-says _ _ h).0) es first.first;
-      earliest = All-weaker (λ x. is_gt (falling e x) ≡ false) (λ x. x.skew ≡ e.skew → e.first_rec ≤ x.first_rec) (λ x h same. nat_upto e.first_rec x.first_rec (then-says _ _ ((then-says _ _ h).1 (int_tie x.skew e.skew same))).0) es first.first;
+      earliest = All-weaker (λ x. is_gt (falling e x) ≡ false) (λ x. x.skew ≡ e.skew → e.first_rec ≤ x.first_rec)
+          (λ x h same. nat_upto e.first_rec x.first_rec (then-says _ _ ((then-says _ _ h).1 (int_tie x.skew e.skew same))).0) es first.first;
     }

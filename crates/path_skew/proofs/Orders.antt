@@ -54,15 +54,18 @@ module _ (order : Extreme → Extreme → Ordering) (total : IsTotalOrder order)
   earlier-three a e b =
       elim (cases_Bool (is_gt (order e b))) as (λ _. earlier order a (earlier order e b) ≡ earlier order e (earlier order a b)) [
         | inl e_above ↦ elim (cases_Bool (is_gt (order a b))) as (λ _. earlier order a (earlier order e b) ≡ earlier order e (earlier order a b)) [
-          | inl a_above ↦ ap (earlier order a) (second_is e b e_above) ∙ second_is a b a_above ∙ sym (ap (earlier order e) (second_is a b a_above) ∙ second_is e b e_above)
+          | inl a_above ↦ ap (earlier order a) (second_is e b e_above) ∙ second_is a b a_above
+              ∙ sym (ap (earlier order e) (second_is a b a_above) ∙ second_is e b e_above)
           | inr a_below ↦ elim (cases_Bool (is_gt (order e a))) as (λ _. earlier order a (earlier order e b) ≡ earlier order e (earlier order a b)) [
-            | inl over ↦ ap (earlier order a) (second_is e b e_above) ∙ first_is a b a_below ∙ sym (ap (earlier order e) (first_is a b a_below) ∙ second_is e a over)
+            | inl over ↦ ap (earlier order a) (second_is e b e_above) ∙ first_is a b a_below
+                ∙ sym (ap (earlier order e) (first_is a b a_below) ∙ second_is e a over)
             | inr under ↦ absurd (true≢false (sym e_above ∙ upto total e a b under a_below))
           ]
         ]
         | inr e_below ↦ elim (cases_Bool (is_gt (order a b))) as (λ _. earlier order a (earlier order e b) ≡ earlier order e (earlier order a b)) [
           | inl a_above ↦ elim (cases_Bool (is_gt (order a e))) as (λ _. earlier order a (earlier order e b) ≡ earlier order e (earlier order a b)) [
-            | inl over ↦ ap (earlier order a) (first_is e b e_below) ∙ second_is a e over ∙ sym (ap (earlier order e) (second_is a b a_above) ∙ first_is e b e_below)
+            | inl over ↦ ap (earlier order a) (first_is e b e_below) ∙ second_is a e over
+                ∙ sym (ap (earlier order e) (second_is a b a_above) ∙ first_is e b e_below)
             | inr under ↦ absurd (true≢false (sym a_above ∙ upto total a e b under e_below))
           ]
           | inr a_below ↦ ap (earlier order a) (first_is e b e_below) ∙ earlier-swap a e ∙ sym (ap (earlier order e) (first_is a b a_below))
@@ -74,9 +77,11 @@ module _ (order : Extreme → Extreme → Ordering) (total : IsTotalOrder order)
   earlier_of-swap a e (Some b) = earlier-three a e b
 
   -- one more member, wherever it stands
-  pub earliest-insert : (before after : List Extreme) (e : Extreme) → earliest order (before ++ e ∷ after) ≡ Some (earlier_of order e (earliest order (before ++ after)))
+  pub earliest-insert : (before after : List Extreme) (e : Extreme) → earliest order (before ++ e ∷ after)
+      ≡ Some (earlier_of order e (earliest order (before ++ after)))
   earliest-insert [] after e = refl
-  earliest-insert (a ∷ before) after e = ap (λ o. Some (earlier_of order a o)) (earliest-insert before after e) ∙ ap Some (earlier_of-swap a e (earliest order (before ++ after)))
+  earliest-insert (a ∷ before) after e =
+      ap (λ o. Some (earlier_of order a o)) (earliest-insert before after e) ∙ ap Some (earlier_of-swap a e (earliest order (before ++ after)))
 
 records_total : IsTotalOrder record_cmp
 records_total = then_total (on_total (λ (e : Extreme). e.first_rec) nat_cmp_total) (on_total (λ (e : Extreme). e.second_rec) nat_cmp_total)
@@ -98,7 +103,8 @@ same_extreme : (a b : Extreme) → a.skew ≡ b.skew → record_cmp a b ≡ Equa
 same_extreme a b skew tied =
     let both = then_ties _ _ tied in
     let of : ℤ → ℕ → ℕ → Extreme = λ s f g. record { skew = s; first_rec = f; second_rec = g } in
-    ap (λ s. of s a.first_rec a.second_rec) skew ∙ ap (λ f. of b.skew f a.second_rec) (exact_unsigned _ _ both.0) ∙ ap (of b.skew b.first_rec) (exact_unsigned _ _ both.1)
+    ap (λ s. of s a.first_rec a.second_rec) skew ∙ ap (λ f. of b.skew f a.second_rec) (exact_unsigned _ _ both.0)
+    ∙ ap (of b.skew b.first_rec) (exact_unsigned _ _ both.1)
 
 pub rising_exact : CmpEqualImpliesEq rising
 rising_exact a b e = let both = then_ties _ _ e in same_extreme a b (exact_signed _ _ both.0) both.1

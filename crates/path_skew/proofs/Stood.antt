@@ -35,7 +35,8 @@ kept-none : (o : Option Arrival) (w : Option FlowPacket) → option_map record_a
 kept-none o None e none = refl
 kept-none o (Some q) e none = absurd (let bad = rw none at e in cc)
 
-kept-some : (o : Option Arrival) (w : Option FlowPacket) (x : Arrival) → option_map record_and_stamp o ≡ option_map record_and_stamp_of w → o ≡ Some x → (q : FlowPacket) × (w ≡ Some q) × (record_and_stamp_of q ≡ record_and_stamp x)
+kept-some : (o : Option Arrival) (w : Option FlowPacket) (x : Arrival) → option_map record_and_stamp o ≡ option_map record_and_stamp_of w → o ≡ Some x
+    → (q : FlowPacket) × (w ≡ Some q) × (record_and_stamp_of q ≡ record_and_stamp x)
 kept-some o None x e is = absurd (let bad = rw is at e in cc)
 kept-some o (Some q) x e is =
     let same : Some (record_and_stamp x) ≡ Some (record_and_stamp_of q) = rw is at e in
@@ -78,7 +79,8 @@ module _ (flow : List FlowPacket) (rtp : Rtp) (a : Arrival) where
   found-again : is_some (packet_with rtp.number flow) ≡ true → (n : ℕ) → packet_with n (flow ++ packet_of rtp a ∷ []) ≡ packet_with n flow
   found-again stood n =
       elim (cases_eq n rtp.number) as (λ _. packet_with n (flow ++ packet_of rtp a ∷ []) ≡ packet_with n flow) [
-        | inl same ↦ packet_with-append n flow (packet_of rtp a) ∙ keeps (packet_with n flow) (if has_number n (packet_of rtp a) then Some (packet_of rtp a) else None) (ap (λ k. is_some (packet_with k flow)) same ∙ stood)
+        | inl same ↦ packet_with-append n flow (packet_of rtp a) ∙ keeps (packet_with n flow)
+            (if has_number n (packet_of rtp a) then Some (packet_of rtp a) else None) (ap (λ k. is_some (packet_with k flow)) same ∙ stood)
         | inr differs ↦ found-other n differs
       ]
     where
@@ -90,30 +92,36 @@ module _ (flow : List FlowPacket) (rtp : Rtp) (a : Arrival) where
   unread-same = grind (arith, common_steps)
 
 -- what is found of a number after a packet that is the first of its own
-found-opens : (n m : ℕ) (a : Arrival) (p : FlowPacket) (o : Option Arrival) (w : Option FlowPacket) → record_and_stamp a ≡ record_and_stamp_of p → option_map record_and_stamp o ≡ option_map record_and_stamp_of w → (n ≡ m → w ≡ None) → option_map record_and_stamp (if n == m then Some a else o) ≡ option_map record_and_stamp_of (option_or w (if m == n then Some p else None))
-found-opens n m a p o (Some q) same e none = elim (cases_eq n m) as (λ _. option_map record_and_stamp (if n == m then Some a else o) ≡ Some (record_and_stamp_of q)) [
-  | inl here ↦ absurd (let bad = none here in cc)
-  | inr differs ↦ let no : (n == m) ≡ false = grind (arith, nat_tests) in rw no e
-]
-found-opens n m a p o None same e none = elim (cases_eq n m) as (λ _. option_map record_and_stamp (if n == m then Some a else o) ≡ option_map record_and_stamp_of (if m == n then Some p else None)) [
-  | inl here ↦
-      let one : (n == m) ≡ true = grind (arith, nat_tests) in
-      let back : (m == n) ≡ true = grind (arith, nat_tests) in
-      rw (one, back) (ap Some same)
-  | inr differs ↦
-      let no : (n == m) ≡ false = grind (arith, nat_tests) in
-      let none_back : (m == n) ≡ false = grind (arith, nat_tests) in
-      rw (no, none_back) e
-]
+found-opens : (n m : ℕ) (a : Arrival) (p : FlowPacket) (o : Option Arrival) (w : Option FlowPacket) → record_and_stamp a ≡ record_and_stamp_of p
+    → option_map record_and_stamp o ≡ option_map record_and_stamp_of w → (n ≡ m → w ≡ None)
+    → option_map record_and_stamp (if n == m then Some a else o) ≡ option_map record_and_stamp_of (option_or w (if m == n then Some p else None))
+found-opens n m a p o (Some q) same e none =
+    elim (cases_eq n m) as (λ _. option_map record_and_stamp (if n == m then Some a else o) ≡ Some (record_and_stamp_of q)) [
+      | inl here ↦ absurd (let bad = none here in cc)
+      | inr differs ↦ let no : (n == m) ≡ false = grind (arith, nat_tests) in rw no e
+    ]
+found-opens n m a p o None same e none = elim (cases_eq n m) as (λ _. option_map record_and_stamp (if n == m then Some a else o)
+    ≡ option_map record_and_stamp_of (if m == n then Some p else None)) [
+      | inl here ↦
+          let one : (n == m) ≡ true = grind (arith, nat_tests) in
+          let back : (m == n) ≡ true = grind (arith, nat_tests) in
+          rw (one, back) (ap Some same)
+      | inr differs ↦
+          let no : (n == m) ≡ false = grind (arith, nat_tests) in
+          let none_back : (m == n) ≡ false = grind (arith, nat_tests) in
+          rw (no, none_back) e
+    ]
 
 -- one flow after a packet that is the first of its number
-holds-opens : (old new : Arrivals) (flow : List FlowPacket) (rtp : Rtp) (a : Arrival) → HoldsFlow old flow → Opens old new rtp.number a → HoldsFlow new (flow ++ packet_of rtp a ∷ [])
+holds-opens : (old new : Arrivals) (flow : List FlowPacket) (rtp : Rtp) (a : Arrival) → HoldsFlow old flow → Opens old new rtp.number a
+    → HoldsFlow new (flow ++ packet_of rtp a ∷ [])
 holds-opens old new flow rtp a h o =
     let none = kept-none _ _ (h.found rtp.number) o.absent in
     record {
       found = λ n.
           ap (option_map record_and_stamp) (o.found n)
-          ∙ found-opens n rtp.number a (packet_of rtp a) (arrival_of old n) (packet_with n flow) refl (h.found n) (λ same. ap (λ k. packet_with k flow) same ∙ none)
+          ∙ found-opens n rtp.number a (packet_of rtp a) (arrival_of old n) (packet_with n flow) refl (h.found n)
+          (λ same. ap (λ k. packet_with k flow) same ∙ none)
           ∙ ap (option_map record_and_stamp_of) (sym (packet_with-append n flow (packet_of rtp a)));
       numbers = omega (arith, o.numbers, h.numbers, ap length (opening-opens flow rtp a none), length-append (opening flow) (packet_of rtp a ∷ []));
       repeats = o.repeated ∙ h.repeats ∙ ap length (sym (repeated-opens flow rtp a none));
@@ -121,7 +129,8 @@ holds-opens old new flow rtp a h o =
     }
 
 -- one flow after another packet of a number
-holds-repeats : (old new : Arrivals) (flow : List FlowPacket) (rtp : Rtp) (a : Arrival) → HoldsFlow old flow → Repeats old new rtp.number → HoldsFlow new (flow ++ packet_of rtp a ∷ [])
+holds-repeats : (old new : Arrivals) (flow : List FlowPacket) (rtp : Rtp) (a : Arrival) → HoldsFlow old flow → Repeats old new rtp.number
+    → HoldsFlow new (flow ++ packet_of rtp a ∷ [])
 holds-repeats old new flow rtp a h r =
     let stood = kept-is_some _ _ (h.found rtp.number) r.stood in
     record {
@@ -132,7 +141,8 @@ holds-repeats old new flow rtp a h r =
     }
 
 -- one flow after a packet that was read
-holds-read : (old new other : Arrivals) (flow : List FlowPacket) (rtp : Rtp) (a : Arrival) (told : Option Arrival) → HoldsFlow old flow → Steps old new other rtp.number a told → HoldsFlow new (flow ++ packet_of rtp a ∷ [])
+holds-read : (old new other : Arrivals) (flow : List FlowPacket) (rtp : Rtp) (a : Arrival) (told : Option Arrival) → HoldsFlow old flow
+    → Steps old new other rtp.number a told → HoldsFlow new (flow ++ packet_of rtp a ∷ [])
 holds-read old new other flow rtp a told h (inl opens_) = holds-opens old new flow rtp a h opens_.0
 holds-read old new other flow rtp a told h (inr repeats_) = holds-repeats old new flow rtp a h repeats_.0
 
@@ -147,52 +157,76 @@ holds-kept old new flow h k = record {
 
 -- the skews after a packet of a flow that is matched with none
 module _ (old new other : Arrivals) (flow pair : List FlowPacket) (rtp : Rtp) (a : Arrival) (h : HoldsFlow old flow) (g : HoldsFlow other pair) where
-  skews-alone : Opens old new rtp.number a → packet_with rtp.number pair ≡ None → (skews (flow ++ packet_of rtp a ∷ []) pair ≡ skews flow pair) × (skews pair (flow ++ packet_of rtp a ∷ []) ≡ skews pair flow)
+  skews-alone : Opens old new rtp.number a → packet_with rtp.number pair ≡ None
+      → (skews (flow ++ packet_of rtp a ∷ []) pair ≡ skews flow pair) × (skews pair (flow ++ packet_of rtp a ∷ []) ≡ skews pair flow)
   skews-alone o lone =
       let p = packet_of rtp a in
       let none = kept-none _ _ (h.found rtp.number) o.absent in
-      let by = λ (n : ℕ). packet_with n pair in
-      (ap (skews_by by) (opening-opens flow rtp a none) ∙ flow_end by ∙ ap (λ w. skews flow pair ++ (extreme_with p w ++ [])) lone ∙ append-nil (skews flow pair), none-same rtp.number (λ n. packet_with n flow) (λ n. packet_with n (flow ++ p ∷ [])) p none (found-here flow rtp a none) (found-other flow rtp a) [] pair lone)
+      let by = λ (n : ℕ). packet_with n pair in (
+        ap (skews_by by) (opening-opens flow rtp a none) ∙ flow_end by ∙ ap (λ w. skews flow pair ++ (extreme_with p w ++ [])) lone
+            ∙ append-nil (skews flow pair),
+        none-same rtp.number (λ n. packet_with n flow)
+            (λ n. packet_with n (flow ++ p ∷ [])) p none (found-here flow rtp a none) (found-other flow rtp a) [] pair lone,
+      )
     where
-      flow_end : (by : ℕ → Option FlowPacket) → skews_by by (opening flow ++ packet_of rtp a ∷ []) ≡ skews_by by (opening flow) ++ (extreme_with (packet_of rtp a) (by rtp.number) ++ [])
+      flow_end : (by : ℕ → Option FlowPacket) → skews_by by (opening flow ++ packet_of rtp a ∷ [])
+          ≡ skews_by by (opening flow) ++ (extreme_with (packet_of rtp a) (by rtp.number) ++ [])
       flow_end by = flat_map-append (λ x. extreme_with x (by (number_of x))) (opening flow) (packet_of rtp a ∷ [])
 
-  skews-again : Repeats old new rtp.number → (skews (flow ++ packet_of rtp a ∷ []) pair ≡ skews flow pair) × (skews pair (flow ++ packet_of rtp a ∷ []) ≡ skews pair flow)
+  skews-again : Repeats old new rtp.number → (skews (flow ++ packet_of rtp a ∷ []) pair ≡ skews flow pair)
+      × (skews pair (flow ++ packet_of rtp a ∷ []) ≡ skews pair flow)
   skews-again r =
-      let stood = kept-is_some _ _ (h.found rtp.number) r.stood in
-      (ap (skews_by (λ n. packet_with n pair)) (opening-repeats flow rtp a stood), skews_by-same (λ n. packet_with n flow) (λ n. packet_with n (flow ++ packet_of rtp a ∷ [])) (found-again flow rtp a stood) (opening pair))
+      let stood = kept-is_some _ _ (h.found rtp.number) r.stood in (
+        ap (skews_by (λ n. packet_with n pair)) (opening-repeats flow rtp a stood),
+        skews_by-same (λ n. packet_with n flow) (λ n. packet_with n (flow ++ packet_of rtp a ∷ [])) (found-again flow rtp a stood) (opening pair),
+      )
 
   -- none is told
-  pub skews-none : Steps old new other rtp.number a None → (skews (flow ++ packet_of rtp a ∷ []) pair ≡ skews flow pair) × (skews pair (flow ++ packet_of rtp a ∷ []) ≡ skews pair flow)
+  pub skews-none : Steps old new other rtp.number a None → (skews (flow ++ packet_of rtp a ∷ []) pair ≡ skews flow pair)
+      × (skews pair (flow ++ packet_of rtp a ∷ []) ≡ skews pair flow)
   skews-none (inl both) = skews-alone both.0 (kept-none _ _ (g.found rtp.number) (sym both.1))
   skews-none (inr both) = skews-again both.0
 
   -- the other flow's first packet is told
-  pub skews-some : (x : Arrival) → Steps old new other rtp.number a (Some x) → (q : FlowPacket) × (record_and_stamp_of q ≡ record_and_stamp x) × (skews (flow ++ packet_of rtp a ∷ []) pair ≡ skews flow pair ++ extreme (packet_of rtp a) q ∷ [])
-      × ((left : List Extreme) × (right : List Extreme) × (skews pair flow ≡ left ++ right) × (skews pair (flow ++ packet_of rtp a ∷ []) ≡ left ++ extreme q (packet_of rtp a) ∷ right))
+  pub skews-some : (x : Arrival) → Steps old new other rtp.number a (Some x)
+      → (q : FlowPacket) × (record_and_stamp_of q ≡ record_and_stamp x) × (skews (flow ++ packet_of rtp a ∷ []) pair
+      ≡ skews flow pair ++ extreme (packet_of rtp a) q ∷ [])
+      × ((left : List Extreme) × (right : List Extreme) × (skews pair flow ≡ left ++ right)
+      × (skews pair (flow ++ packet_of rtp a ∷ []) ≡ left ++ extreme q (packet_of rtp a) ∷ right))
   skews-some x (inl both) =
       let p = packet_of rtp a in
       let none = kept-none _ _ (h.found rtp.number) both.0.absent in
       let there = kept-some _ _ x (g.found rtp.number) (sym both.1) in
-      let by = λ (n : ℕ). packet_with n pair in
-      (there.0, there.2, ap (skews_by by) (opening-opens flow rtp a none) ∙ flat_map-append (λ y. extreme_with y (by (number_of y))) (opening flow) (p ∷ []) ∙ ap (λ w. skews flow pair ++ (extreme_with p w ++ [])) there.1, one-more rtp.number (λ n. packet_with n flow) (λ n. packet_with n (flow ++ p ∷ [])) p none (found-here flow rtp a none) (found-other flow rtp a) [] pair there.0 refl there.1)
+      let by = λ (n : ℕ). packet_with n pair in (
+        there.0,
+        there.2,
+        ap (skews_by by) (opening-opens flow rtp a none) ∙ flat_map-append (λ y. extreme_with y (by (number_of y))) (opening flow) (p ∷ [])
+            ∙ ap (λ w. skews flow pair ++ (extreme_with p w ++ [])) there.1,
+        one-more rtp.number (λ n. packet_with n flow)
+            (λ n. packet_with n (flow ++ p ∷ [])) p none (found-here flow rtp a none) (found-other flow rtp a) [] pair there.0 refl there.1,
+      )
   skews-some x (inr both) = absurd (let bad = both.1 in cc)
 
 -- the skew of two packets by what is kept of them
-extreme-second : (p q : FlowPacket) (x : Arrival) → record_and_stamp_of q ≡ record_and_stamp x → extreme p q ≡ record { skew = pos x.at -ℤ pos p.at; first_rec = p.rec; second_rec = x.rec }
+extreme-second : (p q : FlowPacket) (x : Arrival) → record_and_stamp_of q ≡ record_and_stamp x
+    → extreme p q ≡ record { skew = pos x.at -ℤ pos p.at; first_rec = p.rec; second_rec = x.rec }
 extreme-second p q x same = let of : ℕ × ℕ → Extreme = λ t. record { skew = pos t.1 -ℤ pos p.at; first_rec = p.rec; second_rec = t.0 } in ap of same
 
-extreme-first : (p q : FlowPacket) (x : Arrival) → record_and_stamp_of p ≡ record_and_stamp x → extreme p q ≡ record { skew = pos q.at -ℤ pos x.at; first_rec = x.rec; second_rec = q.rec }
+extreme-first : (p q : FlowPacket) (x : Arrival) → record_and_stamp_of p ≡ record_and_stamp x
+    → extreme p q ≡ record { skew = pos q.at -ℤ pos x.at; first_rec = x.rec; second_rec = q.rec }
 extreme-first p q x same = let of : ℕ × ℕ → Extreme = λ t. record { skew = pos q.at -ℤ pos t.1; first_rec = t.0; second_rec = q.rec } in ap of same
 
 -- as many skews as before, and one
-length-insert : (n m : ℕ) (es fs left right : List Extreme) (e : Extreme) → n ≡ m + 1 → m ≡ length es → es ≡ left ++ right → fs ≡ left ++ e ∷ right → n ≡ length fs
-length-insert n m es fs left right e one before is new = omega (arith, one, before, ap length is, ap length new, length-append left right, length-append left (e ∷ right))
+length-insert : (n m : ℕ) (es fs left right : List Extreme) (e : Extreme) → n ≡ m + 1 → m ≡ length es → es ≡ left ++ right → fs ≡ left ++ e ∷ right
+    → n ≡ length fs
+length-insert n m es fs left right e one before is new =
+    omega (arith, one, before, ap length is, ap length new, length-append left right, length-append left (e ∷ right))
 
 module _ (s t : Skew) (f g : List FlowPacket) (rtp : Rtp) (a : Arrival) (stood : StandsFor s f g) (whole : t.spent ≡ false) where
   -- a packet of the first flow that is matched
   first-told : (x : Arrival) → Steps s.first t.first s.second rtp.number a (Some x) → IsKept s.second t.second → t.matches.matched ≡ s.matches.matched + 1
-      → ((before after : List Extreme) → HoldsSkews s.matches (before ++ after) → HoldsSkews t.matches (before ++ record { skew = pos x.at -ℤ pos a.at; first_rec = a.rec; second_rec = x.rec } ∷ after))
+      → ((before after : List Extreme) → HoldsSkews s.matches (before ++ after)
+      → HoldsSkews t.matches (before ++ record { skew = pos x.at -ℤ pos a.at; first_rec = a.rec; second_rec = x.rec } ∷ after))
       → StandsFor t (f ++ packet_of rtp a ∷ []) g
   first-told x steps kept one put =
       let more = skews-some s.first t.first s.second f g rtp a stood.first stood.second x steps in
@@ -202,8 +236,10 @@ module _ (s t : Skew) (f g : List FlowPacket) (rtp : Rtp) (a : Arrival) (stood :
         whole = whole;
         first = holds-read s.first t.first s.second f rtp a (Some x) stood.first steps;
         second = holds-kept s.second t.second g stood.second kept;
-        matches = subst (HoldsSkews t.matches) (ap (λ e. skews f g ++ e ∷ []) (sym (extreme-second (packet_of rtp a) q x more.1)) ∙ sym more.2) (put (skews f g) [] all);
-        back = length-insert t.matches.matched s.matches.matched (skews g f) (skews g (f ++ packet_of rtp a ∷ [])) more.3.0 more.3.1 (extreme q (packet_of rtp a)) one stood.back more.3.2 more.3.3;
+        matches = subst (HoldsSkews t.matches) (ap (λ e. skews f g ++ e ∷ []) (sym (extreme-second (packet_of rtp a) q x more.1)) ∙ sym more.2)
+            (put (skews f g) [] all);
+        back = length-insert t.matches.matched s.matches.matched (skews g f)
+            (skews g (f ++ packet_of rtp a ∷ [])) more.3.0 more.3.1 (extreme q (packet_of rtp a)) one stood.back more.3.2 more.3.3;
       }
 
   -- a packet of the first flow that is not
@@ -220,7 +256,8 @@ module _ (s t : Skew) (f g : List FlowPacket) (rtp : Rtp) (a : Arrival) (stood :
 
   -- a packet of the second flow that is matched
   second-told : (x : Arrival) → Steps s.second t.second s.first rtp.number a (Some x) → IsKept s.first t.first → t.matches.matched ≡ s.matches.matched + 1
-      → ((before after : List Extreme) → HoldsSkews s.matches (before ++ after) → HoldsSkews t.matches (before ++ record { skew = pos a.at -ℤ pos x.at; first_rec = x.rec; second_rec = a.rec } ∷ after))
+      → ((before after : List Extreme) → HoldsSkews s.matches (before ++ after)
+      → HoldsSkews t.matches (before ++ record { skew = pos a.at -ℤ pos x.at; first_rec = x.rec; second_rec = a.rec } ∷ after))
       → StandsFor t f (g ++ packet_of rtp a ∷ [])
   second-told x steps kept one put =
       let more = skews-some s.second t.second s.first g f rtp a stood.second stood.first x steps in
@@ -232,8 +269,10 @@ module _ (s t : Skew) (f g : List FlowPacket) (rtp : Rtp) (a : Arrival) (stood :
         whole = whole;
         first = holds-kept s.first t.first f stood.first kept;
         second = holds-read s.second t.second s.first g rtp a (Some x) stood.second steps;
-        matches = subst (HoldsSkews t.matches) (ap (λ e. left ++ e ∷ right) (sym (extreme-first q (packet_of rtp a) x more.1)) ∙ sym more.3.3) (put left right all);
-        back = length-insert t.matches.matched s.matches.matched (skews g f) (skews (g ++ packet_of rtp a ∷ []) f) (skews g f) [] (extreme (packet_of rtp a) q) one stood.back (sym (append-nil (skews g f))) more.2;
+        matches = subst (HoldsSkews t.matches) (ap (λ e. left ++ e ∷ right) (sym (extreme-first q (packet_of rtp a) x more.1)) ∙ sym more.3.3)
+            (put left right all);
+        back = length-insert t.matches.matched s.matches.matched (skews g f) (skews (g ++ packet_of rtp a ∷ []) f) (skews g f) []
+            (extreme (packet_of rtp a) q) one stood.back (sym (append-nil (skews g f))) more.2;
       }
 
   -- a packet of the second flow that is not
@@ -258,10 +297,12 @@ repeated-unread flow rec at fault = chosen-append repeats [] flow (unread_of rec
 found-unread : (flow : List FlowPacket) (rec at : ℕ) (fault : PacketFault) (n : ℕ) → packet_with n (flow ++ unread_of rec at fault ∷ []) ≡ packet_with n flow
 found-unread flow rec at fault n = packet_with-other n flow (unread_of rec at fault) refl
 
-unread-more : (flow : List FlowPacket) (rec at : ℕ) (fault : PacketFault) → count_by is_unread (flow ++ unread_of rec at fault ∷ []) ≡ count_by is_unread flow + 1
+unread-more : (flow : List FlowPacket) (rec at : ℕ) (fault : PacketFault)
+    → count_by is_unread (flow ++ unread_of rec at fault ∷ []) ≡ count_by is_unread flow + 1
 unread-more flow rec at fault = grind (arith, common_steps)
 
-holds-unread : (old new : Arrivals) (flow : List FlowPacket) (rec at : ℕ) (fault : PacketFault) → HoldsFlow old flow → Skips old new → HoldsFlow new (flow ++ unread_of rec at fault ∷ [])
+holds-unread : (old new : Arrivals) (flow : List FlowPacket) (rec at : ℕ) (fault : PacketFault) → HoldsFlow old flow → Skips old new
+    → HoldsFlow new (flow ++ unread_of rec at fault ∷ [])
 holds-unread old new flow rec at fault h k = record {
   found = λ n. ap (option_map record_and_stamp) (k.found n) ∙ h.found n ∙ ap (option_map record_and_stamp_of) (sym (found-unread flow rec at fault n));
   numbers = k.numbers ∙ h.numbers ∙ ap length (sym (opening-unread flow rec at fault));
@@ -269,12 +310,16 @@ holds-unread old new flow rec at fault h k = record {
   unread = k.unread ∙ ap (λ n. n + 1) h.unread ∙ sym (unread-more flow rec at fault);
 }
 
-skews-unread : (flow pair : List FlowPacket) (rec at : ℕ) (fault : PacketFault) → (skews (flow ++ unread_of rec at fault ∷ []) pair ≡ skews flow pair) × (skews pair (flow ++ unread_of rec at fault ∷ []) ≡ skews pair flow)
-skews-unread flow pair rec at fault =
-    (ap (skews_by (λ n. packet_with n pair)) (opening-unread flow rec at fault), skews_by-same (λ n. packet_with n flow) (λ n. packet_with n (flow ++ unread_of rec at fault ∷ [])) (found-unread flow rec at fault) (opening pair))
+skews-unread : (flow pair : List FlowPacket) (rec at : ℕ) (fault : PacketFault)
+    → (skews (flow ++ unread_of rec at fault ∷ []) pair ≡ skews flow pair) × (skews pair (flow ++ unread_of rec at fault ∷ []) ≡ skews pair flow)
+skews-unread flow pair rec at fault = (
+  ap (skews_by (λ n. packet_with n pair)) (opening-unread flow rec at fault),
+  skews_by-same (λ n. packet_with n flow) (λ n. packet_with n (flow ++ unread_of rec at fault ∷ [])) (found-unread flow rec at fault) (opening pair),
+)
 
 -- a packet of the first flow that was not read
-first-unread : (s t : Skew) (f g : List FlowPacket) (rec at : ℕ) (fault : PacketFault) → StandsFor s f g → t.spent ≡ false → Skips s.first t.first → IsKept s.second t.second → t.matches ≡ s.matches → StandsFor t (f ++ unread_of rec at fault ∷ []) g
+first-unread : (s t : Skew) (f g : List FlowPacket) (rec at : ℕ) (fault : PacketFault) → StandsFor s f g → t.spent ≡ false → Skips s.first t.first
+    → IsKept s.second t.second → t.matches ≡ s.matches → StandsFor t (f ++ unread_of rec at fault ∷ []) g
 first-unread s t f g rec at fault stood whole skips kept same =
     let no_more = skews-unread f g rec at fault in
     record {
@@ -286,7 +331,8 @@ first-unread s t f g rec at fault stood whole skips kept same =
     }
 
 -- a packet of the second flow that was not read
-second-unread : (s t : Skew) (f g : List FlowPacket) (rec at : ℕ) (fault : PacketFault) → StandsFor s f g → t.spent ≡ false → Skips s.second t.second → IsKept s.first t.first → t.matches ≡ s.matches → StandsFor t f (g ++ unread_of rec at fault ∷ [])
+second-unread : (s t : Skew) (f g : List FlowPacket) (rec at : ℕ) (fault : PacketFault) → StandsFor s f g → t.spent ≡ false → Skips s.second t.second
+    → IsKept s.first t.first → t.matches ≡ s.matches → StandsFor t f (g ++ unread_of rec at fault ∷ [])
 second-unread s t f g rec at fault stood whole skips kept same =
     let no_more = skews-unread g f rec at fault in
     record {
@@ -299,8 +345,10 @@ second-unread s t f g rec at fault stood whole skips kept same =
 
 module _ (s t : Skew) (f g : List FlowPacket) (a : Arrival) (stood : StandsFor s f g) (whole : t.spent ≡ false) where
   -- a packet of the first flow, read or not, that is matched
-  pub first-matched : (r : Result Rtp PacketFault) (x : Arrival) → Comes s.first t.first s.second a r (Some x) → IsKept s.second t.second → t.matches.matched ≡ s.matches.matched + 1
-      → ((before after : List Extreme) → HoldsSkews s.matches (before ++ after) → HoldsSkews t.matches (before ++ record { skew = pos x.at -ℤ pos a.at; first_rec = a.rec; second_rec = x.rec } ∷ after))
+  pub first-matched : (r : Result Rtp PacketFault) (x : Arrival) → Comes s.first t.first s.second a r (Some x) → IsKept s.second t.second
+      → t.matches.matched ≡ s.matches.matched + 1
+      → ((before after : List Extreme) → HoldsSkews s.matches (before ++ after)
+      → HoldsSkews t.matches (before ++ record { skew = pos x.at -ℤ pos a.at; first_rec = a.rec; second_rec = x.rec } ∷ after))
       → StandsFor t (f ++ record { rec = a.rec; at = a.at; rtp = r } ∷ []) g
   first-matched (Ok rtp) x comes kept one put = first-told s t f g rtp a stood whole x comes kept one put
   first-matched (Err fault) x comes kept one put = absurd (let bad = comes.1 in cc)
@@ -312,8 +360,10 @@ module _ (s t : Skew) (f g : List FlowPacket) (a : Arrival) (stood : StandsFor s
   first-alone (Err fault) comes kept same = first-unread s t f g a.rec a.at fault stood whole comes.0 kept same
 
   -- the same of the second flow
-  pub second-matched : (r : Result Rtp PacketFault) (x : Arrival) → Comes s.second t.second s.first a r (Some x) → IsKept s.first t.first → t.matches.matched ≡ s.matches.matched + 1
-      → ((before after : List Extreme) → HoldsSkews s.matches (before ++ after) → HoldsSkews t.matches (before ++ record { skew = pos a.at -ℤ pos x.at; first_rec = x.rec; second_rec = a.rec } ∷ after))
+  pub second-matched : (r : Result Rtp PacketFault) (x : Arrival) → Comes s.second t.second s.first a r (Some x) → IsKept s.first t.first
+      → t.matches.matched ≡ s.matches.matched + 1
+      → ((before after : List Extreme) → HoldsSkews s.matches (before ++ after)
+      → HoldsSkews t.matches (before ++ record { skew = pos a.at -ℤ pos x.at; first_rec = x.rec; second_rec = a.rec } ∷ after))
       → StandsFor t f (g ++ record { rec = a.rec; at = a.at; rtp = r } ∷ [])
   second-matched (Ok rtp) x comes kept one put = second-told s t f g rtp a stood whole x comes kept one put
   second-matched (Err fault) x comes kept one put = absurd (let bad = comes.1 in cc)
@@ -328,9 +378,28 @@ alone-is : (flow pair : List FlowPacket) → length (opening flow) ≡ length (s
 alone-is flow pair = matched-alone (λ n. packet_with n pair) (opening flow)
 
 -- the row by what is kept
-pub row-is : (s : Skew) (f g : List FlowPacket) (first_only second_only : ℕ) → StandsFor s f g → first_only ≡ count_numbers s.first - s.matches.matched → second_only ≡ count_numbers s.second - s.matches.matched
-    → record { matched = s.matches.matched; first_only = first_only; second_only = second_only; repeated = s.first.repeated + s.second.repeated; unread = s.first.unread + s.second.unread; least = s.matches.least; greatest = s.matches.greatest } ≡ skew f g
+pub row-is : (s : Skew) (f g : List FlowPacket) (first_only second_only : ℕ) → StandsFor s f g → first_only ≡ count_numbers s.first - s.matches.matched
+    → second_only ≡ count_numbers s.second - s.matches.matched
+    → record {
+      matched = s.matches.matched;
+      first_only = first_only;
+      second_only = second_only;
+      repeated = s.first.repeated + s.second.repeated;
+      unread = s.first.unread + s.second.unread;
+      least = s.matches.least;
+      greatest = s.matches.greatest;
+    } ≡ skew f g
 row-is s f g first_only second_only stood of_first of_second =
     let one : first_only ≡ alone f g = omega (arith, of_first, stood.first.numbers, stood.matches.matched, alone-is f g) in
     let two : second_only ≡ alone g f = omega (arith, of_second, stood.second.numbers, stood.back, alone-is g f) in
-    rw (stood.matches.matched, stood.matches.least, stood.matches.greatest, stood.first.repeats, stood.second.repeats, stood.first.unread, stood.second.unread, one, two) refl
+    rw (
+      stood.matches.matched,
+      stood.matches.least,
+      stood.matches.greatest,
+      stood.first.repeats,
+      stood.second.repeats,
+      stood.first.unread,
+      stood.second.unread,
+      one,
+      two,
+    ) refl

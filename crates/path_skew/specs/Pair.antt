@@ -54,8 +54,10 @@ abbrev pub opens : List FlowPacket → Result Rtp PacketFault → Bool
 opens before (Ok rtp) = not (stands rtp.number before)
 opens before (Err fault) = false
 
--- the packets of a flow, which goes on after those before, for which the test holds of the packets before each and of it
-abbrev pub chosen : (List FlowPacket → Result Rtp PacketFault → Bool) → List FlowPacket → List FlowPacket → List FlowPacket
+-- the packets of a flow, which goes on after those before, for which the test holds of the packets before each and of
+-- it
+abbrev pub chosen : (List FlowPacket → Result Rtp PacketFault → Bool) → List FlowPacket → List FlowPacket
+    → List FlowPacket
 chosen test before [] = []
 chosen test before (p ∷ flow) = (if test before p.rtp then p ∷ [] else []) ++ chosen test (before ++ p ∷ []) flow
 

@@ -18,7 +18,8 @@ record_and_stamp_of p = (p.rec, p.at)
 
 -- these packets came of a flow
 pub record HoldsFlow (a : Arrivals) (flow : List FlowPacket) : Type 0 where
-  pub found : (number : ℕ) → option_map record_and_stamp (arrival_of a number) ≡ option_map record_and_stamp_of (packet_with number flow)
+  pub found : (number : ℕ) → option_map record_and_stamp (arrival_of a number)
+      ≡ option_map record_and_stamp_of (packet_with number flow)
   pub numbers : count_numbers a ≡ length (opening flow)
   pub repeats : a.repeated ≡ length (repeated flow)
   pub unread : a.unread ≡ count_by is_unread flow
@@ -43,8 +44,8 @@ count_first s = count_given s.first
 abbrev pub count_second : Skew → ℕ
 count_second s = count_given s.second
 
--- a packet of the flow with this count was given, and none of the other; a refusal of memory leaves the counts and makes
--- the two flows spent, and spent ones answer so again
+-- a packet of the flow with this count was given, and none of the other; a refusal of memory leaves the counts and
+-- makes the two flows spent, and spent ones answer so again
 pub record Gives {T E : Type 0} (old new : Skew) (count count_other : Skew → ℕ) (result : Result T E) : Type 0 where
   pub given : OnOk result (count new ≡ count old + 1)
   pub kept : OnErr result (count new ≡ count old)

@@ -181,7 +181,7 @@ fn take(
     }
 }
 
-/// The same for a packet that was read.
+/// Puts a packet with this number in its own flow, and finds the first one with it in the other.
 #[inline(always)]
 fn take_read(
     flow: &mut Arrivals,

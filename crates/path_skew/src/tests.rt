@@ -90,7 +90,7 @@ fn stamp(rec: u64) -> u64
     second + 20_000_000 * (place / 20) + 764_000 + 960_000 * (place % 20)
 }
 
-// The same by a path that is 150 ns longer, and 900 ns for record 5.
+// When a record comes by a path that is 150 ns longer, and 900 ns for record 5.
 fn later(rec: u64) -> u64 {
     stamp(rec) + if rec == 5 { 900 } else { 150 }
 }

@@ -47,7 +47,8 @@ pub held-after_fail : (f s : ℕ) (xs r : List ℕ) → s ≤ f → f ≤ length
 held-after_fail f s xs r h k =
     let old = take (f - s) (drop s xs) in
     let long : length old ≡ f - s = omega (arith, length-take (f - s) (drop s xs), length-drop s xs) in
-    ap (take (f - s)) (held-before f s xs r h k) ∙ take-append-le (f - s) old r (omega (arith, long)) ∙ take-take_shorter (f - s) (f - s) (drop s xs) (omega arith)
+    ap (take (f - s)) (held-before f s xs r h k) ∙ take-append-le (f - s) old r (omega (arith, long))
+    ∙ take-take_shorter (f - s) (f - s) (drop s xs) (omega arith)
 
 -- what a read consumed stands behind what was held
 pub Keeps-read : (a b : Option (List ℕ)) (h bs : List ℕ) → Consumes a b bs → Keeps (prepend_known h a) (prepend_known (h ++ bs) b)
@@ -62,7 +63,8 @@ Keeps-failed (Some x) None h p = absurd p
 Keeps-failed (Some x) (Some y) h p = ap (λ l. h ++ l) p
 
 -- the bytes ahead of a window after a read of n bytes
-pub ahead-read : (a b : Option (List ℕ)) (f s n : ℕ) (xs ys new post zs : List ℕ) → ys ≡ xs → zs ≡ take f ys ++ (new ++ post) → s ≤ f → f ≤ length xs → n ≤ length new → Consumes a b (take n new)
+pub ahead-read : (a b : Option (List ℕ)) (f s n : ℕ) (xs ys new post zs : List ℕ) → ys ≡ xs → zs ≡ take f ys ++ (new ++ post) → s ≤ f → f ≤ length xs
+    → n ≤ length new → Consumes a b (take n new)
     → Keeps (prepend_known (take (f - s) (drop s xs)) a) (prepend_known (take ((f + n) - s) (drop s zs)) b)
 ahead-read a b f s n xs ys new post zs e i h k m p =
     subst (λ l. Keeps (prepend_known (take (f - s) (drop s xs)) a) (prepend_known l b))
@@ -75,4 +77,5 @@ pub ahead-failed : (a b : Option (List ℕ)) (f s : ℕ) (xs ys r zs : List ℕ)
 ahead-failed a b f s xs ys r zs e i h k p =
     subst (λ l. Keeps (prepend_known (take (f - s) (drop s xs)) a) (prepend_known (take (f - s) l) b))
     (sym (ap (drop s) (i ∙ ap (λ l. take f l ++ r) e)))
-    (subst (λ l. Keeps (prepend_known (take (f - s) (drop s xs)) a) (prepend_known l b)) (sym (held-after_fail f s xs r h k)) (Keeps-failed a b (take (f - s) (drop s xs)) p))
+    (subst (λ l. Keeps (prepend_known (take (f - s) (drop s xs)) a) (prepend_known l b)) (sym (held-after_fail f s xs r h k))
+    (Keeps-failed a b (take (f - s) (drop s xs)) p))

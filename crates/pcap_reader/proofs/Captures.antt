@@ -16,7 +16,8 @@ some-records (text ∷ texts) =
     (first.0 ∷ others.0, first.1 ∷ others.1, (first.2, others.2))
 
 -- and no others
-pub only-records : (texts : List (List ℕ)) (fs gs : List (List Record)) (ns ms : List FileNote) → AreRecords texts fs ns → AreRecords texts gs ms → (fs ≡ gs) × (ns ≡ ms)
+pub only-records : (texts : List (List ℕ)) (fs gs : List (List Record)) (ns ms : List FileNote) → AreRecords texts fs ns → AreRecords texts gs ms
+    → (fs ≡ gs) × (ns ≡ ms)
 only-records [] [] [] [] [] h k = (refl, refl)
 only-records (t ∷ ts) (f ∷ fs) (g ∷ gs) (n ∷ ns) (m ∷ ms) h k =
     let first = only_by (header t) (2 ^ 40) t f g n m h.0 k.0 in

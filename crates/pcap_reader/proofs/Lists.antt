@@ -37,7 +37,8 @@ Some_from l most n place rest = (items : List Record) × (end : FileNote) × Rec
 
 -- it has none and ends, or has one more than what is behind its first record
 some_step : (l : Layout) (most n place : ℕ) (rest : List ℕ) (o : Option FileNote) → note_at l most n place rest ≡ o
-    → (note_at l most n place rest ≡ None → Some_from l most (n + 1) (place + 16 + captured l rest) (drop (16 + captured l rest) rest)) → Some_from l most n place rest
+    → (note_at l most n place rest ≡ None → Some_from l most (n + 1) (place + 16 + captured l rest) (drop (16 + captured l rest) rest))
+    → Some_from l most n place rest
 some_step l most n place rest (Some end) e later = ([], end, e)
 some_step l most n place rest None e later =
     let more = later e in

@@ -29,7 +29,8 @@ unless-map (Refused fault.ReadFault) P Q f p = tt
 unless-map e P Q f p = f p
 
 -- what a window that holds a record's head says of the text's note
-pub note_at-front_note : (l : Layout) (v w : Window) (a b : Option (List ℕ)) (text : List ℕ) → SameRecord v w → Keeps a (prepend_known (held_bytes w) b) → a ≡ Some text → 16 ≤ length (held_bytes w)
+pub note_at-front_note : (l : Layout) (v w : Window) (a b : Option (List ℕ)) (text : List ℕ) → SameRecord v w → Keeps a (prepend_known (held_bytes w) b)
+    → a ≡ Some text → 16 ≤ length (held_bytes w)
     → note_at l v.most (v.count + 1) v.place text ≡ front_note l w (length text)
 note_at-front_note l v w a b text same p e m =
     ap (λ k. note_at l k (v.count + 1) v.place text) (sym same.most) ∙ ap (λ k. note_at l w.most (k + 1) v.place text) (sym same.count)
@@ -37,7 +38,8 @@ note_at-front_note l v w a b text same p e m =
 
 -- a text that ends within a record
 pub note_at-cut : (l : Layout) (v w1 w2 : Window) (a b c : Option (List ℕ)) (text : List ℕ) (n : ℕ) → SameRecord v w1 → SameRecord w1 w2
-    → Keeps a (prepend_known (held_bytes w1) b) → Keeps (prepend_known (held_bytes w1) b) (prepend_known (held_bytes w2) c) → a ≡ Some text → 16 ≤ length (held_bytes w1)
+    → Keeps a (prepend_known (held_bytes w1) b) → Keeps (prepend_known (held_bytes w1) b) (prepend_known (held_bytes w2) c) → a ≡ Some text
+    → 16 ≤ length (held_bytes w1)
     → IsAtEnd c → length (held_bytes w2) < 16 + n → ((long : ℕ) → long < 16 + n → front_note l w1 long ≡ Some (Cut w1.place))
     → note_at l v.most (v.count + 1) v.place text ≡ Some (Cut w2.place)
 note_at-cut l v w1 w2 a b c text n same1 same2 p q e m end few cut =
@@ -46,13 +48,15 @@ note_at-cut l v w1 w2 a b c text n same1 same2 p q e m end few cut =
     note_at-front_note l v w1 a b text same1 p e m ∙ cut (length text) short ∙ ap (λ k. Some (Cut k)) (sym same2.place)
 
 -- a text that ends right here
-pub note_at-here : (l : Layout) (v w : Window) (a b : Option (List ℕ)) (text : List ℕ) → Keeps a (prepend_known (held_bytes w) b) → a ≡ Some text → IsAtEnd b → length (held_bytes w) ≡ 0
+pub note_at-here : (l : Layout) (v w : Window) (a b : Option (List ℕ)) (text : List ℕ) → Keeps a (prepend_known (held_bytes w) b) → a ≡ Some text → IsAtEnd b
+    → length (held_bytes w) ≡ 0
     → note_at l v.most (v.count + 1) v.place text ≡ Some End
 note_at-here l v w a b text p e end none =
     note_at-none l v.most (v.count + 1) v.place text (ap length (text_at_end a b (held_bytes w) text p e end) ∙ none)
 
 -- a text that ends within the head of a record
-pub note_at-in_head : (l : Layout) (v w : Window) (a b : Option (List ℕ)) (text : List ℕ) → SameRecord v w → Keeps a (prepend_known (held_bytes w) b) → a ≡ Some text
+pub note_at-in_head : (l : Layout) (v w : Window) (a b : Option (List ℕ)) (text : List ℕ) → SameRecord v w → Keeps a (prepend_known (held_bytes w) b)
+    → a ≡ Some text
     → IsAtEnd b → 0 < length (held_bytes w) → length (held_bytes w) < 16 → note_at l v.most (v.count + 1) v.place text ≡ Some (Cut w.place)
 note_at-in_head l v w a b text same p e end some few =
     let long : length text ≡ length (held_bytes w) = ap length (text_at_end a b (held_bytes w) text p e end) in
@@ -86,7 +90,8 @@ record_is n m s t xs ys e f g =
 
 -- a record that was let go is the next of the text
 pub reads_record : (l : Layout) (v w1 w2 new : Window) (a b c : Option (List ℕ)) (text : List ℕ) (head : Head) → SameRecord v w1 → SameRecord w1 w2
-    → Keeps a (prepend_known (held_bytes w1) b) → Keeps (prepend_known (held_bytes w1) b) (prepend_known (held_bytes w2) c) → a ≡ Some text → 16 ≤ length (held_bytes w1)
+    → Keeps a (prepend_known (held_bytes w1) b) → Keeps (prepend_known (held_bytes w1) b) (prepend_known (held_bytes w2) c) → a ≡ Some text
+    → 16 ≤ length (held_bytes w1)
     → 16 + head.captured ≤ length (held_bytes w2) → head.at ≡ stamp l (held_bytes w1) → head.captured ≡ captured l (held_bytes w1)
     → ((long : ℕ) → 16 + head.captured ≤ long → front_note l w1 long ≡ None)
     → held_bytes new ≡ drop (16 + head.captured) (held_bytes w2) → last_bytes head.captured new ≡ take head.captured (drop 16 (held_bytes w2))
@@ -110,7 +115,8 @@ pub some-injective : (x y : FileNote) → Some x ≡ Some y → x ≡ y
 some-injective x y e = cc
 
 -- what is to be given at a stage that is known
-pub gives-at : (s t : Stage) (w : Window) (known : Option (List ℕ)) (items : List Record) (end : FileNote) → s ≡ t → StageGives s w known items end → StageGives t w known items end
+pub gives-at : (s t : Stage) (w : Window) (known : Option (List ℕ)) (items : List Record) (end : FileNote) → s ≡ t → StageGives s w known items end
+    → StageGives t w known items end
 gives-at s t w known items end e p = subst (λ k. StageGives k w known items end) e p
 
 -- a record that was read is the first of those that were to be given
@@ -129,6 +135,7 @@ gives-frame l old new text rest head (item ∷ items) end r count most p s =
 
 -- where none is read, nothing was to be given but that end
 pub gives-note : (l : Layout) (old : Window) (text : List ℕ) (e : FileNote) (items : List Record) (end : FileNote)
-    → UnlessReadFault e (note_at l old.most (old.count + 1) old.place text ≡ Some e) → RecordsFrom l old.most (old.count + 1) old.place text items end → UnlessReadFault e ((items ≡ []) × (end ≡ e))
+    → UnlessReadFault e (note_at l old.most (old.count + 1) old.place text ≡ Some e) → RecordsFrom l old.most (old.count + 1) old.place text items end
+    → UnlessReadFault e ((items ≡ []) × (end ≡ e))
 gives-note l old text e [] end r p = unless-map e _ _ (λ q. (refl, some-injective end e (sym p ∙ q))) r
 gives-note l old text e (item ∷ items) end r p = unless-map e _ _ (λ q. absurd (none_some e (sym p.0 ∙ q))) r

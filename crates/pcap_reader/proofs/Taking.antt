@@ -6,7 +6,8 @@ use Rattle.pcap_reader.specs.declared.window.Window.{Window}
 use Rattle.pcap_reader.specs.Windows.{held_bytes, taken_length, SameRecord, Takes}
 
 -- where what is held and left together stays, the source lost what the window took
-pub takes-kept : (v w : Window) (a b : Option (List ℕ)) → SameRecord v w → Keeps (prepend_known (held_bytes v) a) (prepend_known (held_bytes w) b) → Takes a b (taken_length v) (taken_length w)
+pub takes-kept : (v w : Window) (a b : Option (List ℕ)) → SameRecord v w → Keeps (prepend_known (held_bytes v) a) (prepend_known (held_bytes w) b)
+    → Takes a b (taken_length v) (taken_length w)
 takes-kept v w None b same p = tt
 takes-kept v w (Some x) None same p = absurd p
 takes-kept v w (Some x) (Some y) same p =

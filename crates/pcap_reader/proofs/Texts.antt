@@ -86,10 +86,12 @@ pub note_at-read : (l : Layout) (most n place : ℕ) (a b : Option (List ℕ)) (
     → note_at l most n place text ≡ note_by l.fraction most n place (length text) (fraction l h) (captured l h)
 note_at-read l most n place a b h text p e m =
     let k = known_text a b h text p e in
-    subst (λ t. note_at l most n place t ≡ note_by l.fraction most n place (length t) (fraction l h) (captured l h)) (sym k.2) (note_at-append l most n place h k.0 m)
+    subst (λ t. note_at l most n place t ≡ note_by l.fraction most n place (length t) (fraction l h) (captured l h)) (sym k.2)
+    (note_at-append l most n place h k.0 m)
 
 -- the captured length
-pub captured-read : (l : Layout) (a b : Option (List ℕ)) (h text : List ℕ) → Keeps a (prepend_known h b) → a ≡ Some text → 16 ≤ length h → captured l text ≡ captured l h
+pub captured-read : (l : Layout) (a b : Option (List ℕ)) (h text : List ℕ) → Keeps a (prepend_known h b) → a ≡ Some text → 16 ≤ length h
+    → captured l text ≡ captured l h
 captured-read l a b h text p e m =
     let k = known_text a b h text p e in
     ap (captured l) k.2 ∙ number-append l.order 4 8 h k.0 (omega arith)
@@ -102,7 +104,8 @@ stamp-read l a b h text p e m =
     ∙ ap (λ f. seconds l h * 10 ^ 9 + f * nanos l.fraction) (number-append l.order 4 4 h k.0 (omega arith))
 
 -- the captured bytes
-pub bytes-read : (a b : Option (List ℕ)) (h text : List ℕ) (n : ℕ) → Keeps a (prepend_known h b) → a ≡ Some text → 16 + n ≤ length h → take n (drop 16 text) ≡ take n (drop 16 h)
+pub bytes-read : (a b : Option (List ℕ)) (h text : List ℕ) (n : ℕ) → Keeps a (prepend_known h b) → a ≡ Some text → 16 + n ≤ length h
+    → take n (drop 16 text) ≡ take n (drop 16 h)
 bytes-read a b h text n p e m =
     let k = known_text a b h text p e in
     ap (λ t. take n (drop 16 t)) k.2 ∙ ap (take n) (drop-append-le 16 h k.0 (omega arith)) ∙ take-append-le n (drop 16 h) k.0 (omega (arith, length-drop 16 h))

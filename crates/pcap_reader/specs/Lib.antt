@@ -5,6 +5,7 @@ pub mod Records
 pub mod Stages
 pub mod Taken
 pub mod Windows
+pub mod WrittenHeads
 -- captures that are worked by hand
 pub mod Examples
 -- these only serve proofs

@@ -78,7 +78,8 @@ Records text most items note = RecordsBy (header text) most text items note
 -- the texts of captures are these records, each ending so; a capture has at most 2^40 bytes
 abbrev pub AreRecords : (texts : List (List ℕ)) → List (List Record) → List FileNote → Type 0
 AreRecords [] [] [] = ⊤
-AreRecords (text ∷ texts) (items ∷ files) (note ∷ notes) = Records text (2 ^ 40) items note × AreRecords texts files notes
+AreRecords (text ∷ texts) (items ∷ files) (note ∷ notes) =
+    Records text (2 ^ 40) items note × AreRecords texts files notes
 AreRecords texts files notes = ⊥
 
 -- of a note that is no failed read

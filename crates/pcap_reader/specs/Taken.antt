@@ -16,6 +16,11 @@ pub record TakesFew {T : Type 0} (takes : T → T → List Record → Type 0) (m
 abbrev pub StopsAnyhow : {T E : Type 0} → (old new : T) → E → List Record → Type 0
 StopsAnyhow old new stop items = ⊤
 
+-- at some record it stopped for this cause
+pub record HasStopped {T E : Type 0} (stops : T → T → E → List Record → Type 0) (old new : T) (stop : E) : Type 0 where
+  pub items : List Record
+  pub stopped : stops old new stop items
+
 -- of these records so many were taken, up to an end with this note: all, unless a read failed
 pub record HasTaken {T : Type 0} (takes : T → T → List Record → Type 0) (before : ℕ) (old new : T)
     (note : FileNote) (count : ℕ) (items : List Record) (end : FileNote) : Type 0 where
@@ -29,7 +34,8 @@ pub record HasTaken {T : Type 0} (takes : T → T → List Record → Type 0) (b
 -- a record was taken off what the reader was to give; or there is no record more
 abbrev pub TakesNext : {S T : Type 0} → (left : S → Option (List ℕ)) → (takes : T → T → List Record → Type 0)
     → (before : ℕ) → (old new : T) → PcapReader S → Option FileNote → List Record → FileNote → Type 0
-TakesNext left takes before old new reader None items end = (item : Record) × (later : List Record) × (items ≡ item ∷ later)
+TakesNext left takes before old new reader None items end =
+    (item : Record) × (later : List Record) × (items ≡ item ∷ later)
     × WillGive left reader later end × takes old new (raised before item ∷ [])
 TakesNext left takes before old new reader (Some note) items end = GivesNote note items end
 

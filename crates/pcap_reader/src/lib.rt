@@ -13,6 +13,7 @@
 //! many as its reader is told.
 #![tactic(auto)]
 
+mod heads;
 pub mod laws;
 mod layout;
 mod reader;
@@ -21,6 +22,7 @@ mod stage;
 mod taker;
 mod window;
 
+pub use heads::{file_head, record_head};
 pub use reader::{MOST, PcapReader, Step};
 pub use records::{Taken, take_records};
 pub use taker::Taker;

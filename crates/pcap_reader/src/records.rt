@@ -1,16 +1,16 @@
 //! The records of a capture, taken one after the other.
 
-ghost use Rattle.std.specs.Prelude.{◌≡◌, ◌≢◌, ◌≤◌, ◌<◌, ◌+◌, ◌*◌, ◌^◌, ℕ, List, None, Some, IfOk, IfErr, MatchOption, MatchResult, map, length};
+ghost use Rattle.std.specs.Prelude.{◌≡◌, ◌≢◌, ◌≤◌, ◌<◌, ◌+◌, ◌*◌, ◌^◌, ℕ, List, None, Some, true, false, IfOk, IfErr, MatchOption, MatchResult, map, length};
 ghost use Rattle.timing_base.specs.Captures.{Record, raised};
 ghost use Rattle.timing_base.specs.declared.capture.FileNote.TheVariants as file_note;
 ghost use Rattle.timing_base.specs.declared.capture.PcapFault.TheVariants as fault;
 ghost use Rattle.timing_outside.specs.Causes.{Rose};
 ghost use Rattle.pcap_reader.specs.Readers.{WillGive, end_note, frame_count, most_of, under};
-ghost use Rattle.pcap_reader.specs.Taken.{HasTaken, TakesFew, TakesNext};
+ghost use Rattle.pcap_reader.specs.Taken.{HasStopped, HasTaken, TakesFew, TakesNext};
 
 use crate::reader::PcapReader;
 use crate::taker::Taker;
-use timing_base::FileNote;
+use timing_base::{FileNote, PcapFault};
 use timing_outside::Source;
 
 /// The records of a capture that were taken.
@@ -20,6 +20,20 @@ pub struct Taken {
     pub note: FileNote,
     /// How many they are, or where a read failed those before.
     pub records: u64,
+}
+
+impl Taken {
+    /// Whether a read failed before the records ended.
+    #[inline]
+    pub fn read_failed(&self) -> bool
+        ensures failed { result ≡ true → self.now.note ≡ file_note.Refused fault.ReadFault }
+        ensures whole { result ≡ false → self.now.note ≢ file_note.Refused fault.ReadFault }
+    {
+        match self.note {
+            FileNote::Refused(PcapFault::ReadFault) => true,
+            FileNote::Refused(_) | FileNote::End | FileNote::Cut { .. } => false,
+        }
+    }
 }
 
 /// Takes the next record, the number raised by `before`. Answers how the records ended, where there
@@ -42,6 +56,7 @@ fn take_next<S: Source, T: Taker>(
         (λ o. TakesNext S.left T.takes before taker.old taker.new reader.new o items end)
         (λ stop. T.stops taker.old taker.new stop (map (raised before) items)) }
     ensures fed { IfOk result (λ _. TakesFew T.takes 1 taker.old taker.new) }
+    ensures stopped { IfErr result (λ stop. HasStopped T.stops taker.old taker.new stop) }
     ensures none { IfOk result (λ o. (note : _) → o ≡ Some note → taker.new ≡ taker.old) }
     ensures room { (count : ℕ) → IfOk result (λ o. o ≡ None
         → T.room (before + number) (count + 1) taker.old → T.room (before + number + 1) count taker.new) }
@@ -84,8 +99,9 @@ pub fn take_records<S: Source, T: Taker>(
         (λ taken. HasTaken T.takes before taker.old taker.new taken.note taken.records items end)
         (λ stop. T.stops taker.old taker.new stop (map (raised before) items)) }
 
-    // Whatever the source tells, its records were taken and no others.
+    // Whatever the source tells, its records were taken and no others, and at one of them it stopped.
     ensures fed { IfOk result (λ _. TakesFew T.takes (2 ^ 36) taker.old taker.new) }
+    ensures stopped { IfErr result (λ stop. HasStopped T.stops taker.old taker.new stop) }
     ensures few { IfOk result (λ taken. taken.records ≤ 2 ^ 36) }
     ensures room { (count : ℕ) → IfOk result (λ taken. T.room (before + 1) (taken.records + count) taker.old
         → T.room (before + taken.records + 1) count taker.new) }

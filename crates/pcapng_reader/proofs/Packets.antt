@@ -4,7 +4,7 @@ use Rattle.std.proofs.Common.{append-nil, length-drop}
 use Rattle.std.proofs.lemmas.Bool.Decides.{nat_tests}
 use Rattle.std.proofs.lemmas.List.{length-take-le, take-append-le, drop-append-le, drop-take, take-take}
 use Rattle.std.specs.Prelude.{◌==◌, nat_lt, ◌||◌, if◌then◌else◌, slice_get, Option}
-use Rattle.capture_gen.specs.Heads.{record_head}
+use Rattle.pcap_reader.specs.WrittenHeads.{record_head}
 use Rattle.pcapng_reader.specs.declared.block.Order.{Order}
 use Rattle.pcapng_reader.specs.declared.block.Interface.{Interface}
 use Rattle.pcapng_reader.specs.declared.block.Kind.TheVariants as kind

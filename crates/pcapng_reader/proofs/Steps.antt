@@ -5,7 +5,7 @@ use Rattle.std.proofs.Math.Seq.{take-append-add}
 use Rattle.std.proofs.lemmas.Bool.{cases_lt}
 use Rattle.std.proofs.lemmas.List.{drop-append-le, take-append-le, length-take, drop-take, take-take, length-take-le, nil_from_length, take_all}
 use Rattle.std.specs.Prelude.{◌==◌, if◌then◌else◌, slice_get, Option}
-use Rattle.capture_gen.specs.Heads.{record_head}
+use Rattle.pcap_reader.specs.WrittenHeads.{record_head}
 use Rattle.pcapng_reader.specs.declared.block.Interface.{Interface}
 use Rattle.pcapng_reader.specs.declared.block.Order.{Order}
 use Rattle.pcapng_reader.specs.declared.block.Kind.{Kind}

@@ -16,7 +16,7 @@ use Rattle.std.specs.Prelude.{Some, None}
 use Rattle.std.specs.Option.{option_map, option_map_or}
 use Rattle.std.specs.List.{list_all}
 use Rattle.byteorder.specs.Endian.{big_number, little_number, little_bytes}
-use Rattle.capture_gen.specs.Heads.{file_head, record_head}
+use Rattle.pcap_reader.specs.WrittenHeads.{file_head, record_head}
 use Rattle.pcapng_reader.specs.declared.block.Order.{Order}
 use Rattle.pcapng_reader.specs.declared.block.Order.TheVariants.{Big, Little}
 use Rattle.pcapng_reader.specs.declared.block.Kind.{Kind}

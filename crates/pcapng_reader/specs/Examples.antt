@@ -1,6 +1,6 @@
 -- Small pcapng files, laid out by hand, to try the definitions on.
 use Rattle.std.specs.Prelude.{◌≡◌, ℕ, ◌+◌, List, [], ◌∷◌, ◌++◌, take, drop}
-use Rattle.capture_gen.specs.Heads.{file_head}
+use Rattle.pcap_reader.specs.WrittenHeads.{file_head}
 use Rattle.pcapng_reader.specs.Classic.{classic}
 
 -- a section of 28 bytes: type, total length, byte order, version 1.0, length not told, total length

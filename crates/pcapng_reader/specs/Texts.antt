@@ -1,7 +1,7 @@
 -- What a converter has still to give, by the bytes that its source has left, and what its steps leave
 -- of that.
 use Rattle.std.specs.Prelude.{◌≡◌, ◌≤◌, ◌<◌, ℕ, ◌+◌, ◌*◌, true, if◌then◌else◌, List, [], ◌∷◌, ◌++◌, length, take}
-use Rattle.capture_gen.specs.Heads.{file_head}
+use Rattle.pcap_reader.specs.WrittenHeads.{file_head}
 use Rattle.pcapng_reader.specs.declared.block.Order.{Order}
 use Rattle.pcapng_reader.specs.declared.block.Kind.{Kind}
 use Rattle.pcapng_reader.specs.declared.stage.Stage.{Stage}

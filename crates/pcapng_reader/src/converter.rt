@@ -3,7 +3,7 @@
 ghost use Rattle.std.specs.Prelude.{◌≡◌, ◌≤◌, ◌<◌, ◌+◌, ◌-◌, ◌*◌, ◌^◌, ℕ, List, [], ◌++◌, ◌==◌, if◌then◌else◌, IfOk, true, length, take, drop, slice_get};
 ghost use Rattle.std.specs.Io.{ReadsAtMost};
 ghost use Rattle.std.specs.Io.KnownBytes.{Keeps, ReadConsumes};
-ghost use Rattle.capture_gen.specs.Heads.{file_head};
+ghost use Rattle.pcap_reader.specs.WrittenHeads.{file_head};
 ghost use Rattle.timing_outside.specs.Causes.{HasCause};
 ghost use Rattle.std.specs.Option.{option_map};
 ghost use Rattle.pcapng_reader.specs.Classic.{classic, number, kind_of, padded, blocks, go_on};
@@ -24,7 +24,7 @@ use crate::reads::Reads;
 use crate::stage::{Body, Content, Found, Stage};
 use crate::step::{Gift, Step};
 use crate::window::Window;
-use capture_gen::record_head;
+use pcap_reader::record_head;
 use std::alloc::{AllocError, Global};
 use timing_outside::Failed;
 

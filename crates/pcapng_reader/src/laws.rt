@@ -3,7 +3,7 @@
 #![tactic(auto, unfolding(crate::specs::Classic::classic, crate::specs::Classic::blocks, crate::specs::Classic::options))]
 
 ghost use Rattle.std.specs.Prelude.{◌≡◌, ◌^◌, ℕ, List, [], ◌∷◌, ◌++◌, length, take, drop, true, Option, Some, None};
-ghost use Rattle.capture_gen.specs.Heads.{file_head};
+ghost use Rattle.pcap_reader.specs.WrittenHeads.{file_head};
 ghost use Rattle.pcapng_reader.specs.declared.block.Interface.{Interface};
 ghost use Rattle.pcapng_reader.specs.declared.block.Order.TheVariants.{Little};
 ghost use Rattle.pcapng_reader.specs.Classic.{Section, begins_section, number, broken, gives, add_interface, packet_by, classic, classic_texts};

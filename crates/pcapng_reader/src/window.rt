@@ -2,11 +2,11 @@
 
 ghost use Rattle.std.specs.Prelude.{◌≡◌, ◌≤◌, ◌<◌, ◌+◌, ◌-◌, ◌++◌, ℕ, List, [], IfOk, IfErr, vec_len, length, min, take, drop};
 ghost use Rattle.std.specs.Io.KnownBytes.{Keeps, Consumes, IsAtEnd};
-ghost use Rattle.capture_gen.specs.Heads.{file_head};
+ghost use Rattle.pcap_reader.specs.WrittenHeads.{file_head};
 ghost use Rattle.timing_outside.specs.Causes.{HasCause};
 
 use crate::reads::Reads;
-use capture_gen::file_head;
+use pcap_reader::file_head;
 use std::alloc::{AllocError, Global};
 use timing_outside::Failed;
 

@@ -16,11 +16,12 @@ pub is_grid_of : (m : Media) (n : ℕ) (anchor : ℤ) (gapped : Bool) (a offset 
     → g.start ≡ a * g.group + (2 ^ 49 * g.den - 480 * g.group) + offset
     → IsGridOf m n anchor gapped g
 is_grid_of m n anchor gapped a offset g have sizes same is room start =
-    let reads = λ (x t : ℕ). reads-by-place m n anchor gapped a 480 g.den g.group g.step offset x t (2 ^ 49 * g.den) (parts_at g x) (parts_of g t) have sizes g.den_some is
+    let reads = λ (x t : ℕ). reads-by-place m n anchor gapped a 480 g.den g.group g.step offset x t (2 ^ 49 * g.den) (parts_at g x)
+    (parts_of g t) have sizes g.den_some is
     (rw (start, same) (omega (arith, room))) (omega arith) in
     record { before = λ x t. (reads x t).0; after = λ x t. (reads x t).1 }
 
--- the same, where the offset is added
+-- a grid of these sizes without an offset is of the video, onto which offsets are added
 pub is_grid_without : (m : Media) (n : ℕ) (anchor : ℤ) (gapped : Bool) (a offset : ℕ) (g : Grid)
     → HavePer m n gapped
     → AreSizes m n gapped g.den g.group g.step offset
@@ -30,7 +31,8 @@ pub is_grid_without : (m : Media) (n : ℕ) (anchor : ℤ) (gapped : Bool) (a of
     → g.start ≡ a * g.group + (2 ^ 49 * g.den - 480 * g.group)
     → IsGridWithout m n anchor gapped g
 is_grid_without m n anchor gapped a offset g have sizes same is room start =
-    let reads = λ (micros x t : ℕ). reads-by-place (record m { troff = Some micros }) n anchor gapped a 480 g.den g.group g.step (1000 * micros * g.den) x t (2 ^ 49 * g.den) (parts_at g x + 1000 * micros * g.den) (parts_of g t)
+    let reads = λ (micros x t : ℕ). reads-by-place (record m { troff = Some micros }) n anchor gapped a 480 g.den g.group g.step (1000 * micros * g.den) x t
+    (2 ^ 49 * g.den) (parts_at g x + 1000 * micros * g.den) (parts_of g t)
     (record { group = have.group; offset = omega arith; step = have.step })
     (record { den_is = sizes.den_is; group_is = sizes.group_is; step_is = sizes.step_is; offset_is = omega arith }) g.den_some is
     (rw (start, same) (omega (arith, room))) (omega arith) in

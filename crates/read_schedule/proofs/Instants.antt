@@ -4,7 +4,7 @@ use Rattle.std.proofs.Math.Nat.{mul-le-mul_right}
 use Rattle.std.proofs.lemmas.Bool.{cases_lt, false_from_ne_true}
 use Rattle.std.proofs.lemmas.Bool.Decides.{nat_tests}
 use Rattle.std.proofs.lemmas.Int.{ints}
-use Rattle.fraction128.specs.Fractions.{Below, at_most, below, whole}
+use Rattle.fraction128.specs.Fractions.{Below, at_most, whole}
 use Rattle.fraction128.proofs.Order.{at_most-false, at_most-true, fraction_cases}
 use Rattle.timing_base.specs.Media.{Media}
 use Rattle.sender_params.specs.Reads.{AreDue, read_of}
@@ -50,27 +50,6 @@ stands-later old new at same past = λ m n anchor gapped before order stood. rec
   grid = subst (λ g. IsGridOf m n anchor gapped g) (sym same) stood.grid;
   passed = λ x few. (stood.grid.before x at).1 (past (past-later m n anchor gapped old before at order stood) x few);
 }
-
--- whether a read is before t, by the grid
-pub below-is : (m : Media) (n : ℕ) (anchor : ℤ) (gapped : Bool) (g : Grid) (x t : ℕ)
-    → IsGridOf m n anchor gapped g
-    → nat_lt (parts_at g x) (parts_of g t) ≡ below (read_of m n anchor gapped x) (whole t)
-below-is m n anchor gapped g x t is =
-    elim (fraction_cases (whole t) (read_of m n anchor gapped x)) as (λ _. nat_lt (parts_at g x) (parts_of g t) ≡ below (read_of m n anchor gapped x) (whole t)) [
-      | inl here ↦
-          let e = at_most-true (whole t) (read_of m n anchor gapped x) here in
-          let low = (is.after x t).0 here in
-          let no : nat_lt (parts_at g x) (parts_of g t) ≡ false = grind (arith, nat_tests) in
-          no ∙ sym (ap not e)
-      | inr gone ↦
-          let e = at_most-false (whole t) (read_of m n anchor gapped x) gone in
-          let yes : nat_lt (parts_at g x) (parts_of g t) ≡ true =
-          elim (cases_lt (parts_at g x) (parts_of g t)) as (λ _. nat_lt (parts_at g x) (parts_of g t) ≡ true) [
-            | inl less ↦ grind (arith, nat_tests)
-            | inr more ↦ absurd (omega (arith, ints, gone, (is.after x t).1 more))
-          ] in
-          yes ∙ sym (ap not e)
-    ]
 
 -- whether the last read that is due is at t, by the grid
 pub on_time-is : (m : Media) (n : ℕ) (anchor : ℤ) (gapped : Bool) (g : Grid) (t count : ℕ) (answer : Bool)

@@ -140,8 +140,10 @@ due-some m n anchor gapped t is some den_some =
     (scaled-above m n gapped a t.den (d * per) level is some den_some) in (
       found.0,
       record {
-        due = λ x few. (at_most-parts (late_of m n gapped a x) (early_of m n gapped b) per c d _ t.num t.den (read_of-num m n anchor gapped a b x split.2) here.2).1 (found.1.0 x few);
-        ahead = λ x from. (below-parts (late_of m n gapped a x) (early_of m n gapped b) per c d _ t.num t.den (read_of-num m n anchor gapped a b x split.2) here.2).1 (found.1.1 x from);
+        due = λ x few. (at_most-parts (late_of m n gapped a x) (early_of m n gapped b) per c d _ t.num t.den (read_of-num m n anchor gapped a b x split.2)
+            here.2).1 (found.1.0 x few);
+        ahead = λ x from. (below-parts (late_of m n gapped a x) (early_of m n gapped b) per c d _ t.num t.den (read_of-num m n anchor gapped a b x split.2)
+            here.2).1 (found.1.1 x from);
       },
     )
 

@@ -78,7 +78,7 @@ impl Grid {
     }
 
     /// Where read x is.
-    pub fn instant(&self, x: u64) -> u128
+    pub(crate) fn instant(&self, x: u64) -> u128
         ensures value { result ≡ parts_at self.now x }
         ensures small { result < 2 ^ 116 }
     {
@@ -88,7 +88,7 @@ impl Grid {
     }
 
     /// The reads up to the whole nanosecond `t`.
-    pub fn count(&self, t: u64) -> u64
+    pub(crate) fn count(&self, t: u64) -> u64
         requires in_time { t < 2 ^ 63 }
         ensures due { (x : ℕ) → x < result → parts_at self.now x ≤ t * self.now.den }
         ensures ahead { (x : ℕ) → result ≤ x → t * self.now.den < parts_at self.now x }

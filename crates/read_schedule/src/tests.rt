@@ -1,4 +1,4 @@
-//! A schedule and the direct counts say the same, and worked rows.
+//! A schedule that is carried along and one that is new at each stamp say the same, and worked rows.
 
 ghost use Rattle.std.specs.Prelude.{◌≤◌, ◌*◌};
 
@@ -23,12 +23,8 @@ fn advanced(
     assert!(rt; at < 1 << 62);
     assert!(rt; n0 >= -480 && n0 <= 1 << 42);
     let due = schedule.advance(at);
-    assert_eq!(rt; reads(params, gapped, n0, at), due.count, "at {at}");
-    if let Some(last) = due.count.checked_sub(1) {
-        assert!(rt; last < 1 << 41);
-        let late = is_late(params, gapped, n0, last, at);
-        assert_eq!(rt; late, !due.on_time, "at {at}");
-    }
+    let counted = Schedule::new(params, gapped, n0).advance(at);
+    assert_eq!(rt; counted, due, "at {at}");
     due
 }
 
@@ -104,8 +100,8 @@ fn usual_equipment(rt: HostRuntime) {
     }
 }
 
-// The carried count after long pauses and bursts is the direct one, for odd rates and for reads that
-// begin before 0.
+// What is due after long pauses and bursts is what a new schedule says, for odd rates and for reads
+// that begin before 0.
 #[test]
 fn carried_as_counted(rt: HostRuntime) {
     let videos = [

@@ -103,11 +103,14 @@ none_of_three false false false h = (refl, refl, refl)
 -- so the part has a stream
 pub media_stands : (r : RawPart) → least (part_faults r) ≡ None → is_some (media_of r) ≡ true
 media_stands r h =
-    let first = append-none (connection_faults r.line r.connection) (at r.line MissingParameter (is_missing r.items) ++ (flat_map item_faults r.items ++ repeated_faults r.items)) h in
+    let first = append-none (connection_faults r.line r.connection) (at r.line MissingParameter (is_missing r.items)
+    ++ (flat_map item_faults r.items ++ repeated_faults r.items)) h in
     let second = append-none (at r.line MissingParameter (is_missing r.items)) (flat_map item_faults r.items ++ repeated_faults r.items) first.1 in
     let third = append-none (flat_map item_faults r.items) (repeated_faults r.items) second.1 in
-    let missing = none_of_three (is_none (item_named Width r.items)) (is_none (item_named Height r.items)) (is_none (item_named ExactFrameRate r.items)) (at-none r.line MissingParameter (is_missing r.items) second.0) in
-    all_stand r.line r.video r.items (good_address r) (option_and_then value_size (item_named Width r.items)) (option_and_then value_size (item_named Height r.items)) (option_and_then value_rate (item_named ExactFrameRate r.items))
+    let missing = none_of_three (is_none (item_named Width r.items)) (is_none (item_named Height r.items)) (is_none (item_named ExactFrameRate r.items))
+    (at-none r.line MissingParameter (is_missing r.items) second.0) in
+    all_stand r.line r.video r.items (good_address r) (option_and_then value_size (item_named Width r.items))
+    (option_and_then value_size (item_named Height r.items)) (option_and_then value_rate (item_named ExactFrameRate r.items))
     (connected r.line r.connection first.0)
     (value_stands (is_of 0) value_size (item_named Width r.items) missing.0 (find-fits (is_of 0) r.items third.0) (λ i. width_fits i.name i))
     (value_stands (is_of 1) value_size (item_named Height r.items) missing.1 (find-fits (is_of 1) r.items third.0) (λ i. height_fits i.name i))

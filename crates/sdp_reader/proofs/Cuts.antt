@@ -16,7 +16,8 @@ found_at : (c : ℕ) (xs : List ℕ) (k : ℕ) → IsFirstByte (is_byte c) xs (S
 found_at c xs k h = position_or_len_is (λ x. x == c) xs k 0 (omega (arith, h.0.high)) (λ j m. not_true _ (h.0.before j (omega arith) m)) (λ _. h.1)
 
 found_nowhere : (c : ℕ) (xs : List ℕ) → IsFirstByte (is_byte c) xs None → position_or_len (λ x. x == c) xs ≡ length xs
-found_nowhere c xs h = position_or_len_is (λ x. x == c) xs (length xs) 0 (omega arith) (λ j m. not_true _ (h j (omega arith) m)) (λ m. absurd (omega (arith, m)))
+found_nowhere c xs h =
+    position_or_len_is (λ x. x == c) xs (length xs) 0 (omega arith) (λ j m. not_true _ (h j (omega arith) m)) (λ m. absurd (omega (arith, m)))
 
 -- where the byte is found at k
 pub holds_at : (c : ℕ) (xs : List ℕ) (k : ℕ) → IsFirstByte (is_byte c) xs (Some k) → holds c xs ≡ true

@@ -8,7 +8,8 @@ chosen_among : (g h f : SdpFault) (gs : List SdpFault) (t : Bool) → cond t (So
 chosen_among g h f gs true e m = let s : h ≡ f = cc in inr (subst (λ x. IsAmong x gs) s m)
 chosen_among g h f gs false e m = let s : f ≡ g = cc in inl s
 
-step_among : (g f : SdpFault) (gs : List SdpFault) (o : Option SdpFault) → ((h : SdpFault) → o ≡ Some h → IsAmong h gs) → first_of (Some g) o ≡ Some f → (f ≡ g) ⊎ IsAmong f gs
+step_among : (g f : SdpFault) (gs : List SdpFault) (o : Option SdpFault) → ((h : SdpFault) → o ≡ Some h → IsAmong h gs) → first_of (Some g) o ≡ Some f
+    → (f ≡ g) ⊎ IsAmong f gs
 step_among g f gs None among e = let s : f ≡ g = cc in inl s
 step_among g f gs (Some h) among e = chosen_among g h f gs (comes_before h g) e (among h refl)
 

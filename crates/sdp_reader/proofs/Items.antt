@@ -7,7 +7,8 @@ use Rattle.std.proofs.lemmas.List.{map-append}
 use Rattle.std.proofs.lemmas.Grind.{common_steps, take_at_read}
 use Rattle.sdp_reader.specs.Parameters.{Item, row_of, is_of}
 
-pub filter_map-cons : {X Y : Type 0} (h : X → Option Y) (o : Option Y) (x : X) (xs : List X) → o ≡ h x → filter_map h (x ∷ xs) ≡ option_to_list o ++ filter_map h xs
+pub filter_map-cons : {X Y : Type 0} (h : X → Option Y) (o : Option Y) (x : X) (xs : List X) → o ≡ h x
+    → filter_map h (x ∷ xs) ≡ option_to_list o ++ filter_map h xs
 filter_map-cons h None x xs e = rw (← e) refl
 filter_map-cons h (Some y) x xs e = rw (← e) refl
 
@@ -35,7 +36,8 @@ pub list_any-push : {A : Type 0} (p : A → Bool) (xs : List A) (x : A) → list
 list_any-push p [] x = grind (arith, common_steps)
 list_any-push p (y ∷ ys) x = grind (arith, common_steps, list_any-push p ys x)
 
-set_seen : (seen : List Bool) (row k : ℕ) (a b : Bool) → row < length seen → get_or seen k false ≡ a → (row == k) ≡ b → get_or (set seen row true) k false ≡ (b || a)
+set_seen : (seen : List Bool) (row k : ℕ) (a b : Bool) → row < length seen → get_or seen k false ≡ a → (row == k) ≡ b
+    → get_or (set seen row true) k false ≡ (b || a)
 set_seen seen row k a true l e h = grind (arith, common_steps)
 set_seen seen row k a false l e h = grind (arith, common_steps)
 
@@ -47,4 +49,5 @@ pub seen-step : {A : Type 0} (g : A → Item) (seen : List Bool) (row : ℕ) (xs
 seen-step g seen row xs i d k e l h s =
     let t = take-push g xs i d h in
     let p = list_any-push (is_of k) (map g (take i xs)) (g (get_or xs i d)) in
-    set_seen seen row k (list_any (is_of k) (map g (take i xs))) (row_of (g (get_or xs i d)).name == k) l s (ap (λ r. r == k) e) ∙ sym (ap (list_any (is_of k)) t ∙ p)
+    set_seen seen row k (list_any (is_of k) (map g (take i xs))) (row_of (g (get_or xs i d)).name == k) l s (ap (λ r. r == k) e)
+    ∙ sym (ap (list_any (is_of k)) t ∙ p)

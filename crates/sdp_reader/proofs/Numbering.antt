@@ -42,7 +42,8 @@ more n piece (p ∷ ps) h = refl
 -- a line that a LF ends is taken off
 pub numbered-line : (done : List TextLine) (n : ℕ) (xs piece after : List ℕ)
     → slice_split (λ x. x == 10) xs ≡ piece ∷ slice_split (λ x. x == 10) after
-    → (done ++ record { number = n; text = trim_end (without_cr piece) } ∷ []) ++ numbered (n + 1) (slice_split (λ x. x == 10) after) ≡ done ++ numbered n (slice_split (λ x. x == 10) xs)
+    → (done ++ record { number = n; text = trim_end (without_cr piece) } ∷ []) ++ numbered (n + 1) (slice_split (λ x. x == 10) after)
+    ≡ done ++ numbered n (slice_split (λ x. x == 10) xs)
 numbered-line done n xs piece after h =
     let some : 0 < length (slice_split (λ x. x == 10) after) = omega (arith, length-slice_split (λ x. x == 10) after) in
     append_assoc done (record { number = n; text = trim_end (without_cr piece) } ∷ []) (numbered (n + 1) (slice_split (λ x. x == 10) after))

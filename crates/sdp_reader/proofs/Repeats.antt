@@ -76,7 +76,8 @@ repeats_after-none line cause alike xs =
 repeats_after-next : {A : Type 0} (line : A → ℕ) (cause : SdpCause) (alike : A → A → Bool) (fault r s : Option SdpFault)
     (earlier later : List A) (x : A) (b : Bool)
     → r ≡ first_of fault s → s ≡ least (at (line x) cause b) → b ≡ list_any (λ e. alike e x) earlier
-    → first_of r (least (repeats_after line cause alike (earlier ++ x ∷ []) later)) ≡ first_of fault (least (repeats_after line cause alike earlier (x ∷ later)))
+    → first_of r (least (repeats_after line cause alike (earlier ++ x ∷ []) later))
+    ≡ first_of fault (least (repeats_after line cause alike earlier (x ∷ later)))
 repeats_after-next line cause alike fault r s earlier later x b p q e =
     let here = at (line x) cause (list_any (λ e. alike e x) earlier) in
     let rest = repeats_after line cause alike (earlier ++ x ∷ []) later in

@@ -44,10 +44,13 @@ faults-found ls ts all version lines line parts part rest targets many t f a b c
     let rest_is : rest ≡ least (target_faults ds ++ too_many_faults ds) =
     g ∙ ap (λ o. first_of o many) targets_is ∙ ap (first_of (least (target_faults ds))) many_is ∙ sym (least-append (target_faults ds) (too_many_faults ds)) in
     let parts_is : parts ≡ least (raw_faults rs) =
-    e ∙ ap (λ o. first_of o rest) f ∙ ap (first_of (least (flat_map part_faults rs))) rest_is ∙ sym (least-append (flat_map part_faults rs) (target_faults ds ++ too_many_faults ds)) in
+    e ∙ ap (λ o. first_of o rest) f ∙ ap (first_of (least (flat_map part_faults rs))) rest_is
+    ∙ sym (least-append (flat_map part_faults rs) (target_faults ds ++ too_many_faults ds)) in
     let lines_is : lines ≡ least (flat_map line_faults ls ++ raw_faults rs) =
-    c ∙ ap (λ o. first_of o parts) d ∙ ap (first_of (least (flat_map line_faults ls))) parts_is ∙ sym (least-append (flat_map line_faults ls) (raw_faults rs)) in
-    a ∙ ap (λ o. first_of o lines) b ∙ ap (first_of (least (version_faults ls))) lines_is ∙ sym (least-append (version_faults ls) (flat_map line_faults ls ++ raw_faults rs))
+    c ∙ ap (λ o. first_of o parts) d ∙ ap (first_of (least (flat_map line_faults ls))) parts_is
+    ∙ sym (least-append (flat_map line_faults ls) (raw_faults rs)) in
+    a ∙ ap (λ o. first_of o lines) b ∙ ap (first_of (least (version_faults ls))) lines_is
+    ∙ sym (least-append (version_faults ls) (flat_map line_faults ls ++ raw_faults rs))
 
 as_many : (ts : List Destination) (rs : List RawPart) → ts ≡ map destination_of rs → length ts ≡ length rs
 as_many ts rs h = ap length h ∙ length-map rs destination_of
@@ -73,14 +76,17 @@ none_more [] h = refl
 none_more (t ∷ ts) h = absurd (cc)
 
 raw_none : (ls : List TextLine) → least (faults ls) ≡ None → least (raw_faults (raw_parts ls)) ≡ None
-raw_none ls h = (append-none (flat_map line_faults ls) (raw_faults (raw_parts ls)) (append-none (version_faults ls) (flat_map line_faults ls ++ raw_faults (raw_parts ls)) h).1).1
+raw_none ls h = (append-none (flat_map line_faults ls) (raw_faults (raw_parts ls))
+    (append-none (version_faults ls) (flat_map line_faults ls ++ raw_faults (raw_parts ls)) h).1).1
 
-media-some : (ls : List TextLine) (ts : List Destination) (media : List Media) → ts ≡ map destination_of (raw_parts ls) → None ≡ least (faults ls) → 0 < length ts
+media-some : (ls : List TextLine) (ts : List Destination) (media : List Media) → ts ≡ map destination_of (raw_parts ls) → None ≡ least (faults ls)
+    → 0 < length ts
     → media ≡ filter_map media_of (raw_parts ls) → 1 ≤ length media
 media-some ls ts media h f e m =
     let rs = raw_parts ls in
     let n = as_many ts rs h in
-    let parts = append-none (flat_map part_faults rs) (target_faults (map destination_of rs) ++ too_many_faults (map destination_of rs)) (raw_none ls (sym f)) in
+    let parts = append-none (flat_map part_faults rs) (target_faults (map destination_of rs) ++ too_many_faults (map destination_of rs))
+    (raw_none ls (sym f)) in
     let some = some_media rs (omega arith) parts.0 in
     let same = ap length m in
     omega (arith, some, same)
@@ -106,7 +112,8 @@ media-session ls kept k f e =
     let m = sym (append_nil kept.media.items) ∙ k.media in
     record { some = media-some ls kept.destinations.items kept.media.items d f e m; few = media-few ls kept.media.items f m }
 
-each_some : (o : Option Media) (os : List (Option Media)) (ms : List Media) → is_some o ≡ true → os ≡ map (λ m. Some m) ms → o ∷ os ≡ map (λ m. Some m) (cons_option o ms)
+each_some : (o : Option Media) (os : List (Option Media)) (ms : List Media) → is_some o ≡ true → os ≡ map (λ m. Some m) ms
+    → o ∷ os ≡ map (λ m. Some m) (cons_option o ms)
 each_some None os ms h e = absurd (cc)
 each_some (Some m) os ms h e = ap (λ l. Some m ∷ l) e
 
@@ -120,7 +127,8 @@ streams_ok : (rs : List RawPart) (media : List Media) → streams rs ≡ Ok medi
 streams_ok [] media h = absurd (cc)
 streams_ok (r ∷ rs) media h = cc
 
-answer_ok : (o : Option SdpFault) (rs : List RawPart) (media : List Media) → unless_fault o (streams rs) ≡ Ok media → (o ≡ None) × (filter_map media_of rs ≡ media)
+answer_ok : (o : Option SdpFault) (rs : List RawPart) (media : List Media) → unless_fault o (streams rs) ≡ Ok media
+    → (o ≡ None) × (filter_map media_of rs ≡ media)
 answer_ok (Some f) rs media h = absurd (cc)
 answer_ok None rs media h = (refl, streams_ok rs media h)
 

@@ -42,7 +42,8 @@ raw_reading session line body video connection address items target fault media 
     let fault_is : fault ≡ least (faults_at line (counting (connection_line body) session) (parameters video.format body)) =
     f ∙ ap (λ o. least (faults_at line o items)) c ∙ ap (λ o. least (faults_at line (counting (connection_line body) session) o)) p in
     let media_is : media ≡ media_from line video (option_and_then address_of (counting (connection_line body) session)) (parameters video.format body) =
-    m ∙ ap (λ o. media_from line video o items) good ∙ ap (λ o. media_from line video (option_and_then address_of (counting (connection_line body) session)) o) p in
+    m ∙ ap (λ o. media_from line video o items) good ∙ ap (λ o. media_from line video (option_and_then address_of (counting (connection_line body) session)) o)
+    p in
     λ i. record { destination = record { line = line; target = target_is i }; fault = fault_is i; media = media_is i }
 
 -- a part that is a raw one
@@ -73,13 +74,16 @@ keeps-step : (old new : Kept) (r : Option Reading) (o : Option RawPart) (left al
     → Adds old r new → r ≡ option_map reading_of o → Keeps old (option_to_list o ++ left) all → Keeps new left all
 keeps-step old new r None left all a e k = record {
   destinations =
-      ap (λ t. t ++ map destination_of left) (a.destinations ∙ ap (λ t. old.destinations.items ++ option_to_list (option_map (λ x. x.destination) t)) e ∙ append_nil old.destinations.items)
+      ap (λ t. t ++ map destination_of left) (a.destinations ∙ ap (λ t. old.destinations.items ++ option_to_list (option_map (λ x. x.destination) t)) e
+      ∙ append_nil old.destinations.items)
       ∙ k.destinations;
   fault =
-      ap (λ t. first_of t (least (flat_map part_faults left))) (a.fault ∙ ap (λ t. first_of old.fault (option_and_then (λ x. x.fault) t)) e ∙ first_of-none old.fault)
+      ap (λ t. first_of t (least (flat_map part_faults left))) (a.fault ∙ ap (λ t. first_of old.fault (option_and_then (λ x. x.fault) t)) e
+      ∙ first_of-none old.fault)
       ∙ k.fault;
   media =
-      ap (λ t. t ++ filter_map media_of left) (a.media ∙ ap (λ t. old.media.items ++ option_to_list (option_and_then (λ x. x.media) t)) e ∙ append_nil old.media.items)
+      ap (λ t. t ++ filter_map media_of left) (a.media ∙ ap (λ t. old.media.items ++ option_to_list (option_and_then (λ x. x.media) t)) e
+      ∙ append_nil old.media.items)
       ∙ k.media;
 }
 keeps-step old new r (Some p) left all a e k = record {
@@ -100,7 +104,8 @@ keeps-step old new r (Some p) left all a e k = record {
 }
 
 -- one line more
-pub keeps-line : {A : Type 0} (g : A → TextLine) (session : Option TextLine) (old new : Kept) (r : Option Reading) (xs : List A) (i : ℕ) (d : A) (rest : List A) (all : List RawPart)
+pub keeps-line : {A : Type 0} (g : A → TextLine) (session : Option TextLine) (old new : Kept) (r : Option Reading) (xs : List A) (i : ℕ) (d : A) (rest : List A)
+    (all : List RawPart)
     → Adds old r new
     → r ≡ option_map reading_of (raw_of session (record { head = g (get_or xs i d); body = own_lines (map g rest) }))
     → rest ≡ drop (i + 1) xs
@@ -112,7 +117,8 @@ keeps-line g session old new r xs i d rest all a e s h k =
     let later = map g (drop (i + 1) xs) in
     keeps-step old new r (raw_of session (record { head = l; body = own_lines later })) (filter_map (raw_of session) (parts later)) all a
     (e ∙ ap (λ t. option_map reading_of (raw_of session (record { head = l; body = own_lines (map g t) }))) s)
-    (subst (λ t. Keeps old t all) (ap (λ t. filter_map (raw_of session) (parts (map g t))) (at_front xs i d h) ∙ parts-head session l later (media_fields l) refl) k)
+    (subst (λ t. Keeps old t all) (ap (λ t. filter_map (raw_of session) (parts (map g t))) (at_front xs i d h)
+    ∙ parts-head session l later (media_fields l) refl) k)
 
 -- the targets that earlier parts have
 abbrev pub AreSeen : BTreeSet Target → List Destination → Type 0
@@ -133,12 +139,14 @@ taken_is : (old new : BTreeSet Target) (o : Option Target) (taken : Bool) (earli
 taken_is old new None taken earlier h s = h.0 ∙ sym (none_same earlier)
 taken_is old new (Some t) taken earlier h s = h.0 ∙ s t
 
-seen_next : (old new : BTreeSet Target) (o : Option Target) (taken : Bool) (earlier : List Destination) (line : ℕ) → TakesTarget old new o taken → AreSeen old earlier
+seen_next : (old new : BTreeSet Target) (o : Option Target) (taken : Bool) (earlier : List Destination) (line : ℕ) → TakesTarget old new o taken
+    → AreSeen old earlier
     → AreSeen new (earlier ++ record { line = line; target = o } ∷ [])
 seen_next old new None taken earlier line h s = λ q.
     h.1 q ∙ s q ∙ sym (list_any-push (λ e. are_same (Some q) e.target) earlier (record { line = line; target = None }))
 seen_next old new (Some t) taken earlier line h s = λ q.
-    h.1 q ∙ ap (λ b. b || has old q) (is_eq-cmp t q) ∙ ap (λ b. is_same t q || b) (s q) ∙ sym (list_any-push (λ e. are_same (Some q) e.target) earlier (record { line = line; target = Some t }))
+    h.1 q ∙ ap (λ b. b || has old q) (is_eq-cmp t q) ∙ ap (λ b. is_same t q || b) (s q)
+    ∙ sym (list_any-push (λ e. are_same (Some q) e.target) earlier (record { line = line; target = Some t }))
 
 -- one target more
 pub seen-step : (old new : BTreeSet Target) (taken : Bool) (xs : List Destination) (i : ℕ) (d : Destination)

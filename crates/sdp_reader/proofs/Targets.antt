@@ -48,7 +48,8 @@ abbrev AreTargets : List Destination → List Media → Type 0
 AreTargets ds media = map (λ d. d.target) ds ≡ map (λ m. Some (target_of m)) media
 
 -- the parts after one have other targets
-others-apart : (d : Destination) (m : Media) (ds : List Destination) (media : List Media) (j : ℕ) (n : Media) → d.target ≡ Some (target_of m) → AreTargets ds media
+others-apart : (d : Destination) (m : Media) (ds : List Destination) (media : List Media) (j : ℕ) (n : Media) → d.target ≡ Some (target_of m)
+    → AreTargets ds media
     → least (flat_map (λ later. at later.line SameTarget (have_one_target d later)) ds) ≡ None → slice_get media j ≡ Some n → target_of m ≡ target_of n → ⊥
 others-apart d m ds [] j n p e h at same = cc
 others-apart d m [] (x ∷ xs) j n p e h at same = cc
@@ -75,8 +76,10 @@ own_targets : (ds : List Destination) (media : List Media) → AreTargets ds med
 own_targets ds [] e h i j m n p q same = absurd (cc)
 own_targets [] (x ∷ xs) e h i j m n p q same = absurd (cc)
 own_targets (d ∷ ds) (x ∷ xs) e h i j m n p q same =
-    let told = append-none (flat_map (λ later. at later.line SameTarget (have_one_target d later)) ds) (repeats (λ part. part.line) SameTarget have_one_target ds) h in
-    own-cons x xs (own_targets ds xs (some_tail _ _ _ _ e) told.1) (λ k y at alike. others-apart d x ds xs k y (some_head _ _ _ _ e) (some_tail _ _ _ _ e) told.0 at alike)
+    let told = append-none (flat_map (λ later. at later.line SameTarget (have_one_target d later)) ds)
+    (repeats (λ part. part.line) SameTarget have_one_target ds) h in
+    own-cons x xs (own_targets ds xs (some_tail _ _ _ _ e) told.1) (λ k y at alike.
+    others-apart d x ds xs k y (some_head _ _ _ _ e) (some_tail _ _ _ _ e) told.0 at alike)
     i j m n p q same
 
 -- the target of a stream is that of its part
@@ -92,7 +95,8 @@ stream_target line video items (Some a) (Some w) (Some h) (Some r) m e =
 
 media_target : (r : RawPart) (m : Media) → media_of r ≡ Some m → (destination_of r).target ≡ Some (target_of m)
 media_target r m e =
-    stream_target r.line r.video r.items (good_address r) (option_and_then value_size (item_named Width r.items)) (option_and_then value_size (item_named Height r.items))
+    stream_target r.line r.video r.items (good_address r) (option_and_then value_size (item_named Width r.items))
+    (option_and_then value_size (item_named Height r.items))
     (option_and_then value_rate (item_named ExactFrameRate r.items)) m e
 
 media_targets : (rs : List RawPart) (media : List Media) → map media_of rs ≡ map (λ m. Some m) media → AreTargets (map destination_of rs) media
@@ -105,7 +109,8 @@ media_targets (r ∷ rs) (m ∷ ms) e =
 
 -- no two media of these lines have one target
 answer-own : (ls : List TextLine) (media : List Media) → answer ls ≡ Ok media → HaveOwnTargets media
-answer-own ls media h = own_targets (map destination_of (raw_parts ls)) media (media_targets (raw_parts ls) media (answer-each ls media h)) (answer-targets ls media h)
+answer-own ls media h =
+    own_targets (map destination_of (raw_parts ls)) media (media_targets (raw_parts ls) media (answer-each ls media h)) (answer-targets ls media h)
 
 -- nor of what is told of them
 pub told-own : (ls : List TextLine) (result : Result (List Media) SdpError) → Tells (answer ls) result → IfOk result (λ media. HaveOwnTargets media)

@@ -100,7 +100,8 @@ raw-fits connection part r e = headed (media_fields part.head) e
     mapped v false is e = absurd (none_some r e)
     mapped v true is e = subst (λ (x : RawPart). IsVideo x.video) (same_some (raw_part connection part.head.number part.body v) r e) is
 
-    filmed : (o : Option Video) → ((v : Video) → o ≡ Some v → IsVideo v) → option_and_then (raw_with connection part.head.number part.body) o ≡ Some r → IsVideo r.video
+    filmed : (o : Option Video) → ((v : Video) → o ≡ Some v → IsVideo v) → option_and_then (raw_with connection part.head.number part.body) o ≡ Some r
+        → IsVideo r.video
     filmed None is e = absurd (none_some r e)
     filmed (Some v) is e = mapped v (list_any (is_raw_map v.format) part.body) (is v refl) e
 
@@ -114,7 +115,8 @@ one_more P (Some x) xs is h = All-cons P x xs (is x refl) h
 
 raws-fit : (connection : Option TextLine) (ps : List Part) → All (λ (r : RawPart). IsVideo r.video) (filter_map (raw_of connection) ps)
 raws-fit connection [] = All-nil (λ (r : RawPart). IsVideo r.video)
-raws-fit connection (p ∷ ps) = one_more (λ (r : RawPart). IsVideo r.video) (raw_of connection p) (filter_map (raw_of connection) ps) (raw-fits connection p) (raws-fit connection ps)
+raws-fit connection (p ∷ ps) =
+    one_more (λ (r : RawPart). IsVideo r.video) (raw_of connection p) (filter_map (raw_of connection) ps) (raw-fits connection p) (raws-fit connection ps)
 
 -- the stream of a part with such a video line
 stream-within : (line : ℕ) (video : Video) (items : List Item) (a w h : Option ℕ) (r : Option Rate) (m : Media) → IsVideo video
@@ -143,17 +145,21 @@ stream-within line video items (Some a) (Some w) (Some h) (Some r) m is wide hig
 
 media-within : (r : RawPart) (m : Media) → IsVideo r.video → media_of r ≡ Some m → IsMedia m
 media-within r m is e =
-    stream-within r.line r.video r.items (good_address r) (option_and_then value_size (item_named Width r.items)) (option_and_then value_size (item_named Height r.items))
+    stream-within r.line r.video r.items (good_address r) (option_and_then value_size (item_named Width r.items))
+    (option_and_then value_size (item_named Height r.items))
     (option_and_then value_rate (item_named ExactFrameRate r.items)) m is
-    (λ n q. value-range 1 32767 n (item_named Width r.items) q) (λ n q. value-range 1 32767 n (item_named Height r.items) q) (λ x q. rate-fits (item_named ExactFrameRate r.items) x q) e
+    (λ n q. value-range 1 32767 n (item_named Width r.items) q) (λ n q. value-range 1 32767 n (item_named Height r.items) q)
+    (λ x q. rate-fits (item_named ExactFrameRate r.items) x q) e
 
-each-within : (rs : List RawPart) (media : List Media) → All (λ (r : RawPart). IsVideo r.video) rs → map media_of rs ≡ map (λ m. Some m) media → All IsMedia media
+each-within : (rs : List RawPart) (media : List Media) → All (λ (r : RawPart). IsVideo r.video) rs → map media_of rs ≡ map (λ m. Some m) media
+    → All IsMedia media
 each-within rs [] is e = All-nil IsMedia
 each-within [] (m ∷ ms) is e = absurd (cc)
 each-within (r ∷ rs) (m ∷ ms) is e =
     let here : media_of r ≡ Some m = cc in
     let later : map media_of rs ≡ map (λ (x : Media). Some x) ms = cc in
-    All-cons IsMedia m ms (media-within r m (All-head (λ (x : RawPart). IsVideo x.video) r rs is) here) (each-within rs ms (All-tail (λ (x : RawPart). IsVideo x.video) r rs is) later)
+    All-cons IsMedia m ms (media-within r m (All-head (λ (x : RawPart). IsVideo x.video) r rs is) here)
+    (each-within rs ms (All-tail (λ (x : RawPart). IsVideo x.video) r rs is) later)
 
 -- the media of these lines
 answer-within : (ls : List TextLine) (media : List Media) → answer ls ≡ Ok media → All IsMedia media

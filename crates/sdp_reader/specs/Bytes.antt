@@ -51,7 +51,8 @@ value_of digits = fold (λ n b. n * 10 + (b - 48)) 0 digits
 
 -- the value of one to `most` digits and no more
 abbrev pub digits_of : ℕ → List ℕ → Option ℕ
-digits_of most xs = if nat_le 1 (length xs) && nat_le (length xs) most && list_all is_digit xs then Some (value_of xs) else None
+digits_of most xs = if nat_le 1 (length xs) && nat_le (length xs) most && list_all is_digit xs then Some (value_of xs)
+    else None
 
 -- a number is one to ten digits
 abbrev pub number : List ℕ → Option ℕ

@@ -57,5 +57,5 @@ one_media declared = record {
 -- a session's lines 1 and 2, and the lines 3 to 5 of a part to port 9, whose parameters end with these
 abbrev pub one_part : List ℕ → List ℕ
 one_part more =
-    codes "v=0\nc=IN IP4 1.2.3.4\nm=video 9 RTP/AVP 96\na=rtpmap:96 raw/90000\na=fmtp:96 width=7; height=5; exactframerate=3/2"
-    ++ more
+    codes "v=0\nc=IN IP4 1.2.3.4\nm=video 9 RTP/AVP 96\na=rtpmap:96 raw/90000\n"
+    ++ (codes "a=fmtp:96 width=7; height=5; exactframerate=3/2" ++ more)

@@ -27,7 +27,8 @@ without_cr (x ∷ y ∷ xs) = x ∷ without_cr (y ∷ xs)
 abbrev pub numbered : ℕ → List (List ℕ) → List TextLine
 numbered n [] = []
 numbered n (last ∷ []) = if length last == 0 then [] else record { number = n; text = trim_end last } ∷ []
-numbered n (piece ∷ next ∷ pieces) = record { number = n; text = trim_end (without_cr piece) } ∷ numbered (n + 1) (next ∷ pieces)
+numbered n (piece ∷ next ∷ pieces) =
+    record { number = n; text = trim_end (without_cr piece) } ∷ numbered (n + 1) (next ∷ pieces)
 
 -- the lines of a text
 abbrev pub lines : List ℕ → List TextLine
@@ -40,7 +41,8 @@ at line cause stands = if stands then record { line = line; what = cause } ∷ [
 -- of each two that are alike, the cause on the line of the later
 abbrev pub repeats : {A : Type 0} → (A → ℕ) → SdpCause → (A → A → Bool) → List A → List SdpFault
 repeats line cause alike [] = []
-repeats line cause alike (x ∷ xs) = flat_map (λ later. at (line later) cause (alike x later)) xs ++ repeats line cause alike xs
+repeats line cause alike (x ∷ xs) =
+    flat_map (λ later. at (line later) cause (alike x later)) xs ++ repeats line cause alike xs
 
 -- NotText: the line holds a byte 0 or a CR
 abbrev pub is_not_text : TextLine → Bool
@@ -83,7 +85,8 @@ video_at None f = None
 -- the fields of a video line of RTP
 abbrev pub video_of : List ℕ → Option Video
 video_of fields =
-    if is_video fields && bytes_eq (protocol_of fields) (codes "RTP/AVP") then video_at (port_of fields) (format_of fields)
+    if is_video fields && bytes_eq (protocol_of fields) (codes "RTP/AVP")
+    then video_at (port_of fields) (format_of fields)
     else None
 
 -- the first field is `video`, and the fields aren't those of a video line
@@ -97,9 +100,11 @@ is_bad_media l = are_bad_fields (media_fields l)
 
 -- the causes that stand on a line whatever part it is in
 abbrev pub line_faults : TextLine → List SdpFault
-line_faults l = at l.number NotText (is_not_text l) ++ (at l.number BadLine (is_bad_line l) ++ at l.number BadMedia (is_bad_media l))
+line_faults l = at l.number NotText (is_not_text l) ++ (at l.number BadLine (is_bad_line l)
+    ++ at l.number BadMedia (is_bad_media l))
 
 -- NoVersion: on the first line that isn't empty, where it isn't `v=0`; on line 1 where there is no such line
 abbrev pub version_faults : List TextLine → List SdpFault
 version_faults [] = at 1 NoVersion true
-version_faults (l ∷ ls) = if length l.text == 0 then version_faults ls else at l.number NoVersion (not (bytes_eq l.text (codes "v=0")))
+version_faults (l ∷ ls) =
+    if length l.text == 0 then version_faults ls else at l.number NoVersion (not (bytes_eq l.text (codes "v=0")))

@@ -58,7 +58,8 @@ octet text = option_and_then (within 0 255) (digits_of 3 text)
 
 -- the address of four octets
 abbrev pub address_from : Option ℕ → Option ℕ → Option ℕ → Option ℕ → Option ℕ
-address_from a b c d = option_and_then (λ x. option_and_then (λ y. option_and_then (λ z. option_map (λ w. x * 16777216 + y * 65536 + z * 256 + w) d) c) b) a
+address_from a b c d = option_and_then (λ x. option_and_then
+    (λ y. option_and_then (λ z. option_map (λ w. x * 16777216 + y * 65536 + z * 256 + w) d) c) b) a
 
 -- what stands after a slash, if there is one, is a TTL
 abbrev pub is_ttl : List ℕ → Bool
@@ -71,7 +72,8 @@ dotted a b c last = if is_ttl last then address_from (octet a) (octet b) (octet 
 -- `A.B.C.D` or `A.B.C.D/TTL`
 abbrev pub address_at : List ℕ → Option ℕ
 address_at rest =
-    dotted (before 46 rest) (before 46 (after 46 rest)) (before 46 (after 46 (after 46 rest))) (after 46 (after 46 (after 46 rest)))
+    dotted (before 46 rest) (before 46 (after 46 rest)) (before 46 (after 46 (after 46 rest)))
+    (after 46 (after 46 (after 46 rest)))
 
 -- the address of a line `c=IN IP4 ADDRESS`
 abbrev pub address_of : TextLine → Option ℕ
@@ -80,7 +82,8 @@ address_of l = option_and_then address_at (after_prefix (codes "c=IN IP4 ") l.te
 -- `FORMAT raw/90000`, where there is such a text
 abbrev pub is_raw_map_at : ℕ → Option (List ℕ) → Bool
 is_raw_map_at format None = false
-is_raw_map_at format (Some rest) = is_the format (number (before 32 rest)) && str_eq_ignore_ascii_case (after 32 rest) (codes "raw/90000")
+is_raw_map_at format (Some rest) =
+    is_the format (number (before 32 rest)) && str_eq_ignore_ascii_case (after 32 rest) (codes "raw/90000")
 
 -- a line `a=rtpmap:FORMAT raw/90000`
 abbrev pub is_raw_map : ℕ → TextLine → Bool
@@ -111,7 +114,8 @@ raw_with session line body video =
 
 -- the raw part that a part is, where it is one; first the session's connection
 abbrev pub raw_of : Option TextLine → Part → Option RawPart
-raw_of session part = option_and_then (raw_with session part.head.number part.body) (option_and_then video_of (media_fields part.head))
+raw_of session part =
+    option_and_then (raw_with session part.head.number part.body) (option_and_then video_of (media_fields part.head))
 
 -- NoConnection: neither the part nor the session has a connection.
 -- BadAddress: the connection that counts hasn't the form

@@ -56,7 +56,8 @@ too_many_faults ts = first_too_many (drop 64 ts)
 
 -- the causes 5 to 14, of these raw parts
 abbrev pub raw_faults : List RawPart → List SdpFault
-raw_faults rs = flat_map part_faults rs ++ (target_faults (map destination_of rs) ++ too_many_faults (map destination_of rs))
+raw_faults rs = flat_map part_faults rs ++ (target_faults (map destination_of rs)
+    ++ too_many_faults (map destination_of rs))
 
 -- all faults, each on its line
 abbrev pub faults : List TextLine → List SdpFault
@@ -82,4 +83,5 @@ answer ls = unless_fault (least (faults ls)) (streams (raw_parts ls))
 
 -- the session of a text: the video streams, or the first fault
 abbrev pub session : List ℕ → Result (List Media) SdpFault
-session bytes = if nat_lt 1048576 (length bytes) then Err (record { line = 0; what = TooLarge }) else answer (lines bytes)
+session bytes = if nat_lt 1048576 (length bytes) then Err (record { line = 0; what = TooLarge })
+    else answer (lines bytes)

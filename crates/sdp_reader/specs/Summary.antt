@@ -24,7 +24,8 @@ pub record Keeps (kept : Kept) (left all : List RawPart) : Type 0 where
 
 -- a reading, where there is one, is kept after the others
 pub record Adds (old : Kept) (reading : Option Reading) (new : Kept) : Type 0 where
-  pub destinations : new.destinations.items ≡ old.destinations.items ++ option_to_list (option_map (λ r. r.destination) reading)
+  pub destinations : new.destinations.items ≡ old.destinations.items
+      ++ option_to_list (option_map (λ r. r.destination) reading)
   pub fault : new.fault ≡ first_of old.fault (option_and_then (λ r. r.fault) reading)
   pub media : new.media.items ≡ old.media.items ++ option_to_list (option_and_then (λ r. r.media) reading)
 

@@ -50,7 +50,7 @@ pub enum SdpCause {
 }
 
 impl SdpCause {
-    // The number of the cause. Of two causes on one line that with the smaller number is told.
+    /// The number of the cause. Of two causes on one line that with the smaller number is told.
     fn number(self) -> u32
         ensures { result ≡ number_of self }
     {
@@ -118,14 +118,14 @@ impl fmt::Display for SdpFault {
     }
 }
 
-// Whether the line is less, or the line is the same and the number of the cause is less.
+/// Whether the line is less, or the line is the same and the number of the cause is less.
 fn comes_before(one: SdpFault, other: SdpFault) -> bool
     ensures { result ≡ comes_before one other }
 {
     one.line < other.line || (one.line == other.line && one.what.number() < other.what.number())
 }
 
-// The one of two that comes first.
+/// The one of two that comes first.
 pub(crate) fn first_of(one: Option<SdpFault>, other: Option<SdpFault>) -> Option<SdpFault>
     ensures { result ≡ first_of one other }
 {

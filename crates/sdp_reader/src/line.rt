@@ -10,7 +10,7 @@ use crate::bytes::{cut, field, is_same, number_within, strip, trim_end};
 use crate::fault::{SdpCause, SdpFault, first_of};
 use std::alloc::{AllocError, Global};
 
-// One line of the text, without its end and the blanks before it.
+/// One line of the text, without its end and the blanks before it.
 #[derive(Clone, Copy, Debug)]
 pub(crate) struct Line<'a> {
     // Counted from 1.
@@ -18,14 +18,14 @@ pub(crate) struct Line<'a> {
     pub text: &'a [u8],
 }
 
-// What a video line says.
+/// What a video line says.
 #[derive(Clone, Copy, Debug)]
 pub(crate) struct Video {
     pub port: u16,
     pub format: u8,
 }
 
-// A piece that a LF ended, without one CR at its end.
+/// A piece that a LF ended, without one CR at its end.
 fn without_cr(piece: &[u8]) -> &[u8]
     ensures value { result.now ≡ without_cr piece.now }
     ensures shorter { length result.now ≤ length piece.now }
@@ -37,7 +37,7 @@ fn without_cr(piece: &[u8]) -> &[u8]
     }
 }
 
-// The lines of a text of at most a megabyte.
+/// The lines of a text of at most a megabyte.
 pub(crate) fn read_lines(alloc: Global, bytes: &[u8]) -> Result<Vec<Line<'_>>, AllocError>
     requires { length bytes.now ≤ 1048576 }
     ensures { IfOk result (λ v. map plain v.items ≡ lines bytes.now) }
@@ -62,7 +62,7 @@ pub(crate) fn read_lines(alloc: Global, bytes: &[u8]) -> Result<Vec<Line<'_>>, A
     Ok(lines)
 }
 
-// The cause on the line, where it stands there.
+/// The cause on the line, where it stands there.
 pub(crate) fn at(line: u32, what: SdpCause, stands: bool) -> Option<SdpFault>
     ensures { result ≡ least (at line what stands) }
 {
@@ -73,7 +73,7 @@ pub(crate) fn at(line: u32, what: SdpCause, stands: bool) -> Option<SdpFault>
     }
 }
 
-// The port and the format of the fields of a video line.
+/// The port and the format of the fields of a video line.
 pub(crate) fn video_of(fields: &[u8]) -> Option<Video>
     ensures value { result ≡ video_of fields.now }
     ensures ranges { IfSome result (λ v. (1 ≤ v.port) × (v.format ≤ 127)) }
@@ -97,7 +97,7 @@ pub(crate) fn video_of(fields: &[u8]) -> Option<Video>
     }
 }
 
-// Whether the first field is `video`.
+/// Whether the first field is `video`.
 fn is_video(fields: &[u8]) -> bool
     ensures { result ≡ is_video fields.now }
 {
@@ -108,7 +108,7 @@ fn is_video(fields: &[u8]) -> bool
 impl Line<'_> {
     ghost use Rattle.std.specs.Option.{option_copied};
 
-    // The fields of an `m=` line.
+    /// The fields of an `m=` line.
     pub(crate) fn media_fields(&self) -> Option<&[u8]>
         ensures { option_copied result ≡ media_fields (plain self.now) }
     {
@@ -137,7 +137,7 @@ impl Line<'_> {
         }
     }
 
-    // The first cause that stands on the line whatever part it is in.
+    /// The first cause that stands on the line whatever part it is in.
     fn fault(&self) -> Option<SdpFault>
         ensures { result ≡ least (line_faults (plain self.now)) }
     {
@@ -148,7 +148,7 @@ impl Line<'_> {
     }
 }
 
-// The first of the faults of single lines.
+/// The first of the faults of single lines.
 pub(crate) fn line_fault(lines: &[Line]) -> Option<SdpFault>
     ensures { result ≡ least (flat_map line_faults (map plain lines.now)) }
 {
@@ -159,7 +159,7 @@ pub(crate) fn line_fault(lines: &[Line]) -> Option<SdpFault>
     fault
 }
 
-// Whether the first line that isn't empty gives the version.
+/// Whether the first line that isn't empty gives the version.
 pub(crate) fn version_fault(lines: &[Line]) -> Option<SdpFault>
     ensures { result ≡ least (version_faults (map plain lines.now)) }
 {

@@ -16,7 +16,7 @@ use crate::line::{Line, at};
 use std::alloc::{AllocError, Global};
 use timing_base::Kind;
 
-// The names of the table.
+/// The names of the table.
 #[derive(Clone, Copy, Debug)]
 pub(crate) enum Name {
     Width,
@@ -31,7 +31,7 @@ pub(crate) enum Name {
 }
 
 impl Name {
-    // The row of the table.
+    /// The row of the table.
     fn row(self) -> usize
         ensures value { result ≡ row_of self }
         ensures inside { result < 9 }
@@ -50,14 +50,14 @@ impl Name {
     }
 }
 
-// A frame rate of `p / q` frames per second.
+/// A frame rate of `p / q` frames per second.
 #[derive(Clone, Copy, Debug)]
 pub(crate) struct Rate {
     pub p: u32,
     pub q: u32,
 }
 
-// A parameter with a name of the table.
+/// A parameter with a name of the table.
 #[derive(Clone, Copy, Debug)]
 pub(crate) struct Parameter<'a> {
     pub line: u32,
@@ -65,7 +65,7 @@ pub(crate) struct Parameter<'a> {
     pub value: Option<&'a [u8]>,
 }
 
-// The name of the table that the text is.
+/// The name of the table that the text is.
 fn table_name(text: &[u8]) -> Option<Name>
     ensures { result ≡ table_name text.now }
 {
@@ -92,7 +92,7 @@ fn table_name(text: &[u8]) -> Option<Name>
     }
 }
 
-// The parameter of one piece of a list.
+/// The parameter of one piece of a list.
 fn item_at(line: u32, piece: &[u8]) -> Option<Parameter<'_>>
     ensures { option_map plain_item result ≡ item_at line piece.now }
 {
@@ -105,7 +105,7 @@ fn item_at(line: u32, piece: &[u8]) -> Option<Parameter<'_>>
     Some(Parameter { line, name, value })
 }
 
-// A rate of at most 240 frames per second.
+/// A rate of at most 240 frames per second.
 fn rate_of(text: &[u8]) -> Option<Rate>
     ensures value { result ≡ rate_of text.now }
     ensures p_some { IfSome result (λ r. 1 ≤ r.p) }
@@ -123,7 +123,7 @@ fn rate_of(text: &[u8]) -> Option<Rate>
     }
 }
 
-// A sender type.
+/// A sender type.
 fn kind_of(text: &[u8]) -> Option<Kind>
     ensures { result ≡ kind_of text.now }
 {
@@ -139,7 +139,7 @@ fn kind_of(text: &[u8]) -> Option<Kind>
 }
 
 impl Parameter<'_> {
-    // The value, as a number in a range.
+    /// The value, as a number in a range.
     fn number(&self, low: u32, high: u32) -> Option<u32>
         ensures value { result ≡ value_within low high (plain_item self.now) }
         ensures low { IfSome result (λ n. low ≤ n) }
@@ -148,7 +148,7 @@ impl Parameter<'_> {
         number_within(low, high, self.value?)
     }
 
-    // The value, as a width or a height.
+    /// The value, as a width or a height.
     pub(crate) fn size(&self) -> Option<u32>
         ensures value { result ≡ value_size (plain_item self.now) }
         ensures some { IfSome result (λ n. 1 ≤ n) }
@@ -157,7 +157,7 @@ impl Parameter<'_> {
         self.number(1, 32_767)
     }
 
-    // The value, as an offset in microseconds.
+    /// The value, as an offset in microseconds.
     pub(crate) fn offset(&self) -> Option<u32>
         ensures value { result ≡ value_offset (plain_item self.now) }
         ensures most { IfSome result (λ n. n ≤ 1000000) }
@@ -165,7 +165,7 @@ impl Parameter<'_> {
         self.number(0, 1_000_000)
     }
 
-    // The value, as a limit of packets or of bytes.
+    /// The value, as a limit of packets or of bytes.
     pub(crate) fn limit(&self) -> Option<u32>
         ensures value { result ≡ value_limit (plain_item self.now) }
         ensures some { IfSome result (λ n. 1 ≤ n) }
@@ -174,7 +174,7 @@ impl Parameter<'_> {
         self.number(1, 65_535)
     }
 
-    // The value, as a frame rate.
+    /// The value, as a frame rate.
     pub(crate) fn rate(&self) -> Option<Rate>
         ensures value { result ≡ value_rate (plain_item self.now) }
         ensures p_some { IfSome result (λ r. 1 ≤ r.p) }
@@ -185,14 +185,14 @@ impl Parameter<'_> {
         rate_of(self.value?)
     }
 
-    // The value, as a sender type.
+    /// The value, as a sender type.
     pub(crate) fn kind(&self) -> Option<Kind>
         ensures { result ≡ value_kind (plain_item self.now) }
     {
         kind_of(self.value?)
     }
 
-    // What is wrong with the parameter, if anything is.
+    /// What is wrong with the parameter, if anything is.
     fn cause(&self) -> Option<SdpCause>
         ensures { result ≡ cause_of self.now.name (plain_item self.now) }
     {
@@ -210,7 +210,7 @@ impl Parameter<'_> {
         }
     }
 
-    // The fault on the parameter's line, if there is one.
+    /// The fault on the parameter's line, if there is one.
     fn fault(&self) -> Option<SdpFault>
         ensures { result ≡ least (item_faults (plain_item self.now)) }
     {
@@ -222,14 +222,14 @@ impl Parameter<'_> {
     }
 }
 
-// The cause, unless the parameter fits.
+/// The cause, unless the parameter fits.
 fn unless(fits: bool, cause: SdpCause) -> Option<SdpCause>
     ensures { result ≡ unless fits cause }
 {
     if fits { None } else { Some(cause) }
 }
 
-// What is wrong with a UDP size limit, in bytes.
+/// What is wrong with a UDP size limit, in bytes.
 fn udp_cause(limit: Option<u32>) -> Option<SdpCause>
     ensures { result ≡ udp_cause limit }
 {
@@ -240,7 +240,7 @@ fn udp_cause(limit: Option<u32>) -> Option<SdpCause>
     }
 }
 
-// The list of a line `a=fmtp:FORMAT LIST`, or nothing.
+/// The list of a line `a=fmtp:FORMAT LIST`, or nothing.
 fn list_of<'a>(line: &Line<'a>, format: u8) -> &'a [u8]
     ensures { result.now ≡ list_of format (plain line.now) }
 {
@@ -253,14 +253,14 @@ fn list_of<'a>(line: &Line<'a>, format: u8) -> &'a [u8]
     }
 }
 
-// Whether the text is this number.
+/// Whether the text is this number.
 pub(crate) fn is_the(format: u8, text: &[u8]) -> bool
     ensures { result ≡ is_the format (number text.now) }
 {
     number(text) == Some(u64::from(format))
 }
 
-// Adds a parameter, where there is one.
+/// Adds a parameter, where there is one.
 fn add_item<'a>(
     items: &mut Vec<Parameter<'a>>,
     item: Option<Parameter<'a>>,
@@ -274,7 +274,7 @@ fn add_item<'a>(
     Ok(())
 }
 
-// Adds the parameters of a list.
+/// Adds the parameters of a list.
 fn add_items<'a>(
     items: &mut Vec<Parameter<'a>>,
     line: u32,
@@ -291,7 +291,7 @@ fn add_items<'a>(
     add_item(items, item_at(line, rest))
 }
 
-// The parameters of a part's lines, in order.
+/// The parameters of a part's lines, in order.
 pub(crate) fn parameters<'a>(
     alloc: Global,
     format: u8,
@@ -306,7 +306,7 @@ pub(crate) fn parameters<'a>(
     Ok(items)
 }
 
-// The first of the faults of single parameters.
+/// The first of the faults of single parameters.
 pub(crate) fn item_fault(items: &[Parameter]) -> Option<SdpFault>
     ensures { result ≡ least (flat_map item_faults (map plain_item items.now)) }
 {
@@ -317,7 +317,7 @@ pub(crate) fn item_fault(items: &[Parameter]) -> Option<SdpFault>
     fault
 }
 
-// The first of the parameters that stand a second time.
+/// The first of the parameters that stand a second time.
 pub(crate) fn repeated_fault(items: &[Parameter]) -> Option<SdpFault>
     ensures { result ≡ least (repeated_faults (map plain_item items.now)) }
 {
@@ -331,7 +331,7 @@ pub(crate) fn repeated_fault(items: &[Parameter]) -> Option<SdpFault>
     fault
 }
 
-// The first parameter of a name.
+/// The first parameter of a name.
 pub(crate) fn item_named<'a>(name: Name, items: &[Parameter<'a>]) -> Option<Parameter<'a>>
     ensures { option_map plain_item result ≡ item_named name (map plain_item items.now) }
 {

@@ -21,14 +21,14 @@ use crate::parameter::{
 use std::alloc::{AllocError, Global};
 use timing_base::{Kind, Media, Target};
 
-// A part's first line, and where its packets go, if it has a good address.
+/// A part's first line, and where its packets go, if it has a good address.
 #[derive(Clone, Copy, Debug)]
 pub(crate) struct Destination {
     pub line: u32,
     pub target: Option<Target>,
 }
 
-// A raw part as it is read.
+/// A raw part as it is read.
 #[derive(Clone, Copy, Debug)]
 pub(crate) struct Reading {
     pub destination: Destination,
@@ -38,7 +38,7 @@ pub(crate) struct Reading {
     pub media: Option<Media>,
 }
 
-// What is kept of the raw parts, in order.
+/// What is kept of the raw parts, in order.
 #[derive(Debug, Drop)]
 pub(crate) struct Kept {
     pub destinations: Vec<Destination>,
@@ -50,7 +50,7 @@ pub(crate) struct Kept {
 impl Kept {
     ghost use Rattle.sdp_reader.specs.Summary.{Adds};
 
-    // Keeps a reading, where there is one.
+    /// Keeps a reading, where there is one.
     pub(crate) fn add(&mut self, reading: Option<Reading>) -> Result<(), AllocError>
         ensures { OnOk result (Adds self.old reading self.new) }
     {
@@ -65,7 +65,7 @@ impl Kept {
     }
 }
 
-// The lines before the first that begins a media part.
+/// The lines before the first that begins a media part.
 pub(crate) fn own_lines<'b, 'a>(lines: &'b [Line<'a>]) -> &'b [Line<'a>]
     ensures { map plain result.now ≡ own_lines (map plain lines.now) }
 {
@@ -77,7 +77,7 @@ pub(crate) fn own_lines<'b, 'a>(lines: &'b [Line<'a>]) -> &'b [Line<'a>]
     lines
 }
 
-// The first `c=` line.
+/// The first `c=` line.
 pub(crate) fn connection_line<'a>(lines: &[Line<'a>]) -> Option<Line<'a>>
     ensures { option_map plain result ≡ connection_line (map plain lines.now) }
 {
@@ -89,7 +89,7 @@ pub(crate) fn connection_line<'a>(lines: &[Line<'a>]) -> Option<Line<'a>>
     None
 }
 
-// An octet, or a TTL.
+/// An octet, or a TTL.
 fn octet(text: &[u8]) -> Option<u32>
     ensures value { result ≡ octet text.now }
     ensures range { IfSome result (λ n. n ≤ 255) }
@@ -100,7 +100,7 @@ fn octet(text: &[u8]) -> Option<u32>
     }
 }
 
-// Whether what stands after a slash, if there is one, is a TTL.
+/// Whether what stands after a slash, if there is one, is a TTL.
 fn is_ttl(last: &[u8]) -> bool
     ensures { result ≡ is_ttl last.now }
 {
@@ -110,7 +110,7 @@ fn is_ttl(last: &[u8]) -> bool
     }
 }
 
-// The address of four octets.
+/// The address of four octets.
 fn address_from(a: &[u8], b: &[u8], c: &[u8], d: &[u8]) -> Option<u32>
     ensures { result ≡ address_from (octet a.now) (octet b.now) (octet c.now) (octet d.now) }
 {
@@ -121,7 +121,7 @@ fn address_from(a: &[u8], b: &[u8], c: &[u8], d: &[u8]) -> Option<u32>
     Some(a * 16_777_216 + b * 65_536 + c * 256 + d)
 }
 
-// `A.B.C.D` or `A.B.C.D/TTL`.
+/// `A.B.C.D` or `A.B.C.D/TTL`.
 fn address_at(rest: &[u8]) -> Option<u32>
     ensures { result ≡ address_at rest.now }
 {
@@ -136,14 +136,14 @@ fn address_at(rest: &[u8]) -> Option<u32>
     }
 }
 
-// The address of a line `c=IN IP4 ADDRESS`.
+/// The address of a line `c=IN IP4 ADDRESS`.
 fn address_of(line: &Line) -> Option<u32>
     ensures { result ≡ address_of (plain line.now) }
 {
     address_at(strip(line.text, b"c=IN IP4 ")?)
 }
 
-// Whether the line is `a=rtpmap:FORMAT raw/90000`.
+/// Whether the line is `a=rtpmap:FORMAT raw/90000`.
 fn is_raw_map(line: &Line, format: u8) -> bool
     ensures { result ≡ is_raw_map format (plain line.now) }
 {
@@ -156,7 +156,7 @@ fn is_raw_map(line: &Line, format: u8) -> bool
     }
 }
 
-// Whether a line of the part maps its format so.
+/// Whether a line of the part maps its format so.
 fn is_raw(body: &[Line], format: u8) -> bool
     ensures { result ≡ list_any (is_raw_map format) (map plain body.now) }
 {
@@ -168,7 +168,7 @@ fn is_raw(body: &[Line], format: u8) -> bool
     false
 }
 
-// The fault of the connection that counts.
+/// The fault of the connection that counts.
 fn connection_fault(line: u32, connection: Option<Line>) -> Option<SdpFault>
     ensures { result ≡ least (connection_faults line (option_map plain connection.entry)) }
 {
@@ -182,7 +182,7 @@ fn connection_fault(line: u32, connection: Option<Line>) -> Option<SdpFault>
     }
 }
 
-// Whether a parameter that has to stand doesn't.
+/// Whether a parameter that has to stand doesn't.
 fn is_missing(items: &[Parameter]) -> bool
     ensures { result ≡ is_missing (map plain_item items.now) }
 {
@@ -191,7 +191,7 @@ fn is_missing(items: &[Parameter]) -> bool
         || item_named(Name::ExactFrameRate, items).is_none()
 }
 
-// The size that the first parameter of a name gives.
+/// The size that the first parameter of a name gives.
 fn size_named(name: Name, items: &[Parameter]) -> Option<u32>
     ensures value { result
         ≡ option_and_then value_size (item_named name (map plain_item items.now)) }
@@ -201,7 +201,7 @@ fn size_named(name: Name, items: &[Parameter]) -> Option<u32>
     item_named(name, items)?.size()
 }
 
-// The offset of the first parameter TROFF, in microseconds.
+/// The offset of the first parameter TROFF, in microseconds.
 fn troff_named(items: &[Parameter]) -> Option<u32>
     ensures value { result
         ≡ option_and_then value_offset (item_named Name.Troff (map plain_item items.now)) }
@@ -210,7 +210,7 @@ fn troff_named(items: &[Parameter]) -> Option<u32>
     item_named(Name::Troff, items)?.offset()
 }
 
-// The limit of the first parameter CMAX, in packets.
+/// The limit of the first parameter CMAX, in packets.
 fn cmax_named(items: &[Parameter]) -> Option<u32>
     ensures value { result
         ≡ option_and_then value_limit (item_named Name.Cmax (map plain_item items.now)) }
@@ -220,14 +220,14 @@ fn cmax_named(items: &[Parameter]) -> Option<u32>
     item_named(Name::Cmax, items)?.limit()
 }
 
-// The sender type of the first parameter TP.
+/// The sender type of the first parameter TP.
 fn kind_named(items: &[Parameter]) -> Option<Kind>
     ensures { result ≡ option_and_then value_kind (item_named Name.Tp (map plain_item items.now)) }
 {
     item_named(Name::Tp, items)?.kind()
 }
 
-// The rate of the first parameter exactframerate.
+/// The rate of the first parameter exactframerate.
 fn rate_named(items: &[Parameter]) -> Option<Rate>
     ensures value { result
         ≡ option_and_then value_rate (item_named Name.ExactFrameRate (map plain_item items.now)) }
@@ -239,7 +239,7 @@ fn rate_named(items: &[Parameter]) -> Option<Rate>
     item_named(Name::ExactFrameRate, items)?.rate()
 }
 
-// The stream of a part, where it has all that a stream has to have.
+/// The stream of a part, where it has all that a stream has to have.
 fn media_of(line: u32, video: Video, address: Option<u32>, items: &[Parameter]) -> Option<Media>
     requires port { 1 ≤ video.port }
     requires format { video.format ≤ 127 }
@@ -269,7 +269,7 @@ fn media_of(line: u32, video: Video, address: Option<u32>, items: &[Parameter]) 
     })
 }
 
-// What is kept of a raw part with this head and these lines; first the session's connection.
+/// What is kept of a raw part with this head and these lines; first the session's connection.
 fn read_raw<'a>(
     alloc: Global,
     session: Option<Line<'a>>,
@@ -294,7 +294,7 @@ fn read_raw<'a>(
     })
 }
 
-// The first fault of a raw part with this first line, connection and parameters.
+/// The first fault of a raw part with this first line, connection and parameters.
 fn raw_fault(line: u32, connection: Option<Line>, items: &[Parameter]) -> Option<SdpFault>
     ensures { result
         ≡ least (faults_at line (option_map plain connection.entry) (map plain_item items.now)) }
@@ -307,7 +307,7 @@ fn raw_fault(line: u32, connection: Option<Line>, items: &[Parameter]) -> Option
     )
 }
 
-// The part's own connection, or where it has none the session's.
+/// The part's own connection, or where it has none the session's.
 fn counting<'a>(own: Option<Line<'a>>, session: Option<Line<'a>>) -> Option<Line<'a>>
     ensures { option_map plain result
         ≡ counting (option_map plain own.entry) (option_map plain session.entry) }
@@ -315,14 +315,14 @@ fn counting<'a>(own: Option<Line<'a>>, session: Option<Line<'a>>) -> Option<Line
     own.or(session)
 }
 
-// The address, where the connection has the form.
+/// The address, where the connection has the form.
 fn good_address(connection: Option<Line>) -> Option<u32>
     ensures { result ≡ option_and_then address_of (option_map plain connection.entry) }
 {
     address_of(&connection?)
 }
 
-// The target of a part with this address, if it has a good one, and this port.
+/// The target of a part with this address, if it has a good one, and this port.
 fn target_at(address: Option<u32>, port: u16) -> Option<Target>
     ensures { result ≡ target_at address port }
 {
@@ -330,8 +330,8 @@ fn target_at(address: Option<u32>, port: u16) -> Option<Target>
     Some(Target { address, port })
 }
 
-// What is kept of the part that a line begins, where it is a raw part; `rest` are the lines after
-// it.
+/// What is kept of the part that a line begins, where it is a raw part; `rest` are the lines after
+/// it.
 pub(crate) fn read_part<'a>(
     alloc: Global,
     session: Option<Line<'a>>,
@@ -353,7 +353,7 @@ pub(crate) fn read_part<'a>(
     Ok(Some(reading))
 }
 
-// Port and format, where the line is a video line.
+/// Port and format, where the line is a video line.
 fn video_of_head(head: &Line) -> Option<Video>
     ensures value { result ≡ option_and_then video_of (media_fields (plain head.now)) }
     ensures ranges { IfSome result (λ v. (1 ≤ v.port) × (v.format ≤ 127)) }

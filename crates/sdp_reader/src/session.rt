@@ -18,7 +18,7 @@ use std::alloc::{AllocError, Global};
 use std::collections::BTreeSet;
 use timing_base::{Items, Session, Target};
 
-// What is kept of the raw parts, in order; first the session's connection.
+/// What is kept of the raw parts, in order; first the session's connection.
 fn read_parts<'a>(
     alloc: Global,
     session: Option<Line<'a>>,
@@ -40,7 +40,7 @@ fn read_parts<'a>(
     Ok(kept)
 }
 
-// Whether the target is among those that were seen, which it is from now on.
+/// Whether the target is among those that were seen, which it is from now on.
 fn is_taken(seen: &mut BTreeSet<Target>, target: Option<Target>) -> Result<bool, AllocError>
     ensures { IfOk result (λ taken. TakesTarget seen.old seen.new target taken) }
 {
@@ -50,7 +50,7 @@ fn is_taken(seen: &mut BTreeSet<Target>, target: Option<Target>) -> Result<bool,
     }
 }
 
-// The first part whose target an earlier part has.
+/// The first part whose target an earlier part has.
 fn target_fault(alloc: Global, parts: &[Destination]) -> Result<Option<SdpFault>, AllocError>
     ensures { IfOk result (λ fault. fault ≡ least (target_faults parts.now)) }
 {
@@ -63,7 +63,7 @@ fn target_fault(alloc: Global, parts: &[Destination]) -> Result<Option<SdpFault>
     Ok(fault)
 }
 
-// The 65th part.
+/// The 65th part.
 fn too_many_fault(parts: &[Destination]) -> Option<SdpFault>
     ensures { result ≡ least (too_many_faults parts.now) }
 {
@@ -74,8 +74,8 @@ fn too_many_fault(parts: &[Destination]) -> Option<SdpFault>
     }
 }
 
-// The first fault of all, of lines whose raw parts have these destinations, and this first fault by
-// themselves.
+/// The first fault of all, of lines whose raw parts have these destinations, and this first fault by
+/// themselves.
 fn first_fault(
     alloc: Global,
     lines: &[Line],
@@ -94,7 +94,7 @@ fn first_fault(
     Ok(first_of(version_fault(lines), of_lines))
 }
 
-// The media of the lines of a text, or the first fault.
+/// The media of the lines of a text, or the first fault.
 fn answer(alloc: Global, lines: &[Line]) -> Result<Session, SdpError>
     ensures { Tells (answer (map plain lines.now)) result }
 {

@@ -48,5 +48,6 @@ held-at_once count t =
     count_by-guarded b (λ x. at_most (read_of hd_50 20 (pos 80000000000) true x) t) reads (reads-after t) in
     let size : length reads ≡ count = length-range_with_len 0 count in
     let most : cond b count 0 ≤ count = elim b as (λ b. cond b count 0 ≤ count) [ true ↦ omega arith | false ↦ omega arith ] in
-    let due : due_among hd_50 20 (pos 80000000000) true count t ≤ cond b count 0 = subst (λ k. due_among hd_50 20 (pos 80000000000) true count t ≤ cond b k 0) size few in
+    let due : due_among hd_50 20 (pos 80000000000) true count t ≤ cond b count 0 =
+    subst (λ k. due_among hd_50 20 (pos 80000000000) true count t ≤ cond b k 0) size few in
     (omega (arith, ints, came, due), omega (arith, ints, came, due, most))

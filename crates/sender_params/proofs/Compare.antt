@@ -13,7 +13,8 @@ read-difference a b k j gn gd on od sn sd =
     let group : (pos a -ℤ pos b) +ℤ pos k ≡ pos (a + k) -ℤ pos b = omega (arith, ints) in
     let first = sub-times (a + k) b gn in
     let second = sub-times ((a + k) * gn) (b * gn) od in
-    let third : (pos ((a + k) * gn * od) -ℤ pos (b * gn * od)) +ℤ pos (on * gd) ≡ pos ((a + k) * gn * od + on * gd) -ℤ pos (b * gn * od) = omega (arith, ints) in
+    let third : (pos ((a + k) * gn * od) -ℤ pos (b * gn * od)) +ℤ pos (on * gd) ≡ pos ((a + k) * gn * od + on * gd) -ℤ pos (b * gn * od) =
+    omega (arith, ints) in
     let fourth = sub-times ((a + k) * gn * od + on * gd) (b * gn * od) sd in
     rw (one, group, first, second, third, fourth) (omega (arith, ints))
 

@@ -78,5 +78,6 @@ pub anchor-floor : (a0 off per group rate : ℕ)
 anchor-floor a0 off per group rate =
     let one : (pos 1 *ℤ pos off) *ℤ pos 1 ≡ pos off = ap pos (omega arith) in
     let first : ((pos (a0 * per) -ℤ pos off) *ℤ pos rate) ≡ pos (a0 * per * rate) -ℤ pos (off * rate) = sub-times (a0 * per) off rate in
-    let second : (pos (a0 * per * rate) -ℤ pos (off * rate)) *ℤ pos 2 ≡ pos (a0 * per * rate * 2) -ℤ pos (off * rate * 2) = sub-times (a0 * per * rate) (off * rate) 2 in
+    let second : (pos (a0 * per * rate) -ℤ pos (off * rate)) *ℤ pos 2 ≡ pos (a0 * per * rate * 2) -ℤ pos (off * rate * 2) =
+    sub-times (a0 * per * rate) (off * rate) 2 in
     rw (one, first, second) (omega (arith, ints))

@@ -27,7 +27,8 @@ pub read_of-num : (m : Media) (n : ℕ) (anchor : ℤ) (gapped : Bool) (a b x : 
     → anchor ≡ pos a -ℤ pos b
     → (read_of m n anchor gapped x).num ≡ pos (late_of m n gapped a x) -ℤ pos (early_of m n gapped b)
 read_of-num m n anchor gapped a b x is =
-    rw is (read-difference a b (x / n) (x % n) (group_time m).0 (group_time m).1 (offset_time m).0 (offset_time m).1 (read_step m n gapped).0 (read_step m n gapped).1)
+    rw is (read-difference a b (x / n) (x % n) (group_time m).0 (group_time m).1 (offset_time m).0 (offset_time m).1 (read_step m n gapped).0
+    (read_step m n gapped).1)
 
 -- a read stands to a whole nanosecond as these numbers do
 pub read_of-at_most : (m : Media) (n : ℕ) (anchor : ℤ) (gapped : Bool) (a b x t : ℕ)

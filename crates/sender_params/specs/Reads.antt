@@ -14,7 +14,8 @@ anchor_of m a0 = floor (plus (divided (minus (whole a0) (scaled (pos 1) (offset_
 
 -- read x, where x is the j-th read of group k: (anchor + k) * T_GROUP + TR_OFFSET + j * T_RS
 abbrev pub read_of : Media → ℕ → ℤ → Bool → ℕ → Fraction
-read_of m n anchor gapped x = plus (plus (scaled (anchor +ℤ pos (x / n)) (group_time m)) (scaled (pos 1) (offset_time m)))
+read_of m n anchor gapped x =
+    plus (plus (scaled (anchor +ℤ pos (x / n)) (group_time m)) (scaled (pos 1) (offset_time m)))
     (scaled (pos (x % n)) (read_step m n gapped))
 
 -- `count` reads are due at the instant t: those below it, and no later one

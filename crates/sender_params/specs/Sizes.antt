@@ -1,5 +1,5 @@
--- The times of a sender in parts of a nanosecond, of which a nanosecond has as many as T_RS of the gapped schedule has in
--- its denominator. m is the video, n the packets of one group.
+-- The times of a sender in parts of a nanosecond, of which a nanosecond has as many as T_RS of the gapped schedule has
+-- in its denominator. m is the video, n the packets of one group.
 use Rattle.std.specs.Prelude.{◌≡◌, ◌≤◌, ◌*◌, ℕ, Bool, true, cond}
 use Rattle.timing_base.specs.Media.{Media}
 use Rattle.sender_params.specs.Times.{active_part, group_time, offset_time, read_step}

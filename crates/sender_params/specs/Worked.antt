@@ -9,7 +9,8 @@ use Rattle.timing_base.specs.declared.fail.Broken.{Broken}
 use Rattle.sender_params.specs.Limits.{c_max_of, vrx_full_of}
 
 -- a video of this height at p / q frames per second, with the declared type, TROFF and CMAX that are given
-abbrev pub described : (height : ℕ) (interlaced : Bool) (p q : ℕ) (declared : Option Kind) (troff cmax : Option ℕ) → Media
+abbrev pub described : (height : ℕ) (interlaced : Bool) (p q : ℕ) (declared : Option Kind) (troff cmax : Option ℕ)
+    → Media
 described height interlaced p q declared troff cmax = record {
   line = 5;
   address = 0;

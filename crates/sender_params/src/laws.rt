@@ -1,8 +1,11 @@
-//! The definitions on numbers worked by hand. Each function does nothing, and its clauses are
-//! proved.
+//! The definitions on numbers worked by hand, and what holds of every confirmed fail. Each function does
+//! nothing, and its clauses are proved.
 
-ghost use Rattle.std.specs.Prelude.{◌≡◌, ◌∷◌, [], true, false, pos, negsuc, Some, None, replicate};
+ghost use Rattle.std.specs.Prelude.{◌≡◌, ◌∷◌, [], ℕ, List, true, false, pos, negsuc, Some, None, replicate};
 ghost use Rattle.fraction128.specs.Fractions.{Below, scaled, whole};
+ghost use Rattle.timing_base.specs.Media.{Media};
+ghost use Rattle.timing_base.specs.declared.fail.FailProof.{FailProof};
+ghost use Rattle.timing_base.specs.declared.media.Kind.{Kind};
 ghost use Rattle.timing_base.specs.declared.fail.Broken.TheVariants.{Bucket, Over, Empty};
 ghost use Rattle.timing_base.specs.declared.media.Kind.TheVariants.{N, NL, W};
 ghost use Rattle.sender_params.specs.Times.{drain_time, frame_time, group_time};
@@ -91,6 +94,33 @@ pub fn limits_by_hand()
     ensures buffer_under { vrx_full_of_each hd_50 17279 ≡ (31, 31, 2879) }
     ensures narrow_whole { c_max_of_each hd_50 20736 ≡ (25, 24, 48) }
     ensures narrow_under { c_max_of_each hd_50 20735 ≡ (24, 23, 47) }
+{}
+
+/// The limits step where the quotient is whole. At 50 frames per second C_MAX of N is N * 50 / 41472, of NL
+/// N * 50 / 43200 and of W N * 50 / 21600; VRX_FULL is N * 50 / 27000, and N / 6 of W.
+pub fn steps_of_limits_by_hand()
+    ensures narrow { c_max_of_each hd_50 41472 ≡ (50, 48, 96) }
+    ensures narrow_under { c_max_of_each hd_50 41471 ≡ (49, 47, 95) }
+    ensures linear { c_max_of_each hd_50 43200 ≡ (52, 50, 100) }
+    ensures linear_under { c_max_of_each hd_50 43199 ≡ (52, 49, 99) }
+    ensures wide { c_max_of_each hd_50 21600 ≡ (26, 25, 50) }
+    ensures wide_under { c_max_of_each hd_50 21599 ≡ (26, 24, 49) }
+    ensures buffer { vrx_full_of_each hd_50 29160 ≡ (54, 54, 4860) }
+    ensures buffer_under { vrx_full_of_each hd_50 29159 ≡ (53, 53, 4859) }
+{}
+
+/// With G packets per field N is 2 * G. At 25 frames per second C_MAX of N is G * 50 / 41472 from 1080 lines on,
+/// and with 576 to 1079 lines, whose active part is 576/625, it is G * 625 / 497664: 11 from G = 8,758.9 on. Below,
+/// at 30000/1001 with 487/525, it is G * 625 / 417846: 13 from G = 8,691.2 on.
+pub fn interlaced_steps_of_limits_by_hand()
+    ensures lines_1080 { c_max_of_each hd_25_interlaced 41472 ≡ (50, 48, 96) }
+    ensures lines_1080_under { c_max_of_each hd_25_interlaced 41471 ≡ (49, 47, 95) }
+    ensures lines_576 { c_max_of_each sd_25_interlaced 8759 ≡ (11, 10, 20) }
+    ensures lines_576_under { c_max_of_each sd_25_interlaced 8758 ≡ (10, 10, 20) }
+    ensures lines_480 { c_max_of_each (video 480 true 30000 1001) 8692 ≡ (13, 12, 24) }
+    ensures lines_480_under { c_max_of_each (video 480 true 30000 1001) 8691 ≡ (12, 12, 24) }
+    ensures buffer { vrx_full_of_each hd_25_interlaced 29160 ≡ (54, 54, 4860) }
+    ensures buffer_under { vrx_full_of_each hd_25_interlaced 29159 ≡ (53, 53, 4859) }
 {}
 
 /// CMAX=9 is of the declared type alone, where C_MAX is 4, 4 and 16 without it.
@@ -261,6 +291,16 @@ pub fn keeps_by_hand()
     ensures linear { Keeps hd_50 20 linear_two N → ⊥ }
 {}
 
+/// Of one model and one interval a confirmed fail has one count and one limit.
+pub fn confirmed_once()
+    ensures count { (m : Media) (n : ℕ) (stamps : List ℕ) (kind : Kind) (f g : FailProof)
+        → Confirms m n stamps kind f → Confirms m n stamps kind g → f.model ≡ g.model
+        → f.from ≡ g.from → f.to ≡ g.to → f.count ≡ g.count }
+    ensures limit { (m : Media) (n : ℕ) (stamps : List ℕ) (kind : Kind) (f g : FailProof)
+        → Confirms m n stamps kind f → Confirms m n stamps kind g → f.model ≡ g.model
+        → f.from ≡ g.from → f.to ≡ g.to → f.limit ≡ g.limit }
+{}
+
 /// A fail of the bucket is confirmed for its own interval, count and limit alone.
 pub fn bucket_fails_by_hand()
     ensures five { Confirms hd_50 20 (at_once 5) N (fail Bucket 0 4 5 4) }
@@ -270,6 +310,9 @@ pub fn bucket_fails_by_hand()
     ensures limit { Confirms hd_50 20 (at_once 5) N (fail Bucket 0 4 5 3) → ⊥ }
     ensures wide { Confirms hd_50 20 (at_once 5) W (fail Bucket 0 4 5 4) → ⊥ }
     ensures four { Confirms hd_50 20 (at_once 5) N (fail Bucket 0 3 4 4) → ⊥ }
+    ensures six { Confirms hd_50 20 (at_once 6) N (fail Bucket 0 5 6 4) }
+    ensures less_count { Confirms hd_50 20 (at_once 6) N (fail Bucket 0 5 5 4) → ⊥ }
+    ensures more_limit { Confirms hd_50 20 (at_once 6) N (fail Bucket 0 5 6 5) → ⊥ }
 {}
 
 /// Fails of the buffer: nine packets at once, and packet 1 of the linear sender, by whose gapped
@@ -279,6 +322,7 @@ pub fn buffer_fails_by_hand()
     ensures over_from { Confirms hd_50 20 (at_once 9) N (fail Over 1 8 9 8) → ⊥ }
     ensures full { Confirms hd_50 20 (at_once 9) N (fail Over 0 7 8 8) → ⊥ }
     ensures over_limit { Confirms hd_50 20 (at_once 9) N (fail Over 0 7 8 7) → ⊥ }
+    ensures over_more_limit { Confirms hd_50 20 (at_once 10) N (fail Over 0 9 10 9) → ⊥ }
     ensures over_count { Confirms hd_50 20 (at_once 10) N (fail Over 0 9 9 8) → ⊥ }
     ensures over_beyond { Confirms hd_50 20 (at_once 9) N (fail Over 0 9 10 8) → ⊥ }
     ensures empty { Confirms hd_50 20 linear_two N (fail Empty 1 1 1 2) }
@@ -288,4 +332,11 @@ pub fn buffer_fails_by_hand()
     ensures empty_beyond { Confirms hd_50 20 linear_two N (fail Empty 2 2 2 3) → ⊥ }
     ensures in_time { Confirms hd_50 20 linear_two N (fail Empty 0 0 1 1) → ⊥ }
     ensures linear { Confirms hd_50 20 linear_two NL (fail Empty 1 1 1 2) → ⊥ }
+{}
+
+/// Two packets at once, after gapped reads 0 and 1: by read 1 neither had come.
+pub fn two_late_by_hand()
+    ensures none { Confirms hd_50 20 (replicate 2 1600000000001764000) N (fail Empty 1 1 0 2) }
+    ensures more_count { Confirms hd_50 20 (replicate 2 1600000000001764000) N (fail Empty 1 1 1 2) → ⊥ }
+    ensures less_limit { Confirms hd_50 20 (replicate 2 1600000000001764000) N (fail Empty 1 1 0 1) → ⊥ }
 {}

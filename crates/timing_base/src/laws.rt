@@ -37,6 +37,8 @@ pub fn places_by_hand()
     ensures one_cut { cuts equal_low_halves 3 ≡ 2 ∷ [] }
     ensures wraps { cuts (sent 1 0 4294967295 0 true ∷ sent 2 0 0 1 true
         ∷ sent 3 0 1 2 true ∷ []) 3 ≡ [] }
+    ensures falls { cuts (sent 1 0 6 0 true ∷ sent 2 0 9 1 true ∷ sent 3 0 2 2 true ∷ []) 3
+        ≡ 1 ∷ 2 ∷ [] }
     ensures marks { markers two_groups 0 6 ≡ 0 ∷ 2 ∷ 4 ∷ [] }
     ensures before { markers_before two_groups 4 ≡ 0 ∷ 2 ∷ [] }
     ensures start { run_start equal_low_halves 2 ≡ 2 }
@@ -54,6 +56,8 @@ pub fn sender_faults_by_hand()
     ensures source { judged (sent 1 0 6 0 true ∷ sent_by 8 2 0 7 1 true
         ∷ sent 3 0 8 2 true ∷ []) 96 0
         ≡ refused 2 PacketFault.SecondSource }
+    ensures smaller_source { judged (sent 1 0 6 0 true ∷ sent_by 6 2 0 7 1 true ∷ []) 96 0
+        ≡ refused 2 PacketFault.SecondSource }
 
     // The third packet has the source of the second, and not of the first.
     ensures source_of_first { fault (sent 1 0 6 0 true ∷ sent_by 8 2 0 7 1 true
@@ -65,6 +69,8 @@ pub fn order_faults_by_hand()
     ensures number { fault_within 1 9 (sent 1 0 0 0 true ∷ sent 2 0 2 1 true
         ∷ sent 3 0 4 2 true ∷ []) 96 2 ≡ Some (PacketFault.Number 3 4) }
     ensures first_cut { fault_within 1 9 (sent 1 0 0 0 true ∷ sent 2 0 2 1 true ∷ []) 96 1 ≡ None }
+    ensures after_last_cut { fault_within 1 9 (sent 1 0 0 0 true ∷ sent 2 0 2 1 true
+        ∷ sent 3 0 3 2 true ∷ []) 96 2 ≡ None }
     ensures stamp_back { judged (sent 1 100 6 0 true ∷ sent 2 99 7 1 true ∷ []) 96 3
         ≡ refused 2 (PacketFault.StampBack 100 99) }
     ensures equal_stamps { fault (sent 1 100 6 0 true ∷ sent 2 100 7 1 true ∷ []) 96 1 ≡ None }
@@ -72,30 +78,13 @@ pub fn order_faults_by_hand()
         ≡ refused 2 (PacketFault.StampBack 100 99) }
     ensures no_marker { judged (sent 1 0 6 0 false ∷ sent 2 0 7 1 true ∷ []) 96 0
         ≡ refused 2 PacketFault.NoMarker }
+    ensures timestamp_wraps { fault (sent 1 0 6 4294967295 true ∷ sent 2 0 7 0 true ∷ []) 96 1 ≡ None }
+    ensures timestamp_falls { judged (sent 1 0 6 1 false ∷ sent 2 0 7 0 true ∷ []) 96 0
+        ≡ refused 2 PacketFault.NoMarker }
     ensures no_marker_at_cut { fault (sent 1 0 6 0 false ∷ sent 2 0 8 1 true ∷ []) 96 1 ≡ None }
     ensures same_stamp { judged (sent 1 0 6 0 true ∷ sent 2 0 7 0 false ∷ []) 96 0
         ≡ refused 2 PacketFault.SameStamp }
     ensures same_stamp_at_cut { fault (sent 1 0 6 0 true ∷ sent 2 0 8 0 false ∷ []) 96 1 ≡ None }
-{}
-
-/// Worked by hand: what is no fault, though it looks like one, and what is one, though it looks like none.
-pub fn near_faults_by_hand()
-    // A source with a smaller number than the first one's is another source too.
-    ensures smaller_source { judged (sent 1 0 6 0 true ∷ sent_by 6 2 0 7 1 true ∷ []) 96 0
-        ≡ refused 2 PacketFault.SecondSource }
-
-    // A timestamp may be below the one before, behind a marker alone.
-    ensures wrapped { fault (sent 1 0 6 4294967295 true ∷ sent 2 0 7 0 false ∷ []) 96 1 ≡ None }
-    ensures fallen { judged (sent 1 0 6 1 false ∷ sent 2 0 7 0 true ∷ []) 96 0
-        ≡ refused 2 PacketFault.NoMarker }
-
-    // One cut is allowed here, and a packet that goes on behind it adds none.
-    ensures behind_last_cut { fault_within 1 9 (sent 1 0 0 0 true ∷ sent 2 0 2 1 true
-        ∷ sent 3 0 3 2 true ∷ []) 96 2 ≡ None }
-
-    // A head may be longer than the largest group, which has three packets here.
-    ensures long_head { fault_within 9 3 (sent 1 0 6 0 false ∷ sent 2 0 7 0 false
-        ∷ sent 3 0 8 0 false ∷ sent 4 0 9 0 false ∷ []) 96 3 ≡ None }
 {}
 
 /// Worked by hand: the faults by the group, for groups of at most three packets where it says so.
@@ -119,6 +108,8 @@ pub fn size_faults_by_hand()
         ≡ Some PacketFault.FrameTooLarge }
     ensures large { fault_within 9 3 (sent 1 0 6 0 true ∷ sent 2 0 7 1 false
         ∷ sent 3 0 8 1 false ∷ sent 4 0 9 1 true ∷ []) 96 3 ≡ None }
+    ensures long_head { fault_within 9 3 (sent 1 0 6 0 false ∷ sent 2 0 7 0 false
+        ∷ sent 3 0 8 0 false ∷ sent 4 0 9 0 false ∷ sent 5 0 10 0 false ∷ []) 96 4 ≡ None }
 
     // Sizes count anew after a cut.
     ensures after_cut { first_fault (sent 1 0 6 0 true ∷ sent 2 0 7 1 false ∷ sent 3 0 8 1 true
@@ -179,13 +170,19 @@ pub fn cut_flows_by_hand()
         ∷ []) }
 {}
 
-/// Worked by hand: a flow of three runs; at the second cut the number falls.
+/// Worked by hand: a flow of three runs, of which the second alone has a whole group. The number of the
+/// third falls.
 pub fn three_runs_by_hand()
-    ensures { judged (sent 1 10 6 100 true ∷ sent 2 20 9 101 true ∷ sent 3 30 5 102 false ∷ []) 96 0
-        ≡ in_runs (
-        record { rec = 1; number = 6; expected = None; outcome = no_whole_frame 1 }
-        ∷ record { rec = 2; number = 9; expected = Some 7; outcome = no_whole_frame 1 }
-        ∷ record { rec = 3; number = 5; expected = Some 10; outcome = no_whole_frame 1 }
+    ensures { judged (sent 1 10 6 100 true ∷ sent 2 20 9 101 true ∷ sent 3 30 10 102 true
+        ∷ sent 4 40 2 103 false ∷ []) 96 0
+        ≡ in_runs (record { rec = 1; number = 6; expected = None; outcome = no_whole_frame 1 }
+        ∷ record {
+          rec = 2;
+          number = 9;
+          expected = Some 7;
+          outcome = whole_frames record { n = 1; groups = 1; head = 1; tail = 0; stamps = 30 ∷ [] };
+        }
+        ∷ record { rec = 4; number = 2; expected = Some 11; outcome = no_whole_frame 1 }
         ∷ []) }
 {}
 

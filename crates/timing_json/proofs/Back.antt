@@ -19,7 +19,8 @@ use Rattle.timing_json.proofs.Texts.{ascii, text_utf8}
 use Rattle.timing_json.proofs.Told.{report_back}
 
 -- the text of a report tells its fails
-pub read-back : (job : CheckJob) (session : List Media) (notes : List FileNote) (rows : List Row) → IsCheckJob job → IsSession session → All IsMedia session → AreRowsOf job session rows
+pub read-back : (job : CheckJob) (session : List Media) (notes : List FileNote) (rows : List Row) → IsCheckJob job → IsSession session → All IsMedia session
+    → AreRowsOf job session rows
     → All (λ row. FitsVerdict row.verdict) rows → All IsUtf8 job.captures → length (json_text job session notes rows) ≤ 16777216
     → IsReport (json_text job session notes rows) (fails_of rows)
 read-back job session notes rows is_job is_session media are fit names few =

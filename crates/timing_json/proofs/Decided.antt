@@ -18,7 +18,8 @@ same-told a b e = cc
 pub report-decided : (bytes : List ℕ) → ((claims : List ReportProof) × IsReport bytes claims) ⊎ ((claims : List ReportProof) → ¬ IsReport bytes claims)
 report-decided bytes = decided (cases_lt 16777216 (length bytes)) (cases_Bool (is_utf8 bytes)) (option_and_then report_of (read bytes)) refl
   where
-    decided : (16777216 < length bytes) ⊎ (length bytes ≤ 16777216) → (is_utf8 bytes ≡ true) ⊎ (is_utf8 bytes ≡ false) → (told : Option (List ReportProof)) → option_and_then report_of (read bytes) ≡ told
+    decided : (16777216 < length bytes) ⊎ (length bytes ≤ 16777216) → (is_utf8 bytes ≡ true) ⊎ (is_utf8 bytes ≡ false) → (told : Option (List ReportProof))
+        → option_and_then report_of (read bytes) ≡ told
         → ((claims : List ReportProof) × IsReport bytes claims) ⊎ ((claims : List ReportProof) → ¬ IsReport bytes claims)
     decided (inl large) text told e = inr (λ claims h. let few = h.few in omega (arith, large, few))
     decided (inr few) (inr other) told e = inr (λ claims h. true≢false (sym (is_utf8-from_IsUtf8 bytes h.utf8) ∙ other))

@@ -94,7 +94,8 @@ ItemsFit most ds = ItemsKept ds × (items_depth (items_outline ds) ≤ most) × 
 one_more_fits : (most : ℕ) (d : Data) (ds : Items) → Fits most d → ItemsFit most ds → ItemsFit most (item d ds)
 one_more_fits most d ds h k = ((h.0, k.0), max-le h.1 k.1, (h.2, k.2))
 
-items_fit : {X : Type 0} (most : ℕ) (f : X → Data) (P : X → Type 0) → ((x : X) → P x → Fits most (f x)) → (xs : List X) → All P xs → ItemsFit most (items_of (map f xs))
+items_fit : {X : Type 0} (most : ℕ) (f : X → Data) (P : X → Type 0) → ((x : X) → P x → Fits most (f x)) → (xs : List X) → All P xs
+    → ItemsFit most (items_of (map f xs))
 items_fit most f P each [] h = (tt, omega arith, tt)
 items_fit most f P each (x ∷ xs) h =
     one_more_fits most (f x) (items_of (map f xs)) (each x (h 0 x (omega arith))) (items_fit most f P each xs (λ k d lt. h (suc k) d (omega arith)))
@@ -103,7 +104,8 @@ array_fits : (most : ℕ) (ds : Items) → ItemsFit most ds → Fits (suc most) 
 array_fits most ds h = (h.0, omega (arith, h.1), h.2)
 
 -- a list fits where its items do
-list_fits : {X : Type 0} (most : ℕ) (f : X → Data) (P : X → Type 0) → ((x : X) → P x → Fits most (f x)) → (xs : List X) → All P xs → Fits (suc most) (list_of (map f xs))
+list_fits : {X : Type 0} (most : ℕ) (f : X → Data) (P : X → Type 0) → ((x : X) → P x → Fits most (f x)) → (xs : List X) → All P xs
+    → Fits (suc most) (list_of (map f xs))
 list_fits most f P each xs h = array_fits most (items_of (map f xs)) (items_fit most f P each xs h)
 
 -- members: a number, a text, and true or false
@@ -224,10 +226,17 @@ run_fits media is run h = object_fits 3 (whole_run_members media run)
 unjudged_fits : (u : Unjudged) → FitsUnjudged u → AllFit 5 (unjudged_members u)
 unjudged_fits unjudged.Absent h = (word_at 5 (codes "absent") refl, tt)
 unjudged_fits (unjudged.NoWholeFrame head) h = no_whole_frame_fits 5 head h
-unjudged_fits (unjudged.Refused rec fault) h =
-    (text_at (codes "fault") refl 5 (packet_fault_text fault) (packet_fault_utf8 fault), (number_at (codes "record") refl 5 rec h, (word_at 5 (codes "refused") refl, tt)))
-unjudged_fits (unjudged.Gap rec expected got) h =
-    (number_at (codes "expected") refl 5 expected h.1, (number_at (codes "got") refl 5 got h.2, (number_at (codes "record") refl 5 rec h.0, (word_at 5 (codes "gap") refl, tt))))
+unjudged_fits (unjudged.Refused rec fault) h = (
+  text_at (codes "fault") refl 5 (packet_fault_text fault) (packet_fault_utf8 fault),
+  (number_at (codes "record") refl 5 rec h, (word_at 5 (codes "refused") refl, tt)),
+)
+unjudged_fits (unjudged.Gap rec expected got) h = (
+  number_at (codes "expected") refl 5 expected h.1,
+  (
+    number_at (codes "got") refl 5 got h.2,
+    (number_at (codes "record") refl 5 rec h.0, (word_at 5 (codes "gap") refl, tt)),
+  ),
+)
 
 more : (d : Data) → Fits 3 d → Fits 5 d
 more d h = (h.0, omega (arith, h.1), h.2)
@@ -239,8 +248,10 @@ all_more (m ∷ ms) h = ((h.0.0, more m.1 h.0.1), all_more ms h.1)
 verdict_fits : (media : Media) (v : Verdict) → IsMedia media → FitsVerdict v → AllFit 5 (verdict_members media v)
 verdict_fits media (verdict.Unjudged u) is h = unjudged_fits u h
 verdict_fits media (verdict.Judged judged) is h = all_more (judged_members media judged) (judged_fits media judged is h)
-verdict_fits media (verdict.Runs runs) is h =
-    (value_at (codes "runs") refl 5 (list_of (map (run_data media) runs)) (list_fits 4 (run_data media) FitsRun (run_fits media is) runs h.1), (word_at 5 (codes "runs") refl, tt))
+verdict_fits media (verdict.Runs runs) is h = (
+  value_at (codes "runs") refl 5 (list_of (map (run_data media) runs)) (list_fits 4 (run_data media) FitsRun (run_fits media is) runs h.1),
+  (word_at 5 (codes "runs") refl, tt),
+)
 
 -- a flow, whose file and media are few
 pub flow_fits : (media : Media) (row : Row) → IsMedia media → row.key.file < 16 → row.key.media < 64 → FitsVerdict row.verdict → Fits 6 (flow_data media row)
@@ -253,7 +264,8 @@ flow_fits media row is file number h = object_fits 5 (flow_members media row.key
 )
 
 file_fits : (name : List ℕ) (note : FileNote) → IsUtf8 name → Fits 1 (file_data name note)
-file_fits name note h = object_fits 0 (file_members name note) (text_at (codes "end") refl 0 (note_text note) (note_utf8 note), (text_at (codes "name") refl 0 name h, tt))
+file_fits name note h =
+    object_fits 0 (file_members name note) (text_at (codes "end") refl 0 (note_text note) (note_utf8 note), (text_at (codes "name") refl 0 name h, tt))
 
 files_fit : (names : List (List ℕ)) (notes : List FileNote) → All IsUtf8 names → ItemsFit 1 (items_of (files_data names notes))
 files_fit [] notes h = (tt, omega arith, tt)
@@ -273,13 +285,15 @@ row_fits : (session : List Media) → length session ≤ 64 → All IsMedia sess
 row_fits session few media row h = flow_fits (media_of session row.key) row (media row.key.media no_media h.1) h.0 (omega (arith, h.1)) h.2
 
 -- a report
-pub report_fits : (job : CheckJob) (session : List Media) (notes : List FileNote) (rows : List Row) → All IsUtf8 job.captures → length session ≤ 64 → All IsMedia session
+pub report_fits : (job : CheckJob) (session : List Media) (notes : List FileNote) (rows : List Row) → All IsUtf8 job.captures → length session ≤ 64
+    → All IsMedia session
     → All (Tellable session) rows → Fits 8 (report_data job session notes rows)
 report_fits job session notes rows names few media tell = object_fits 7 (report_members job session notes rows) (
   value_at (codes "files") refl 7 (list_of (files_data job.captures notes))
       (no_deeper (list_of (files_data job.captures notes)) (array_fits 1 (items_of (files_data job.captures notes)) (files_fit job.captures notes names))),
   (
-    value_at (codes "flows") refl 7 (list_of (map (row_data session) rows)) (list_fits 6 (row_data session) (Tellable session) (row_fits session few media) rows tell),
+    value_at (codes "flows") refl 7 (list_of (map (row_data session) rows))
+        (list_fits 6 (row_data session) (Tellable session) (row_fits session few media) rows tell),
     (number_at (codes "status") refl 7 _ (code_small (status_of session notes rows)), tt),
   ),
 )

@@ -50,9 +50,11 @@ put-floatless : (k : List ℕ) (d : Data) (ms : Members) → has_float d ≡ fal
 put-floatless k d no_members e f = neither (has_float d) false e refl
 put-floatless k d (member l x ms) e f =
     let p = or_parts (has_float x) _ f in
-    either (slice_cmp nat_cmp k l) _ _ _ (neither (has_float d) _ e f) (neither (has_float d) _ e p.1) (neither (has_float x) _ p.0 (put-floatless k d ms e p.1))
+    either (slice_cmp nat_cmp k l) _ _ _ (neither (has_float d) _ e f) (neither (has_float d) _ e p.1)
+    (neither (has_float x) _ p.0 (put-floatless k d ms e p.1))
 
-with_members-floatless : (ms : List Member) (found : Members) → any_float ms ≡ false → members_have_float found ≡ false → members_have_float (with_members ms found) ≡ false
+with_members-floatless : (ms : List Member) (found : Members) → any_float ms ≡ false → members_have_float found ≡ false
+    → members_have_float (with_members ms found) ≡ false
 with_members-floatless [] found e f = f
 with_members-floatless (m ∷ ms) found e f =
     let p = or_parts (has_float m.1) _ e in with_members-floatless ms (put m.0 m.1 found) p.1 (put-floatless m.0 m.1 found p.0 f)
@@ -78,7 +80,8 @@ interlaced-floatless false = refl
 
 judged-floatless : (media : Media) (judged : Judged) → any_float (judged_members media judged) ≡ false
 judged-floatless media judged =
-    neither (has_float (types_data media judged)) _ (list-floatless (type_data media judged) (type-floatless media judged) (N ∷ NL ∷ W ∷ [])) (interlaced-floatless media.interlaced)
+    neither (has_float (types_data media judged)) _ (list-floatless (type_data media judged) (type-floatless media judged) (N ∷ NL ∷ W ∷ []))
+    (interlaced-floatless media.interlaced)
 
 unjudged-floatless : (u : Unjudged) → any_float (unjudged_members u) ≡ false
 unjudged-floatless unjudged.Absent = refl

@@ -21,7 +21,8 @@ pub parts : (head files mid flows status digits close end first second third fou
     → whole ≡ (head ++ (files ++ (mid ++ (flows ++ (status ++ (digits ++ close)))))) ++ end
 parts head files mid flows status digits close end first second third fourth whole a b c d e =
     let rest = status ++ (digits ++ (close ++ end)) in
-    let open_end : (head ++ (files ++ (mid ++ (flows ++ (status ++ (digits ++ close)))))) ++ end ≡ head ++ (files ++ (mid ++ (flows ++ rest))) = simp append_assoc in
+    let open_end : (head ++ (files ++ (mid ++ (flows ++ (status ++ (digits ++ close)))))) ++ end ≡ head ++ (files ++ (mid ++ (flows ++ rest))) =
+    simp append_assoc in
     e ∙ sym (append_assoc fourth (codes "]") rest) ∙ ap (λ s. s ++ rest) d ∙ append_assoc third flows rest
     ∙ ap (λ s. s ++ (flows ++ rest)) c ∙ append_assoc second mid (flows ++ rest)
     ∙ ap (λ s. s ++ (mid ++ (flows ++ rest))) b ∙ append_assoc first files (mid ++ (flows ++ rest))

@@ -123,7 +123,8 @@ abbrev AllBelow : Members → Members → Type 0
 AllBelow no_members later = ⊤
 AllBelow (member k d ms) later = Above k later × AllBelow ms later
 
-AllBelow-next : (done : Members) (k : List ℕ) (d : Data) (ms : Members) → AllBelow done (member k d ms) → Above k ms → AllBelow (then done (member k d no_members)) ms
+AllBelow-next : (done : Members) (k : List ℕ) (d : Data) (ms : Members) → AllBelow done (member k d ms) → Above k ms
+    → AllBelow (then done (member k d no_members)) ms
 AllBelow-next no_members k d ms h a = (a, tt)
 AllBelow-next (member l e done) k d ms h a = (h.0.1, AllBelow-next done k d ms h.1 a)
 

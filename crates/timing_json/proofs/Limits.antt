@@ -38,7 +38,8 @@ floor_small least x d most l h small = omega (arith, max-le l (le_trans (div-le_
 
 by_rate_small : (m : Media) (n : ℕ) (kind : Kind) → IsMedia m → n ≤ 262144 → c_max_by_rate m n kind < 2 ^ 60
 by_rate_small m n N is few =
-    let scaled : per_frame_of m n * m.p * (active_part m).1 ≤ 126000000000 * 1125 = mul-le-mul (rate_at_most m n is few) (part_at_most m.interlaced (nat_le 1080 m.height) (nat_le 576 m.height)) in
+    let scaled : per_frame_of m n * m.p * (active_part m).1 ≤ 126000000000 * 1125 =
+    mul-le-mul (rate_at_most m n is few) (part_at_most m.interlaced (nat_le 1080 m.height) (nat_le 576 m.height)) in
     floor_small 4 _ (43200 * (active_part m).0 * m.q) (126000000000 * 1125) (lit≤ tt) scaled (lit< tt)
 by_rate_small m n NL is few = floor_small 4 _ (43200 * m.q) 126000000000 (lit≤ tt) (rate_at_most m n is few) (lit< tt)
 by_rate_small m n W is few = floor_small 16 _ (21600 * m.q) 126000000000 (lit≤ tt) (rate_at_most m n is few) (lit< tt)

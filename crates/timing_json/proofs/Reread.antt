@@ -76,7 +76,8 @@ lexemes c [] = []
 lexemes c (t ∷ ts) = cond (c && begins t) (comma ∷ []) [] ++ (lexemes_of t ++ lexemes (ends t) ts)
 
 -- whatever stands after a printed text and holds no lexeme
-lex-printed : (line : List ℕ) → ends_word line ≡ true → lex between line ≡ [] → (c : Bool) (ts : List Token) → ArePrintable ts → lex between (print_from c ts ++ line) ≡ lexemes c ts
+lex-printed : (line : List ℕ) → ends_word line ≡ true → lex between line ≡ [] → (c : Bool) (ts : List Token) → ArePrintable ts
+    → lex between (print_from c ts ++ line) ≡ lexemes c ts
 unfolding print_from ArePrintable
 lex-printed line e none c [] h = none
 lex-printed line e none c (t ∷ ts) h =

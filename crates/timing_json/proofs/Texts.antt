@@ -46,8 +46,10 @@ either_utf8 false xs ys h k = k
 digits_utf8 : (k n : ℕ) (acc : List ℕ) → IsUtf8 acc → IsUtf8 (digits_onto k 10 false n acc)
 digits_utf8 zero n acc h = h
 digits_utf8 (suc k) n acc h =
-    let here : IsUtf8 (digit_glyph false (n % 10) ∷ acc) = IsUtf8-append (digit_glyph false (n % 10) ∷ []) acc (one_ascii (digit_glyph false (n % 10)) (digit_small n)) h in
-    either_utf8 (n / 10 == 0) (digit_glyph false (n % 10) ∷ acc) (digits_onto k 10 false (n / 10) (digit_glyph false (n % 10) ∷ acc)) here (digits_utf8 k (n / 10) (digit_glyph false (n % 10) ∷ acc) here)
+    let here : IsUtf8 (digit_glyph false (n % 10) ∷ acc) =
+    IsUtf8-append (digit_glyph false (n % 10) ∷ []) acc (one_ascii (digit_glyph false (n % 10)) (digit_small n)) h in
+    either_utf8 (n / 10 == 0) (digit_glyph false (n % 10) ∷ acc) (digits_onto k 10 false (n / 10) (digit_glyph false (n % 10) ∷ acc)) here
+    (digits_utf8 k (n / 10) (digit_glyph false (n % 10) ∷ acc) here)
 
 -- a numeral
 pub decimal_utf8 : (n : ℕ) → IsUtf8 (decimal n)
@@ -110,7 +112,8 @@ note_utf8 (note.Refused fault) = lead (codes "refused ") _ refl (pcap_fault_utf8
 
 pub target_utf8 : (target : Target) → IsUtf8 (target_text target)
 target_utf8 target =
-    counted _ _ (lead (codes ".") _ refl (counted _ _ (lead (codes ".") _ refl (counted _ _ (lead (codes ".") _ refl (counted _ _ (lead (codes ":") _ refl (decimal_utf8 target.port))))))))
+    counted _ _ (lead (codes ".") _ refl (counted _ _ (lead (codes ".") _ refl
+    (counted _ _ (lead (codes ".") _ refl (counted _ _ (lead (codes ":") _ refl (decimal_utf8 target.port))))))))
 
 -- ---- values whose texts and keys are UTF-8
 
@@ -165,7 +168,8 @@ mutual
 
   items_utf8 : (later : Bool) (ds : Items) → ItemsKept ds → ItemsHaveTexts ds → IsUtf8 (items_text later ds)
   items_utf8 later no_items h t = ascii (codes "]") refl
-  items_utf8 later (item d ds) h t = joined (comma_if later) (compact_text d) (items_text true ds) (comma_utf8 later) (text_utf8 d h.0 t.0) (items_utf8 true ds h.1 t.1)
+  items_utf8 later (item d ds) h t =
+      joined (comma_if later) (compact_text d) (items_text true ds) (comma_utf8 later) (text_utf8 d h.0 t.0) (items_utf8 true ds h.1 t.1)
 
   members_utf8 : (later : Bool) (ms : Members) → MembersKept ms → MembersHaveTexts ms → IsUtf8 (members_text later ms)
   members_utf8 later no_members h t = ascii (codes "}") refl

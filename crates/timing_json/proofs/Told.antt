@@ -47,7 +47,8 @@ model_back Empty = refl
 
 proof_back : (proof : FailProof) → proof_of (proof_data proof) ≡ Some proof
 proof_back proof =
-    ap (option_and_then (λ model. Some record { model = model; from = proof.from; to = proof.to; count = proof.count; limit = proof.limit })) (model_back proof.model)
+    ap (option_and_then (λ model. Some record { model = model; from = proof.from; to = proof.to; count = proof.count; limit = proof.limit }))
+    (model_back proof.model)
 
 kind_back : (kind : Kind) → kind_named (kind_name kind) ≡ Some kind
 kind_back N = refl
@@ -63,7 +64,8 @@ name_back : (media : Media) (judged : Judged) (kind : Kind) (v : KindVerdict)
 name_back media judged kind kind_verdict.Pass = refl
 name_back media judged kind (kind_verdict.Fail proof) = refl
 
-read_type : (d : Data) (name : List ℕ) (kind : Kind) (fail : Option FailProof) → option_and_then as_str (get (codes "type") d) ≡ Some name → kind_named name ≡ Some kind
+read_type : (d : Data) (name : List ℕ) (kind : Kind) (fail : Option FailProof) → option_and_then as_str (get (codes "type") d) ≡ Some name
+    → kind_named name ≡ Some kind
     → proof_in d ≡ Some fail → type_of d ≡ Some (kind, fail)
 read_type d name kind fail e f g =
     ap (λ n. option_and_then (λ k. option_map (λ p. (k, p)) (proof_in d)) (option_and_then kind_named n)) e
@@ -73,14 +75,16 @@ read_type d name kind fail e f g =
 type_back : (media : Media) (judged : Judged) (kind : Kind) → type_of (type_data media judged kind) ≡ Some (kind, fail_of (verdict_on judged kind))
 type_back media judged kind =
     let v = verdict_on judged kind in
-    read_type (type_data media judged kind) (kind_name kind) kind (fail_of v) (name_back media judged kind v) (kind_back kind) (proof_in_back media judged kind v)
+    read_type (type_data media judged kind) (kind_name kind) kind (fail_of v) (name_back media judged kind v) (kind_back kind)
+    (proof_in_back media judged kind v)
 
 -- ---- the types of a judged run
 
 one_type : (key : FlowKey) (run : ℕ) (d : Data) (ds : Items) (kind : Kind) (fail : Option FailProof) (rest : List ReportProof)
     → type_of d ≡ Some (kind, fail) → types_from key run ds ≡ Some rest → types_from key run (item d ds) ≡ Some (told key run kind fail ++ rest)
 one_type key run d ds kind fail rest e f =
-    ap (option_and_then (λ t. option_map (λ later. told key run t.0 t.1 ++ later) (types_from key run ds))) e ∙ ap (option_map (λ later. told key run kind fail ++ later)) f
+    ap (option_and_then (λ t. option_map (λ later. told key run t.0 t.1 ++ later) (types_from key run ds))) e
+    ∙ ap (option_map (λ later. told key run kind fail ++ later)) f
 
 types_back : (key : FlowKey) (run : ℕ) (media : Media) (judged : Judged)
     → option_and_then (types_from key run) (as_array (types_data media judged)) ≡ Some (judged_fails key run judged)
@@ -91,7 +95,8 @@ types_back key run media judged =
     (one_type key run (type_data media judged W) no_items W _ _ (type_back media judged W) refl))
 
 -- where a member is known
-present : {X : Type 0} (missing : X) (reads : Data → Option X) (o : Option Data) (d : Data) (x : X) → o ≡ Some d → reads d ≡ Some x → where_present missing reads o ≡ Some x
+present : {X : Type 0} (missing : X) (reads : Data → Option X) (o : Option Data) (d : Data) (x : X) → o ≡ Some d → reads d ≡ Some x
+    → where_present missing reads o ≡ Some x
 present missing reads o d x e f = ap (where_present missing reads) e ∙ f
 
 missing_is : {X : Type 0} (missing : X) (reads : Data → Option X) (o : Option Data) → o ≡ None → where_present missing reads o ≡ Some missing
@@ -100,7 +105,8 @@ missing_is missing reads o e = ap (where_present missing reads) e
 types_in_back : (key : FlowKey) (run : ℕ) (media : Media) (judged : Judged) (d : Data) → get (codes "types") d ≡ Some (types_data media judged)
     → types_in key run d ≡ Some (judged_fails key run judged)
 types_in_back key run media judged d e =
-    present [] (λ types. option_and_then (types_from key run) (as_array types)) (get (codes "types") d) (types_data media judged) (judged_fails key run judged) e (types_back key run media judged)
+    present [] (λ types. option_and_then (types_from key run) (as_array types)) (get (codes "types") d) (types_data media judged)
+    (judged_fails key run judged) e (types_back key run media judged)
 
 no_types : (key : FlowKey) (run : ℕ) (d : Data) → get (codes "types") d ≡ None → types_in key run d ≡ Some []
 no_types key run d e = missing_is [] (λ types. option_and_then (types_from key run) (as_array types)) (get (codes "types") d) e
@@ -118,10 +124,12 @@ words media judged interlaced =
 -- a run that is judged, and one that is not
 abbrev judged_run : Media → (number rec : ℕ) → Option ℕ → Judged → Bool → Data
 judged_run media number rec expected judged interlaced =
-    object_of ((codes "number", count number) ∷ (codes "record", count rec) ∷ (expected_members expected ++ (judged_numbers judged ++ words media judged interlaced)))
+    object_of ((codes "number", count number) ∷ (codes "record", count rec)
+    ∷ (expected_members expected ++ (judged_numbers judged ++ words media judged interlaced)))
 
 abbrev other_run : (number rec : ℕ) → Option ℕ → ℕ → Data
-other_run number rec expected head = object_of ((codes "number", count number) ∷ (codes "record", count rec) ∷ (expected_members expected ++ no_whole_frame_members head))
+other_run number rec expected head =
+    object_of ((codes "number", count number) ∷ (codes "record", count rec) ∷ (expected_members expected ++ no_whole_frame_members head))
 
 run_types : (media : Media) (number rec : ℕ) (expected : Option ℕ) (interlaced : Bool) (judged : Judged)
     → get (codes "types") (judged_run media number rec expected judged interlaced) ≡ Some (types_data media judged)
@@ -134,7 +142,8 @@ no_run_types : (number rec : ℕ) (expected : Option ℕ) (head : ℕ) → get (
 no_run_types number rec None head = refl
 no_run_types number rec (Some e) head = refl
 
-run_back_at : (key : FlowKey) (index : ℕ) (media : Media) (run : Run) (v : RunVerdict) → run_of key index (object_of (run_members run ++ run_verdict_members media v)) ≡ Some (run_fails key index v)
+run_back_at : (key : FlowKey) (index : ℕ) (media : Media) (run : Run) (v : RunVerdict)
+    → run_of key index (object_of (run_members run ++ run_verdict_members media v)) ≡ Some (run_fails key index v)
 run_back_at key index media run (run_verdict.NoWholeFrame head) =
     no_types key index (other_run run.number run.rec run.expected head) (no_run_types run.number run.rec run.expected head)
 run_back_at key index media run (run_verdict.Judged judged) =
@@ -144,17 +153,20 @@ run_back_at key index media run (run_verdict.Judged judged) =
 run_back : (key : FlowKey) (index : ℕ) (media : Media) (run : Run) → run_of key index (run_data media run) ≡ Some (run_fails key index run.verdict)
 run_back key index media run = run_back_at key index media run run.verdict
 
-runs_back : (key : FlowKey) (media : Media) (index : ℕ) (runs : List Run) → runs_from key index (items_of (map (run_data media) runs)) ≡ Some (runs_fails key index runs)
+runs_back : (key : FlowKey) (media : Media) (index : ℕ) (runs : List Run)
+    → runs_from key index (items_of (map (run_data media) runs)) ≡ Some (runs_fails key index runs)
 runs_back key media index [] = refl
 runs_back key media index (run ∷ rest) =
-    ap (option_and_then (λ here. option_map (λ later. here ++ later) (runs_from key (index + 1) (items_of (map (run_data media) rest))))) (run_back key index media run)
+    ap (option_and_then (λ here. option_map (λ later. here ++ later) (runs_from key (index + 1) (items_of (map (run_data media) rest)))))
+    (run_back key index media run)
     ∙ ap (option_map (λ later. run_fails key index run.verdict ++ later)) (runs_back key media (index + 1) rest)
 
 runs_counted : (media : Media) (runs : List Run) → items_len (items_of (map (run_data media) runs)) ≡ length runs
 runs_counted media [] = refl
 runs_counted media (run ∷ rest) = ap suc (runs_counted media rest)
 
-runs_of_back : (key : FlowKey) (media : Media) (runs : List Run) → length runs ≤ 1025 → option_and_then (runs_of key) (as_array (list_of (map (run_data media) runs))) ≡ Some (runs_fails key 0 runs)
+runs_of_back : (key : FlowKey) (media : Media) (runs : List Run) → length runs ≤ 1025
+    → option_and_then (runs_of key) (as_array (list_of (map (run_data media) runs))) ≡ Some (runs_fails key 0 runs)
 runs_of_back key media runs few =
     ap (λ n. if nat_le n 1025 then runs_from key 0 (items_of (map (run_data media) runs)) else None) (runs_counted media runs)
     ∙ ap (λ b. if b then runs_from key 0 (items_of (map (run_data media) runs)) else None) (le-leb (length runs) 1025 few)
@@ -178,7 +190,8 @@ record Members (key : FlowKey) (d : Data) (own later : List ReportProof) : Type 
   types : types_in key 0 d ≡ Some own
   runs : runs_in key d ≡ Some later
 
-flow_read : (key : FlowKey) (d : Data) (own later : List ReportProof) → key.file < 16 → key.media < 64 → Members key d own later → flow_of d ≡ Some (own ++ later)
+flow_read : (key : FlowKey) (d : Data) (own later : List ReportProof) → key.file < 16 → key.media < 64 → Members key d own later
+    → flow_of d ≡ Some (own ++ later)
 flow_read key d own later file media h =
     let file_is : place_in (codes "file") 16 d ≡ Some key.file = ap (option_and_then (place_up_to 16)) h.file ∙ place_back 16 key.file file in
     let media_is : place_in (codes "media") 64 d ≡ Some key.media = ap (option_and_then (place_up_to 64)) h.media ∙ place_back 64 key.media media in
@@ -202,11 +215,22 @@ unjudged_known media key (unjudged.Gap rec expected got) = record { file = refl;
 abbrev judged_flow : Media → FlowKey → Judged → Bool → Data
 judged_flow media key judged interlaced = object_of (key_members media key ++ (judged_numbers judged ++ words media judged interlaced))
 
-judged_known_at : (media : Media) (key : FlowKey) (judged : Judged) (interlaced : Bool) → Members key (judged_flow media key judged interlaced) (judged_fails key 0 judged) []
+judged_known_at : (media : Media) (key : FlowKey) (judged : Judged) (interlaced : Bool)
+    → Members key (judged_flow media key judged interlaced) (judged_fails key 0 judged) []
 judged_known_at media key judged true =
-    record { file = refl; media = refl; types = types_in_back key 0 media judged (judged_flow media key judged true) refl; runs = no_runs key (judged_flow media key judged true) refl }
+    record {
+      file = refl;
+      media = refl;
+      types = types_in_back key 0 media judged (judged_flow media key judged true) refl;
+      runs = no_runs key (judged_flow media key judged true) refl;
+    }
 judged_known_at media key judged false =
-    record { file = refl; media = refl; types = types_in_back key 0 media judged (judged_flow media key judged false) refl; runs = no_runs key (judged_flow media key judged false) refl }
+    record {
+      file = refl;
+      media = refl;
+      types = types_in_back key 0 media judged (judged_flow media key judged false) refl;
+      runs = no_runs key (judged_flow media key judged false) refl;
+    }
 
 runs_known : (media : Media) (key : FlowKey) (runs : List Run) → length runs ≤ 1025
     → Members key (object_of (flow_members media key (verdict.Runs runs))) [] (runs_fails key 0 runs)
@@ -220,10 +244,13 @@ runs_known media key runs few = record {
 
 flow_back : (media : Media) (key : FlowKey) (v : Verdict) → key.file < 16 → key.media < 64 → FitsVerdict v
     → flow_of (object_of (flow_members media key v)) ≡ Some (verdict_fails key v)
-flow_back media key (verdict.Unjudged u) file number h = flow_read key (object_of (flow_members media key (verdict.Unjudged u))) [] [] file number (unjudged_known media key u)
+flow_back media key (verdict.Unjudged u) file number h =
+    flow_read key (object_of (flow_members media key (verdict.Unjudged u))) [] [] file number (unjudged_known media key u)
 flow_back media key (verdict.Judged judged) file number h =
-    flow_read key (judged_flow media key judged media.interlaced) (judged_fails key 0 judged) [] file number (judged_known_at media key judged media.interlaced) ∙ ap Some (append-nil (judged_fails key 0 judged))
-flow_back media key (verdict.Runs runs) file number h = flow_read key (object_of (flow_members media key (verdict.Runs runs))) [] (runs_fails key 0 runs) file number (runs_known media key runs h.0.few)
+    flow_read key (judged_flow media key judged media.interlaced) (judged_fails key 0 judged) [] file number (judged_known_at media key judged media.interlaced)
+    ∙ ap Some (append-nil (judged_fails key 0 judged))
+flow_back media key (verdict.Runs runs) file number h =
+    flow_read key (object_of (flow_members media key (verdict.Runs runs))) [] (runs_fails key 0 runs) file number (runs_known media key runs h.0.few)
 
 -- ---- the report
 

@@ -1,4 +1,5 @@
--- The fails of rows in the order in which a report tells them, and what holds of the numbers of the rows that the analyser makes.
+-- The fails of rows in the order in which a report tells them, and what holds of the numbers of the rows that the
+-- analyser makes.
 use Rattle.std.specs.Prelude.{◌<◌, ◌+◌, ◌^◌, ℕ, List, [], ◌∷◌, ◌++◌, Option, Some, None, All, ⊤}
 use Rattle.std.specs.List.{flat_map}
 use Rattle.std.specs.Option.{ForSome}

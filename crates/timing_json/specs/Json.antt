@@ -1,5 +1,6 @@
--- The report as JSON (RFC 8259): one value without spaces, and a line end. An object has its members in the byte order of
--- their keys, in whatever order they are put in. Captures and media count from 1, as do records; packets count from 0.
+-- The report as JSON (RFC 8259): one value without spaces, and a line end. An object has its members in the byte order
+-- of their keys, in whatever order they are put in. Captures and media count from 1, as do records; packets count from
+-- 0.
 use Rattle.std.specs.Prelude.{ℕ, ◌+◌, Bool, true, false, List, [], ◌∷◌, ◌++◌, map, Option, Some, None, codes}
 use Rattle.serde_json.specs.Data.{Data, number, unsigned, boolean, string, array, object, Members, no_members, put}
 use Rattle.serde_json.specs.View.{items_of}
@@ -70,11 +71,13 @@ outcome_members (kind_verdict.Fail proof) = (codes "pass", boolean false) ∷ (c
 
 -- the limit and the peak of the bucket
 abbrev pub bucket_members : Media → Judged → Kind → List Member
-bucket_members media judged kind = (codes "bucket_limit", count (c_max_of media judged.n kind)) ∷ (codes "bucket_peak", count judged.bucket_peak) ∷ []
+bucket_members media judged kind =
+    (codes "bucket_limit", count (c_max_of media judged.n kind)) ∷ (codes "bucket_peak", count judged.bucket_peak) ∷ []
 
 -- the limit and the peak of the buffer
 abbrev pub buffer_members : Media → Judged → Kind → List Member
-buffer_members media judged kind = (codes "buffer_limit", count (vrx_full_of media judged.n kind)) ∷ (codes "buffer_peak", count (buffer_peak judged kind)) ∷ []
+buffer_members media judged kind = (codes "buffer_limit", count (vrx_full_of media judged.n kind))
+    ∷ (codes "buffer_peak", count (buffer_peak judged kind)) ∷ []
 
 -- the members of a type that comes to this
 abbrev pub type_members : Media → Judged → Kind → KindVerdict → List Member
@@ -126,9 +129,11 @@ abbrev pub unjudged_members : Unjudged → List Member
 unjudged_members unjudged.Absent = (codes "verdict", string (codes "absent")) ∷ []
 unjudged_members (unjudged.NoWholeFrame head) = no_whole_frame_members head
 unjudged_members (unjudged.Refused rec fault) =
-    (codes "fault", string (packet_fault_text fault)) ∷ (codes "record", count rec) ∷ (codes "verdict", string (codes "refused")) ∷ []
+    (codes "fault", string (packet_fault_text fault)) ∷ (codes "record", count rec)
+    ∷ (codes "verdict", string (codes "refused")) ∷ []
 unjudged_members (unjudged.Gap rec expected got) =
-    (codes "expected", count expected) ∷ (codes "got", count got) ∷ (codes "record", count rec) ∷ (codes "verdict", string (codes "gap")) ∷ []
+    (codes "expected", count expected) ∷ (codes "got", count got) ∷ (codes "record", count rec)
+    ∷ (codes "verdict", string (codes "gap")) ∷ []
 
 -- the verdict on a run between gaps
 abbrev pub run_verdict_members : Media → RunVerdict → List Member
@@ -156,12 +161,14 @@ run_data media run = object_of (whole_run_members media run)
 abbrev pub verdict_members : Media → Verdict → List Member
 verdict_members media (verdict.Unjudged unjudged) = unjudged_members unjudged
 verdict_members media (verdict.Judged judged) = judged_members media judged
-verdict_members media (verdict.Runs runs) = (codes "runs", list_of (map (run_data media) runs)) ∷ (codes "verdict", string (codes "runs")) ∷ []
+verdict_members media (verdict.Runs runs) =
+    (codes "runs", list_of (map (run_data media) runs)) ∷ (codes "verdict", string (codes "runs")) ∷ []
 
 -- which flow
 abbrev pub key_members : Media → FlowKey → List Member
 key_members media key =
-    (codes "file", count (key.file + 1)) ∷ (codes "media", count (key.media + 1)) ∷ (codes "target", string (target_text (target_of media))) ∷ []
+    (codes "file", count (key.file + 1)) ∷ (codes "media", count (key.media + 1))
+    ∷ (codes "target", string (target_text (target_of media))) ∷ []
 
 -- the members of a flow of this media
 abbrev pub flow_members : Media → FlowKey → Verdict → List Member

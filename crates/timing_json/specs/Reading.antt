@@ -1,6 +1,6 @@
--- What is read back of a JSON report: the fails that it tells, each with its flow and its run. Texts that are not in the form
--- are refused. Keys that are not named here are passed over, and of two equal keys in one object the last counts (RFC 8259
--- leaves that open). Captures and media count from 1 in the report and from 0 here, as do runs.
+-- What is read back of a JSON report: the fails that it tells, each with its flow and its run. Texts that are not in
+-- the form are refused. Keys that are not named here are passed over, and of two equal keys in one object the last
+-- counts (RFC 8259 leaves that open). Captures and media count from 1 in the report and from 0 here, as do runs.
 use Rattle.std.specs.Prelude.{◌≡◌, ◌≤◌, ℕ, ◌+◌, ◌-◌, ◌&&◌, nat_le, if◌then◌else◌, is_some, List, [], ◌∷◌, ◌++◌, length}
 use Rattle.std.specs.Prelude.{Option, Some, None, codes, option_map, option_and_then, bytes_eq, IsUtf8}
 use Rattle.serde_json.specs.Data.{Data, Items, no_items, item}
@@ -55,7 +55,8 @@ abbrev pub proof_of : Data → Option FailProof
 proof_of d =
     option_and_then (λ model. option_and_then (λ from. option_and_then (λ to. option_and_then (λ count.
     option_map (λ limit. record { model = model; from = from; to = to; count = count; limit = limit })
-    (number_in (codes "limit") d)) (number_in (codes "count") d)) (number_in (codes "to") d)) (number_in (codes "from") d))
+    (number_in (codes "limit") d)) (number_in (codes "count") d)) (number_in (codes "to") d))
+    (number_in (codes "from") d))
     (option_and_then model_named (text_in (codes "model") d))
 
 -- the fail of a type, if it has one
@@ -64,7 +65,8 @@ proof_in d = where_present None (λ p. option_map Some (proof_of p)) (get (codes
 
 -- a type, and its fail, if it has one
 abbrev pub type_of : Data → Option (Kind × Option FailProof)
-type_of d = option_and_then (λ kind. option_map (λ proof. (kind, proof)) (proof_in d)) (option_and_then kind_named (text_in (codes "type") d))
+type_of d = option_and_then (λ kind. option_map (λ proof. (kind, proof)) (proof_in d))
+    (option_and_then kind_named (text_in (codes "type") d))
 
 -- what a type tells
 abbrev pub told : FlowKey → ℕ → Kind → Option FailProof → List ReportProof
@@ -74,11 +76,13 @@ told key run kind (Some proof) = record { key = key; run = run; kind = kind; pro
 -- what a list of types tells
 abbrev pub types_from : FlowKey → ℕ → Items → Option (List ReportProof)
 types_from key run no_items = Some []
-types_from key run (item d ds) = option_and_then (λ t. option_map (λ more. told key run t.0 t.1 ++ more) (types_from key run ds)) (type_of d)
+types_from key run (item d ds) =
+    option_and_then (λ t. option_map (λ more. told key run t.0 t.1 ++ more) (types_from key run ds)) (type_of d)
 
 -- what the types of a flow or of a run tell
 abbrev pub types_in : FlowKey → ℕ → Data → Option (List ReportProof)
-types_in key run d = where_present [] (λ types. option_and_then (types_from key run) (as_array types)) (get (codes "types") d)
+types_in key run d =
+    where_present [] (λ types. option_and_then (types_from key run) (as_array types)) (get (codes "types") d)
 
 -- what a run tells; it is an object
 abbrev pub run_of : FlowKey → ℕ → Data → Option (List ReportProof)
@@ -87,7 +91,8 @@ run_of key run d = if is_some (as_object d) then types_in key run d else None
 -- what the runs from one on tell
 abbrev pub runs_from : FlowKey → ℕ → Items → Option (List ReportProof)
 runs_from key run no_items = Some []
-runs_from key run (item d ds) = option_and_then (λ here. option_map (λ more. here ++ more) (runs_from key (run + 1) ds)) (run_of key run d)
+runs_from key run (item d ds) =
+    option_and_then (λ here. option_map (λ more. here ++ more) (runs_from key (run + 1) ds)) (run_of key run d)
 
 -- what a list of runs tells; there are at most 1,025
 abbrev pub runs_of : FlowKey → Items → Option (List ReportProof)
@@ -99,11 +104,13 @@ runs_in key d = where_present [] (λ runs. option_and_then (runs_of key) (as_arr
 
 -- which flow: one of 64 media of one of 16 captures
 abbrev pub key_of : Data → Option FlowKey
-key_of d = option_and_then (λ file. option_map (λ media. record { file = file; media = media }) (place_in (codes "media") 64 d)) (place_in (codes "file") 16 d)
+key_of d = option_and_then (λ file. option_map (λ media. record { file = file; media = media })
+    (place_in (codes "media") 64 d)) (place_in (codes "file") 16 d)
 
 -- what a flow tells: its own types, as of run 0, and then its runs
 abbrev pub flow_of : Data → Option (List ReportProof)
-flow_of d = option_and_then (λ key. option_and_then (λ own. option_map (λ later. own ++ later) (runs_in key d)) (types_in key 0 d)) (key_of d)
+flow_of d = option_and_then (λ key. option_and_then (λ own. option_map (λ later. own ++ later) (runs_in key d))
+    (types_in key 0 d)) (key_of d)
 
 -- what a list of flows tells
 abbrev pub flows_from : Items → Option (List ReportProof)

@@ -10,7 +10,7 @@ use std::fs;
 use std::io::{ErrorKind, Print, Read, Stderr, Stdout, Write};
 use std::rt::Files;
 
-// How often a call that a signal interrupts is tried again before it counts as failed.
+/// How often a call that a signal interrupts is tried again before it counts as failed.
 const TRIES: u32 = 1000;
 
 /// The files of the system. Their names have one count of faults, which rises at each error of the
@@ -29,7 +29,7 @@ pub struct FileSource<F: Drop> {
     faults: u64,
 }
 
-// One of the two streams that a program writes to.
+/// One of the two streams that a program writes to.
 #[derive(Clone, Copy)]
 enum Stream {
     Out(Stdout),
@@ -133,7 +133,7 @@ impl<F: Read + Send + Drop> Source for FileSource<F> {
     }
 }
 
-// Reads some of the bytes, and tries again where a signal came first. `None` is an error.
+/// Reads some of the bytes, and tries again where a signal came first. `None` is an error.
 fn read_some<F: Read>(file: &mut F, buf: &mut [u8]) -> Option<usize>
     ensures { IfSome result (λ k. k ≤ length buf.new) }
 {
@@ -148,7 +148,7 @@ fn read_some<F: Read>(file: &mut F, buf: &mut [u8]) -> Option<usize>
 }
 
 impl Stream {
-    // Writes some of the bytes, and tries again where a signal came first. `None` is an error.
+    /// Writes some of the bytes, and tries again where a signal came first. `None` is an error.
     fn write_some(&self, bytes: &[u8]) -> Option<usize>
         ensures { IfSome result (λ k. k ≤ length bytes.now) }
     {

@@ -69,7 +69,7 @@ impl MemoryShelf {
         Ok(())
     }
 
-    // How often this name has failed.
+    /// How often this name has failed.
     fn faults_of(&self, name: &str) -> u64
         ensures { result ≡ count_of self.now name.now }
     {
@@ -79,7 +79,7 @@ impl MemoryShelf {
         }
     }
 
-    // Counts a fault of this name.
+    /// Counts a fault of this name.
     #[tactic(auto, using(std::proofs::lemmas::Map::Text::text_keys))]
     fn raise(&mut self, name: &str)
         ensures texts { (n : List ℕ) → bytes_of self.new n ≡ bytes_of self.old n }
@@ -92,7 +92,7 @@ impl MemoryShelf {
         }
     }
 
-    // A source of the text of this name, where it can be fetched.
+    /// A source of the text of this name, where it can be fetched.
     fn open(&self, name: &str) -> Result<MemorySource, OpenFault>
         ensures opened { IfOk result (λ s. IsOpened s self.now name.now) }
         ensures exact { IsErrOf result OpenFault.Failed ↔ FetchFails self.now name.now }

@@ -75,7 +75,7 @@ impl MemorySink {
         &self.bytes
     }
 
-    // Appends a piece for which there is room.
+    /// Appends a piece for which there is room.
     fn append(&mut self, piece: &[u8])
         requires { length piece.now ≤ room_of self.old }
         ensures bytes { bytes_of self.new ≡ bytes_of self.old ++ piece.now }

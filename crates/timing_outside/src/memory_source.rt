@@ -25,7 +25,7 @@ pub struct MemorySource {
 impl MemorySource {
     ghost use Rattle.timing_outside.specs.MemorySources.{name_of, faults_of, Begins, Follows};
 
-    // A source at the start of a copy of these bytes, read by a copy of this plan.
+    /// A source at the start of a copy of these bytes, read by a copy of this plan.
     pub(crate) fn copy(
         alloc: Global,
         name: &str,
@@ -45,14 +45,14 @@ impl MemorySource {
         })
     }
 
-    // The name under which it was fetched.
+    /// The name under which it was fetched.
     pub(crate) fn name(&self) -> &str
         ensures { result.now ≡ name_of self.now }
     {
         self.name.as_str()
     }
 
-    // Whether a read has failed.
+    /// Whether a read has failed.
     pub(crate) fn has_failed(&self) -> bool
         ensures { result ≡ nat_lt 0 (faults_of self.now) }
     {

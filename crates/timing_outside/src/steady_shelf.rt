@@ -51,7 +51,7 @@ impl SteadyShelf {
         Ok(())
     }
 
-    // A copy of the text of this name.
+    /// A copy of the text of this name.
     fn copy(&self, name: &str) -> Result<Vec<u8>, OutOfMemory>
         ensures { IfOk result (λ bytes. bytes.items ≡ bytes_of self.now name.now) }
     {

@@ -6,7 +6,7 @@ use Rattle.std.proofs.Math.Seq.{get_or-append_seam}
 use Rattle.std.proofs.lemmas.Bool.{cases_lt}
 use Rattle.std.proofs.lemmas.Bool.Decides.{nat_tests}
 use Rattle.std.proofs.lemmas.List.{get_or_append_left}
-use Rattle.capture_gen.specs.Heads.{file_head, record_head}
+use Rattle.pcap_reader.specs.WrittenHeads.{file_head, record_head}
 use Rattle.timing_base.specs.Captures.{Record}
 use Rattle.timing_reach.specs.Shapes.{leaves_at, records_text, shaped_capture}
 

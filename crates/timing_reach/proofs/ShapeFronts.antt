@@ -6,7 +6,7 @@ use Rattle.std.specs.List.{cons_option, count_by}
 use Rattle.std.proofs.lemmas.Bool.{false≢true}
 use Rattle.std.proofs.lemmas.List.{get_or_append_left, map-append}
 use Rattle.std.proofs.Math.Seq.{get_or-append_seam}
-use Rattle.capture_gen.specs.Heads.{file_head, record_head}
+use Rattle.pcap_reader.specs.WrittenHeads.{file_head, record_head}
 use Rattle.flow_shaper.specs.declared.departure.Departure.{Departure}
 use Rattle.flow_shaper.specs.declared.departure.Late.{Late}
 use Rattle.timing_base.specs.Captures.{Record}

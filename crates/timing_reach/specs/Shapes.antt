@@ -6,7 +6,7 @@ use Rattle.std.specs.Prelude.{◌≡◌, ◌⊎◌, ◌<◌, ◌≤◌, ◌+◌,
 use Rattle.std.specs.Prelude.{List, [], ◌∷◌, ◌++◌, length, take, slice_index, slice_index_or, is_some, codes}
 use Rattle.std.specs.Fmt.{decimal}
 use Rattle.std.specs.List.{count_by, filter}
-use Rattle.capture_gen.specs.Heads.{file_head, record_head}
+use Rattle.pcap_reader.specs.WrittenHeads.{file_head, record_head}
 use Rattle.flow_shaper.specs.Bounds.{BoundAt}
 use Rattle.flow_shaper.specs.Plan.{Plan, Shaped}
 use Rattle.flow_shaper.specs.declared.departure.Bound.{Bound}

@@ -66,9 +66,9 @@ impl Look for ShapeLook {
 
 /// The answer of a job, or why there is none.
 fn answer_shape<H: Shelf>(alloc: Global, job: &ShapeJob, shelf: &mut H) -> Result<Answer, Failure>
-    ensures follows { FollowsShape job.now (seen_of H.text H.lacks H.faults shelf.old shelf.new) result }
+    ensures follows { FollowsShape job.now (seen_of H.Shelf shelf.old shelf.new) result }
     ensures cause { HasCause result
-        (FlowInputRose job.now.flow (seen_of H.text H.lacks H.faults shelf.old shelf.new)) }
+        (FlowInputRose job.now.flow (seen_of H.Shelf shelf.old shelf.new)) }
     ensures stays { StaysAs H.text H.lacks H.faults shelf.old shelf.new }
 {
     let look = ShapeLook {
@@ -87,10 +87,10 @@ pub fn shape_one<H: Shelf, K: Sink>(
     out: &mut K,
     err: &mut K,
 ) -> Status
-    ensures ran { Ran (FollowsShape job.now (seen_of H.text H.lacks H.faults shelf.old shelf.new))
-        (FlowInputRose job.now.flow (seen_of H.text H.lacks H.faults shelf.old shelf.new))
-        (output_of K.written K.faults out.old out.new)
-        (output_of K.written K.faults err.old err.new)
+    ensures ran { Ran (FollowsShape job.now (seen_of H.Shelf shelf.old shelf.new))
+        (FlowInputRose job.now.flow (seen_of H.Shelf shelf.old shelf.new))
+        (output_of K.Sink out.old out.new)
+        (output_of K.Sink err.old err.new)
         result }
     ensures stays { StaysAs H.text H.lacks H.faults shelf.old shelf.new }
 {

@@ -27,8 +27,8 @@ fn answer_pair<H: Shelf>(
     first: &Media,
     second: &Media,
 ) -> Result<Answer, Failure>
-    ensures follows { Yields result (ReadsCaptures (seen_of H.text H.lacks H.faults shelf.old shelf.new) result job.now.captures (λ texts. Gives result (HasSkew job.now first.now second.now texts))) }
-    ensures cause { HasCause result (SkewInputRose job.now (seen_of H.text H.lacks H.faults shelf.old shelf.new)) }
+    ensures follows { Yields result (ReadsCaptures (seen_of H.Shelf shelf.old shelf.new) result job.now.captures (λ texts. Gives result (HasSkew job.now first.now second.now texts))) }
+    ensures cause { HasCause result (SkewInputRose job.now (seen_of H.Shelf shelf.old shelf.new)) }
     ensures stays { StaysAs H.text H.lacks H.faults shelf.old shelf.new }
 {
     let compared = compare(alloc, job, shelf, first, second)?;
@@ -43,8 +43,8 @@ fn answer_second<H: Shelf>(
     media: &[Media],
     first: &Media,
 ) -> Result<Answer, Failure>
-    ensures follows { Yields result (ReadsPair (seen_of H.text H.lacks H.faults shelf.old shelf.new) result job.now (Some first.now) (slice_get media.now job.now.pair)) }
-    ensures cause { HasCause result (SkewInputRose job.now (seen_of H.text H.lacks H.faults shelf.old shelf.new)) }
+    ensures follows { Yields result (ReadsPair (seen_of H.Shelf shelf.old shelf.new) result job.now (Some first.now) (slice_get media.now job.now.pair)) }
+    ensures cause { HasCause result (SkewInputRose job.now (seen_of H.Shelf shelf.old shelf.new)) }
     ensures stays { StaysAs H.text H.lacks H.faults shelf.old shelf.new }
 {
     match media.get(job.pair as usize) {
@@ -60,8 +60,8 @@ fn answer_over<H: Shelf>(
     shelf: &mut H,
     media: &[Media],
 ) -> Result<Answer, Failure>
-    ensures follows { Yields result (ReadsPair (seen_of H.text H.lacks H.faults shelf.old shelf.new) result job.now (slice_get media.now job.now.media) (slice_get media.now job.now.pair)) }
-    ensures cause { HasCause result (SkewInputRose job.now (seen_of H.text H.lacks H.faults shelf.old shelf.new)) }
+    ensures follows { Yields result (ReadsPair (seen_of H.Shelf shelf.old shelf.new) result job.now (slice_get media.now job.now.media) (slice_get media.now job.now.pair)) }
+    ensures cause { HasCause result (SkewInputRose job.now (seen_of H.Shelf shelf.old shelf.new)) }
     ensures stays { StaysAs H.text H.lacks H.faults shelf.old shelf.new }
 {
     match media.get(job.media as usize) {
@@ -73,8 +73,8 @@ fn answer_over<H: Shelf>(
 /// The answer of a job, or why there is none. Where the description hasn't one of the media, no capture
 /// is fetched. The captures are fetched in order and then read in order.
 fn answer_skew<H: Shelf>(alloc: Global, job: &SkewJob, shelf: &mut H) -> Result<Answer, Failure>
-    ensures follows { FollowsSkew job.now (seen_of H.text H.lacks H.faults shelf.old shelf.new) result }
-    ensures cause { HasCause result (SkewInputRose job.now (seen_of H.text H.lacks H.faults shelf.old shelf.new)) }
+    ensures follows { FollowsSkew job.now (seen_of H.Shelf shelf.old shelf.new) result }
+    ensures cause { HasCause result (SkewInputRose job.now (seen_of H.Shelf shelf.old shelf.new)) }
     ensures stays { StaysAs H.text H.lacks H.faults shelf.old shelf.new }
 {
     match fetch_session(alloc, shelf, job.sdp.as_str())? {
@@ -91,10 +91,10 @@ pub fn skew_one<H: Shelf, K: Sink>(
     out: &mut K,
     err: &mut K,
 ) -> Status
-    ensures ran { Ran (FollowsSkew job.now (seen_of H.text H.lacks H.faults shelf.old shelf.new))
-        (SkewInputRose job.now (seen_of H.text H.lacks H.faults shelf.old shelf.new))
-        (output_of K.written K.faults out.old out.new)
-        (output_of K.written K.faults err.old err.new)
+    ensures ran { Ran (FollowsSkew job.now (seen_of H.Shelf shelf.old shelf.new))
+        (SkewInputRose job.now (seen_of H.Shelf shelf.old shelf.new))
+        (output_of K.Sink out.old out.new)
+        (output_of K.Sink err.old err.new)
         result }
     ensures stays { StaysAs H.text H.lacks H.faults shelf.old shelf.new }
 {

@@ -53,9 +53,9 @@ impl Look for WindowLook {
 
 /// The answer of a job, or why there is none.
 fn answer_window<H: Shelf>(alloc: Global, job: &FlowJob, shelf: &mut H) -> Result<Answer, Failure>
-    ensures follows { FollowsWindow job.now (seen_of H.text H.lacks H.faults shelf.old shelf.new) result }
+    ensures follows { FollowsWindow job.now (seen_of H.Shelf shelf.old shelf.new) result }
     ensures cause { HasCause result
-        (FlowInputRose job.now (seen_of H.text H.lacks H.faults shelf.old shelf.new)) }
+        (FlowInputRose job.now (seen_of H.Shelf shelf.old shelf.new)) }
     ensures stays { StaysAs H.text H.lacks H.faults shelf.old shelf.new }
 {
     answer_flow(alloc, job, &WindowLook, shelf)
@@ -70,10 +70,10 @@ pub fn window_one<H: Shelf, K: Sink>(
     out: &mut K,
     err: &mut K,
 ) -> Status
-    ensures ran { Ran (FollowsWindow job.now (seen_of H.text H.lacks H.faults shelf.old shelf.new))
-        (FlowInputRose job.now (seen_of H.text H.lacks H.faults shelf.old shelf.new))
-        (output_of K.written K.faults out.old out.new)
-        (output_of K.written K.faults err.old err.new)
+    ensures ran { Ran (FollowsWindow job.now (seen_of H.Shelf shelf.old shelf.new))
+        (FlowInputRose job.now (seen_of H.Shelf shelf.old shelf.new))
+        (output_of K.Sink out.old out.new)
+        (output_of K.Sink err.old err.new)
         result }
     ensures stays { StaysAs H.text H.lacks H.faults shelf.old shelf.new }
 {

@@ -37,7 +37,8 @@ each-map P [] h = λ k d lt. absurd (omega arith)
 each-map P (row ∷ rows) h = All-cons (λ r. P r.key) row rows h.0 (each-map P rows h.1)
 
 -- rows of the flows of a run
-pub keys_within : (joined : Bool) (files count : ℕ) (rows : List Row) → files ≤ 16 → map (λ row. row.key) rows ≡ keys_of joined files count → All (λ row. IsKeyOf 16 count row.key) rows
+pub keys_within : (joined : Bool) (files count : ℕ) (rows : List Row) → files ≤ 16 → map (λ row. row.key) rows ≡ keys_of joined files count
+    → All (λ row. IsKeyOf 16 count row.key) rows
 keys_within joined files count rows few are =
     let P = IsKeyOf 16 count in
     let n = if joined then 1 else files in
@@ -45,5 +46,6 @@ keys_within joined files count rows few are =
     each-map P rows (subst (AllByRecursion P) (sym are) keys)
 
 -- the rows of a job
-pub keys_of_rows : (job : CheckJob) (session : List Media) (rows : List Row) → IsCheckJob job → AreRowsOf job session rows → All (λ row. IsKeyOf 16 (length session) row.key) rows
+pub keys_of_rows : (job : CheckJob) (session : List Media) (rows : List Row) → IsCheckJob job → AreRowsOf job session rows
+    → All (λ row. IsKeyOf 16 (length session) row.key) rows
 keys_of_rows job session rows is are = keys_within job.joined (length job.captures) (length session) rows is.captures_are.few are

@@ -43,7 +43,8 @@ passes judged kind = is_pass (verdict_on judged kind)
 -- the first type, in the order N, NL, W, that passes
 abbrev pub first_passing : Judged → Option Kind
 first_passing judged =
-    if passes judged N then Some N else (if passes judged NL then Some NL else (if passes judged W then Some W else None))
+    if passes judged N then Some N else (if passes judged NL then Some NL
+    else (if passes judged W then Some W else None))
 
 -- the most packets that the buffer held with the reads of the type: those of N are gapped, the others linear
 abbrev pub buffer_peak : Judged → Kind → ℕ

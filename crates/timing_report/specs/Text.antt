@@ -31,7 +31,8 @@ title = codes "ST 2110-21 timing report"
 
 -- `file F NOTE NAME`
 abbrev pub file_text : ℕ → FileNote → List ℕ → List ℕ
-file_text file note name = codes "file " ++ (decimal (file + 1) ++ (codes " " ++ (note_text note ++ (codes " " ++ name))))
+file_text file note name =
+    codes "file " ++ (decimal (file + 1) ++ (codes " " ++ (note_text note ++ (codes " " ++ name))))
 
 -- the lines of the captures from one on, by their names and how they end
 abbrev pub files_lines : ℕ → List (List ℕ) → List FileNote → List (List ℕ)
@@ -63,7 +64,8 @@ status_text session notes rows = codes "status " ++ decimal (code_of (status_of 
 -- the lines of a report
 abbrev pub report_lines : CheckJob → List Media → List FileNote → List Row → List (List ℕ)
 report_lines job session notes rows =
-    title ∷ (files_lines 0 job.captures notes ++ (flat_map (row_lines session) rows ++ status_text session notes rows ∷ []))
+    title ∷ (files_lines 0 job.captures notes ++ (flat_map (row_lines session) rows ++ status_text session notes rows
+    ∷ []))
 
 -- the report
 abbrev pub report_text : CheckJob → List Media → List FileNote → List Row → List ℕ

@@ -1,6 +1,6 @@
 -- The text of one verdict: its line, and the lines of the types below it. Lines are here without their ends.
--- Counts and limits are in packets, records count from 1 and packets of a judged run from 0. In the line of a judged run the
--- packets of one group come first, and then the number of groups.
+-- Counts and limits are in packets, records count from 1 and packets of a judged run from 0. In the line of a judged
+-- run the packets of one group come first, and then the number of groups.
 use Rattle.std.specs.Prelude.{ℕ, ◌+◌, ◌-◌, List, [], ◌∷◌, ◌++◌, length, Option, Some, None, codes}
 use Rattle.std.specs.Fmt.{decimal}
 use Rattle.timing_base.specs.Media.{Media}
@@ -29,21 +29,25 @@ no_whole_frame_text head = codes "no whole frame, head " ++ decimal head
 abbrev pub unjudged_text : Unjudged → List ℕ
 unjudged_text unjudged.Absent = codes "absent"
 unjudged_text (unjudged.NoWholeFrame head) = no_whole_frame_text head
-unjudged_text (unjudged.Refused rec fault) = codes "refused at record " ++ (decimal rec ++ (codes ": " ++ packet_fault_text fault))
+unjudged_text (unjudged.Refused rec fault) =
+    codes "refused at record " ++ (decimal rec ++ (codes ": " ++ packet_fault_text fault))
 unjudged_text (unjudged.Gap rec expected got) =
-    codes "gap at record " ++ (decimal rec ++ (codes ": expected " ++ (decimal expected ++ (codes ", got " ++ decimal got))))
+    codes "gap at record " ++ (decimal rec ++ (codes ": expected "
+    ++ (decimal expected ++ (codes ", got " ++ decimal got))))
 
 -- `judged: N per frame, F frames, P packets`
 abbrev pub counts_text : Media → Judged → List ℕ
 counts_text media judged =
     let group = group_name media.interlaced in
-    codes "judged: " ++ (decimal judged.n ++ (codes " per " ++ (group ++ (codes ", " ++ (decimal judged.frames ++ (codes " "
+    codes "judged: " ++ (decimal judged.n ++ (codes " per "
+    ++ (group ++ (codes ", " ++ (decimal judged.frames ++ (codes " "
     ++ (group ++ (codes "s, " ++ (decimal judged.packets ++ codes " packets")))))))))
 
 -- `, head H, tail T, class C, declared D`
 abbrev pub places_text : Media → Judged → List ℕ
 places_text media judged = codes ", head " ++ (decimal judged.head ++ (codes ", tail " ++ (decimal judged.tail
-    ++ (codes ", class " ++ (class_name (first_passing judged) ++ (codes ", declared " ++ declared_name media.declared))))))
+    ++ (codes ", class " ++ (class_name (first_passing judged)
+    ++ (codes ", declared " ++ declared_name media.declared))))))
 
 -- `judged: N per frame, F frames, P packets, head H, tail T, class C, declared D`
 abbrev pub judged_text : Media → Judged → List ℕ
@@ -73,12 +77,14 @@ outcome_text (kind_verdict.Fail proof) = codes "fail " ++ proof_text proof
 abbrev pub type_text : Media → Judged → Kind → List ℕ
 type_text media judged kind = kind_name kind ++ (codes " " ++ (outcome_text (verdict_on judged kind)
     ++ (codes ", bucket " ++ (decimal judged.bucket_peak ++ (codes " of " ++ (decimal (c_max_of media judged.n kind)
-    ++ (codes ", buffer " ++ (decimal (buffer_peak judged kind) ++ (codes " of " ++ decimal (vrx_full_of media judged.n kind))))))))))
+    ++ (codes ", buffer " ++ (decimal (buffer_peak judged kind)
+    ++ (codes " of " ++ decimal (vrx_full_of media judged.n kind))))))))))
 
 -- the lines of the three types, after this space
 abbrev pub type_lines : List ℕ → Media → Judged → List (List ℕ)
 type_lines space media judged =
-    (space ++ type_text media judged N) ∷ (space ++ type_text media judged NL) ∷ (space ++ type_text media judged W) ∷ []
+    (space ++ type_text media judged N) ∷ (space ++ type_text media judged NL) ∷ (space ++ type_text media judged W)
+    ∷ []
 
 -- a run between gaps
 abbrev pub run_verdict_text : Media → RunVerdict → List ℕ

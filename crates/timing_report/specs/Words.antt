@@ -51,7 +51,8 @@ packet_fault_text Version = codes "Version"
 packet_fault_text PayloadType = codes "PayloadType"
 packet_fault_text SecondSource = codes "SecondSource"
 packet_fault_text (Number expected got) = codes "Number"
-packet_fault_text (StampBack before got) = codes "StampBack before " ++ (decimal before ++ (codes " got " ++ decimal got))
+packet_fault_text (StampBack before got) =
+    codes "StampBack before " ++ (decimal before ++ (codes " got " ++ decimal got))
 packet_fault_text NoMarker = codes "NoMarker"
 packet_fault_text SameStamp = codes "SameStamp"
 packet_fault_text (FrameSize want got) = codes "FrameSize want " ++ (decimal want ++ (codes " got " ++ decimal got))
@@ -67,8 +68,8 @@ pcap_fault_text (BadStamp rec) = codes "BadStamp at record " ++ decimal rec
 pcap_fault_text (BadLength rec) = codes "BadLength at record " ++ decimal rec
 pcap_fault_text TooLong = codes "TooLong"
 
--- how a capture ends; the place of a cut is a byte, counted from 0. No report tells of a failed read: a run that meets one
--- ends without a report.
+-- how a capture ends; the place of a cut is a byte, counted from 0. No report tells of a failed read: a
+-- run that meets one ends without a report.
 abbrev pub note_text : FileNote → List ℕ
 note_text End = codes "end"
 note_text (Cut at) = codes "cut at " ++ decimal at

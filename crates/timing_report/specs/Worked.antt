@@ -1,4 +1,5 @@
--- Values for examples that are worked by hand: what is judged of two frames of the plain media, with 20 packets per frame.
+-- Values for examples that are worked by hand: what is judged of two frames of the plain media, with 20 packets per
+-- frame.
 use Rattle.std.specs.Prelude.{ℕ, ◌+◌, false, List, [], ◌∷◌, Some, None, codes}
 use Rattle.timing_base.specs.Jobs.{CheckJob}
 use Rattle.timing_base.specs.Verdicts.{Judged}

@@ -29,8 +29,8 @@ pub enum Status {
     /// compared: what was asked for was printed, and of two flows some number is matched and no capture
     /// was refused.
     Pass,
-    /// The same, but that some flow fails: as the type that its description declares, or where it
-    /// declares none, as each type. Of a verification: some proof was not confirmed.
+    /// The report was printed, every flow was judged, no capture was refused, and some flow fails: as the
+    /// type that its description declares, or where it declares none, as each type. Of a verification: some proof was not confirmed.
     Fail,
     /// The words are no request.
     Usage,

@@ -6,7 +6,7 @@ use Rattle.timing_base.specs.Media.{Media}
 use Rattle.timing_outside.specs.Causes.{Rose}
 use Rattle.timing_outside.specs.Shelves.{StaysAs}
 use Rattle.sdp_reader.specs.Session.{session}
-use Rattle.timing_steps.specs.Answers.{Answer, AreThere, AreTold, CaptureRose, HasRisen, Inputs, OnSession, ReadsCaptures, ReadsSession, Yields, seen_of}
+use Rattle.timing_steps.specs.Answers.{Answer, AreThere, AreTold, CaptureRose, HasRisen, Inputs, OnSession, ReadsCaptures, ReadsSession, Yields}
 use Rattle.timing_steps.specs.declared.failure.Failure.{Failure}
 
 -- the second is of a part of the run of the first
@@ -28,9 +28,13 @@ stays-then text Lacks faults old mid new h k = record {
     later-still : (a b c : ℕ) → a ≤ b → b ≤ c → a ≤ c
     later-still a b c h k = omega (arith, h, k)
 
+-- what was seen of a shelf that tells this of its names
+abbrev pub seen-by : {H : Type 0} → (text : H → List ℕ → Option (List ℕ)) → (lacks : H → List ℕ → Type 0) → (faults : H → List ℕ → ℕ) → (old new : H) → Inputs
+seen-by text lacks faults old new = record { texts = text old; lacks = lacks old; before = faults old; now = faults new }
+
 -- a part of a run that ends with it
 pub sees-rest : {H : Type 0} (text : H → List ℕ → Option (List ℕ)) (Lacks : H → List ℕ → Type 0) (faults : H → List ℕ → ℕ) (old mid new : H) → StaysAs text Lacks faults old mid
-    → Sees (seen_of text Lacks faults old new) (seen_of text Lacks faults mid new)
+    → Sees (seen-by text Lacks faults old new) (seen-by text Lacks faults mid new)
 sees-rest text Lacks faults old mid new h = record { texts = h.texts; lacks = h.lacks; before = h.later; now = λ n. omega arith }
 
 -- a count that rose in a part of a run rose in the run

@@ -4,6 +4,7 @@ use Rattle.std.specs.Prelude.{◌≡◌, ◌<◌, ◌⊎◌, ℕ, ⊤, List, [],
 use Rattle.std.specs.Prelude.{Result, Ok, Err}
 use Rattle.timing_base.specs.Media.{Media}
 use Rattle.timing_outside.specs.Causes.{Rose}
+use Rattle.timing_outside.specs.declared.shelf.Shelf as shelf
 use Rattle.pcapng_reader.specs.Classic.{classic}
 use Rattle.sdp_reader.specs.declared.fault.SdpFault.{SdpFault}
 use Rattle.sdp_reader.specs.Session.{session}
@@ -32,8 +33,8 @@ pub record Inputs : Type 1 where
   pub now : List ℕ → ℕ
 
 -- of a shelf before and after a run, by what it tells of its names
-abbrev pub seen_of : {H : Type 0} → (text : H → List ℕ → Option (List ℕ)) → (lacks : H → List ℕ → Type 0) → (faults : H → List ℕ → ℕ) → (old new : H) → Inputs
-seen_of text lacks faults old new = record { texts = text old; lacks = lacks old; before = faults old; now = faults new }
+abbrev pub seen_of : {H S : Type 0} → shelf.Ghosts H S → (old new : H) → Inputs
+seen_of tells old new = record { texts = tells.text old; lacks = tells.lacks old; before = tells.faults old; now = tells.faults new }
 
 -- the count of a name rose
 abbrev pub HasRisen : Inputs → List ℕ → Type 0

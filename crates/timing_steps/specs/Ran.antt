@@ -2,6 +2,7 @@
 use Rattle.std.specs.Prelude.{◌≡◌, ◌≤◌, ◌⊎◌, ℕ, ⊤, List, Option, Result, Ok, Err}
 use Rattle.std.specs.Io.KnownBytes.{Appends, Keeps}
 use Rattle.timing_outside.specs.Causes.{Rose}
+use Rattle.timing_outside.specs.declared.sink.Sink as sink
 use Rattle.timing_outside.specs.Written.{AppendsFront}
 use Rattle.timing_report.specs.Status.{error_line}
 use Rattle.timing_report.specs.declared.status.Input.{Input}
@@ -19,8 +20,8 @@ pub record Output : Type 0 where
   pub now : ℕ
 
 -- of a sink before and after a run, by what it tells of its bytes and its faults
-abbrev pub output_of : {K : Type 0} → (written : K → Option (List ℕ)) → (faults : K → ℕ) → (old new : K) → Output
-output_of written faults old new = record { old = written old; new = written new; before = faults old; now = faults new }
+abbrev pub output_of : {K : Type 0} → sink.Ghosts K → (old new : K) → Output
+output_of tells old new = record { old = tells.written old; new = tells.written new; before = tells.faults old; now = tells.faults new }
 
 -- the status of a run that has no answer
 abbrev pub status_of : Failure → Status

@@ -13,7 +13,7 @@ use Rattle.pcapng_reader.specs.Classic.{classic}
 use Rattle.timing_steps.specs.Answers.{Answer, AreThere, AreTold, Gives, Inputs, ReadsCaptures, ReadsSession, silent}
 use Rattle.timing_steps.specs.declared.failure.Failure.{Failure}
 use Rattle.timing_steps.specs.declared.failure.Failure.TheVariants as failure
-use Rattle.timing_top.specs.Asked.{CheckInputRose, FollowsCheck}
+use Rattle.timing_top.specs.Check.{CheckInputRose, FollowsCheck}
 use Rattle.timing_top.specs.Asked.{Follows, FollowsAtOnce, FollowsSelfTest, InputRose, names_of}
 use Rattle.timing_top.specs.Report.{HasReport}
 use Rattle.timing_top.specs.SelfTest.{HasSelfTest}

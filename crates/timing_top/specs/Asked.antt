@@ -7,7 +7,7 @@ use Rattle.timing_report.specs.declared.status.Status.{Status}
 use Rattle.timing_report.specs.declared.status.Status.TheVariants as status
 use Rattle.timing_steps.specs.Answers.{Answer, Gives, Inputs, Yields, silent}
 use Rattle.timing_steps.specs.declared.failure.Failure.{Failure}
-use Rattle.timing_top.specs.Asked.{CheckInputRose, FollowsCheck}
+use Rattle.timing_top.specs.Check.{CheckInputRose, FollowsCheck}
 use Rattle.timing_reach.specs.Asked.{FlowInputRose, FollowsWindow}
 use Rattle.timing_reach.specs.Shaped.{FollowsShape}
 use Rattle.timing_reach.specs.Skewed.{FollowsSkew, SkewInputRose}

@@ -1,3 +1,10 @@
 -- what is promised
 pub mod Asked
+pub mod Check
+pub mod Report
 pub mod SelfTest
+-- what the laws say of reports
+pub mod Exact
+pub mod ReadBack
+-- what judging and reporting say to each other
+pub mod Found

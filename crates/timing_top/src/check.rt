@@ -1,38 +1,157 @@
-//! `check` with workers: what it answers is what it answers on one thread.
+//! `check`: the description is read, the captures are judged, on one thread or with workers, and their
+//! report is printed.
 
-ghost use Rattle.std.specs.Prelude.{◌≡◌, ◌≤◌};
+ghost use Rattle.std.specs.Prelude.{◌≡◌, ◌≤◌, Err, IfErr, IfOk, Ok, string_bytes};
 ghost use Rattle.timing_outside.specs.Shelves.{StaysAs};
-ghost use Rattle.timing_top.specs.Asked.{CheckInputRose, FollowsCheck};
-ghost use Rattle.timing_steps.specs.Answers.{seen_of};
-ghost use Rattle.timing_steps.specs.Ran.{HasCause, Ran, output_of};
+ghost use Rattle.timing_report.specs.Outcomes.{AreOfSession, status_of};
+ghost use Rattle.pcapng_reader.specs.Sources.{faults_of, left_of, name_of};
+ghost use Rattle.timing_steps.specs.Answers.{OnReadFault, seen_of};
+ghost use Rattle.timing_steps.specs.Ran.{HasCause, IsAnswered, Ran, output_of};
+ghost use Rattle.timing_top.specs.Check.{CheckInputRose, FollowsCheck};
+ghost use Rattle.timing_top.specs.Found.{IsOpened};
+ghost use Rattle.timing_top.specs.Report.{printed};
 
-use crate::judging::judge_any;
-use std::alloc::Global;
+use crate::alone::judge_alone;
+use crate::captures::Found;
+use crate::many::judge_many;
+use pcapng_reader::Classic;
+use std::alloc::{AllocError as OutOfMemory, Global};
 use std::sync::Wait;
 use std::thread::Threads;
-use timing_base::CheckJob;
-use timing_top::{Opened, open, report_on};
-use timing_outside::{Gate, Shelf, Sink};
-use timing_report::Status;
-use timing_steps::{Answer, Failure, conclude};
+use timing_base::{CheckJob, Session};
+use timing_json::json_of;
+use timing_outside::{Gate, Shelf, Sink, Source};
+use timing_report::{Status, status_of, text_of};
+use timing_steps::{Answer, Failure, conclude, fetch_captures, fetch_session};
 
-/// The answer of a job with its workers, or on this thread where it has none, or why there is none.
-pub fn answer_many<R: Threads + Wait + Sync, H: Shelf, G: Gate>(
+/// The text of what was found, or its JSON.
+fn text_on(
+    alloc: Global,
+    job: &CheckJob,
+    session: &Session,
+    found: &Found,
+) -> Result<String, OutOfMemory>
+    requires { AreOfSession session.now found.now.rows.items }
+    ensures { IfOk result (λ s. string_bytes s
+        ≡ printed job.now session.now found.now.notes.items found.now.rows.items) }
+{
+    if job.json {
+        json_of(alloc, job, session, &found.notes, &found.rows)
+    } else {
+        text_of(alloc, job, session, &found.notes, &found.rows)
+    }
+}
+
+/// The answer of a job whose captures were judged: its report. `Err` is want of memory.
+fn report_on(
+    alloc: Global,
+    job: &CheckJob,
+    session: &Session,
+    found: &Found,
+) -> Result<Answer, Failure>
+    requires rows { AreOfSession session.now found.now.rows.items }
+    ensures text { IfOk result (λ answer. answer.text
+        ≡ printed job.now session.now found.now.notes.items found.now.rows.items) }
+    ensures status { IfOk result (λ answer. answer.status
+        ≡ status_of session.now found.now.notes.items found.now.rows.items) }
+    ensures memory { IfErr result (λ e. e ≡ Failure.OutOfMemory) }
+    ensures answers { IfOk result (λ answer. IsAnswered answer.status) }
+{
+    Ok(Answer {
+        text: text_on(alloc, job, session, found)?.into_bytes(),
+        status: status_of(session, &found.notes, &found.rows),
+    })
+}
+
+/// What the judging of a job begins with.
+#[derive(Drop)]
+struct Opened<S: Source> {
+    session: Session,
+    /// One for each capture.
+    sources: Vec<Classic<S>>,
+}
+
+/// Reads the description of a job and fetches its captures. A description that is refused has its answer.
+fn open<H: Shelf>(
+    alloc: Global,
+    job: &CheckJob,
+    shelf: &mut H,
+) -> Result<Result<Opened<H::Source>, Answer>, Failure>
+    ensures opened { IfOk result (λ read. IfOk read (λ opened.
+        IsOpened (name_of H.Source.name) (left_of H.Source.left) (faults_of H.Source.faults) job.now
+        (seen_of H.Shelf shelf.old shelf.new) opened.session opened.sources.items)) }
+    ensures refused { IfOk result (λ read. IfErr read (λ answer.
+        FollowsCheck job.now (seen_of H.Shelf shelf.old shelf.new) (Ok answer)
+        × IsAnswered answer.status)) }
+    ensures failed { IfErr result (λ e.
+        FollowsCheck job.now (seen_of H.Shelf shelf.old shelf.new) (Err e)
+        × OnReadFault e (CheckInputRose job.now (seen_of H.Shelf shelf.old shelf.new))) }
+    ensures stays { StaysAs H.text H.lacks H.faults shelf.old shelf.new }
+{
+    match fetch_session(alloc, shelf, job.sdp.as_str())? {
+        Ok(session) => {
+            let sources = fetch_captures(alloc, shelf, job.captures.as_slice())?;
+            Ok(Ok(Opened { session, sources }))
+        }
+        Err(fault) => Ok(Err(Answer::silent(alloc, Status::SdpRefused(fault)))),
+    }
+}
+
+/// The answer of a job on one thread, or why there is none.
+fn answer_check<H: Shelf>(alloc: Global, job: &CheckJob, shelf: &mut H) -> Result<Answer, Failure>
+    ensures follows { FollowsCheck job.now (seen_of H.Shelf shelf.old shelf.new) result }
+    ensures cause { HasCause result (CheckInputRose job.now (seen_of H.Shelf shelf.old shelf.new)) }
+    ensures stays { StaysAs H.text H.lacks H.faults shelf.old shelf.new }
+{
+    match open(alloc, job, shelf)? {
+        Ok(Opened { session, sources }) => {
+            let media = session.media.as_slice();
+            let found = judge_alone(alloc, shelf, sources, media, job.joined, job.tai)?;
+            report_on(alloc, job, &session, &found)
+        }
+        Err(answer) => Ok(answer),
+    }
+}
+
+/// Judges the captures of a job on one thread, whatever its number of workers says, and prints the
+/// report on `out`. On `err` it tells why there is none.
+pub fn check_one<H: Shelf, K: Sink>(
+    alloc: Global,
+    job: &CheckJob,
+    shelf: &mut H,
+    out: &mut K,
+    err: &mut K,
+) -> Status
+    ensures ran { Ran
+        (FollowsCheck job.now (seen_of H.Shelf shelf.old shelf.new))
+        (CheckInputRose job.now (seen_of H.Shelf shelf.old shelf.new))
+        (output_of K.Sink out.old out.new)
+        (output_of K.Sink err.old err.new)
+        result }
+    ensures stays { StaysAs H.text H.lacks H.faults shelf.old shelf.new }
+{
+    let outcome = answer_check(alloc, job, shelf);
+    conclude(out, err, outcome)
+}
+
+/// The answer of a job with its workers, or why there is none.
+fn answer_many<R: Threads + Wait + Sync, H: Shelf, G: Gate>(
     rt: &R,
     alloc: Global,
     job: &CheckJob,
     shelf: &mut H,
     gate: &G,
 ) -> Result<Answer, Failure>
-    ensures follows { FollowsCheck job.now (seen_of H.text H.lacks H.faults shelf.old shelf.new) result }
-    ensures cause { HasCause result (CheckInputRose job.now (seen_of H.text H.lacks H.faults shelf.old shelf.new)) }
+    requires some { 1 ≤ job.now.workers }
+    ensures follows { FollowsCheck job.now (seen_of H.Shelf shelf.old shelf.new) result }
+    ensures cause { HasCause result (CheckInputRose job.now (seen_of H.Shelf shelf.old shelf.new)) }
     ensures stays { StaysAs H.text H.lacks H.faults shelf.old shelf.new }
 {
     match open(alloc, job, shelf)? {
         Ok(Opened { session, sources }) => {
             let media = session.media.as_slice();
             let (joined, tai, workers) = (job.joined, job.tai, job.workers);
-            let found = judge_any(rt, alloc, shelf, sources, media, joined, tai, workers, gate)?;
+            let found = judge_many(rt, alloc, shelf, sources, media, joined, tai, workers, gate)?;
             report_on(alloc, job, &session, &found)
         }
         Err(answer) => Ok(answer),
@@ -52,10 +171,10 @@ pub fn check_many<R: Threads + Wait + Sync, H: Shelf, K: Sink, G: Gate>(
 ) -> Status
     requires some { 1 ≤ job.now.workers }
     ensures ran { Ran
-        (FollowsCheck job.now (seen_of H.text H.lacks H.faults shelf.old shelf.new))
-        (CheckInputRose job.now (seen_of H.text H.lacks H.faults shelf.old shelf.new))
-        (output_of K.written K.faults out.old out.new)
-        (output_of K.written K.faults err.old err.new)
+        (FollowsCheck job.now (seen_of H.Shelf shelf.old shelf.new))
+        (CheckInputRose job.now (seen_of H.Shelf shelf.old shelf.new))
+        (output_of K.Sink out.old out.new)
+        (output_of K.Sink err.old err.new)
         result }
     ensures stays { StaysAs H.text H.lacks H.faults shelf.old shelf.new }
 {

@@ -1,7 +1,7 @@
 //! What holds of the definitions themselves. Each function is a theorem: it does nothing, and its
 //! clauses are proved.
 
-ghost use Rattle.std.specs.Prelude.{◌≡◌, ◌⊎◌, [], ◌∷◌, ℕ, Bool, List, All, Option, Ok, Err, false};
+ghost use Rattle.std.specs.Prelude.{◌≡◌, ◌⊎◌, [], ◌∷◌, ℕ, Bool, List, All, Option, Ok, Err, false, ◌≤◌, length, true, map};
 ghost use Rattle.timing_base.specs.Examples.{plain_media};
 ghost use Rattle.timing_base.specs.declared.job.Request.{Request};
 ghost use Rattle.sdp_reader.specs.Session.{session};
@@ -12,6 +12,21 @@ ghost use Rattle.timing_steps.specs.declared.failure.Failure.{Failure};
 ghost use Rattle.timing_steps.specs.declared.failure.Failure.TheVariants as failure;
 ghost use Rattle.timing_top.specs.Asked.{Follows, InputRose, names_of, seen};
 ghost use Rattle.timing_top.specs.SelfTest.{HasSelfTest};
+ghost use Rattle.timing_base.specs.Jobs.{CheckJob, IsCheckJob};
+ghost use Rattle.timing_base.specs.Media.{Media, IsMedia};
+ghost use Rattle.timing_top.specs.Report.{HasReport, rows};
+ghost use Rattle.timing_base.specs.Captures.{Record};
+ghost use Rattle.timing_base.specs.declared.capture.FileNote.{FileNote};
+ghost use Rattle.pcap_reader.specs.Records.{AreRecords};
+ghost use Rattle.fail_interval.specs.Rows.{rows_over};
+ghost use Rattle.timing_json.specs.Fails.{FitsVerdict, fails_of};
+ghost use Rattle.timing_json.specs.Json.{json_text};
+ghost use Rattle.timing_json.specs.Reading.{IsReport};
+ghost use Rattle.timing_json.specs.declared.reading.ReportProof.{ReportProof};
+ghost use Rattle.timing_report.specs.declared.status.Status.TheVariants as status;
+ghost use Rattle.timing_verify.specs.Asked.{FindsOf, HasReported, media_for};
+ghost use Rattle.timing_top.specs.Exact.{IsExactRow};
+ghost use Rattle.timing_top.specs.ReadBack.{AreBytes, IsReadable, reading_back};
 
 /// `selftest` prints one text: there is one, and there are not two.
 pub fn one_self_test()
@@ -46,4 +61,79 @@ pub fn one_answer()
         → Follows asked (seen texts lacking before now) (Err e)
         → (e ≡ failure.OutOfMemory) ⊎ ((input : InputValue) × (e ≡ failure.ReadFault input)
         × InputRose asked (seen texts lacking before now) input) }
+{}
+
+/// Texts have one report: there is one, and there are not two.
+pub fn one_report()
+    ensures some { (job : CheckJob) (media : List Media) (texts : List (List ℕ))
+        → (answer : Answer) × HasReport job media texts answer }
+    ensures once { (job : CheckJob) (media : List Media) (texts : List (List ℕ)) (a b : Answer)
+        → HasReport job media texts a → HasReport job media texts b → a ≡ b }
+{}
+
+/// A sender type passes in a report exactly where no interval of judged packets has more than C_MAX, less
+/// the drain ticks in it, and at every instant the receiver buffer holds between nothing and VRX_FULL; each fail
+/// that is told names an interval that its numbers confirm.
+pub fn types_are_exact()
+    ensures { (job : CheckJob) (media : List Media) (texts : List (List ℕ)) (answer : Answer)
+        → IsCheckJob job → All IsMedia media → All AreBytes texts
+        → length texts ≡ length job.captures → (h : HasReport job media texts answer)
+        → All (IsExactRow job.joined job.tai media h.files) (rows job media h.files) }
+{}
+
+/// The numbers of the rows that are made of captures have 64 bits, whatever the captures are.
+pub fn rows_have_words()
+    ensures { (job : CheckJob) (media : List Media) (text : List ℕ → List ℕ)
+        (files : List (List Record)) (notes : List FileNote) → IsReadable job media text
+        → AreRecords (map text job.captures) files notes
+        → All (λ row. FitsVerdict row.verdict) (rows_over job.joined job.tai media files) }
+{}
+
+/// Captures confirm each fail of the rows that are made of them.
+pub fn rows_are_confirmed()
+    ensures { (job : CheckJob) (media : List Media) (text : List ℕ → List ℕ) (name : List ℕ)
+        (files : List (List Record)) (notes : List FileNote) → IsReadable job media text
+        → AreRecords (map text job.captures) files notes
+        → All (λ claim. FindsOf (media_for (reading_back job name) media claim.key)
+        (reading_back job name) claim text (Ok true)) (fails_of (rows_over job.joined job.tai media files)) }
+{}
+
+/// The JSON that is made of captures, where it isn't longer than a report may be, is read back as the
+/// fails of its rows, in order; and `verify-report` over the same texts ends with the status 0,
+/// whatever the report is named.
+pub fn json_verifies()
+    ensures told { (job : CheckJob) (media : List Media) (text : List ℕ → List ℕ)
+        (files : List (List Record)) (notes : List FileNote) → IsReadable job media text
+        → AreRecords (map text job.captures) files notes
+        → length (json_text job media notes (rows_over job.joined job.tai media files)) ≤ 16777216
+        → IsReport (json_text job media notes (rows_over job.joined job.tai media files))
+        (fails_of (rows_over job.joined job.tai media files)) }
+    ensures status { (job : CheckJob) (media : List Media) (text : List ℕ → List ℕ) (name : List ℕ)
+        (files : List (List Record)) (notes : List FileNote) (claims : List ReportProof)
+        (verified : Answer) → IsReadable job media text
+        → AreRecords (map text job.captures) files notes
+        → IsReport (json_text job media notes (rows_over job.joined job.tai media files)) claims
+        → HasReported (reading_back job name) media claims text verified
+        → verified.status ≡ status.Pass }
+{}
+
+/// A JSON report verifies: what is read back of it is the fails of its rows, in order; the captures
+/// that it was made of confirm each; so `verify-report` over the same texts ends with the status 0,
+/// whatever the report is named.
+pub fn report_verifies()
+    ensures told { (job : CheckJob) (media : List Media) (text : List ℕ → List ℕ) (answer : Answer)
+        → IsReadable job media text → job.json ≡ true → length answer.text ≤ 16777216
+        → (h : HasReport job media (map text job.captures) answer)
+        → IsReport answer.text (fails_of (rows job media h.files)) }
+    ensures confirmed { (job : CheckJob) (media : List Media) (text : List ℕ → List ℕ)
+        (name : List ℕ) (answer : Answer) → IsReadable job media text
+        → (h : HasReport job media (map text job.captures) answer)
+        → All (λ claim. FindsOf (media_for (reading_back job name) media claim.key)
+        (reading_back job name) claim text (Ok true)) (fails_of (rows job media h.files)) }
+    ensures status { (job : CheckJob) (media : List Media) (text : List ℕ → List ℕ)
+        (name : List ℕ) (answer : Answer) (claims : List ReportProof) (verified : Answer)
+        → IsReadable job media text → job.json ≡ true
+        → HasReport job media (map text job.captures) answer → IsReport answer.text claims
+        → HasReported (reading_back job name) media claims text verified
+        → verified.status ≡ status.Pass }
 {}

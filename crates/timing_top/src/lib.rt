@@ -4,12 +4,15 @@
 //! printed, and why there is nothing, is its contract.
 #![tactic(auto)]
 
+mod alone;
+mod captures;
 mod check;
 mod commands;
-mod judging;
+mod joined;
 pub mod laws;
 mod many;
 mod self_tests;
 
-pub use check::check_many;
-pub use commands::{run, self_test};
+pub use check::{check_many, check_one};
+pub use commands::run;
+pub use self_tests::self_test;

@@ -10,13 +10,13 @@ ghost use Rattle.pcapng_reader.specs.Sources.{faults_of, left_of, name_of};
 ghost use Rattle.timing_steps.specs.Answers.{seen_of};
 ghost use Rattle.timing_top.specs.Found.{IsJudged};
 
+use crate::captures::Found;
 use flow_crew::{Judged, judge_files};
 use pcapng_reader::Classic;
 use std::alloc::Global;
 use std::sync::Wait;
 use std::thread::Threads;
 use timing_base::{FileNote, Media, PcapFault};
-use timing_top::Found;
 use timing_outside::{Gate, Shelf};
 use timing_report::Input;
 use timing_steps::{Failure, give_back_all};
@@ -59,7 +59,7 @@ pub fn judge_many<R: Threads + Wait + Sync, H: Shelf, G: Gate>(
     requires some_workers { 1 ≤ workers }
     requires few_workers { workers ≤ 16 }
     ensures judged { IsJudged (name_of H.Source.name) (left_of H.Source.left) (faults_of H.Source.faults)
-        (seen_of H.text H.lacks H.faults shelf.old shelf.new) sources.items (rows_over joined tai media.now) media.now result }
+        (seen_of H.Shelf shelf.old shelf.new) sources.items (rows_over joined tai media.now) media.now result }
     ensures stays { StaysAs H.text H.lacks H.faults shelf.old shelf.new }
 {
     let Judged {

@@ -1,26 +1,35 @@
 //! `selftest`: captures that are made here, judged as those of `check` are.
 
-ghost use Rattle.std.specs.Prelude.{◌≡◌, ◌≤◌, ◌<◌, [], ◌∷◌, IfOk, IfErr, codes, length, string_bytes};
+ghost use Rattle.std.specs.Prelude.{◌≡◌, ◌≤◌, ◌<◌, [], ◌∷◌, All, IfOk, IfErr, codes, false, length, string_bytes};
 ghost use Rattle.timing_base.specs.Media.{Media as MediaValue};
 ghost use Rattle.timing_base.specs.declared.capture.FileNote.{FileNote as Note};
 ghost use Rattle.timing_base.specs.declared.row.Row.{Row as RowValue};
+ghost use Rattle.timing_base.specs.Targets.{HaveOwnTargets};
+ghost use Rattle.timing_outside.specs.Shelves.{StaysAs};
 ghost use Rattle.timing_outside.specs.SteadyShelves.{bytes_of};
+ghost use Rattle.fail_interval.specs.Rows.{rows_over};
+ghost use Rattle.pcapng_reader.specs.Sources.{faults_of, left_of, name_of};
+ghost use Rattle.timing_steps.specs.Answers.{seen_of};
+ghost use Rattle.timing_steps.specs.Ran.{Ran, output_of};
 ghost use Rattle.capture_gen.specs.Capture.{capture};
 ghost use Rattle.capture_gen.specs.Sdp.{sdp_text};
 ghost use Rattle.timing_report.specs.Outcomes.{AreOfSession};
 ghost use Rattle.timing_top.specs.Asked.{FollowsSelfTest};
+ghost use Rattle.timing_top.specs.Found.{IsJudged};
 ghost use Rattle.timing_top.specs.SelfTest.{HasLine, flaw_line};
 
-use crate::judging::judge_any;
+use crate::alone::judge_alone;
+use crate::captures::Found;
+use crate::many::judge_many;
 use capture_gen::{capture_len, sdp_bytes, write_capture};
+use pcapng_reader::Classic;
 use std::alloc::{AllocError as OutOfMemory, Global};
 use std::sync::Wait;
 use std::thread::Threads;
-use timing_base::{FileName, Session};
-use timing_top::Found;
-use timing_outside::{Gate, MemorySink, SteadyShelf};
+use timing_base::{FileName, Media, SelfTestJob, Session};
+use timing_outside::{Gate, MemorySink, Shelf, Sink, SteadyShelf};
 use timing_report::{Status, status_of, verdict_of};
-use timing_steps::{Answer, Failure, fetch_captures, fetch_session};
+use timing_steps::{Answer, Failure, conclude, fetch_captures, fetch_session};
 
 /// The flaws that a made capture can have, none among them.
 const FLAWS: u32 = 5;
@@ -56,6 +65,35 @@ fn shelf_with(alloc: Global, frames: u32, flaw: u32) -> Result<SteadyShelf, OutO
     let capture = made(alloc, frames, flaw)?;
     shelf.put(String::from_str(alloc, "made.pcap")?, capture)?;
     Ok(shelf)
+}
+
+/// Judges the media in the captures, each by itself, with so many workers, or on this thread where
+/// there are none.
+fn judge_made<R: Threads + Wait + Sync, H: Shelf, G: Gate>(
+    rt: &R,
+    alloc: Global,
+    shelf: &mut H,
+    sources: Vec<Classic<H::Source>>,
+    media: &[Media],
+    workers: u32,
+    gate: &G,
+) -> Result<Found, Failure>
+    requires some { 1 ≤ length sources.items }
+    requires few { length sources.items ≤ 16 }
+    requires fresh { All (λ source. faults_of H.Source.faults source ≡ 0) sources.items }
+    requires some_media { 1 ≤ length media.now }
+    requires few_media { length media.now ≤ 64 }
+    requires targets { HaveOwnTargets media.now }
+    requires few_workers { workers ≤ 16 }
+    ensures judged { IsJudged (name_of H.Source.name) (left_of H.Source.left) (faults_of H.Source.faults)
+        (seen_of H.Shelf shelf.old shelf.new) sources.items (rows_over false 0 media.now) media.now result }
+    ensures stays { StaysAs H.text H.lacks H.faults shelf.old shelf.new }
+{
+    if workers == 0 {
+        judge_alone(alloc, shelf, sources, media, false, 0)
+    } else {
+        judge_many(rt, alloc, shelf, sources, media, false, 0, workers, gate)
+    }
 }
 
 /// The line of what was found in the one capture of a session of one media.
@@ -101,9 +139,7 @@ fn line_of<R: Threads + Wait + Sync, G: Gate>(
     let captures = [FileName::from_text(String::from_str(alloc, "made.pcap")?)];
     let sources = fetch_captures(alloc, &mut shelf, &captures)?;
     let media = session.media.as_slice();
-    let found = match judge_any(
-        rt, alloc, &mut shelf, sources, media, false, 0, workers, gate,
-    ) {
+    let found = match judge_made(rt, alloc, &mut shelf, sources, media, workers, gate) {
         Ok(found) => found,
         Err(failure) => return Err(failure),
     };
@@ -112,7 +148,7 @@ fn line_of<R: Threads + Wait + Sync, G: Gate>(
 
 /// The answer of `selftest` with so many frames and workers: a line for each flaw. One capture is held
 /// at a time.
-pub fn answer_self_test<R: Threads + Wait + Sync, G: Gate>(
+fn answer_self_test<R: Threads + Wait + Sync, G: Gate>(
     rt: &R,
     alloc: Global,
     frames: u32,
@@ -132,4 +168,23 @@ pub fn answer_self_test<R: Threads + Wait + Sync, G: Gate>(
         text: text.into_bytes(),
         status: Status::Pass,
     })
+}
+
+/// Judges captures that are made here, one for each flaw that they can have, with as many workers as the
+/// job says, and prints a line for each on `out`. On `err` it tells why there is none. Nothing is read.
+/// The call may wait for its threads, and promises if it returns.
+pub fn self_test<R: Threads + Wait + Sync, K: Sink, G: Gate>(
+    rt: &R,
+    alloc: Global,
+    job: &SelfTestJob,
+    out: &mut K,
+    err: &mut K,
+    gate: &G,
+) -> Status
+    ensures ran { Ran (FollowsSelfTest job.now.frames) (λ i. ⊥)
+        (output_of K.Sink out.old out.new)
+        (output_of K.Sink err.old err.new) result }
+{
+    let outcome = answer_self_test(rt, alloc, job.frames, job.workers, gate);
+    conclude(out, err, outcome)
 }

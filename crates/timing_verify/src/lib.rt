@@ -13,5 +13,5 @@ mod verify;
 mod words;
 
 pub use checked::{Checked, Finding};
-pub use report::{answer_report, verify_all};
-pub use verify::{answer_verify, verify_one};
+pub use report::verify_all;
+pub use verify::verify_one;

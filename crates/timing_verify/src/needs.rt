@@ -55,7 +55,7 @@ fn find_alone<H: Shelf>(
 ) -> Result<Finding, Failure>
     requires apart { job.now.joined ≡ false }
     requires within { claim.now.key.file < length job.now.captures }
-    ensures tells { Tells (seen_of H.text H.lacks H.faults shelf.old shelf.new) job.now (captures_of job.now claim.now.key)
+    ensures tells { Tells (seen_of H.Shelf shelf.old shelf.new) job.now (captures_of job.now claim.now.key)
         (λ text. Finds media.now claim.now job.now.tai (map text (captures_of job.now claim.now.key))) result }
     ensures stays { StaysAs H.text H.lacks H.faults shelf.old shelf.new }
 {
@@ -76,7 +76,7 @@ fn find_of<H: Shelf>(
     claim: &ReportProof,
 ) -> Result<Finding, Failure>
     requires within { claim.now.key.file < file_count job.now }
-    ensures tells { Tells (seen_of H.text H.lacks H.faults shelf.old shelf.new) job.now (captures_of job.now claim.now.key)
+    ensures tells { Tells (seen_of H.Shelf shelf.old shelf.new) job.now (captures_of job.now claim.now.key)
         (λ text. Finds media.now claim.now job.now.tai (map text (captures_of job.now claim.now.key))) result }
     ensures stays { StaysAs H.text H.lacks H.faults shelf.old shelf.new }
 {
@@ -95,7 +95,7 @@ fn find_needed<H: Shelf>(
     media: &[Media],
     claim: &ReportProof,
 ) -> Result<Finding, Failure>
-    ensures tells { Tells (seen_of H.text H.lacks H.faults shelf.old shelf.new) job.now (needed job.now media.now claim.now)
+    ensures tells { Tells (seen_of H.Shelf shelf.old shelf.new) job.now (needed job.now media.now claim.now)
         (FindsOf (media_for job.now media.now claim.now.key) job.now claim.now) result }
     ensures stays { StaysAs H.text H.lacks H.faults shelf.old shelf.new }
 {
@@ -138,7 +138,7 @@ pub fn check_each<H: Shelf>(
         job.now media.now) checked.items) }
     ensures claims { IfOk result (λ checked. map (λ c. c.claim) checked.items ≡ claims.now) }
     ensures cause { IfErr result (λ e. OnReadFault e (λ i. (number : ℕ) × (i ≡ Input.Capture number)
-        × NeededRose (seen_of H.text H.lacks H.faults shelf.old shelf.new) job.now media.now claims.now number)) }
+        × NeededRose (seen_of H.Shelf shelf.old shelf.new) job.now media.now claims.now number)) }
     ensures stays { StaysAs H.text H.lacks H.faults shelf.old shelf.new }
 {
     let mut checked = Vec::new(alloc);

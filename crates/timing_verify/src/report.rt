@@ -54,9 +54,9 @@ fn answer_on<H: Shelf>(
     media: &[Media],
     claims: &[ReportProof],
 ) -> Result<Answer, Failure>
-    ensures follows { Yields result (ReadsNeeded (seen_of H.text H.lacks H.faults shelf.old shelf.new) result job.now media.now claims.now
+    ensures follows { Yields result (ReadsNeeded (seen_of H.Shelf shelf.old shelf.new) result job.now media.now claims.now
         (λ text. Gives result (HasReported job.now media.now claims.now text))) }
-    ensures cause { HasCause result (ReportInputRose job.now (seen_of H.text H.lacks H.faults shelf.old shelf.new)) }
+    ensures cause { HasCause result (ReportInputRose job.now (seen_of H.Shelf shelf.old shelf.new)) }
     ensures stays { StaysAs H.text H.lacks H.faults shelf.old shelf.new }
 {
     let checked = check_each(alloc, job, shelf, media, claims)?;
@@ -70,9 +70,9 @@ fn answer_over<H: Shelf>(
     shelf: &mut H,
     media: &[Media],
 ) -> Result<Answer, Failure>
-    ensures follows { Yields result (ReadsReport (seen_of H.text H.lacks H.faults shelf.old shelf.new) result job.now.report (λ claims. ReadsNeeded (seen_of H.text H.lacks H.faults shelf.old shelf.new) result job.now media.now claims
+    ensures follows { Yields result (ReadsReport (seen_of H.Shelf shelf.old shelf.new) result job.now.report (λ claims. ReadsNeeded (seen_of H.Shelf shelf.old shelf.new) result job.now media.now claims
         (λ text. Gives result (HasReported job.now media.now claims text)))) }
-    ensures cause { HasCause result (ReportInputRose job.now (seen_of H.text H.lacks H.faults shelf.old shelf.new)) }
+    ensures cause { HasCause result (ReportInputRose job.now (seen_of H.Shelf shelf.old shelf.new)) }
     ensures stays { StaysAs H.text H.lacks H.faults shelf.old shelf.new }
 {
     match fetch_report(alloc, shelf, job.report.as_str())? {
@@ -83,13 +83,9 @@ fn answer_over<H: Shelf>(
 
 /// The answer of a job, or why there is none. For each fail of the report, in its order, the captures
 /// of its flow are fetched anew; nothing is fetched for one whose flow isn't there.
-pub fn answer_report<H: Shelf>(
-    alloc: Global,
-    job: &ReportJob,
-    shelf: &mut H,
-) -> Result<Answer, Failure>
-    ensures follows { FollowsReport job.now (seen_of H.text H.lacks H.faults shelf.old shelf.new) result }
-    ensures cause { HasCause result (ReportInputRose job.now (seen_of H.text H.lacks H.faults shelf.old shelf.new)) }
+fn answer_report<H: Shelf>(alloc: Global, job: &ReportJob, shelf: &mut H) -> Result<Answer, Failure>
+    ensures follows { FollowsReport job.now (seen_of H.Shelf shelf.old shelf.new) result }
+    ensures cause { HasCause result (ReportInputRose job.now (seen_of H.Shelf shelf.old shelf.new)) }
     ensures stays { StaysAs H.text H.lacks H.faults shelf.old shelf.new }
 {
     match fetch_session(alloc, shelf, job.sdp.as_str())? {
@@ -107,10 +103,10 @@ pub fn verify_all<H: Shelf, K: Sink>(
     out: &mut K,
     err: &mut K,
 ) -> Status
-    ensures ran { Ran (FollowsReport job.now (seen_of H.text H.lacks H.faults shelf.old shelf.new))
-        (ReportInputRose job.now (seen_of H.text H.lacks H.faults shelf.old shelf.new))
-        (output_of K.written K.faults out.old out.new)
-        (output_of K.written K.faults err.old err.new)
+    ensures ran { Ran (FollowsReport job.now (seen_of H.Shelf shelf.old shelf.new))
+        (ReportInputRose job.now (seen_of H.Shelf shelf.old shelf.new))
+        (output_of K.Sink out.old out.new)
+        (output_of K.Sink err.old err.new)
         result }
     ensures stays { StaysAs H.text H.lacks H.faults shelf.old shelf.new }
 {

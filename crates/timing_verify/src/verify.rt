@@ -37,8 +37,8 @@ fn answer_on<H: Shelf>(
     shelf: &mut H,
     media: &Media,
 ) -> Result<Answer, Failure>
-    ensures follows { Yields result (ReadsCaptures (seen_of H.text H.lacks H.faults shelf.old shelf.new) result job.now.captures (λ texts. Gives result (HasVerified job.now media.now texts))) }
-    ensures cause { HasCause result (VerifyInputRose job.now (seen_of H.text H.lacks H.faults shelf.old shelf.new)) }
+    ensures follows { Yields result (ReadsCaptures (seen_of H.Shelf shelf.old shelf.new) result job.now.captures (λ texts. Gives result (HasVerified job.now media.now texts))) }
+    ensures cause { HasCause result (VerifyInputRose job.now (seen_of H.Shelf shelf.old shelf.new)) }
     ensures stays { StaysAs H.text H.lacks H.faults shelf.old shelf.new }
 {
     let claim = claim_of(job);
@@ -54,8 +54,8 @@ fn answer_over<H: Shelf>(
     shelf: &mut H,
     media: &[Media],
 ) -> Result<Answer, Failure>
-    ensures follows { Yields result (ReadsMedia (seen_of H.text H.lacks H.faults shelf.old shelf.new) result job.now (slice_get media.now job.now.media)) }
-    ensures cause { HasCause result (VerifyInputRose job.now (seen_of H.text H.lacks H.faults shelf.old shelf.new)) }
+    ensures follows { Yields result (ReadsMedia (seen_of H.Shelf shelf.old shelf.new) result job.now (slice_get media.now job.now.media)) }
+    ensures cause { HasCause result (VerifyInputRose job.now (seen_of H.Shelf shelf.old shelf.new)) }
     ensures stays { StaysAs H.text H.lacks H.faults shelf.old shelf.new }
 {
     match media.get(job.media as usize) {
@@ -66,13 +66,9 @@ fn answer_over<H: Shelf>(
 
 /// The answer of a job, or why there is none. Where the description hasn't the media, the fail is not
 /// confirmed, and no capture is fetched.
-pub fn answer_verify<H: Shelf>(
-    alloc: Global,
-    job: &VerifyJob,
-    shelf: &mut H,
-) -> Result<Answer, Failure>
-    ensures follows { FollowsVerify job.now (seen_of H.text H.lacks H.faults shelf.old shelf.new) result }
-    ensures cause { HasCause result (VerifyInputRose job.now (seen_of H.text H.lacks H.faults shelf.old shelf.new)) }
+fn answer_verify<H: Shelf>(alloc: Global, job: &VerifyJob, shelf: &mut H) -> Result<Answer, Failure>
+    ensures follows { FollowsVerify job.now (seen_of H.Shelf shelf.old shelf.new) result }
+    ensures cause { HasCause result (VerifyInputRose job.now (seen_of H.Shelf shelf.old shelf.new)) }
     ensures stays { StaysAs H.text H.lacks H.faults shelf.old shelf.new }
 {
     match fetch_session(alloc, shelf, job.sdp.as_str())? {
@@ -90,10 +86,10 @@ pub fn verify_one<H: Shelf, K: Sink>(
     out: &mut K,
     err: &mut K,
 ) -> Status
-    ensures ran { Ran (FollowsVerify job.now (seen_of H.text H.lacks H.faults shelf.old shelf.new))
-        (VerifyInputRose job.now (seen_of H.text H.lacks H.faults shelf.old shelf.new))
-        (output_of K.written K.faults out.old out.new)
-        (output_of K.written K.faults err.old err.new)
+    ensures ran { Ran (FollowsVerify job.now (seen_of H.Shelf shelf.old shelf.new))
+        (VerifyInputRose job.now (seen_of H.Shelf shelf.old shelf.new))
+        (output_of K.Sink out.old out.new)
+        (output_of K.Sink err.old err.new)
         result }
     ensures stays { StaysAs H.text H.lacks H.faults shelf.old shelf.new }
 {

@@ -48,7 +48,8 @@ written_is {E} t r numeral parses =
   where
     go : (r : Result ℕ E) → OkIff r ((0 < length t) × (digits_value 10 t < 2 ^ 64)) (digits_value 10 t) → 1 ≤ length t → result_ok r ≡ written t
     go (Ok n) h some =
-        let fits : (is_numeral t && nat_lt (digits_value 10 t) (2 ^ 64)) ≡ true = and_true (is_numeral t) _ numeral (lt-ltb (digits_value 10 t) (2 ^ 64) h.0.1) in
+        let fits : (is_numeral t && nat_lt (digits_value 10 t) (2 ^ 64)) ≡ true =
+        and_true (is_numeral t) _ numeral (lt-ltb (digits_value 10 t) (2 ^ 64) h.0.1) in
         ap (λ x. Some x) h.1 ∙ sym (ap (λ b. cond b (Some (digits_value 10 t)) None) fits)
     go (Err e) h some =
         let over : nat_lt (digits_value 10 t) (2 ^ 64) ≡ false = not_true _ (λ fits. h (omega arith, ltb-true (digits_value 10 t) (2 ^ 64) fits)) in
@@ -98,7 +99,8 @@ pub list_refused : (xs : List (Bor Text)) (i : ℕ) (d : Bor Text) (most : ℕ) 
     → file_names most (map (λ s. s.now) xs) ≡ None
 list_refused xs i d most e lt =
     let bad = names_refused xs i d lt (name_refused (slice_index_or xs i d).now e) in
-    ap (λ b. passing (nat_le 1 (length (map (λ (s : Bor Text). s.now) xs)) && (nat_le (length (map (λ (s : Bor Text). s.now) xs)) most && b)) (map (λ s. s.now) xs)) bad
+    ap (λ b. passing (nat_le 1 (length (map (λ (s : Bor Text). s.now) xs)) && (nat_le (length (map (λ (s : Bor Text). s.now) xs)) most && b))
+    (map (λ s. s.now) xs)) bad
     ∙ go (nat_le 1 (length (map (λ (s : Bor Text). s.now) xs))) (nat_le (length (map (λ (s : Bor Text). s.now) xs)) most)
   where
     go : (a b : Bool) → passing (a && (b && false)) (map (λ (s : Bor Text). s.now) xs) ≡ None

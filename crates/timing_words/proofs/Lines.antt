@@ -29,7 +29,8 @@ or_yes false = refl
 
 -- ---- the entries of a parse
 
-first_value-rows : (es : List Entry) (n : Text) → option_and_then (λ a. option_map (λ s. s.now) (slice_get a.vals.items 0)) (option_map (λ e. e.1) (find (λ e. bytes_eq e.0.now n) es))
+first_value-rows : (es : List Entry) (n : Text) → option_and_then (λ a. option_map (λ s. s.now) (slice_get a.vals.items 0))
+    (option_map (λ e. e.1) (find (λ e. bytes_eq e.0.now n) es))
     ≡ first_of n (map row_of es)
 first_value-rows [] n = refl
 first_value-rows (e ∷ es) n = go (bytes_eq e.0.now n) (first_value-rows es n)
@@ -38,8 +39,10 @@ first_value-rows (e ∷ es) n = go (bytes_eq e.0.now n) (first_value-rows es n)
     head [] = refl
     head (v ∷ vs) = refl
 
-    go : (b : Bool) → option_and_then (λ a. option_map (λ s. s.now) (slice_get a.vals.items 0)) (option_map (λ e. e.1) (find (λ e. bytes_eq e.0.now n) es)) ≡ first_of n (map row_of es)
-        → option_and_then (λ a. option_map (λ s. s.now) (slice_get a.vals.items 0)) (option_map (λ (x : Entry). x.1) (cond b (Some e) (find (λ e. bytes_eq e.0.now n) es)))
+    go : (b : Bool) → option_and_then (λ a. option_map (λ s. s.now) (slice_get a.vals.items 0)) (option_map (λ e. e.1) (find (λ e. bytes_eq e.0.now n) es))
+        ≡ first_of n (map row_of es)
+        → option_and_then (λ a. option_map (λ s. s.now) (slice_get a.vals.items 0))
+        (option_map (λ (x : Entry). x.1) (cond b (Some e) (find (λ e. bytes_eq e.0.now n) es)))
         ≡ option_and_then (λ (r : Row). slice_get r.values 0) (cond b (Some (row_of e)) (find (λ r. bytes_eq r.id n) (map row_of es)))
     go true rest = head e.1.vals.items
     go false rest = rest
@@ -97,7 +100,8 @@ module _ (sorts : List Sort) where
   unfolding defaults_fault
   no_default_kinds [] rows = ap (λ k. or_else k []) (default_none names_rule rows refl)
   no_default_kinds (s ∷ ss) rows =
-      ap (λ k. or_else k (defaults_fault (with_default rows (rule s.valued s.name)) (rules ss))) (default_none (rule s.valued s.name) rows (rule_defaults s.valued s.name))
+      ap (λ k. or_else k (defaults_fault (with_default rows (rule s.valued s.name)) (rules ss)))
+      (default_none (rule s.valued s.name) rows (rule_defaults s.valued s.name))
       ∙ no_default_kinds ss (with_default rows (rule s.valued s.name))
 
   no_wants : (ss : List Sort) (rows : List Row) → list_any (λ a. a.required && not (is_given a.id rows)) (rules ss) ≡ false
@@ -125,7 +129,8 @@ module _ (sorts : List Sort) where
       let settles = settle_fault (rules sorts) false end in
       ap (λ rs. built_fault (whole_app rs) nothing_held ws) (built_rules sorts)
       ∙ ap₂ (λ has below. level_fault (shape sorts) [] nothing_held ws has below) entry.0 entry.1
-      ∙ ap (λ x. or_else walks (or_else settles (or_else x (check_fault (shape sorts) (finished (rules sorts) end) false)))) (no_default_kinds sorts (settled (rules sorts) end).rows)
+      ∙ ap (λ x. or_else walks (or_else settles (or_else x (check_fault (shape sorts) (finished (rules sorts) end) false))))
+      (no_default_kinds sorts (settled (rules sorts) end).rows)
       ∙ ap (λ b. or_else walks (or_else settles (cond b (MissingRequiredArgument ∷ []) []))) (no_wants sorts (finished (rules sorts) end))
       ∙ ap (λ x. or_else walks x) (or_else_nil settles)
 

@@ -34,7 +34,8 @@ module _ (n m : Text) (how : Reading) (s : ValueSource) (vs : List Text) where
   all_of-with_values : (rows : List Row) → all_of m (with_values n how s vs rows) ≡ added n vs m (all_of m rows)
   all_of-with_values [] = go (bytes_eq n m)
     where
-      go : (b : Bool) → option_map (λ (r : Row). r.values) (cond b (Some (record { id = n; values = vs; count = None; source = Some s; reading = how })) None) ≡ cond b (Some vs) None
+      go : (b : Bool) → option_map (λ (r : Row). r.values) (cond b (Some (record { id = n; values = vs; count = None; source = Some s; reading = how })) None)
+          ≡ cond b (Some vs) None
       go true = refl
       go false = refl
   all_of-with_values (r ∷ rs) = by_head (bytes_eq r.id n) refl (all_of-with_values rs)
@@ -49,7 +50,8 @@ module _ (n m : Text) (how : Reading) (s : ValueSource) (vs : List Text) where
       same_head false o = refl
 
       other_head : (q t : Bool) → (q ≡ true → t ≡ false) → (x y : Option Row)
-          → option_map (λ (x : Row). x.values) x ≡ cond t (Some (unwrap_or (option_map (λ (x : Row). x.values) y) [] ++ vs)) (option_map (λ (x : Row). x.values) y)
+          → option_map (λ (x : Row). x.values) x ≡ cond t (Some (unwrap_or (option_map (λ (x : Row). x.values) y) [] ++ vs))
+          (option_map (λ (x : Row). x.values) y)
           → option_map (λ (x : Row). x.values) (cond q (Some r) x)
           ≡ cond t (Some (unwrap_or (option_map (λ (x : Row). x.values) (cond q (Some r) y)) [] ++ vs)) (option_map (λ (x : Row). x.values) (cond q (Some r) y))
       other_head true t apart x y e = ap (λ b. cond b (Some (r.values ++ vs)) (Some r.values)) (sym (apart refl))
@@ -95,14 +97,16 @@ pub has_row-all_of : (n : Text) (rows : List Row) → has_row n rows ≡ is_some
 has_row-all_of n [] = refl
 has_row-all_of n (r ∷ rs) = go (bytes_eq r.id n) (has_row-all_of n rs)
   where
-    go : (b : Bool) → has_row n rs ≡ is_some (all_of n rs) → (b || has_row n rs) ≡ is_some (option_map (λ (r : Row). r.values) (cond b (Some r) (find (λ r. bytes_eq r.id n) rs)))
+    go : (b : Bool) → has_row n rs ≡ is_some (all_of n rs) → (b || has_row n rs)
+        ≡ is_some (option_map (λ (r : Row). r.values) (cond b (Some r) (find (λ r. bytes_eq r.id n) rs)))
     go true e = refl
     go false e = e
 
 pub first_of-all_of : (n : Text) (rows : List Row) → first_of n rows ≡ option_and_then (λ vs. slice_get vs 0) (all_of n rows)
 first_of-all_of n rows = go (find (λ r. bytes_eq r.id n) rows)
   where
-    go : (o : Option Row) → option_and_then (λ (r : Row). slice_get r.values 0) o ≡ option_and_then (λ vs. slice_get vs 0) (option_map (λ (r : Row). r.values) o)
+    go : (o : Option Row) → option_and_then (λ (r : Row). slice_get r.values 0) o
+        ≡ option_and_then (λ vs. slice_get vs 0) (option_map (λ (r : Row). r.values) o)
     go None = refl
     go (Some r) = refl
 
@@ -249,7 +253,8 @@ module _ (sorts : List Sort) (apart : find (λ x. bytes_eq x.name names_id) sort
       → Passes (not (is_among n seen) && is_once (n ∷ seen) ps) (or_else (part_kinds rows p) (play_kinds (rules sorts) (part_rows rows p) ps))
   own_passes p n seen ps rows has own kinds rest = go (is_among n seen) refl
     where
-      go : (b : Bool) → is_among n seen ≡ b → Passes (not (is_among n seen) && is_once (n ∷ seen) ps) (or_else (part_kinds rows p) (play_kinds (rules sorts) (part_rows rows p) ps))
+      go : (b : Bool) → is_among n seen ≡ b → Passes (not (is_among n seen) && is_once (n ∷ seen) ps)
+          (or_else (part_kinds rows p) (play_kinds (rules sorts) (part_rows rows p) ps))
       go true t =
           let is : part_kinds rows p ≡ ArgumentConflict ∷ [] = kinds ∙ ap (λ b. cond b (ArgumentConflict ∷ []) []) (has n own ∙ t) in
           subst (λ b. Passes (not b && is_once (n ∷ seen) ps) (or_else (part_kinds rows p) (play_kinds (rules sorts) (part_rows rows p) ps))) (sym t)

@@ -19,16 +19,37 @@ is_told command.Skew = (refl, refl)
 
 same_asked : (c : Command) (found : Found) (ps : List Part) → Says (sorts c) found ps → asked c (found_stands found) ≡ asked c (stands ps)
 same_asked command.Check found ps s =
-    rw (s.value (codes "sdp") refl, s.value (codes "workers") refl, s.flag (codes "serial") refl, s.value (codes "tai") refl, s.flag (codes "json") refl, s.flag (codes "joined") refl, s.names) refl
+    rw (
+      s.value (codes "sdp") refl,
+      s.value (codes "workers") refl,
+      s.flag (codes "serial") refl,
+      s.value (codes "tai") refl,
+      s.flag (codes "json") refl,
+      s.flag (codes "joined") refl,
+      s.names,
+    ) refl
 same_asked command.Verify found ps s =
-    rw (s.value (codes "sdp") refl, s.value (codes "media") refl, s.value (codes "type") refl, s.value (codes "model") refl, s.value (codes "from") refl, s.value (codes "to") refl, s.value (codes "count") refl, s.value (codes "limit") refl, s.value (codes "tai") refl, s.flag (codes "joined") refl, s.names) refl
+    rw (
+      s.value (codes "sdp") refl,
+      s.value (codes "media") refl,
+      s.value (codes "type") refl,
+      s.value (codes "model") refl,
+      s.value (codes "from") refl,
+      s.value (codes "to") refl,
+      s.value (codes "count") refl,
+      s.value (codes "limit") refl,
+      s.value (codes "tai") refl,
+      s.flag (codes "joined") refl,
+      s.names,
+    ) refl
 same_asked command.VerifyReport found ps s =
     rw (s.value (codes "sdp") refl, s.value (codes "report") refl, s.value (codes "tai") refl, s.flag (codes "joined") refl, s.names) refl
 same_asked command.SelfTest found ps s = rw (s.value (codes "workers") refl, s.names) refl
 same_asked command.Window found ps s =
     rw (s.value (codes "sdp") refl, s.value (codes "media") refl, s.value (codes "tai") refl, s.names) refl
 same_asked command.Shape found ps s =
-    rw (s.value (codes "sdp") refl, s.value (codes "media") refl, s.value (codes "type") refl, s.value (codes "tai") refl, s.flag (codes "list") refl, s.names) refl
+    rw (s.value (codes "sdp") refl, s.value (codes "media") refl, s.value (codes "type") refl, s.value (codes "tai") refl, s.flag (codes "list") refl, s.names)
+    refl
 same_asked command.Skew found ps s =
     rw (s.value (codes "sdp") refl, s.value (codes "media") refl, s.value (codes "pair") refl, s.names) refl
 

@@ -228,7 +228,8 @@ module _ (sorts : List Sort) where
         ∙ ap (λ o. long_fault (rules sorts) false o v (holding rows pend)) found
 
     turn_is : (o : Option Rule) → arg_by_long (rules sorts) n ≡ o → (h : Held) (next_waits : Waiting) (k : Kinds)
-        → after_flag (rules sorts) wt w (long_met (rules sorts) o v (holding rows pend)).0 (long_met (rules sorts) o v (holding rows pend)).1 ≡ (h, next next_waits)
+        → after_flag (rules sorts) wt w (long_met (rules sorts) o v (holding rows pend)).0 (long_met (rules sorts) o v (holding rows pend)).1
+        ≡ (h, next next_waits)
         → long_fault (rules sorts) false o v (holding rows pend) ≡ k
         → (turn_fault (shape sorts) [] (at rows pend wt false) w ≡ k)
         × (walked (rules sorts) [] (at rows pend wt false) w ≡ record (at rows pend wt false) { held = h; waiting = next_waits })
@@ -252,21 +253,24 @@ module _ (sorts : List Sort) where
         let o = Some (rule true m) in
         let turn = turn_is o found (holding (used (rule true m) (t ∷ []) (settled_rows (rules sorts) pend rows)) None) idle
         (or_else (settle_kinds (rules sorts) rows pend) (use_fault false (rule true m) (t ∷ []) (settled_rows (rules sorts) pend rows)))
-        (ap (λ x. after_flag (rules sorts) wt w (long_met (rules sorts) o x (holding rows pend)).0 (long_met (rules sorts) o x (holding rows pend)).1) (sym same))
+        (ap (λ x. after_flag (rules sorts) wt w (long_met (rules sorts) o x (holding rows pend)).0 (long_met (rules sorts) o x (holding rows pend)).1)
+        (sym same))
         (ap (λ x. long_fault (rules sorts) false o x (holding rows pend)) (sym same)) in
         (turn.0, turn.1, own)
     sorted_turn true m None same found own =
         let o = Some (rule true m) in
         let turn = turn_is o found (holding (settled_rows (rules sorts) pend rows) (Some (m, []))) (awaits m)
         (settle_kinds (rules sorts) rows pend)
-        (ap (λ x. after_flag (rules sorts) wt w (long_met (rules sorts) o x (holding rows pend)).0 (long_met (rules sorts) o x (holding rows pend)).1) (sym same))
+        (ap (λ x. after_flag (rules sorts) wt w (long_met (rules sorts) o x (holding rows pend)).0 (long_met (rules sorts) o x (holding rows pend)).1)
+        (sym same))
         (ap (λ x. long_fault (rules sorts) false o x (holding rows pend)) (sym same)) in
         (turn.0, turn.1, own)
     sorted_turn false m None same found own =
         let o = Some (rule false m) in
         let turn = turn_is o found (holding (used (rule false m) [] (settled_rows (rules sorts) pend rows)) None) idle
         (or_else (settle_kinds (rules sorts) rows pend) (use_fault false (rule false m) [] (settled_rows (rules sorts) pend rows)))
-        (ap (λ x. after_flag (rules sorts) wt w (long_met (rules sorts) o x (holding rows pend)).0 (long_met (rules sorts) o x (holding rows pend)).1) (sym same))
+        (ap (λ x. after_flag (rules sorts) wt w (long_met (rules sorts) o x (holding rows pend)).0 (long_met (rules sorts) o x (holding rows pend)).1)
+        (sym same))
         (ap (λ x. long_fault (rules sorts) false o x (holding rows pend)) (sym same)) in
         (turn.0, turn.1, own)
     sorted_turn false m (Some t) same found own =
@@ -293,7 +297,8 @@ module _ (sorts : List Sort) where
       ∙ ap (λ o. flag_word_fault (rules sorts) false o w (holding rows pend)) long
       ∙ ap (λ o. option_map_or (λ flags. bundle_fault (rules sorts) false flags (holding rows pend)) o []) short
       ∙ ap (λ o. bundle_step_fault (rules sorts) false o (y ∷ rest) 0 (holding rows pend) (flags_fault (rules sorts) false (length rest))) char.1
-      ∙ ap (λ o. short_fault (rules sorts) false o (drop (length (encode_utf8 char.0)) (y ∷ rest)) (holding rows pend) (flags_fault (rules sorts) false (length rest) (drop (length (encode_utf8 char.0)) (y ∷ rest)) 0)) (no_short sorts char.0) in
+      ∙ ap (λ o. short_fault (rules sorts) false o (drop (length (encode_utf8 char.0)) (y ∷ rest)) (holding rows pend)
+      (flags_fault (rules sorts) false (length rest) (drop (length (encode_utf8 char.0)) (y ∷ rest)) 0)) (no_short sorts char.0) in
       let met = word_met (rules sorts) [] false wt 1 w (holding rows pend) in
       let is : or_else (UnknownArgument ∷ []) (step_fault (shape sorts) 1 met.0 met.1) ≡ [] =
       sym (ap (λ k. or_else k (step_fault (shape sorts) 1 met.0 met.1)) fault) ∙ none in
@@ -302,8 +307,12 @@ module _ (sorts : List Sort) where
   dashes_turn : (rows : List Row) (pend : Option (Text × List Text)) (wt : Waiting) → Turns rows pend wt (45 ∷ 45 ∷ []) dashes
   unfolding walked
   dashes_turn rows pend wt = (
-    ap₂ (λ f o. or_else (other_fault (shape sorts) f (45 ∷ 45 ∷ []) (holding rows pend)) (step_fault (shape sorts) 1 (subcommand_or_other (rules sorts) o wt 1 (45 ∷ 45 ∷ []) (holding rows pend)).0 (subcommand_or_other (rules sorts) o wt 1 (45 ∷ 45 ∷ []) (holding rows pend)).1)) (no_sub wt (45 ∷ 45 ∷ [])) (no_sub wt (45 ∷ 45 ∷ [])),
-    ap (λ o. after_step (rules sorts) (45 ∷ 45 ∷ []) (at rows pend wt false) (subcommand_or_other (rules sorts) o wt 1 (45 ∷ 45 ∷ []) (holding rows pend)).0 (subcommand_or_other (rules sorts) o wt 1 (45 ∷ 45 ∷ []) (holding rows pend)).1) (no_sub wt (45 ∷ 45 ∷ [])),
+    ap₂ (λ f o. or_else (other_fault (shape sorts) f (45 ∷ 45 ∷ []) (holding rows pend))
+        (step_fault (shape sorts) 1 (subcommand_or_other (rules sorts) o wt 1 (45 ∷ 45 ∷ []) (holding rows pend)).0
+        (subcommand_or_other (rules sorts) o wt 1 (45 ∷ 45 ∷ []) (holding rows pend)).1)) (no_sub wt (45 ∷ 45 ∷ [])) (no_sub wt (45 ∷ 45 ∷ [])),
+    ap (λ o. after_step (rules sorts) (45 ∷ 45 ∷ []) (at rows pend wt false)
+        (subcommand_or_other (rules sorts) o wt 1 (45 ∷ 45 ∷ []) (holding rows pend)).0
+        (subcommand_or_other (rules sorts) o wt 1 (45 ∷ 45 ∷ []) (holding rows pend)).1) (no_sub wt (45 ∷ 45 ∷ [])),
   )
 
   long_turn : (rows : List Row) (pend : Option (Text × List Text)) (wt : Waiting) (rest : Text) → Turns rows pend wt (45 ∷ 45 ∷ rest) (long_word sorts rest)

@@ -60,9 +60,11 @@ module _ (sorts : List Sort) where
   abbrev pub rows_from : Walk → List Text → List Row
   rows_from w words = (settled (rules sorts) (fold (walked (rules sorts) []) w words).held).rows
 
-  kinds_step : (w : Walk) (x : Text) (xs : List Text) → kinds_from w (x ∷ xs) ≡ or_else (turn_fault (shape sorts) [] w x) (kinds_from (walked (rules sorts) [] w x) xs)
+  kinds_step : (w : Walk) (x : Text) (xs : List Text) → kinds_from w (x ∷ xs)
+      ≡ or_else (turn_fault (shape sorts) [] w x) (kinds_from (walked (rules sorts) [] w x) xs)
   unfolding walk_fault
-  kinds_step w x xs = or_else_assoc (turn_fault (shape sorts) [] w x) (walk_fault (shape sorts) [] (walked (rules sorts) [] w x) xs) (settle_fault (rules sorts) false (fold (walked (rules sorts) []) w (x ∷ xs)).held)
+  kinds_step w x xs = or_else_assoc (turn_fault (shape sorts) [] w x) (walk_fault (shape sorts) [] (walked (rules sorts) [] w x) xs)
+      (settle_fault (rules sorts) false (fold (walked (rules sorts) []) w (x ∷ xs)).held)
 
   -- the walk comes to what the parts come to, once what was pending is done with
   abbrev pub Agrees : Option (List Part) → Kinds → List Row → List Row → Option (Text × List Text) → Type 0
@@ -96,7 +98,8 @@ module _ (sorts : List Sort) where
   )
 
   -- a part that is done with at once
-  push_done : (o : Option (List Part)) (p : Part) (a : Rule) (k l : Kinds) (end now rows : List Row) (pend : Option (Text × List Text)) → IsKnownPart (rules sorts) p
+  push_done : (o : Option (List Part)) (p : Part) (a : Rule) (k l : Kinds) (end now rows : List Row) (pend : Option (Text × List Text))
+      → IsKnownPart (rules sorts) p
       → arg_by_id (rules sorts) (use_of p).0 ≡ Some a
       → Agrees o k end (used a (use_of p).1 (settled_rows (rules sorts) pend rows)) None
       → l ≡ or_else (or_else (settle_kinds (rules sorts) rows pend) (use_fault false a (use_of p).1 (settled_rows (rules sorts) pend rows))) k → now ≡ end
@@ -108,7 +111,8 @@ module _ (sorts : List Sort) where
       let uses = use_fault false a (use_of p).1 before_p in (
         is ∙ ap (λ x. or_else (or_else settles uses) x) agrees.0
             ∙ or_else_assoc settles uses (play_kinds (rules sorts) (used a (use_of p).1 before_p) ps)
-            ∙ ap (λ x. or_else settles (or_else (option_map_or (λ y. use_fault false y (use_of p).1 before_p) x []) (play_kinds (rules sorts) (used_by_id x (use_of p).1 before_p) ps))) (sym found),
+            ∙ ap (λ x. or_else settles (or_else (option_map_or (λ y. use_fault false y (use_of p).1 before_p) x [])
+            (play_kinds (rules sorts) (used_by_id x (use_of p).1 before_p) ps))) (sym found),
         same ∙ agrees.1 ∙ ap (λ x. play (rules sorts) (used_by_id x (use_of p).1 before_p) ps) (sym found),
         (known, agrees.2),
       )
@@ -159,13 +163,15 @@ module _ (sorts : List Sort) where
   word_agrees w ws plain due rows pend wt (whole (option n v)) turn =
       let now = at rows pend wt false in
       let after = at (used (rule true n) (v ∷ []) (settled_rows (rules sorts) pend rows)) None idle false in
-      push_done (cut sorts ws None) (option n v) (rule true n) (kinds_from after ws) (kinds_from now (w ∷ ws)) (rows_from after ws) (rows_from now (w ∷ ws)) rows pend turn.2 turn.2
+      push_done (cut sorts ws None) (option n v) (rule true n) (kinds_from after ws) (kinds_from now (w ∷ ws)) (rows_from after ws)
+      (rows_from now (w ∷ ws)) rows pend turn.2 turn.2
       (plain (used (rule true n) (v ∷ []) (settled_rows (rules sorts) pend rows)) None idle is_idle)
       (advance_kinds now after w ws _ turn.0 turn.1) (advance_rows now after w ws turn.1)
   word_agrees w ws plain due rows pend wt (whole (flag n)) turn =
       let now = at rows pend wt false in
       let after = at (used (rule false n) [] (settled_rows (rules sorts) pend rows)) None idle false in
-      push_done (cut sorts ws None) (flag n) (rule false n) (kinds_from after ws) (kinds_from now (w ∷ ws)) (rows_from after ws) (rows_from now (w ∷ ws)) rows pend turn.2 turn.2
+      push_done (cut sorts ws None) (flag n) (rule false n) (kinds_from after ws) (kinds_from now (w ∷ ws)) (rows_from after ws)
+      (rows_from now (w ∷ ws)) rows pend turn.2 turn.2
       (plain (used (rule false n) [] (settled_rows (rules sorts) pend rows)) None idle is_idle)
       (advance_kinds now after w ws _ turn.0 turn.1) (advance_rows now after w ws turn.1)
   word_agrees w ws plain due rows pend wt (whole (name v)) turn = absurd turn
@@ -213,7 +219,8 @@ module _ (sorts : List Sort) where
     where
       go : (b : Bool) → is_hyphened w ≡ b
           → AgreesAt (from_word (cond (is_hyphened w) (hyphened sorts w) (whole (name w))) (cut sorts ws) ws) (at rows pend wt false) (w ∷ ws) rows pend
-      go true e = subst (λ b. AgreesAt (from_word (cond b (hyphened sorts w) (whole (name w))) (cut sorts ws) ws) (at rows pend wt false) (w ∷ ws) rows pend) (sym e)
+      go true e = subst (λ b. AgreesAt (from_word (cond b (hyphened sorts w) (whole (name w))) (cut sorts ws) ws) (at rows pend wt false) (w ∷ ws) rows pend)
+          (sym e)
           (word_agrees w ws plain due rows pend wt (hyphened sorts w) (hyphened_turn sorts rows pend wt w e text))
       go false e =
           let turn = name_turn sorts rows pend wt w free e in
@@ -229,14 +236,16 @@ module _ (sorts : List Sort) where
     where
       go : (b : Bool) → is_hyphened w ≡ b
           → AgreesAt (cond (is_hyphened w) None (before (option n w) (cut sorts ws None))) (at rows (Some (n, [])) (awaits n) false) (w ∷ ws) rows None
-      go true e = subst (λ b. AgreesAt (cond b None (before (option n w) (cut sorts ws None))) (at rows (Some (n, [])) (awaits n) false) (w ∷ ws) rows None) (sym e)
+      go true e = subst (λ b. AgreesAt (cond b None (before (option n w) (cut sorts ws None))) (at rows (Some (n, [])) (awaits n) false) (w ∷ ws) rows None)
+          (sym e)
           (open_agrees w ws rows n found (hyphened sorts w) (hyphened_turn sorts rows (Some (n, [])) (awaits n) w e text))
       go false e =
           let turn = value_turn sorts rows n w found e in
           let now = at rows (Some (n, [])) (awaits n) false in
           let after = at rows (Some (n, w ∷ [])) idle false in
           subst (λ b. AgreesAt (cond b None (before (option n w) (cut sorts ws None))) (at rows (Some (n, [])) (awaits n) false) (w ∷ ws) rows None) (sym e)
-          (push_pending (cut sorts ws None) (option n w) (kinds_from after ws) (kinds_from now (w ∷ ws)) (rows_from after ws) (rows_from now (w ∷ ws)) rows None found
+          (push_pending (cut sorts ws None) (option n w) (kinds_from after ws) (kinds_from now (w ∷ ws)) (rows_from after ws)
+          (rows_from now (w ∷ ws)) rows None found
           (plain rows (Some (n, w ∷ [])) idle is_idle)
           (advance_kinds now after w ws _ turn.0 turn.1) (advance_rows now after w ws turn.1))
 

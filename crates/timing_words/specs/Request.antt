@@ -65,7 +65,8 @@ kind_named = chosen ((codes "N", kind.N) ∷ (codes "NL", kind.NL) ∷ (codes "W
 
 -- a model that a sender breaks, by its name
 abbrev pub model_named : Text → Option Broken
-model_named = chosen ((codes "Bucket", broken.Bucket) ∷ (codes "Over", broken.Over) ∷ (codes "Empty", broken.Empty) ∷ [])
+model_named = chosen ((codes "Bucket", broken.Bucket) ∷ (codes "Over", broken.Over) ∷ (codes "Empty", broken.Empty)
+    ∷ [])
 
 -- a media of the words, counted from 0
 abbrev pub media : Text → Option ℕ

@@ -9,7 +9,7 @@ ghost use Rattle.timing_words.specs.Sorts.{sorts_of};
 use clap::{Arg, ArgAction};
 use std::alloc::{AllocError as OutOfMemory, Global};
 
-// The id of the names.
+/// The id of the names.
 pub(crate) const NAMES: &str = "names";
 
 /// What the first word of a command line names.
@@ -69,7 +69,7 @@ impl Command {
     }
 }
 
-// An option, or a flag, which is an argument that takes no value.
+/// An option, or a flag, which is an argument that takes no value.
 fn arg_of<'a>(alloc: Global, valued: bool, name: &'static str) -> Arg<'a>
     ensures rule { rule_of result ≡ told valued name.now }
     ensures local { result.global ≡ false }
@@ -85,7 +85,7 @@ fn names_arg<'a>(alloc: Global) -> Arg<'a>
     Arg::new(alloc, NAMES).action(ArgAction::Append)
 }
 
-// The parser that takes these options, or these flags, as well.
+/// The parser that takes these options, or these flags, as well.
 fn taking<'a>(
     alloc: Global,
     parser: clap::Command<'a>,
@@ -102,7 +102,7 @@ fn taking<'a>(
     Ok(parser)
 }
 
-// The parser of a command that takes these options and flags, and names.
+/// The parser of a command that takes these options and flags, and names.
 fn parser_of<'a>(
     alloc: Global,
     options: &[&'static str],

@@ -19,7 +19,7 @@ use timing_base::{
     VerifyJob,
 };
 
-// The value of an option that may not be missing.
+/// The value of an option that may not be missing.
 fn given<'a>(matches: &ArgMatches<'a>, name: &str) -> Result<&'a str, WordFault>
     ensures given { IfOk result (λ s.
         (found_stands (found_of matches.now)).value name.now ≡ Some s.now) }

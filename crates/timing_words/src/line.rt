@@ -40,7 +40,7 @@ impl<T: Drop> From<AllocFailed<T>> for WordFault {
     }
 }
 
-// The fault of a parse: the words', or want of memory.
+/// The fault of a parse: the words', or want of memory.
 fn fault_of(error: &Error) -> WordFault
     ensures { result ≡ WordFault.Usage → kind_of error.now ≡ ErrorKind.OutOfMemory → ⊥ }
 {

@@ -7,15 +7,15 @@ use crate::udp::Datagram;
 use byteorder::{BigEndian, ByteOrder};
 use timing_base::Target;
 
-// The type field of IPv4 (IEEE 802.3; RFC 894), and of a tag (IEEE 802.1Q).
+/// The type field of IPv4 (IEEE 802.3; RFC 894), and of a tag (IEEE 802.1Q).
 const IPV4: u16 = 0x0800;
 
 const TAG: u16 = 0x8100;
 
-// The first byte of an IPv4 header without options: version 4, and 5 words.
+/// The first byte of an IPv4 header without options: version 4, and 5 words.
 const PLAIN: u8 = 0x45;
 
-// The least length of a frame with a datagram: Ethernet 14, IPv4 20, and the ports 4.
+/// The least length of a frame with a datagram: Ethernet 14, IPv4 20, and the ports 4.
 const LEAST: usize = 38;
 
 /// Where the IPv4 header of a frame stands, if it has one behind at most one tag.

@@ -152,23 +152,6 @@ took-stands params v w stamps at count late answer s are is took =
       fault = subst (IsFirstFault m n new w.kind) (sym took.fault) (subst (λ kind. IsFirstFault m n new kind (earlier v.fault answer)) (sym took.kind) fault);
     }
 
--- the same reads under another name
-pub due-same : (m : Media) (n at count : ℕ) (anchor there : ℤ) (gapped same : Bool)
-    → anchor ≡ there
-    → gapped ≡ same
-    → AreDue m n anchor gapped (whole at) count
-    → AreDue m n there same (whole at) count
-due-same m n at count anchor there gapped same ea eg are =
-    subst (λ g. AreDue m n there g (whole at) count) eg (subst (λ a. AreDue m n a gapped (whole at) count) ea are)
-
-pub late-same : (m : Media) (n at i : ℕ) (anchor there : ℤ) (gapped same late : Bool)
-    → anchor ≡ there
-    → gapped ≡ same
-    → late ≡ below (read_of m n anchor gapped i) (whole at)
-    → below (read_of m n there same i) (whole at) ≡ late
-late-same m n at i anchor there gapped same late ea eg is =
-    sym (is ∙ ap (λ a. below (read_of m n a gapped i) (whole at)) ea ∙ ap (λ g. below (read_of m n there g i) (whole at)) eg)
-
 -- where no packet breaks the model, no more was held than may be
 pub nowhere-within : (params : Params) (v : Vrx) (stamps : List ℕ)
     → StandsFor params v stamps
@@ -270,7 +253,8 @@ pub quiet-more : (params : Params) (v : Vrx) (stamps : List ℕ) (at : ℕ) (due
 quiet-more params v stamps at due None e s are few low =
     let late = late-fewer params.media params.n _ (gapped_of v.kind) at v.seen due.count are.count few in
     took-stands params v (one_more v) stamps at due.count false None s are.count late
-    (quiet-took params v (one_more v) due.count ((v.seen + 1) - due.count) false (stands-within params v stamps s) refl (omega (arith, few, low)) refl e refl refl refl refl)
+    (quiet-took params v (one_more v) due.count ((v.seen + 1) - due.count) false (stands-within params v stamps s) refl (omega (arith, few, low)) refl e refl
+    refl refl refl)
 quiet-more params v stamps at due (Some first) e s are few low =
     after-stands params v (one_more v) stamps at due.count first s are.count e refl refl (omega (arith, few, low)) refl
 

@@ -95,12 +95,14 @@ count_by-first : (p : ℕ → Bool) (xs : List ℕ) (k : ℕ)
 count_by-first p [] k few first_k rest = omega (arith, few)
 count_by-first p (x ∷ xs) zero few first_k rest =
     let head : cond {A = ℕ} (p x) 1 0 ≡ 0 = ap (λ b. cond b 1 0) (rest 0 (omega arith) (omega arith)) in
-    let tail = count_by-first p xs zero (omega arith) (λ j low. absurd (omega (arith, low))) (λ j from size. rest (suc j) (omega arith) (omega (arith, size))) in
+    let tail = count_by-first p xs zero (omega arith) (λ j low. absurd (omega (arith, low)))
+    (λ j from size. rest (suc j) (omega arith) (omega (arith, size))) in
     let sum : count_by p (x ∷ xs) ≡ cond (p x) 1 0 + count_by p xs = sum_by-cons (λ y. cond (p y) 1 0) x xs in
     omega (arith, sum, head, tail)
 count_by-first p (x ∷ xs) (suc k) few first_k rest =
     let head : cond {A = ℕ} (p x) 1 0 ≡ 1 = ap (λ b. cond b 1 0) (first_k 0 (omega arith)) in
-    let tail = count_by-first p xs k (omega (arith, few)) (λ j low. first_k (suc j) (omega (arith, low))) (λ j from size. rest (suc j) (omega (arith, from)) (omega (arith, size))) in
+    let tail = count_by-first p xs k (omega (arith, few)) (λ j low. first_k (suc j) (omega (arith, low)))
+    (λ j from size. rest (suc j) (omega (arith, from)) (omega (arith, size))) in
     let sum : count_by p (x ∷ xs) ≡ cond (p x) 1 0 + count_by p xs = sum_by-cons (λ y. cond (p y) 1 0) x xs in
     omega (arith, sum, head, tail)
 
@@ -167,7 +169,8 @@ packets-keep m n stamps kind is some falls none = λ t den_some.
       | inl fewer ↦
           let size : k < length stamps = omega (arith, fewer) in
           let due = are.due k (omega (arith, fewer)) in
-          let late = order.at_most-below (read_of m n anchor g k) t (whole (slice_index stamps k)) (read_of-den m n anchor g k is some) due (came.ahead k (omega arith) size) in
+          let late = order.at_most-below (read_of m n anchor g k) t (whole (slice_index stamps k))
+          (read_of-den m n anchor g k is some) due (came.ahead k (omega arith) size) in
           let empty : is_empty m n stamps kind k ≡ true = ap not (at_most-false (whole (slice_index stamps k)) (read_of m n anchor g k) late) in
           absurd (true_false (sym empty ∙ (none k size).1))
     ] in
@@ -179,7 +182,8 @@ packets-keep m n stamps kind is some falls none = λ t den_some.
           let here = whole (slice_index stamps i) in
           let then_reads = due-some m n anchor g here is some (omega arith) in
           let d = then_reads.0 in
-          let earlier : d ≤ c = due-order m n anchor g here t d c (omega arith) (came.came i (omega (arith, came_some))) then_reads.1 are (read_of-den m n anchor g c is some) in
+          let earlier : d ≤ c =
+          due-order m n anchor g here t d c (omega arith) (came.came i (omega (arith, came_some))) then_reads.1 are (read_of-den m n anchor g c is some) in
           let held = held_at-is m n stamps g i d then_reads.1 in
           let over : held_at m n stamps g i ≤ full = not_over full (held_at m n stamps g i) ((none i size).0) in
           omega (arith, held, over, earlier, came_some, came.within)

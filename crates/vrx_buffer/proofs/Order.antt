@@ -39,17 +39,20 @@ below-is x y =
 -- at most, then below
 pub at_most-below : (x y z : Fraction) → 0 < x.den → AtMost x y → Below y z → Below x z
 at_most-below x y z some h k =
-    let all = chained (up x) (down x) x.den (up y) (down y) y.den (up z) (down z) z.den 0 1 (omega (arith, (at_most-is x y).0 h)) (omega (arith, (below-is y z).0 k)) in
+    let all = chained (up x) (down x) x.den (up y) (down y) y.den (up z) (down z) z.den 0 1 (omega (arith, (at_most-is x y).0 h))
+    (omega (arith, (below-is y z).0 k)) in
     (below-is x z).1 (lt_of_mul-lt-mul_right y.den (omega (arith, all, some)))
 
 -- below, then at most
 pub below-at_most : (x y z : Fraction) → 0 < z.den → Below x y → AtMost y z → Below x z
 below-at_most x y z some h k =
-    let all = chained (up x) (down x) x.den (up y) (down y) y.den (up z) (down z) z.den 1 0 (omega (arith, (below-is x y).0 h)) (omega (arith, (at_most-is y z).0 k)) in
+    let all = chained (up x) (down x) x.den (up y) (down y) y.den (up z) (down z) z.den 1 0 (omega (arith, (below-is x y).0 h))
+    (omega (arith, (at_most-is y z).0 k)) in
     (below-is x z).1 (lt_of_mul-lt-mul_right y.den (omega (arith, all, some)))
 
 -- at most twice
 pub at_most-at_most : (x y z : Fraction) → 0 < y.den → AtMost x y → AtMost y z → AtMost x z
 at_most-at_most x y z some h k =
-    let all = chained (up x) (down x) x.den (up y) (down y) y.den (up z) (down z) z.den 0 0 (omega (arith, (at_most-is x y).0 h)) (omega (arith, (at_most-is y z).0 k)) in
+    let all = chained (up x) (down x) x.den (up y) (down y) y.den (up z) (down z) z.den 0 0 (omega (arith, (at_most-is x y).0 h))
+    (omega (arith, (at_most-is y z).0 k)) in
     (at_most-is x z).1 (le_of_mul-le-mul_left (omega (arith, all)) some)

@@ -22,13 +22,19 @@ abbrev Reads : Params → Vrx → List ℕ → ℕ → ℕ → Type 0
 Reads params v stamps at count = AreDue params.media params.n (anchor_of params.media (slice_index (stamps ++ at ∷ []) 0)) (gapped_of v.kind) (whole at) count
 
 reads-some : (params : Params) (v : Vrx) (stamps : List ℕ) (at : ℕ) → (count : ℕ) × Reads params v stamps at count
-reads-some params v stamps at = due-some params.media params.n (anchor_of params.media (slice_index (stamps ++ at ∷ []) 0)) (gapped_of v.kind) (whole at) params.media_is params.n_some (omega arith)
+reads-some params v stamps at = due-some params.media params.n (anchor_of params.media (slice_index (stamps ++ at ∷ []) 0)) (gapped_of v.kind)
+    (whole at) params.media_is params.n_some (omega arith)
 
 abbrev due_of : Params → Vrx → List ℕ → ℕ → ℕ → Due
-due_of params v stamps at count = record { count = count; on_time = is_on_time params.media params.n (anchor_of params.media (slice_index (stamps ++ at ∷ []) 0)) (gapped_of v.kind) at count }
+due_of params v stamps at count = record {
+  count = count;
+  on_time = is_on_time params.media params.n
+      (anchor_of params.media (slice_index (stamps ++ at ∷ []) 0)) (gapped_of v.kind) at count;
+}
 
 -- they are more than those that make room
-reads-more : (params : Params) (v : Vrx) (stamps : List ℕ) (at count : ℕ) → IsQuiet params v stamps at → Reads params v stamps at count → v.seen - v.peak < count
+reads-more : (params : Params) (v : Vrx) (stamps : List ℕ) (at count : ℕ) → IsQuiet params v stamps at → Reads params v stamps at count
+    → v.seen - v.peak < count
 reads-more params v stamps at count quiet are =
     elim (cases_lt (v.seen - v.peak) count) as (λ _. v.seen - v.peak < count) [
       | inl more ↦ more
@@ -36,7 +42,8 @@ reads-more params v stamps at count quiet are =
     ]
 
 -- and no more than the packets before it
-reads-few : (params : Params) (v : Vrx) (stamps : List ℕ) (at count : ℕ) → v.fault ≡ None → IsQuiet params v stamps at → Reads params v stamps at count → count ≤ v.seen
+reads-few : (params : Params) (v : Vrx) (stamps : List ℕ) (at count : ℕ) → v.fault ≡ None → IsQuiet params v stamps at → Reads params v stamps at count
+    → count ≤ v.seen
 reads-few params v stamps at count none quiet are =
     elim (cases_lt v.seen count) as (λ _. count ≤ v.seen) [
       | inl more ↦ absurd (omega (arith, ints, quiet.ahead none, are.due v.seen more))

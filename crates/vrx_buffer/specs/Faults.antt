@@ -1,5 +1,5 @@
--- How a packet breaks the model of the virtual receiver buffer (SMPTE ST 2110-21), and the first one that does. m is the
--- video, n the packets of one group, and the stamps are those of the judged packets, in nanoseconds of TAI, counted
+-- How a packet breaks the model of the virtual receiver buffer (SMPTE ST 2110-21), and the first one that does. m is
+-- the video, n the packets of one group, and the stamps are those of the judged packets, in nanoseconds of TAI, counted
 -- from 0.
 use Rattle.std.specs.Prelude.{◌≡◌, ◌<◌, ℕ, false, if◌then◌else◌, List, length, Option, Some, None}
 use Rattle.timing_base.specs.Media.{Media}

@@ -9,6 +9,8 @@ use Rattle.vrx_buffer.specs.declared.vrx.Vrx.{Vrx}
 -- the packet at this instant after these stamps comes when so many reads are due that no more is held than before; and
 -- before its own read, as long as there is no fault
 pub record IsQuiet (params : Params) (v : Vrx) (stamps : List ℕ) (at : ℕ) : Type 0 where
-  pub due : AtMost (read_of params.media params.n (anchor_of params.media (slice_index (stamps ++ at ∷ []) 0)) (gapped_of v.kind) (v.seen - v.peak)) (whole at)
+  pub due : AtMost (read_of params.media params.n (anchor_of params.media (slice_index (stamps ++ at ∷ []) 0))
+      (gapped_of v.kind) (v.seen - v.peak)) (whole at)
   pub ahead : v.fault ≡ None
-      → Below (whole at) (read_of params.media params.n (anchor_of params.media (slice_index (stamps ++ at ∷ []) 0)) (gapped_of v.kind) v.seen)
+      → Below (whole at) (read_of params.media params.n (anchor_of params.media (slice_index (stamps ++ at ∷ []) 0))
+      (gapped_of v.kind) v.seen)

@@ -1,4 +1,4 @@
-//! The buffer's part of worked rows, fed by stamps and by counts.
+//! The buffer's part of worked rows.
 
 ghost use Rattle.std.specs.Prelude.{◌≤◌, ◌*◌};
 
@@ -21,52 +21,42 @@ fn plain() -> Params {
     Params::of(&video(1080, false, 50, 1), 20)
 }
 
-// A buffer fed stamps, and one fed the counts of a schedule.
+// A buffer, and the schedule that says what is due at its packets.
 #[derive(Clone, Copy, Debug)]
-struct Pair {
-    stamps: Vrx,
-    counts: Vrx,
+struct Flow {
+    buffer: Vrx,
     schedule: Schedule,
-    n0: i128,
 }
 
-// The two of a flow that begins at `first`.
-fn started(rt: &impl Abort, params: &Params, kind: Kind, first: u64) -> Pair {
+// Both of a flow that begins at `first`.
+fn started(rt: &impl Abort, params: &Params, kind: Kind, first: u64) -> Flow {
     assert!(rt; first < 1 << 62);
-    let n0 = params.anchor(first);
-    Pair {
-        stamps: Vrx::new(kind),
-        counts: Vrx::new(kind),
-        schedule: Schedule::new(params, kind == Kind::N, n0),
-        n0,
+    Flow {
+        buffer: Vrx::new(kind),
+        schedule: Schedule::new(params, kind == Kind::N, params.anchor(first)),
     }
 }
 
 // Asserts what the calls require, since a proof does not follow the rows of a table.
-fn fed(rt: &impl Abort, params: &Params, pair: &mut Pair, at: u64) -> Option<VrxFault> {
+fn fed(rt: &impl Abort, params: &Params, flow: &mut Flow, at: u64) -> Option<VrxFault> {
     assert!(rt; at < 1 << 62);
-    assert!(rt; pair.n0 >= -480 && pair.n0 <= 1 << 42);
-    assert!(rt; pair.stamps.seen < 1 << 41);
-    assert!(rt; pair.counts.seen < 1 << 41);
-    let fault = pair.stamps.feed(params, pair.n0, at);
-    let due = pair.schedule.advance(at);
-    assert_eq!(rt; pair.counts.feed_due(params, due), fault, "at {at}");
-    assert_eq!(rt; pair.counts, pair.stamps, "at {at}");
-    fault
+    assert!(rt; flow.buffer.seen < 1 << 41);
+    let due = flow.schedule.advance(at);
+    flow.buffer.feed_due(params, due)
 }
 
 // The buffer after two frames of 20 packets, each so long after the first.
 fn after(rt: &impl Abort, params: &Params, kind: Kind, first: u64, step: u64) -> Vrx {
-    let mut pair = started(rt, params, kind, first);
+    let mut flow = started(rt, params, kind, first);
     for frame in 0..2 {
         for place in 0..20u64 {
             let late = 20_000_000u64.saturating_mul(frame);
             let late = late.saturating_add(place.saturating_mul(step));
-            fed(rt, params, &mut pair, first.saturating_add(late));
+            fed(rt, params, &mut flow, first.saturating_add(late));
         }
     }
-    assert_eq!(rt; pair.stamps.seen, 40);
-    pair.stamps
+    assert_eq!(rt; flow.buffer.seen, 40);
+    flow.buffer
 }
 
 #[test]
@@ -93,16 +83,16 @@ fn linear_sender(rt: HostRuntime) {
 #[test]
 fn five_at_once(rt: HostRuntime) {
     for kind in KINDS {
-        let mut pair = started(&rt, &plain(), kind, FIRST);
+        let mut flow = started(&rt, &plain(), kind, FIRST);
         for place in 0..20 {
             let at = if place < 5 {
                 FIRST
             } else {
                 FIRST + 960_000 * place
             };
-            assert_eq!(rt; fed(&rt, &plain(), &mut pair, at), None);
+            assert_eq!(rt; fed(&rt, &plain(), &mut flow, at), None);
         }
-        assert_eq!(rt; pair.stamps.peak, 5);
+        assert_eq!(rt; flow.buffer.peak, 5);
     }
 }
 
@@ -145,15 +135,15 @@ fn height_720(rt: HostRuntime) {
 fn interlaced_narrow(rt: HostRuntime) {
     let params = Params::of(&video(1080, true, 25, 1), 10);
     for kind in KINDS {
-        let mut pair = started(&rt, &params, kind, SECOND + 782_000);
+        let mut flow = started(&rt, &params, kind, SECOND + 782_000);
         for field in 0..4 {
             for place in 0..10 {
                 let at = SECOND + 782_000 + 20_000_000 * field + 1_920_000 * place;
-                assert_eq!(rt; fed(&rt, &params, &mut pair, at), None, "at {at}");
+                assert_eq!(rt; fed(&rt, &params, &mut flow, at), None, "at {at}");
             }
         }
-        assert_eq!(rt; pair.stamps.peak, 1);
-        assert_eq!(rt; pair.stamps.seen, 40);
+        assert_eq!(rt; flow.buffer.peak, 1);
+        assert_eq!(rt; flow.buffer.seen, 40);
     }
 }
 
@@ -172,18 +162,18 @@ fn usual_equipment(rt: HostRuntime) {
         (Kind::W, None, 174),
     ];
     for (kind, fault, peak) in rows {
-        let mut pair = started(&rt, &params, kind, 1_601_600_000_000_636_674);
+        let mut flow = started(&rt, &params, kind, 1_601_600_000_000_636_674);
         for packet in 0..8640 {
             let (frame, place) = (packet / 4320, packet % 4320);
             let read = (450_450_000 * frame + 17_217_200 + 100_100 * place) / 27;
             fed(
                 &rt,
                 &params,
-                &mut pair,
+                &mut flow,
                 1_601_600_000_000_000_000 + read - 1_000,
             );
         }
-        assert_eq!(rt; pair.stamps.fault, fault);
-        assert_eq!(rt; pair.stamps.peak, peak);
+        assert_eq!(rt; flow.buffer.fault, fault);
+        assert_eq!(rt; flow.buffer.peak, peak);
     }
 }

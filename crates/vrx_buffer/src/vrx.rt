@@ -5,7 +5,7 @@ ghost use Rattle.std.specs.Prelude.{pos, negsuc, ◌≤◌, ◌+◌, ◌-◌, �
 ghost use Rattle.sender_params.specs.Limits.{gapped_of};
 ghost use Rattle.sender_params.specs.Reads.{anchor_of};
 
-use read_schedule::{Due, is_late, reads};
+use read_schedule::Due;
 use sender_params::Params;
 use timing_base::Kind;
 
@@ -60,37 +60,11 @@ impl Vrx {
         }
     }
 
-    /// Puts in the packet that came at `at`, in nanoseconds of TAI, and answers how it breaks the
-    /// model, if it does. `n0` is the group of the flow's first packet. At equal instants the packet
-    /// has come and the read is done (SMPTE ST 2110-21, virtual receiver buffer; this project's
-    /// profile).
+    /// Puts in a packet at whose instant so much is due, of the schedule of this sender type, and answers
+    /// how it breaks the model, if it does. At equal instants the packet has come and the read is done
+    /// (SMPTE ST 2110-21, virtual receiver buffer; this project's profile).
     ///
-    /// Feed one buffer with one `Params` and one `n0` alone: `stands` says nothing of others.
-    pub fn feed(&mut self, params: &Params, n0: i128, at: u64) -> Option<VrxFault>
-        requires low { negsuc 479 ≤ℤ n0 }
-        requires high { n0 ≤ℤ pos (2 ^ 42) }
-        requires in_time { at < 2 ^ 62 }
-        requires few { self.old.seen < 2 ^ 41 }
-
-        ensures kind { self.new.kind ≡ self.old.kind }
-
-        // Whatever packets the buffer stood for, of which the first is of group n0.
-        ensures fault { (stamps : List ℕ) → StandsFor params.now self.old stamps
-            → n0 ≡ anchor_of params.now.media (slice_index (stamps ++ at ∷ []) 0)
-            → result ≡ fault_at params.now.media params.now.n (stamps ++ at ∷ []) self.old.kind
-            (length stamps) }
-        ensures stands { (stamps : List ℕ) → StandsFor params.now self.old stamps
-            → n0 ≡ anchor_of params.now.media (slice_index (stamps ++ at ∷ []) 0)
-            → StandsFor params.now self.new (stamps ++ at ∷ []) }
-    {
-        let gapped = is_gapped(self.kind);
-        let count = reads(params, gapped, n0, at);
-        let late = is_late(params, gapped, n0, self.seen, at);
-        self.take(params, count, late)
-    }
-
-    /// The same for a packet at whose instant so much is due, of the schedule of this sender type:
-    /// for callers that count the reads once for several buffers.
+    /// Feed one buffer with one `Params` and one schedule alone: `stands` says nothing of others.
     #[inline(always)]
     pub fn feed_due(&mut self, params: &Params, due: Due) -> Option<VrxFault>
         requires { self.old.seen < 2 ^ 41 }
@@ -114,7 +88,7 @@ impl Vrx {
         self.take(params, due.count, late)
     }
 
-    /// The same as [`Vrx::feed_due`], for callers that don't ask how the packet breaks the model.
+    /// Puts in a packet as [`Vrx::feed_due`] does, and doesn't say how it breaks the model.
     #[inline(always)]
     pub fn pass_due(&mut self, params: &Params, due: Due)
         requires { self.old.seen < 2 ^ 41 }
@@ -264,11 +238,4 @@ fn comes_late(packet: u64, due: Due) -> bool
     } else {
         due.count > packet
     }
-}
-
-/// Whether the reads of this sender type are gapped.
-fn is_gapped(kind: Kind) -> bool
-    ensures { result ≡ gapped_of kind }
-{
-    kind == Kind::N
 }

@@ -4,7 +4,7 @@ use Rattle.std.specs.Prelude.{◌++◌, length, slice_index, Option, Some, None,
 use Rattle.std.specs.List.{count_by}
 use Rattle.std.proofs.Common.{sym, subst, append-nil, append_assoc, ap, ◌∙◌}
 use Rattle.std.proofs.lemmas.List.Elements.{filter-append, filter_map-append}
-use Rattle.capture_gen.specs.Heads.{record_head}
+use Rattle.pcap_reader.specs.WrittenHeads.{record_head}
 use Rattle.flow_shaper.specs.declared.departure.Bound.{Bound}
 use Rattle.flow_shaper.specs.declared.departure.Departure.{Departure}
 use Rattle.flow_shaper.specs.declared.departure.Late.{Late}

@@ -90,11 +90,11 @@ fn answer_on<L: Look, H: Shelf>(
     shelf: &mut H,
     media: &Media,
 ) -> Result<Answer, Failure>
-    ensures follows { Yields result (ReadsCapture (seen_of H.text H.lacks H.faults shelf.old shelf.new)
+    ensures follows { Yields result (ReadsCapture (seen_of H.Shelf shelf.old shelf.new)
         result job.now.capture (λ text. Gives result
         (OnFlow job.now.tai media.now (L.answers look.now job.now.tai media.now) text))) }
     ensures cause { HasCause result
-        (FlowInputRose job.now (seen_of H.text H.lacks H.faults shelf.old shelf.new)) }
+        (FlowInputRose job.now (seen_of H.Shelf shelf.old shelf.new)) }
     ensures stays { StaysAs H.text H.lacks H.faults shelf.old shelf.new }
 {
     let judgment = judge_flow(alloc, job, shelf, media)?;
@@ -109,11 +109,11 @@ fn answer_over<L: Look, H: Shelf>(
     shelf: &mut H,
     media: &[Media],
 ) -> Result<Answer, Failure>
-    ensures follows { Yields result (ReadsFlow (seen_of H.text H.lacks H.faults shelf.old shelf.new)
+    ensures follows { Yields result (ReadsFlow (seen_of H.Shelf shelf.old shelf.new)
         result job.now (λ m. OnFlow job.now.tai m (L.answers look.now job.now.tai m))
         (slice_get media.now job.now.media)) }
     ensures cause { HasCause result
-        (FlowInputRose job.now (seen_of H.text H.lacks H.faults shelf.old shelf.new)) }
+        (FlowInputRose job.now (seen_of H.Shelf shelf.old shelf.new)) }
     ensures stays { StaysAs H.text H.lacks H.faults shelf.old shelf.new }
 {
     match media.get(job.media as usize) {
@@ -131,13 +131,13 @@ pub fn answer_flow<L: Look, H: Shelf>(
     look: &L,
     shelf: &mut H,
 ) -> Result<Answer, Failure>
-    ensures follows { Yields result (ReadsSession (seen_of H.text H.lacks H.faults shelf.old shelf.new)
+    ensures follows { Yields result (ReadsSession (seen_of H.Shelf shelf.old shelf.new)
         result job.now.sdp (λ media.
-        ReadsFlow (seen_of H.text H.lacks H.faults shelf.old shelf.new) result job.now
+        ReadsFlow (seen_of H.Shelf shelf.old shelf.new) result job.now
         (λ m. OnFlow job.now.tai m (L.answers look.now job.now.tai m))
         (slice_get media job.now.media))) }
     ensures cause { HasCause result
-        (FlowInputRose job.now (seen_of H.text H.lacks H.faults shelf.old shelf.new)) }
+        (FlowInputRose job.now (seen_of H.Shelf shelf.old shelf.new)) }
     ensures stays { StaysAs H.text H.lacks H.faults shelf.old shelf.new }
 {
     match fetch_session(alloc, shelf, job.sdp.as_str())? {

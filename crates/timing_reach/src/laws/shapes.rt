@@ -6,7 +6,7 @@ ghost use Rattle.timing_base.specs.Judged.{JudgedRun};
 ghost use Rattle.timing_base.specs.Media.{IsMedia, Media};
 ghost use Rattle.timing_base.specs.declared.media.Kind.{Kind};
 ghost use Rattle.timing_base.specs.declared.media.Kind.TheVariants.{N};
-ghost use Rattle.capture_gen.specs.Heads.{file_head};
+ghost use Rattle.pcap_reader.specs.WrittenHeads.{file_head};
 ghost use Rattle.sender_params.specs.Worked.{at_once, hd_50};
 ghost use Rattle.timing_report.specs.declared.status.Status.TheVariants as status;
 ghost use Rattle.timing_steps.specs.Answers.{Answer};

@@ -2,9 +2,9 @@
 
 ghost use Rattle.std.specs.Prelude.{◌≡◌, ◌≤◌, ◌++◌, IfOk, length};
 ghost use Rattle.timing_base.specs.Captures.{IsStamp};
-ghost use Rattle.capture_gen.specs.Heads.{file_head, record_head};
+ghost use Rattle.pcap_reader.specs.WrittenHeads.{file_head, record_head};
 
-use capture_gen::{file_head, record_head};
+use pcap_reader::{file_head, record_head};
 use std::alloc::{AllocError as OutOfMemory, Global};
 
 /// A capture without records.

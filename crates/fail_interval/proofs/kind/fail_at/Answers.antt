@@ -11,7 +11,8 @@ returns-in_err-held c = λ stamps after fault.
 
 pub returns-in-Over : goal.returns-in-Over
 returns-in-Over c = λ stamps after fault.
-    over-is _ _ stamps _ _ _ _ _ _ after c.c_max-c_max.ensures c.if-bucket-c_max.false (sym (c.in_ok-held.was ∙ ap Some c.in-Over.is) ∙ fault) c.vrx_full.ensures
+    over-is _ _ stamps _ _ _ _ _ _ after c.c_max-c_max.ensures c.if-bucket-c_max.false (sym (c.in_ok-held.was ∙ ap Some c.in-Over.is) ∙ fault)
+    c.vrx_full.ensures
 
 pub returns-in-Empty : goal.returns-in-Empty
 returns-in-Empty c = λ stamps after fault.

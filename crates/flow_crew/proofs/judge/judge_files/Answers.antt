@@ -1,4 +1,4 @@
-use Rattle.std.proofs.Common.{◌≡◌, ◌∙◌, sym, ap, subst, length, List, arith, rules}
+use Rattle.std.proofs.Common.{◌≡◌, ◌≤◌, ◌∙◌, sym, ap, subst, length, List, arith, rules}
 use Rattle.std.specs.Prelude.{All}
 use Rattle.std.proofs.lemmas.Option.{IfSome_then}
 use Rattle.ruled_intake.specs.Lanes.{LaneId}
@@ -6,10 +6,24 @@ use Rattle.timing_base.specs.Keys.{keys_of}
 use Rattle.flow_crew.specs.Judging.{IsWhole}
 use Rattle.flow_crew.specs.Reading.{AreIntakeJobs}
 use Rattle.flow_crew.specs.Threads.{AreWorkJobs}
-use Rattle.flow_crew.proofs.Finding.{each_long, found, if_both, keys-found, posted_count, read_on, run_is, some_posted}
+use Rattle.flow_crew.proofs.Finding.{each_long, found, if_both, keys-found, made_on, posted_count, read_on, run_is, some_posted}
 use Rattle.flow_crew.proofs.Running.{can_close}
 use Rattle.flow_crew.proofs.Starting.{intake_jobs, rows_are, sources_back, work_jobs}
 use Rattle.flow_crew.proofs.judge.judge_files.Goals as goal
+
+pub run_threads-requires-clause-run : goal.run_threads-requires-clause-run
+run_threads-requires-clause-run g c κs within =
+    let count : length c.args.sources.items ≡ c.len.result = omega (arith, c.args.sources.ok.0, c.len.ensures) in
+    let lanes : length c.deref.result.now ≡ c.args.workers = ap length c.deref.ensures.value ∙ c.in_ok-lanes.ensures.made.lane_count in
+    record {
+      some_media = c.requires.some_media;
+      few_media = c.requires.few_media;
+      some_files = omega (arith, c.requires.some_files, count);
+      few_files = omega (arith, c.requires.few_files, count);
+      some_workers = omega (arith, c.requires.some_workers, lanes);
+      few_workers = omega (arith, c.requires.few_workers, lanes);
+      tai = c.requires.tai;
+    }
 
 pub run_threads-requires-clause-workers : goal.run_threads-requires-clause-workers
 run_threads-requires-clause-workers g c κs within =
@@ -25,31 +39,34 @@ run_threads-requires-clause-intakes g c κs within =
 
 pub deal_all-requires : goal.deal_all-requires
 deal_all-requires g c =
-    each_long c.in_ok-lanes.field-0.lanes.items c.args.workers c.in_ok-sources.field-0.rows.items c.in_ok-lanes.ensures.made.lane_count
+    let made = made_on _ _ _ c.deref.result.now _ _ c.deref.ensures.value c.in_ok-lanes.ensures.made in
+    each_long c.in_ok-lanes.field-0.lanes.items (length c.deref.result.now) c.in_ok-sources.field-0.rows.items made.lane_count
     (rows_are g.S.Source.name g.S.Source.left g.S.Source.faults _ c.in_ok-lanes.field-0.lanes.items _ c.args.sources.items c.in_ok-intakes.intakes.items c.in_ok-worked.read.items c.in_ok-sources.field-0.rows.items
     c.in_ok-intakes.ensures (read_on _ _ _ _ _ _ _ _ c.deref.ensures.value c.in_ok-worked.ensures.read) c.in_ok-sources.ensures.rows)
+
+pub rows_if_whole-rows-requires : goal.rows_if_whole-rows-requires
+rows_if_whole-rows-requires g c =
+    let count : length c.args.sources.items ≡ c.len.result = omega (arith, c.args.sources.ok.0, c.len.ensures) in
+    let made = made_on _ _ _ c.deref.result.now _ _ c.deref.ensures.value c.in_ok-lanes.ensures.made in
+    let lanes : length c.deref.result.now ≡ c.args.workers = ap length c.deref.ensures.value ∙ c.in_ok-lanes.ensures.made.lane_count in
+    record {
+      few_media = c.requires.few_media;
+      few_files = omega (arith, c.requires.few_files, count);
+      some_workers = omega (arith, c.requires.some_workers, lanes);
+      few_workers = omega (arith, c.requires.few_workers, lanes);
+      count = posted_count _ _ _ _ _ _ _ _ made c.in_ok-worked.ensures.worked c.in_ok-takers.ensures.posted;
+      row_for = _;
+      posted_are = some_posted _ _ _ _ _ _ _ _ made c.in_ok-worked.ensures.worked c.in_ok-takers.ensures.posted;
+    }
 
 pub close_all-requires : goal.close_all-requires
 close_all-requires g c =
     let count : length c.args.sources.items ≡ c.len.result = omega (arith, c.args.sources.ok.0, c.len.ensures) in
+    let made = made_on _ _ _ c.deref.result.now _ _ c.deref.ensures.value c.in_ok-lanes.ensures.made in
     can_close _ _ _ _ _ _
     (run_is g.S.Source.name g.S.Source.left g.S.Source.faults _ _ _ _ _ c.args.sources.items _ _ _ _ _ _ _
-    c.in_ok-lanes.ensures.made c.in_ok-intakes.ensures count c.in_ok-worked.ensures.worked c.in_ok-takers.ensures.takers
+    made c.in_ok-intakes.ensures count c.in_ok-worked.ensures.worked c.in_ok-takers.ensures.takers
     (read_on _ _ _ _ _ _ _ _ c.deref.ensures.value c.in_ok-worked.ensures.read) c.in_ok-sources.ensures.rows c.in_ok-senders.ensures)
-
-pub rows_if_whole-rows-requires : goal.rows_if_whole-rows-requires
-rows_if_whole-rows-requires g c =
-    let posted = some_posted _ _ _ _ _ _ _ _ c.in_ok-lanes.ensures.made c.in_ok-worked.ensures.worked c.in_ok-takers.ensures.posted in
-    record {
-      few_media = search rules;
-      some_files = search rules;
-      few_files = search rules;
-      some_workers = c.requires.some_workers;
-      few_workers = c.requires.few_workers;
-      count = posted_count _ _ _ _ _ _ _ _ c.in_ok-lanes.ensures.made c.in_ok-worked.ensures.worked c.in_ok-takers.ensures.posted;
-      row_for = _;
-      posted_are = posted;
-    }
 
 pub returns-clause-back : goal.returns-clause-back
 returns-clause-back g c =
@@ -62,18 +79,21 @@ returns-clause-whole g c =
 pub returns-clause-keys : goal.returns-clause-keys
 returns-clause-keys g c =
     let count : length c.args.sources.items ≡ c.len.result = omega (arith, c.args.sources.ok.0, c.len.ensures) in
+    let made = made_on _ _ _ c.deref.result.now _ _ c.deref.ensures.value c.in_ok-lanes.ensures.made in
     IfSome_then c.rows_if_whole-rows.result c.rows_if_whole-rows.ensures.rows
     (λ rows are.
-    keys-found _ _ _ _ _ _ _ _ rows.items c.in_ok-lanes.ensures.made c.in_ok-worked.ensures.worked c.in_ok-takers.ensures.posted are
+    keys-found _ _ _ _ _ _ _ _ rows.items made c.in_ok-worked.ensures.worked c.in_ok-takers.ensures.posted are
     ∙ ap (λ n. keys_of c.args.joined n (length c.args.media.now)) (sym count))
 
 pub returns-clause-told : goal.returns-clause-told
 returns-clause-told g c =
     let count : length c.args.sources.items ≡ c.len.result = omega (arith, c.args.sources.ok.0, c.len.ensures) in
+    let made = made_on _ _ _ c.deref.result.now _ _ c.deref.ensures.value c.in_ok-lanes.ensures.made in
+    let lanes : length c.deref.result.now ≡ c.args.workers = ap length c.deref.ensures.value ∙ c.in_ok-lanes.ensures.made.lane_count in
     if_both c.rows_if_whole-rows.result _ _ _ c.rows_if_whole-rows.ensures.whole c.rows_if_whole-rows.ensures.rows
     (λ rows whole are texts are_texts.
     found g.S.Source.name g.S.Source.left g.S.Source.faults _ _ _ _ _ c.args.sources.items _ _ _ _ _ _ c.in_ok-sources.field-0.notes.items _ _ rows.items texts
-    (record { some = c.requires.some_workers; targets = c.requires.targets })
-    c.in_ok-lanes.ensures.made c.in_ok-intakes.ensures count c.in_ok-worked.ensures.worked c.in_ok-takers.ensures.takers c.in_ok-takers.ensures.posted
+    (record { some = omega (arith, c.requires.some_workers, lanes); targets = c.requires.targets })
+    made c.in_ok-intakes.ensures count c.in_ok-worked.ensures.worked c.in_ok-takers.ensures.takers c.in_ok-takers.ensures.posted
     (read_on _ _ _ _ _ _ _ _ c.deref.ensures.value c.in_ok-worked.ensures.read) c.in_ok-sources.ensures.notes c.in_ok-sources.ensures.rows c.in_ok-senders.ensures
     c.close_all.ensures (subst (All IsWhole) c.deref-2.ensures.value whole) are are_texts)

@@ -26,8 +26,10 @@ low (suc (suc (suc (suc i)))) few = absurd (omega (arith, few))
 ordered : NeverFall burst_shaped
 ordered j i order few =
     five (λ i. j ≤ i → slice_index burst_shaped j ≤ slice_index burst_shaped i)
-    (λ order. low j (omega (arith, order))) (λ order. low j (omega (arith, order))) (λ order. low j (omega (arith, order))) (λ order. low j (omega (arith, order)))
-    (λ order. five (λ j. slice_index burst_shaped j ≤ first + 909091) (omega arith) (omega arith) (omega arith) (omega arith) (omega arith) j (omega (arith, order)))
+    (λ order. low j (omega (arith, order))) (λ order. low j (omega (arith, order))) (λ order. low j (omega (arith, order)))
+    (λ order. low j (omega (arith, order)))
+    (λ order. five (λ j. slice_index burst_shaped j ≤ first + 909091) (omega arith) (omega arith) (omega arith) (omega arith)
+    (omega arith) j (omega (arith, order)))
     i few order
 
 plan : IsPlan narrow (at_once 5) burst_shaped
@@ -38,7 +40,8 @@ plan = record {
   bucket = λ j i order few.
       five (λ i. j ≤ i → load narrow burst_shaped j i (slice_index burst_shaped i) ≤ 4)
       (λ order. omega (arith, order)) (λ order. omega (arith, order)) (λ order. omega (arith, order)) (λ order. omega (arith, order))
-      (λ order. five (λ j. load narrow burst_shaped j 4 (first + 909091) ≤ 4) (omega arith) (omega arith) (omega arith) (omega arith) (omega arith) j (omega (arith, order)))
+      (λ order. five (λ j. load narrow burst_shaped j 4 (first + 909091) ≤ 4) (omega arith) (omega arith) (omega arith) (omega arith)
+      (omega arith) j (omega (arith, order)))
       i few order;
   buffer = five (λ i. narrow.held i (slice_index burst_shaped i) ≤ 8) (omega arith) (omega arith) (omega arith) (omega arith) (omega arith);
 }

@@ -15,3 +15,9 @@ returns-in_err-take-in-Ok-clause-told g c = λ items end given.
     let p = err_from_is_err_and c.from_residual.result c.from_residual.ensures.1 in
     rw (p.1, p.2)
     (stops-first g.T.Taker.stops c.args.before c.args.taker.now c.take.new.self c.in_err-take-in-Ok.field-0.0 first _ found.0 items found.1 same halts c.in_err-take-in-Ok.ensures.stops)
+
+pub returns-in_err-take-in-Ok-clause-stopped : goal.returns-in_err-take-in-Ok-clause-stopped
+returns-in_err-take-in-Ok-clause-stopped g c =
+    let first : Record = record { number = c.args.before + c.args.number; stamp = c.in-Ok.head.at; bytes = c.frame.result.now } in
+    let p = err_from_is_err_and c.from_residual.result c.from_residual.ensures.1 in
+    rw (p.1, p.2) (record { items = first ∷ []; stopped = c.in_err-take-in-Ok.ensures.stops })

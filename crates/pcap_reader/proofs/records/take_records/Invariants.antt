@@ -10,13 +10,15 @@ invariant-loop-number g l =
     let left = g.S.Source.left in
     let takes = g.T.Taker.takes in
     record {
-      told : (items : List Record) (end : FileNote) → WillGive left l.fn.reader items end → HasBegun left takes l.before l.fn.taker l.taker l.reader (frame_count l.reader) items end;
+      told : (items : List Record) (end : FileNote) → WillGive left l.fn.reader items end
+          → HasBegun left takes l.before l.fn.taker l.taker l.reader (frame_count l.reader) items end;
       fed : TakesFew takes (frame_count l.reader) l.fn.taker l.taker;
       fresh : end_note l.reader ≡ None;
       number : frame_count l.reader + 1 ≡ l.number;
       most : most_of l.reader ≡ most_of l.fn.reader;
       within : 16 * frame_count l.reader ≤ most_of l.reader;
-      room : (count : ℕ) → g.T.Taker.room (l.before + 1) (frame_count l.reader + count) l.fn.taker → g.T.Taker.room (l.before + frame_count l.reader + 1) count l.taker;
+      room : (count : ℕ) → g.T.Taker.room (l.before + 1) (frame_count l.reader + count) l.fn.taker
+          → g.T.Taker.room (l.before + frame_count l.reader + 1) count l.taker;
       name : g.S.Source.name (under l.reader) ≡ g.S.Source.name (under l.fn.reader);
       later : g.S.Source.faults (under l.fn.reader) ≤ g.S.Source.faults (under l.reader);
     }

@@ -1,7 +1,7 @@
 use Rattle.std.proofs.Common.{subst, ◌≤◌, ◌∙◌, ◌+◌, ◌-◌, ◌*◌, ◌^◌, ℕ, ◌++◌, length, take, Some, ap, sym, lit≤}
 use Rattle.std.proofs.lemmas.List.{take-append-le}
 use Rattle.std.specs.Prelude.{◌==◌, ◌||◌, nat_lt, if◌then◌else◌}
-use Rattle.capture_gen.specs.Heads.{file_head}
+use Rattle.pcap_reader.specs.WrittenHeads.{file_head}
 use Rattle.pcapng_reader.specs.declared.block.Interface.{Interface}
 use Rattle.pcapng_reader.specs.declared.block.Order.TheVariants.{Little}
 use Rattle.pcapng_reader.specs.declared.packet.Fate.{Fate}

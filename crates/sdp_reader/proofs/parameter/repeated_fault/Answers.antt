@@ -24,7 +24,8 @@ loop-item-preserved c =
     record {
       rows = grind (arith, common_steps);
       told =
-          repeats_after-step (λ item. item.line) RepeatedParameter have_one_name plain_item c.loop-item.fault _ _ items i _ (get_or c.loop-item.seen row false) c.first_of-fault.ensures c.at.ensures
+          repeats_after-step (λ item. item.line) RepeatedParameter have_one_name plain_item c.loop-item.fault _ _ items i _ (get_or c.loop-item.seen row false)
+          c.first_of-fault.ensures c.at.ensures
           (c.loop-item.invariant.seen row inside ∙ ap (λ k. list_any (is_of k) (map plain_item (take i items))) c.row-row.ensures.value) (omega arith)
           ∙ c.loop-item.invariant.told;
       seen = λ k h. seen-step plain_item c.loop-item.seen row items i _ k c.row-row.ensures.value (omega arith) (omega arith) (c.loop-item.invariant.seen k h);

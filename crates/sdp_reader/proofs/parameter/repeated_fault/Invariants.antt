@@ -11,6 +11,7 @@ use Rattle.sdp_reader.proofs.parameter.repeated_fault.Given as goal
 abbrev pub invariant-loop-item : goal.invariant-loop-item
 invariant-loop-item l = record {
   rows : length l.seen ≡ 9;
-  told : first_of l.fault (least (repeats_after (λ item. item.line) RepeatedParameter have_one_name (map plain_item (take l.item-index l.items)) (map plain_item (drop l.item-index l.items)))) ≡ least (repeated_faults (map plain_item l.items));
+  told : first_of l.fault (least (repeats_after (λ item. item.line) RepeatedParameter have_one_name (map plain_item (take l.item-index l.items))
+      (map plain_item (drop l.item-index l.items)))) ≡ least (repeated_faults (map plain_item l.items));
   seen : (k : ℕ) → k < 9 → get_or l.seen k false ≡ list_any (is_of k) (map plain_item (take l.item-index l.items));
 }

@@ -11,7 +11,8 @@ returns c =
     let session = option_map plain c.args.session in
     let connection = option_map plain c.counting-connection.result in
     let address = c.good_address-address.result in
-    raw_reading session c.args.line (map plain c.args.body.now) c.args.video connection address (map plain_item c.in_ok-items.items.items) c.target_at-target.result c.raw_fault.result c.media_of.result
+    raw_reading session c.args.line (map plain c.args.body.now) c.args.video connection address (map plain_item c.in_ok-items.items.items)
+    c.target_at-target.result c.raw_fault.result c.media_of.result
     (c.counting-connection.ensures ∙ ap (λ o. counting o session) c.connection_line.ensures)
     c.good_address-address.ensures
     c.in_ok-items.ensures

@@ -8,6 +8,7 @@ use Rattle.sdp_reader.proofs.session.target_fault.Given as goal
 
 abbrev pub invariant-loop-part : goal.invariant-loop-part
 invariant-loop-part l = record {
-  told : first_of l.fault (least (repeats_after (λ part. part.line) SameTarget have_one_target (take l.part-index l.parts) (drop l.part-index l.parts))) ≡ least (target_faults l.parts);
+  told : first_of l.fault (least (repeats_after (λ part. part.line) SameTarget have_one_target (take l.part-index l.parts) (drop l.part-index l.parts)))
+      ≡ least (target_faults l.parts);
   seen : AreSeen l.seen (take l.part-index l.parts);
 }

@@ -5,5 +5,6 @@ use Rattle.timing_json.proofs.written.add_status.Goals as goal
 
 pub returns : goal.returns
 returns c =
-    let P : ℕ → Type 0 = λ code. IfOk c.writeln.result (λ _. string_bytes c.writeln.new.self ≡ string_bytes c.args.text.now ++ (codes "],\"status\":" ++ (decimal code ++ codes "}\n"))) in
+    let P : ℕ → Type 0 = λ code. IfOk c.writeln.result (λ _. string_bytes c.writeln.new.self
+    ≡ string_bytes c.args.text.now ++ (codes "],\"status\":" ++ (decimal code ++ codes "}\n"))) in
     subst P c.code.ensures c.writeln.ensures.bytes

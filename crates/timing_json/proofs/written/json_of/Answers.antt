@@ -13,13 +13,15 @@ use Rattle.timing_json.proofs.written.json_of.Goals as goal
 pub returns : goal.returns
 returns c =
     let names : c.as_slice.result.now ≡ c.args.job.now.captures = search rules in
-    let Files : List (List ℕ) → Type 0 = λ ns. string_bytes c.add_files.new.text ≡ string_bytes c.push_str.new.self ++ compact_text (list_of (files_data ns c.args.notes.now)) in
+    let Files : List (List ℕ) → Type 0 =
+    λ ns. string_bytes c.add_files.new.text ≡ string_bytes c.push_str.new.self ++ compact_text (list_of (files_data ns c.args.notes.now)) in
     let files = list_of (files_data c.args.job.now.captures c.args.notes.now) in
     let flows = items_of (map (row_data c.args.session.now) c.args.rows.now) in
     let Ends : Status → Type 0 = λ s. string_bytes c.add_status.new.text
     ≡ string_bytes c.add_flows.new.text ++ (codes "]" ++ (codes ",\"status\":" ++ (decimal (code_of s) ++ (codes "}" ++ codes "\n")))) in
     let code = code_of (status_of c.args.session.now c.args.notes.now c.args.rows.now) in
-    parts (codes "{\"files\":") (compact_text files) (codes ",\"flows\":[") (items_text false flows) (codes ",\"status\":") (decimal code) (codes "}") (codes "\n")
+    parts (codes "{\"files\":") (compact_text files) (codes ",\"flows\":[") (items_text false flows) (codes ",\"status\":") (decimal code) (codes "}")
+    (codes "\n")
     _ _ _ _ _
     (c.in_ok-push_str.ensures.bytes ∙ ap (λ s. s ++ codes "{\"files\":") c.new-text.ensures.bytes)
     (subst Files names c.in_ok-add_files.ensures)

@@ -6,7 +6,8 @@ use Rattle.timing_report.proofs.text.add_files.Goals as goal
 
 pub loop-file-preserved : goal.loop-file-preserved
 loop-file-preserved c =
-    let P : List ℕ → Type 0 = λ name. string_bytes c.add_file.new.text ≡ string_bytes c.loop-file.text ++ ended (file_text c.loop-file.file c.in-Some.note.now name) in
+    let P : List ℕ → Type 0 =
+    λ name. string_bytes c.add_file.new.text ≡ string_bytes c.loop-file.text ++ ended (file_text c.loop-file.file c.in-Some.note.now name) in
     files_more c.args.captures.now c.args.notes.now c.loop-file.file c.index-captures-file.result c.in-Some.note.now _ _ _
     c.loop-file-test.true c.index-captures-file.is c.in-Some.ensures.lookup.3.0 c.in-Some.ensures.lookup.1
     (subst P c.as_str.ensures.text c.in_ok-add_file.ensures) c.loop-file.invariant

@@ -6,4 +6,5 @@ use Rattle.timing_report.proofs.text.add_rows.Given as goal
 
 abbrev pub invariant-loop-row : goal.invariant-loop-row
 invariant-loop-row l =
-    string_bytes l.text ++ text_of_lines (flat_map (row_lines l.session) (drop l.row-index l.rows)) ≡ string_bytes l.fn.text ++ text_of_lines (flat_map (row_lines l.session) l.rows)
+    string_bytes l.text ++ text_of_lines (flat_map (row_lines l.session) (drop l.row-index l.rows))
+    ≡ string_bytes l.fn.text ++ text_of_lines (flat_map (row_lines l.session) l.rows)

@@ -8,8 +8,8 @@ pub returns-in-Some-clause-follows : goal.returns-in-Some-clause-follows
 returns-in-Some-clause-follows g c =
     let named : c.as_str.result.now ≡ c.args.job.now.report = search rules in
     report-read
-    (seen_of g.H.Shelf.text g.H.Shelf.lacks g.H.Shelf.faults c.args.shelf.now c.answer_on.new.shelf)
-    (seen_of g.H.Shelf.text g.H.Shelf.lacks g.H.Shelf.faults c.fetch_report.new.shelf c.answer_on.new.shelf)
+    (seen_of g.H.Shelf c.args.shelf.now c.answer_on.new.shelf)
+    (seen_of g.H.Shelf c.fetch_report.new.shelf c.answer_on.new.shelf)
     c.args.job.now c.args.media.now c.answer_on.result c.as_str.result.now c.deref.result.now c.in-Some.claims.items
     (sees-rest g.H.Shelf.text g.H.Shelf.lacks g.H.Shelf.faults c.args.shelf.now c.fetch_report.new.shelf c.answer_on.new.shelf c.fetch_report.ensures.stays)
     named c.deref.ensures.value c.in_ok-claims.ensures.there
@@ -20,6 +20,6 @@ pub returns-in-None-clause-follows : goal.returns-in-None-clause-follows
 returns-in-None-clause-follows g c =
     let named : c.as_str.result.now ≡ c.args.job.now.report = search rules in
     follows-none
-    (seen_of g.H.Shelf.text g.H.Shelf.lacks g.H.Shelf.faults c.args.shelf.now c.fetch_report.new.shelf)
+    (seen_of g.H.Shelf c.args.shelf.now c.fetch_report.new.shelf)
     c.silent.result c.as_str.result.now c.args.job.now.report _ named c.in_ok-claims.ensures.there
     (λ text t. unmatched _ _ _ c.in-None.is (c.in_ok-claims.ensures.told text t)) c.silent.ensures

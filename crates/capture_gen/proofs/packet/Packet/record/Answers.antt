@@ -1,6 +1,6 @@
 use Rattle.std.proofs.Common.{◌≡◌, ◌++◌, List, ℕ, ap, ◌∙◌, replicate}
 use borrow.Rule.Slice.PartMut.{put_mid}
-use Rattle.capture_gen.specs.Heads.{record_head}
+use Rattle.pcap_reader.specs.WrittenHeads.{record_head}
 use Rattle.capture_gen.specs.Packets.{ethernet_header, ipv4_header, udp_header, extended_number, record_of, rtp_header}
 use Rattle.capture_gen.specs.declared.packet.Packet.{Packet}
 use Rattle.capture_gen.proofs.packet.Packet.record.Goals as goal

@@ -15,7 +15,8 @@ loop-number-init c = record {
 
 pub loop-number-preserved : goal.loop-number-preserved
 loop-number-preserved c = record {
-  stands = judges-more c.args.tai c.args.file c.loop-number.number c.args.media.now c.loop-number.judges.items c.push.new.self.items [] c.index-media-number.result c.new.result (search rules)
+  stands = judges-more c.args.tai c.args.file c.loop-number.number c.args.media.now c.loop-number.judges.items c.push.new.self.items []
+      c.index-media-number.result c.new.result (search rules)
       (sym c.index-media-number.is) c.loop-number.invariant.stands c.new.ensures.stands c.in_ok-push.ensures.items;
   few = few-more c.loop-number.judges.items c.push.new.self.items c.new.result c.loop-number.invariant.few c.new.ensures.fed c.in_ok-push.ensures.items;
 }
@@ -25,4 +26,5 @@ invariant_of-result c = record { few = c.loop-number.invariant.few }
 
 pub returns-clause-stands : goal.returns-clause-stands
 returns-clause-stands c =
-    subst (λ (l : List Media). AreJudgesOf c.args.tai c.args.file 0 l c.loop-number.judges.items []) (take_all c.loop-number.number c.args.media.now c.loop-number-test.false) c.loop-number.invariant.stands
+    subst (λ (l : List Media). AreJudgesOf c.args.tai c.args.file 0 l c.loop-number.judges.items [])
+    (take_all c.loop-number.number c.args.media.now c.loop-number-test.false) c.loop-number.invariant.stands

@@ -11,6 +11,7 @@ pub returns : goal.returns
 returns c = λ media key tai packets s.
     elim c.match-state.branch as (λ _. row_by c.args.self.key c.match-state.verdict ≡ row packets key media tai) [
       | in-Going w ↦ row-going media key tai c.args.self w.in-Going.flow _ _ packets w.in-Going.is w.verdict-verdict.ensures w.verdict-is s
-      | in-Refused w ↦ row-refused media key tai w.in-Refused.rec w.in-Refused.fault c.args.self _ _ packets w.in-Refused.is w.refusal-verdict.ensures w.verdict-is s
+      | in-Refused w ↦ row-refused media key tai w.in-Refused.rec w.in-Refused.fault c.args.self _ _ packets w.in-Refused.is w.refusal-verdict.ensures
+          w.verdict-is s
       | in-Spent w ↦ row-spent media key tai c.args.self _ packets w.in-Spent.is s
     ]

@@ -15,7 +15,8 @@ pub returns-clause-stands : goal.returns-clause-stands
 returns-clause-stands c =
     let same : is_same_target c.args.datagram.now.target c.args.self.now.target ≡ true = search rules in
     let read : c.read_rtp.result ≡ reading c.args.datagram.now.payload = search rules in
-    takes_packet_if c.feed.result c.args.self.now record { target = c.args.self.now.target; judge = c.feed.new.self } c.args.rec c.args.at c.args.datagram.now c.read_rtp.result
+    takes_packet_if c.feed.result c.args.self.now record { target = c.args.self.now.target; judge = c.feed.new.self } c.args.rec c.args.at c.args.datagram.now
+    c.read_rtp.result
     same refl read c.feed.ensures.stands
 
 pub feed-requires-clause-reading : goal.feed-requires-clause-reading

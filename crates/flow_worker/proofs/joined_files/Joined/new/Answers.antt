@@ -15,9 +15,9 @@ loop-preserved c = record {
 
 pub returns : goal.returns
 returns c =
-    let s : Setting = record { media = c.args.media.now; workers = c.args.workers; joined = true; tai = c.args.tai } in
+    let s : Setting = record { media = c.args.run.now.media.now; workers = length c.args.run.now.lanes.now; joined = true; tai = c.args.run.now.tai } in
     let joined : Joined = record { alloc = c.args.alloc; judges = c.in_ok-judges.judges; files = c.loop.all; next = 0; before = 0 } in
-    let count : length c.loop.all.items ≡ c.args.files = search rules in
+    let count : length c.loop.all.items ≡ c.args.run.now.files = search rules in
     record {
-      stands = joined-new s c.args.files c.args.worker joined refl c.requires.limits.some_files c.requires.limits.few_files count refl refl c.loop.invariant.each (c.in_ok-judges.ensures.fed true refl);
+      stands = joined-new s c.args.run.now.files c.args.worker joined refl c.requires.limits.some_files c.requires.limits.few_files count refl refl c.loop.invariant.each (c.in_ok-judges.ensures.fed true refl);
     }

@@ -1,4 +1,4 @@
-use Rattle.std.proofs.Common.{rules, [], eqb, sym, ap}
+use Rattle.std.proofs.Common.{length, rules, [], eqb, sym, ap}
 use Rattle.timing_base.specs.Keys.{key_of}
 use Rattle.flow_worker.specs.Judging.{IsPlace}
 use Rattle.flow_worker.specs.Opening.{Setting}
@@ -10,7 +10,7 @@ pub loop-number-preserved : goal.loop-number-preserved
 loop-number-preserved c = record {
   count = search rules;
   each = λ joined dealt.
-      let s : Setting = record { media = c.args.media.now; workers = c.args.workers; joined = joined; tai = c.args.tai } in
+      let s : Setting = record { media = c.args.run.now.media.now; workers = length c.args.run.now.lanes.now; joined = joined; tai = c.args.run.now.tai } in
       each-push-at (λ number. IsPlace s c.args.worker (key_of c.args.file number) []) c.loop-number.number c.loop-number.places.items c.push.new.self.items c.own_judge.result c.loop-number.invariant.count
       c.in_ok-push.ensures.items (c.loop-number.invariant.each joined dealt)
       (place-new s c.args.worker c.args.file c.loop-number.number c.index-media-number.result c.own_judge.result _ c.loop-number-test.true (sym c.index-media-number.is) dealt

@@ -7,4 +7,5 @@ returns c = λ origin count stands.
     let line = c.args.line.now in
     let clock = c.args.self.now in
     let less = c.lessen-more.ensures in
-    next-step line.num line.den origin count clock.due clock.slack line.whole line.part c.lessen-more.result.0 c.lessen-more.result.1 (omega (arith, line.some, line.slow)) line.split less.whole (less.left stands.least) stands
+    next-step line.num line.den origin count clock.due clock.slack line.whole line.part c.lessen-more.result.0 c.lessen-more.result.1
+    (omega (arith, line.some, line.slow)) line.split less.whole (less.left stands.least) stands

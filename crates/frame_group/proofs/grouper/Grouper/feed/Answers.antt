@@ -62,7 +62,8 @@ returns-clause-stands c = λ pt packets rec s.
     let read : IsRead all i c.args.at c.args.rtp = read-seam packets rest rec c.args.at c.args.rtp in
     let cut : c.cut-cut.result ≡ cut_at all i = c.cut-cut.ensures all i c.args.at kept read in
     record {
-      fault = c.pass.ensures.fault ∙ (c.in_default.is ∙ sym (told pt packets rest rec c.args.at c.args.rtp c.args.self.now _ _ _ s c.in_default.is c.fault_at.ensures.is c.cut-cut.ensures c.group_at-group.ensures.is
+      fault = c.pass.ensures.fault ∙ (c.in_default.is ∙ sym (told pt packets rest rec c.args.at c.args.rtp c.args.self.now _ _ _ s c.in_default.is
+          c.fault_at.ensures.is c.cut-cut.ensures c.group_at-group.ensures.is
           ∙ c.in_default-fault_at.is));
       kept = λ none. c.pass.ensures.keeps all i kept read cut (c.group_at-group.ensures.is all i kept cut);
     })

@@ -7,7 +7,8 @@ use Rattle.frame_group.proofs.grouper.Grouper.go_on.Goals as goal
 
 pub returns-clause-keeps : goal.returns-clause-keeps
 returns-clause-keeps c = λ packets i kept read cut.
-    let plain : has_marker packets i ≡ false = ap (λ (r : Rtp). r.marker) (rtp-is packets i c.args.at c.args.rtp read) ∙ unmarked c.args.self.now.before c.args.rtp c.requires.after in
+    let plain : has_marker packets i ≡ false =
+    ap (λ (r : Rtp). r.marker) (rtp-is packets i c.args.at c.args.rtp read) ∙ unmarked c.args.self.now.before c.args.rtp c.requires.after in
     record {
       before = c.go_on.ensures packets i kept.before read;
       cut_count = count-other packets i c.args.self.now.cuts (sym cut) kept.cut_count;

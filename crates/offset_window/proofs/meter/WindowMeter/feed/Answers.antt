@@ -19,12 +19,14 @@ returns-clause-stands c = λ kind anchor stamps s.
       seen = omega (arith, f.seen, s.seen, long);
       own = grid-same p.media p.n anchor _ _ v.own.grid c.fill.new.self.own.grid refl (ap (λ (r : Read). r.grid) f.own ∙ c.advance.ensures.grid) s.own;
       freeing = grid-same p.media p.n anchor _ _ v.freeing.grid c.fill.new.self.freeing.grid refl f.grid s.freeing;
-      freeing_number = freeing-number (length stamps) (length new) (v.seen + 1) c.vrx_full.result (vrx_full_of p.media p.n kind) v.freeing.number c.fill.new.self.freeing.number
+      freeing_number = freeing-number (length stamps) (length new) (v.seen + 1) c.vrx_full.result (vrx_full_of p.media p.n kind) v.freeing.number
+          c.fill.new.self.freeing.number
           long s.freeing_number (omega (arith, s.seen)) full (λ few. ap (λ (r : Read). r.number) (f.room few).0) f.number;
       lower = subst (IsLowerEnd (is_empty_with p.media p.n anchor new kind) (length new)) (sym f.lower)
           (lower-fed p.media p.n anchor stamps c.args.at kind v.own.grid v.own.number v.seen v.lower c.raise.new.end
           s.own (omega (arith, v.own_is, s.seen)) s.seen s.lower c.raise.ensures);
-      upper = upper-fed p.media p.n anchor stamps c.args.at kind v.freeing.grid v.freeing.number (v.seen + 1 - 1) c.vrx_full.result v.upper c.fill.new.self.upper
+      upper = upper-fed p.media p.n anchor stamps c.args.at kind v.freeing.grid v.freeing.number (v.seen + 1 - 1) c.vrx_full.result v.upper
+          c.fill.new.self.upper
           p.media_is p.n_some s.freeing full s.freeing_number packet s.upper
           (λ few. (f.room (omega (arith, few))).1) (λ more. f.moves (omega (arith, more)));
     }

@@ -7,7 +7,8 @@ use Rattle.offset_window.proofs.meter.WindowMeter.new.Goals as goal
 pub returns-clause-stands : goal.returns-clause-stands
 returns-clause-stands c =
     let fits = c.ranges.n0 in
-    let grid = grid-same _ _ _ _ _ c.without_offset.result c.first-read.result.grid c.is_gapped.ensures c.first-read.ensures.grid (simp to_z-of_z at c.without_offset.ensures) in
+    let grid = grid-same _ _ _ _ _ c.without_offset.result c.first-read.result.grid c.is_gapped.ensures c.first-read.ensures.grid
+    (simp to_z-of_z at c.without_offset.ensures) in
     record {
       kind_is = refl;
       seen = refl;

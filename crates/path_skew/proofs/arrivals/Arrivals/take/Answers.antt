@@ -12,7 +12,8 @@ returns-in_ok-push-clause-ok c =
     record {
       absent = search rules;
       found = λ other.
-          found-push c.find.new.self.in_order.items c.push.new.self.items (tree.get nat_cmp c.find.new.self.late) c.args.number c.args.arrival other c.in_ok-push.ensures.items none
+          found-push c.find.new.self.in_order.items c.push.new.self.items (tree.get nat_cmp c.find.new.self.late) c.args.number c.args.arrival other
+          c.in_ok-push.ensures.items none
           ∙ ap (λ o. if other == c.args.number then Some c.args.arrival else o) (c.find.ensures.kept.found other);
       numbers = search rules;
       repeated = search rules;

@@ -11,7 +11,8 @@ returns-clause-finds g c =
     record {
       gives = λ items end told.
           let here = gives-at _ _ w _ items end c.in-Records.is told in
-          let read = reads_record c.in-Records.layout w w w c.pass_record.new.self _ _ _ here.0 c.in_ok-head.head (record { place = refl; count = refl; most = refl; stage = refl }) (record { place = refl; count = refl; most = refl; stage = refl })
+          let read = reads_record c.in-Records.layout w w w c.pass_record.new.self _ _ _ here.0 c.in_ok-head.head
+          (record { place = refl; count = refl; most = refl; stage = refl }) (record { place = refl; count = refl; most = refl; stage = refl })
           (Keeps-refl _) (Keeps-refl _) here.1 (omega (arith, e.held)) e.held e.head.stamp_is e.head.captured_is e.head.whole
           p.held p.behind p.place p.count in
           gives-frame c.in-Records.layout w c.pass_record.new.self here.0 _ c.in_ok-head.head items end read p.count p.most here.2 (p.stage ∙ c.in-Records.is);

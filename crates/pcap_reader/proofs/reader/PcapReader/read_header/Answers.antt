@@ -8,14 +8,17 @@ use Rattle.pcap_reader.proofs.reader.PcapReader.read_header.Goals as goal
 
 pub returns-in-Ok-clause-header : goal.returns-in-Ok-clause-header
 returns-in-Ok-clause-header g c = λ text e.
-    header-read _ _ (held_bytes c.hold.new.self.window) text c.in_ok-hold.ensures.bytes e (c.in_ok-hold.ensures.enough (search rules)) ∙ ap header (sym c.peek.ensures)
+    header-read _ _ (held_bytes c.hold.new.self.window) text c.in_ok-hold.ensures.bytes e (c.in_ok-hold.ensures.enough (search rules))
+    ∙ ap header (sym c.peek.ensures)
     ∙ sym c.read_header.ensures ∙ c.in-Ok.is
 
 pub returns-in-Ok-clause-rest : goal.returns-in-Ok-clause-rest
 returns-in-Ok-clause-rest g c = λ text e.
-    ahead-let_go _ _ (held_bytes c.hold.new.self.window) _ text 24 c.in_ok-hold.ensures.bytes e (c.in_ok-hold.ensures.enough (search rules)) c.pass_header.ensures.held
+    ahead-let_go _ _ (held_bytes c.hold.new.self.window) _ text 24 c.in_ok-hold.ensures.bytes e (c.in_ok-hold.ensures.enough (search rules))
+    c.pass_header.ensures.held
 
 pub returns-in-Err-clause-header : goal.returns-in-Err-clause-header
 returns-in-Err-clause-header g c = λ text e.
-    unless_read_fault (Refused c.in-Err.fault) _ (header-read _ _ (held_bytes c.hold.new.self.window) text c.in_ok-hold.ensures.bytes e (c.in_ok-hold.ensures.enough (search rules))
+    unless_read_fault (Refused c.in-Err.fault) _ (header-read _ _ (held_bytes c.hold.new.self.window) text c.in_ok-hold.ensures.bytes e
+    (c.in_ok-hold.ensures.enough (search rules))
     ∙ ap header (sym c.peek.ensures) ∙ sym c.read_header.ensures ∙ c.in-Err.is)

@@ -5,7 +5,7 @@ use Rattle.pcapng_reader.specs.Stages.{rank}
 use Rattle.pcapng_reader.specs.declared.stage.Content.TheVariants as content
 use Rattle.pcapng_reader.specs.declared.block.Kind.TheVariants as kind
 use Rattle.pcapng_reader.specs.Classic.{gives}
-use Rattle.capture_gen.specs.Heads.{record_head}
+use Rattle.pcap_reader.specs.WrittenHeads.{record_head}
 use Rattle.std.proofs.lemmas.List.{length-take}
 use Rattle.pcapng_reader.specs.declared.stage.Body.{Body}
 use Rattle.pcapng_reader.proofs.Steps.{block-waits, steps-entered, record-given, text-passed}

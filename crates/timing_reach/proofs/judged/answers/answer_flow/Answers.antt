@@ -10,8 +10,8 @@ returns-in-Ok-clause-follows g c =
     let named : c.as_str.result.now ≡ c.args.job.now.sdp = search rules in
     let media : c.as_slice.result.now ≡ c.in-Ok.session = search rules in
     flow-session
-    (seen_of g.H.Shelf.text g.H.Shelf.lacks g.H.Shelf.faults c.args.shelf.now c.answer_over.new.shelf)
-    (seen_of g.H.Shelf.text g.H.Shelf.lacks g.H.Shelf.faults c.fetch_session.new.shelf c.answer_over.new.shelf)
+    (seen_of g.H.Shelf c.args.shelf.now c.answer_over.new.shelf)
+    (seen_of g.H.Shelf c.fetch_session.new.shelf c.answer_over.new.shelf)
     c.args.job.now (λ m. OnFlow c.args.job.now.tai m (g.L.Look.answers c.args.look.now c.args.job.now.tai m)) c.answer_over.result c.as_str.result.now
     c.as_slice.result.now c.in-Ok.session
     (sees-rest g.H.Shelf.text g.H.Shelf.lacks g.H.Shelf.faults c.args.shelf.now c.fetch_session.new.shelf c.answer_over.new.shelf c.fetch_session.ensures.stays)
@@ -20,8 +20,8 @@ returns-in-Ok-clause-follows g c =
 pub returns-in-Ok-clause-cause : goal.returns-in-Ok-clause-cause
 returns-in-Ok-clause-cause g c =
     cause-seen
-    (seen_of g.H.Shelf.text g.H.Shelf.lacks g.H.Shelf.faults c.args.shelf.now c.answer_over.new.shelf)
-    (seen_of g.H.Shelf.text g.H.Shelf.lacks g.H.Shelf.faults c.fetch_session.new.shelf c.answer_over.new.shelf)
+    (seen_of g.H.Shelf c.args.shelf.now c.answer_over.new.shelf)
+    (seen_of g.H.Shelf c.fetch_session.new.shelf c.answer_over.new.shelf)
     c.answer_over.result c.args.job.now
     (sees-rest g.H.Shelf.text g.H.Shelf.lacks g.H.Shelf.faults c.args.shelf.now c.fetch_session.new.shelf c.answer_over.new.shelf c.fetch_session.ensures.stays)
     c.answer_over.ensures.cause

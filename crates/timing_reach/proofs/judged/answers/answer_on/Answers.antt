@@ -6,7 +6,7 @@ use Rattle.timing_reach.proofs.judged.answers.answer_on.Goals as goal
 
 pub returns-clause-follows : goal.returns-clause-follows
 returns-clause-follows g c =
-    let i = seen_of g.H.Shelf.text g.H.Shelf.lacks g.H.Shelf.faults c.args.shelf.now c.answer_seen.new.shelf in
+    let i = seen_of g.H.Shelf c.args.shelf.now c.answer_seen.new.shelf in
     reads-twice i (g.H.Shelf.text c.judge_flow.new.shelf) (g.H.Shelf.faults c.judge_flow.new.shelf) c.answer_seen.result c.args.job.now.capture
     (λ text. IsJudgmentIn c.args.media.now c.args.job.now.tai text c.in_ok-judgment.judgment)
     (OnFlow c.args.job.now.tai c.args.media.now (g.L.Look.answers c.args.look.now c.args.job.now.tai c.args.media.now))
@@ -15,7 +15,7 @@ returns-clause-follows g c =
 
 pub returns-clause-cause : goal.returns-clause-cause
 returns-clause-cause g c =
-    let i = seen_of g.H.Shelf.text g.H.Shelf.lacks g.H.Shelf.faults c.args.shelf.now c.answer_seen.new.shelf in
+    let i = seen_of g.H.Shelf c.args.shelf.now c.answer_seen.new.shelf in
     capture-cause i c.args.job.now c.answer_seen.result c.answer_seen.ensures.answers
     (cause-after c.answer_seen.result (i.before c.args.job.now.capture) (g.H.Shelf.faults c.judge_flow.new.shelf c.args.job.now.capture)
     (i.now c.args.job.now.capture)

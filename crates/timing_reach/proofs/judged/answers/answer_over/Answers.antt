@@ -13,7 +13,7 @@ returns-in_err-no_such_media-in-None-clause-follows g c = inl (ran-out c.from_re
 
 pub returns-in_err-no_such_media-in-None-clause-cause : goal.returns-in_err-no_such_media-in-None-clause-cause
 returns-in_err-no_such_media-in-None-clause-cause g c =
-    cause-out c.from_residual.result (FlowInputRose c.args.job.now (seen_of g.H.Shelf.text g.H.Shelf.lacks g.H.Shelf.faults c.args.shelf.now c.args.shelf.now))
+    cause-out c.from_residual.result (FlowInputRose c.args.job.now (seen_of g.H.Shelf c.args.shelf.now c.args.shelf.now))
     c.from_residual.ensures.1
 
 pub returns-in_err-no_such_media-in-None-clause-stays : goal.returns-in_err-no_such_media-in-None-clause-stays
@@ -26,7 +26,7 @@ returns-in-Some-clause-follows g c =
     let there : slice_get c.args.media.now c.job.inside.media ≡ Some m =
     slice_get_read c.args.media.now (length c.args.media.now) c.job.inside.media m refl c.in-Some.ensures.lookup.3.0
     (c.in-Some.ensures.lookup.4 (omega arith) m) in
-    reads-some (seen_of g.H.Shelf.text g.H.Shelf.lacks g.H.Shelf.faults c.args.shelf.now c.answer_on.new.shelf) c.answer_on.result c.args.job.now
+    reads-some (seen_of g.H.Shelf c.args.shelf.now c.answer_on.new.shelf) c.answer_on.result c.args.job.now
     (λ m. OnFlow c.args.job.now.tai m (g.L.Look.answers c.args.look.now c.args.job.now.tai m))
     (slice_get c.args.media.now c.args.job.now.media) m (ap (slice_get c.args.media.now) (sym number) ∙ there) c.answer_on.ensures.follows
 
@@ -40,7 +40,7 @@ pub returns-in_ok-no_such_media-in-None-clause-follows : goal.returns-in_ok-no_s
 returns-in_ok-no_such_media-in-None-clause-follows g c =
     let number : c.job.inside.media ≡ c.args.job.now.media = ap (λ (job : FlowJob). job.media) c.job.view_is in
     let past : length c.args.media.now ≤ c.job.inside.media = search rules in
-    reads-none (seen_of g.H.Shelf.text g.H.Shelf.lacks g.H.Shelf.faults c.args.shelf.now c.args.shelf.now) c.args.job.now
+    reads-none (seen_of g.H.Shelf c.args.shelf.now c.args.shelf.now) c.args.job.now
     (λ m. OnFlow c.args.job.now.tai m (g.L.Look.answers c.args.look.now c.args.job.now.tai m)) c.in_ok-no_such_media-in-None.field-0
     (slice_get c.args.media.now c.args.job.now.media) (ap (slice_get c.args.media.now) (sym number) ∙ slice_get_past c.args.media.now c.job.inside.media past)
     c.in_ok-no_such_media-in-None.ensures

@@ -1,5 +1,5 @@
 use Rattle.std.proofs.Common.{◌++◌, length, ap, ◌∙◌, append_assoc}
-use Rattle.capture_gen.specs.Heads.{record_head}
+use Rattle.pcap_reader.specs.WrittenHeads.{record_head}
 use Rattle.timing_reach.proofs.shape.copy.add_record.Goals as goal
 
 pub returns : goal.returns

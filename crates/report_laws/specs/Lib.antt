@@ -1,3 +1,0 @@
--- what is promised
-pub mod Exact
-pub mod ReadBack

@@ -1,4 +1,0 @@
-pub mod Begun
-pub mod Following
-pub mod Reports
-mod Takings

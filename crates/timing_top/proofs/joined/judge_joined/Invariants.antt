@@ -1,0 +1,23 @@
+use Rattle.std.proofs.Common.{◌≡◌, ◌≤◌, ◌+◌, ◌*◌, ◌^◌, ℕ, List, length}
+use Rattle.std.specs.Prelude.{All, IfOk}
+use Rattle.timing_base.specs.Captures.{Record}
+use Rattle.timing_outside.specs.Shelves.{StaysAs}
+use Rattle.fail_interval.specs.Stands.{StandsFor, records}
+use Rattle.timing_steps.specs.Fetched.{AreFetched, Reading}
+use Rattle.pcapng_reader.specs.Classic.{classic_texts}
+use Rattle.pcapng_reader.specs.Sources.{faults_of, left_of, name_of}
+use Rattle.timing_top.specs.Found.{AreJoined}
+use Rattle.timing_top.proofs.joined.judge_joined.Given as goal
+
+abbrev pub invariant-loop-source : goal.invariant-loop-source
+invariant-loop-source g l = record {
+  reading : (names : List (List ℕ)) → AreFetched (name_of g.H.Source.Source.name) (left_of g.H.Source.Source.left) (faults_of g.H.Source.Source.faults) (classic_texts (g.H.Shelf.text l.fn.shelf)) names l.fn.sources.items
+      → Reading (name_of g.H.Source.Source.name) (left_of g.H.Source.Source.left) (faults_of g.H.Source.Source.faults) (classic_texts (g.H.Shelf.text l.fn.shelf)) (g.H.Shelf.faults l.fn.shelf) (g.H.Shelf.faults l.shelf)
+      names l.source-iterator.rest.items l.outcome (length l.joined.notes.items) (λ read. AreJoined read l.media l.tai l.joined.notes.items l.joined.records l.joined.bank);
+  fresh : All (λ source. (faults_of g.H.Source.Source.faults) source ≡ 0) l.source-iterator.rest.items;
+  count : IfOk l.outcome (λ _. length l.joined.notes.items + length l.source-iterator.rest.items ≡ length l.fn.sources.items);
+  before : IfOk l.outcome (λ _. l.joined.records ≤ length l.joined.notes.items * 2 ^ 36);
+  few_fed : IfOk l.outcome (λ _. records l.joined.bank ≤ length l.joined.notes.items * 2 ^ 36);
+  fed : IfOk l.outcome (λ _. (items : List Record) × StandsFor l.media 0 l.tai l.joined.bank items);
+  stays : StaysAs g.H.Shelf.text g.H.Shelf.lacks g.H.Shelf.faults l.fn.shelf l.shelf;
+}

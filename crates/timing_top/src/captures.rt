@@ -1,0 +1,101 @@
+//! The captures of a job, judged one after the other, each by itself.
+
+ghost use Rattle.std.specs.Prelude.{◌≡◌, ◌≤◌, ◌<◌, ◌+◌, ℕ, List, Some, IfOk, IfErr, length, All};
+ghost use Rattle.timing_outside.specs.Causes.{Rose};
+ghost use Rattle.timing_outside.specs.Shelves.{StaysAs};
+ghost use Rattle.timing_report.specs.Outcomes.{AreOfSession};
+ghost use Rattle.pcapng_reader.specs.Sources.{faults_of, left_of, name_of};
+ghost use Rattle.timing_steps.specs.Answers.{OnReadFault, seen_of};
+ghost use Rattle.fail_interval.specs.Rows.{rows_of_files};
+ghost use Rattle.timing_top.specs.Found.{FindsNext, IsJudged};
+
+use fail_interval::Bank;
+use pcapng_reader::Classic;
+use std::alloc::Global;
+use timing_base::{FileNote, Media, Row};
+use timing_outside::{Shelf, Source};
+use timing_report::Input;
+use timing_steps::{Failure, give_back, take_source};
+
+/// How the captures of a job end, and its rows.
+#[derive(Drop)]
+pub struct Found {
+    /// One for each capture.
+    pub notes: Vec<FileNote>,
+    pub rows: Vec<Row>,
+}
+
+/// Judges the media in one capture more, by itself.
+fn judge_next<H: Shelf>(
+    alloc: Global,
+    shelf: &mut H,
+    source: Classic<H::Source>,
+    media: &[Media],
+    tai: u64,
+    found: &mut Found,
+) -> Result<(), Failure>
+    requires fresh { faults_of H.Source.faults source ≡ 0 }
+    requires few { length found.old.notes.items < 16 }
+    requires few_media { length media.now ≤ 64 }
+    requires tai { tai ≤ 1000 }
+    ensures told { IfOk result (λ _. (text : List ℕ) → left_of H.Source.left source ≡ Some text
+        → FindsNext text media.now tai (length found.old.notes.items)
+        found.old.notes.items found.new.notes.items found.old.rows.items found.new.rows.items) }
+    ensures count { IfOk result (λ _. length found.new.notes.items
+        ≡ length found.old.notes.items + 1) }
+    ensures of_session { IfOk result (λ _. AreOfSession media.now found.old.rows.items
+        → AreOfSession media.now found.new.rows.items) }
+    ensures cause { IfErr result (λ e. OnReadFault e (λ i.
+        (i ≡ Input.Capture (length found.old.notes.items))
+        × Rose (H.faults shelf.old (name_of H.Source.name source))
+        (H.faults shelf.new (name_of H.Source.name source)))) }
+    ensures stays { StaysAs H.text H.lacks H.faults shelf.old shelf.new }
+{
+    let number = found.notes.len() as u32;
+    let mut bank = match Bank::new(alloc, media, number, tai) {
+        Ok(bank) => bank,
+        Err(_) => {
+            give_back(shelf, source);
+            return Err(Failure::OutOfMemory);
+        }
+    };
+    let taken = take_source(alloc, shelf, source, number, 0, &mut bank)?;
+    found.notes.push(taken.note)?;
+    bank.finish(&mut found.rows)?;
+    Ok(())
+}
+
+/// Judges the media in each capture by itself. After a capture that couldn't be read the sources of
+/// the others go back to the shelf.
+pub fn judge_each<H: Shelf>(
+    alloc: Global,
+    shelf: &mut H,
+    sources: Vec<Classic<H::Source>>,
+    media: &[Media],
+    tai: u64,
+) -> Result<Found, Failure>
+    requires few { length sources.items ≤ 16 }
+    requires fresh { All (λ source. faults_of H.Source.faults source ≡ 0) sources.items }
+    requires few_media { length media.now ≤ 64 }
+    requires tai { tai ≤ 1000 }
+    ensures judged { IsJudged (name_of H.Source.name) (left_of H.Source.left) (faults_of H.Source.faults)
+        (seen_of H.Shelf shelf.old shelf.new) sources.items (rows_of_files tai 0 media.now) media.now result }
+    ensures stays { StaysAs H.text H.lacks H.faults shelf.old shelf.new }
+{
+    let mut found = Found {
+        notes: Vec::new(alloc),
+        rows: Vec::new(alloc),
+    };
+    let mut outcome = Ok(());
+    for source in sources {
+        outcome = match outcome {
+            Ok(()) => judge_next(alloc, shelf, source, media, tai, &mut found),
+            Err(failure) => {
+                give_back(shelf, source);
+                Err(failure)
+            }
+        };
+    }
+    outcome?;
+    Ok(found)
+}

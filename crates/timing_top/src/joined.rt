@@ -1,0 +1,115 @@
+//! The captures of a job, judged as one capture.
+
+ghost use Rattle.std.specs.Prelude.{◌≡◌, ◌≤◌, ◌<◌, ◌+◌, ◌*◌, ◌^◌, ℕ, List, Some, IfOk, IfErr, length, All};
+ghost use Rattle.timing_base.specs.Captures.{joined};
+ghost use Rattle.timing_outside.specs.Causes.{Rose};
+ghost use Rattle.timing_outside.specs.Shelves.{StaysAs};
+ghost use Rattle.pcapng_reader.specs.Sources.{faults_of, left_of, name_of};
+ghost use Rattle.timing_steps.specs.Answers.{OnReadFault, seen_of};
+ghost use Rattle.fail_interval.specs.Rows.{rows_of};
+ghost use Rattle.fail_interval.specs.Stands.{IsFed, records};
+ghost use Rattle.timing_top.specs.Found.{IsJudged, JoinsNext};
+
+use crate::captures::Found;
+use fail_interval::Bank;
+use pcapng_reader::Classic;
+use std::alloc::Global;
+use timing_base::{FileNote, Media};
+use timing_outside::{Shelf, Source};
+use timing_report::Input;
+use timing_steps::{Failure, give_back, give_back_all, take_source};
+
+/// Captures that are one capture, as far as they were taken.
+#[derive(Drop)]
+struct Joined {
+    /// How each of them ends.
+    notes: Vec<FileNote>,
+    /// Their records.
+    records: u64,
+    bank: Bank,
+}
+
+/// Takes one capture more: its first record follows the last one of the captures before.
+fn join_next<H: Shelf>(
+    alloc: Global,
+    shelf: &mut H,
+    source: Classic<H::Source>,
+    joined: &mut Joined,
+) -> Result<(), Failure>
+    requires fresh { faults_of H.Source.faults source ≡ 0 }
+    requires few { length joined.old.notes.items < 16 }
+    requires before { joined.old.records ≤ length joined.old.notes.items * 2 ^ 36 }
+    requires fed { records joined.old.bank ≤ length joined.old.notes.items * 2 ^ 36 }
+    ensures told { IfOk result (λ _. (text : List ℕ) → left_of H.Source.left source ≡ Some text
+        → JoinsNext text joined.old.records joined.new.records joined.old.bank joined.new.bank
+        joined.old.notes.items joined.new.notes.items) }
+    ensures count { IfOk result (λ _. length joined.new.notes.items
+        ≡ length joined.old.notes.items + 1) }
+    ensures few { IfOk result (λ _. joined.new.records ≤ length joined.new.notes.items * 2 ^ 36) }
+    ensures few_fed { IfOk result (λ _. records joined.new.bank
+        ≤ length joined.new.notes.items * 2 ^ 36) }
+    ensures fed { IfOk result (λ _. IsFed joined.old.bank joined.new.bank) }
+    ensures cause { IfErr result (λ e. OnReadFault e (λ i.
+        (i ≡ Input.Capture (length joined.old.notes.items))
+        × Rose (H.faults shelf.old (name_of H.Source.name source))
+        (H.faults shelf.new (name_of H.Source.name source)))) }
+    ensures stays { StaysAs H.text H.lacks H.faults shelf.old shelf.new }
+{
+    let number = joined.notes.len() as u32;
+    let before = joined.records;
+    let taken = take_source(alloc, shelf, source, number, before, &mut joined.bank)?;
+    joined.notes.push(taken.note)?;
+    joined.records += taken.records;
+    Ok(())
+}
+
+/// Takes the captures in order, the records of each numbered on from those before, and judges the
+/// media in all of them as in one. After a capture that couldn't be read the sources of the others go
+/// back to the shelf.
+pub fn judge_joined<H: Shelf>(
+    alloc: Global,
+    shelf: &mut H,
+    sources: Vec<Classic<H::Source>>,
+    media: &[Media],
+    tai: u64,
+) -> Result<Found, Failure>
+    requires few { length sources.items ≤ 16 }
+    requires fresh { All (λ source. faults_of H.Source.faults source ≡ 0) sources.items }
+    requires few_media { length media.now ≤ 64 }
+    requires tai { tai ≤ 1000 }
+    ensures judged { IsJudged (name_of H.Source.name) (left_of H.Source.left) (faults_of H.Source.faults)
+        (seen_of H.Shelf shelf.old shelf.new) sources.items (λ files. rows_of tai 0 media.now (joined files)) media.now result }
+    ensures stays { StaysAs H.text H.lacks H.faults shelf.old shelf.new }
+{
+    let bank = match Bank::new(alloc, media, 0, tai) {
+        Ok(bank) => bank,
+        Err(_) => {
+            give_back_all(shelf, sources);
+            return Err(Failure::OutOfMemory);
+        }
+    };
+    let mut joined = Joined {
+        notes: Vec::new(alloc),
+        records: 0,
+        bank,
+    };
+    let mut outcome = Ok(());
+    for source in sources {
+        outcome = match outcome {
+            Ok(()) => join_next(alloc, shelf, source, &mut joined),
+            Err(failure) => {
+                give_back(shelf, source);
+                Err(failure)
+            }
+        };
+    }
+    outcome?;
+    let Joined {
+        notes,
+        records: _,
+        bank,
+    } = joined;
+    let mut rows = Vec::new(alloc);
+    bank.finish(&mut rows)?;
+    Ok(Found { notes, rows })
+}
