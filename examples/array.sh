@@ -16,7 +16,11 @@ if [ $# -lt 3 ] || [ $# -gt 4 ] || [ -z "${SLURM_ARRAY_TASK_ID-}" ]; then
     exit 126
 fi
 sdp=$1 list=$2 report=$3/report-$SLURM_ARRAY_TASK_ID program=${4:-./run}
-capture=$(sed -n "${SLURM_ARRAY_TASK_ID}p" -- "$list") && [ -n "$capture" ] && mkdir -p -- "$3" || exit 126
+capture=$(sed -n "${SLURM_ARRAY_TASK_ID}p" -- "$list") && mkdir -p -- "$3" || exit 126
+if [ -z "$capture" ]; then
+    echo "array.sh: $list has no line $SLURM_ARRAY_TASK_ID" >&2
+    exit 126
+fi
 
 rm -f -- "$report.json" "$report.err"
 "$program" check --serial --json --sdp="$sdp" -- "$capture" > "$report.part" 2> "$report.err"
