@@ -20,10 +20,9 @@ not_run=(
     'gst-launch-1.0|a network to send into'
     './run check --sdp gst_1080.sdp|a capture of 1.4 MB that does not ship'
     'sbatch|a cluster'
-    'rt ci|the time of the whole gate, and runs by itself'
 )
 # Tools that a machine may lack.
-tools='jq xargs parallel tcpdump editcap mergecap capinfos tshark'
+tools='jq xargs column parallel tcpdump editcap mergecap reordercap capinfos tshark gzip'
 
 top=$(cd "$(dirname "$(readlink -f "$0")")/.." && pwd) || exit 2
 folder=$(mktemp -d) || exit 2
