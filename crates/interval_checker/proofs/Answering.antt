@@ -48,13 +48,15 @@ known-breaks : (m : Media) (n : ℕ) (stamps : List ℕ) (kind : Kind) (f : Fail
 known-breaks m n stamps kind f Bucket =
     known-three (cases_eq f.limit (c_max_of m n kind)) (cases_eq f.count (load_of m n stamps f.from f.to)) (known-less f.limit f.count)
 known-breaks m n stamps kind f Over =
-    known-four (cases_eq f.limit (vrx_full_of m n kind)) (cases_eq f.from 0) (cases_eq f.count (held_at m n stamps (gapped_of kind) f.to)) (known-less f.limit f.count)
+    known-four (cases_eq f.limit (vrx_full_of m n kind)) (cases_eq f.from 0) (cases_eq f.count (held_at m n stamps (gapped_of kind) f.to))
+    (known-less f.limit f.count)
 known-breaks m n stamps kind f Empty =
     known-four (cases_eq f.limit (f.to + 1)) (cases_eq f.from f.to) (cases_eq f.count (arrived_by_read m n stamps kind f.to)) (known-less f.count f.limit)
 
 known-confirms : (m : Media) (n : ℕ) (stamps : List ℕ) (kind : Kind) (f : FailProof) → Known (Confirms m n stamps kind f)
 known-confirms m n stamps kind f =
-    elim (known-three (known-most f.from f.to) (known-less f.to (length stamps)) (known-breaks m n stamps kind f f.model)) as (λ _. Known (Confirms m n stamps kind f)) [
+    elim (known-three (known-most f.from f.to) (known-less f.to (length stamps)) (known-breaks m n stamps kind f f.model))
+    as (λ _. Known (Confirms m n stamps kind f)) [
       | inl p ↦ inl record { ordered = p.0; judged = p.1; breaks = p.2 }
       | inr n ↦ inr (λ c. n (c.ordered, c.judged, c.breaks))
     ]
@@ -69,7 +71,8 @@ outcome-one : (m : Media) (kind : Kind) (f : FailProof) (o : RunOutcome) → (an
 outcome-one m kind f (no_whole_frame head) = (Err (NoWholeFrame head), refl)
 outcome-one m kind f (whole_frames j) = judged-one m kind f j
 
-at-one : (m : Media) (kind : Kind) (f : FailProof) (outcomes : List RunOutcome) (run : ℕ) → (answer : Result Bool Unjudged) × SaysAt m kind f outcomes run answer
+at-one : (m : Media) (kind : Kind) (f : FailProof) (outcomes : List RunOutcome) (run : ℕ)
+    → (answer : Result Bool Unjudged) × SaysAt m kind f outcomes run answer
 at-one m kind f [] run = (Ok false, refl)
 at-one m kind f (o ∷ os) zero = outcome-one m kind f o
 at-one m kind f (o ∷ os) (suc run) = at-one m kind f os run
@@ -91,17 +94,20 @@ judged-same m kind f j (Ok false) (Ok false) x y = refl
 judged-same m kind f j (Ok false) (Err w) x y = absurd y
 judged-same m kind f j (Err w) b x y = absurd x
 
-outcome-same : (m : Media) (kind : Kind) (f : FailProof) (o : RunOutcome) (a b : Result Bool Unjudged) → SaysOutcome m kind f o a → SaysOutcome m kind f o b → a ≡ b
+outcome-same : (m : Media) (kind : Kind) (f : FailProof) (o : RunOutcome) (a b : Result Bool Unjudged) → SaysOutcome m kind f o a → SaysOutcome m kind f o b
+    → a ≡ b
 outcome-same m kind f (no_whole_frame head) a b x y = x ∙ sym y
 outcome-same m kind f (whole_frames j) a b x y = judged-same m kind f j a b x y
 
-at-same : (m : Media) (kind : Kind) (f : FailProof) (outcomes : List RunOutcome) (run : ℕ) (a b : Result Bool Unjudged) → SaysAt m kind f outcomes run a → SaysAt m kind f outcomes run b → a ≡ b
+at-same : (m : Media) (kind : Kind) (f : FailProof) (outcomes : List RunOutcome) (run : ℕ) (a b : Result Bool Unjudged) → SaysAt m kind f outcomes run a
+    → SaysAt m kind f outcomes run b → a ≡ b
 at-same m kind f [] run a b x y = x ∙ sym y
 at-same m kind f (o ∷ os) zero a b x y = outcome-same m kind f o a b x y
 at-same m kind f (o ∷ os) (suc run) a b x y = at-same m kind f os run a b x y
 
 -- and no other
-pub says-same : (m : Media) (kind : Kind) (f : FailProof) (run : ℕ) (verdict : FlowVerdict) (a b : Result Bool Unjudged) → Says m kind f run verdict a → Says m kind f run verdict b → a ≡ b
+pub says-same : (m : Media) (kind : Kind) (f : FailProof) (run : ℕ) (verdict : FlowVerdict) (a b : Result Bool Unjudged) → Says m kind f run verdict a
+    → Says m kind f run verdict b → a ≡ b
 says-same m kind f run absent a b x y = x ∙ sym y
 says-same m kind f run (refused rec fault) a b x y = x ∙ sym y
 says-same m kind f run (gap rec expected got) a b x y = x ∙ sym y

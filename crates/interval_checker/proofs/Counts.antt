@@ -114,7 +114,8 @@ due-falls m n anchor gapped r t k are i j h l e =
     let there : at_most (read_of m n anchor gapped j) (whole t) ≡ true = subst (λ x. at_most (read_of m n anchor gapped x) (whole t) ≡ true) at_j e in
     let later = (are.before j t).0 (true-at_most (read_of m n anchor gapped j) (whole t) there) in
     let order = parts_at-le r i j h in
-    let here : at_most (read_of m n anchor gapped i) (whole t) ≡ true = at_most-true (read_of m n anchor gapped i) (whole t) ((are.before i t).1 (omega (arith, later, order))) in
+    let here : at_most (read_of m n anchor gapped i) (whole t) ≡ true =
+    at_most-true (read_of m n anchor gapped i) (whole t) ((are.before i t).1 (omega (arith, later, order))) in
     subst (λ x. at_most (read_of m n anchor gapped x) (whole t) ≡ true) (sym at_i) here
 
 -- packets come by a read in their order
@@ -141,7 +142,8 @@ held-due : (m : Media) (n : ℕ) (stamps : List ℕ) (gapped : Bool) (to count d
 held-due m n stamps gapped to count due some few is = (λ h. omega (arith, h, is, some, few), λ h. omega (arith, h, is, some, few))
 
 -- the read before those that aren't done is ahead: the buffer holds more
-pub held-more : (m : Media) (n : ℕ) (stamps : List ℕ) (gapped : Bool) (r : Reads) (to count due t : ℕ) (last : Bool) → AreReads m n (anchor_of m (slice_index stamps 0)) gapped r
+pub held-more : (m : Media) (n : ℕ) (stamps : List ℕ) (gapped : Bool) (r : Reads) (to count due t : ℕ) (last : Bool)
+    → AreReads m n (anchor_of m (slice_index stamps 0)) gapped r
     → 1 ≤ count → count ≤ to + 1 → due ≡ to + 1 - count → t ≡ slice_index stamps to → 0 < due
     → last ≡ at_most (read_of m n (anchor_of m (slice_index stamps 0)) gapped (due - 1)) (whole t) → last ≡ false
     → count ≡ held_at m n stamps gapped to → ⊥
@@ -162,7 +164,8 @@ below-not true e = cc
 below-not false e = refl
 
 -- else it holds so many exactly where the next read is ahead
-pub held-says : (m : Media) (n : ℕ) (stamps : List ℕ) (gapped : Bool) (r : Reads) (to count due t : ℕ) (next : Bool) → AreReads m n (anchor_of m (slice_index stamps 0)) gapped r
+pub held-says : (m : Media) (n : ℕ) (stamps : List ℕ) (gapped : Bool) (r : Reads) (to count due t : ℕ) (next : Bool)
+    → AreReads m n (anchor_of m (slice_index stamps 0)) gapped r
     → 1 ≤ count → count ≤ to + 1 → due ≡ to + 1 - count → t ≡ slice_index stamps to
     → (0 < due → at_most (read_of m n (anchor_of m (slice_index stamps 0)) gapped (due - 1)) (whole t) ≡ true)
     → next ≡ at_most (read_of m n (anchor_of m (slice_index stamps 0)) gapped due) (whole t)
@@ -188,7 +191,8 @@ below-is true e = refl
 below-is false e = cc
 
 -- the last counted packet comes after the read: fewer came
-pub arrived-fewer : (m : Media) (n : ℕ) (stamps : List ℕ) (kind : Kind) (r : Reads) (to count t : ℕ) (last : Bool) → AreReads m n (anchor_of m (slice_index stamps 0)) (gapped_of kind) r
+pub arrived-fewer : (m : Media) (n : ℕ) (stamps : List ℕ) (kind : Kind) (r : Reads) (to count t : ℕ) (last : Bool)
+    → AreReads m n (anchor_of m (slice_index stamps 0)) (gapped_of kind) r
     → NeverFall stamps → 0 < count → t ≡ slice_index stamps (count - 1)
     → last ≡ below (read_of m n (anchor_of m (slice_index stamps 0)) (gapped_of kind) to) (whole t) → last ≡ true
     → count ≡ arrived_by_read m n stamps kind to → ⊥
@@ -204,7 +208,8 @@ arrived-fewer m n stamps kind r to count t last are rising some at says holds ca
     differ e = cc
 
 -- else so many came exactly where the packet behind them comes after the read
-pub arrived-says : (m : Media) (n : ℕ) (stamps : List ℕ) (kind : Kind) (r : Reads) (to count t u : ℕ) (next : Bool) → AreReads m n (anchor_of m (slice_index stamps 0)) (gapped_of kind) r
+pub arrived-says : (m : Media) (n : ℕ) (stamps : List ℕ) (kind : Kind) (r : Reads) (to count t u : ℕ) (next : Bool)
+    → AreReads m n (anchor_of m (slice_index stamps 0)) (gapped_of kind) r
     → NeverFall stamps → count < length stamps
     → (0 < count → t ≡ slice_index stamps (count - 1))
     → u ≡ slice_index stamps count

@@ -33,7 +33,8 @@ pub fault-is : (packets : List FlowPacket) (pt i at : ℕ) (r : Rtp)
     → IsRead packets i at r
     → fault packets pt i ≡ first_of (read_fault pt r (is_second_source packets i)) (first_of (order_fault 1024 packets i) (size_fault 262144 packets i))
 fault-is packets pt i at r is =
-    ap (λ (read : Result Rtp PacketFault). first_of (first_of (reading_fault read) (first_of (fault_if (not ((read_or_zeros read).pt == pt)) PayloadType) (fault_if (is_second_source packets i) SecondSource)))
+    ap (λ (read : Result Rtp PacketFault). first_of (first_of (reading_fault read)
+    (first_of (fault_if (not ((read_or_zeros read).pt == pt)) PayloadType) (fault_if (is_second_source packets i) SecondSource)))
     (first_of (order_fault 1024 packets i) (size_fault 262144 packets i))) is.rtp
 
 regroup : (a b c : Option PacketFault) → first_of a (first_of b c) ≡ first_of (first_of a b) c
@@ -55,18 +56,21 @@ pub fault-payload : (pt : ℕ) (r : Rtp) (second : Bool) (order : Option PacketF
 fault-payload pt r second order ne = let e : (r.pt == pt) ≡ false = grind (arith, nat_tests) in rw e refl
 
 -- another source
-pub fault-source : (pt : ℕ) (r : Rtp) (second : Bool) (order : Option PacketFault) → r.pt ≡ pt → second ≡ true → Some SecondSource ≡ first_of (read_fault pt r second) order
+pub fault-source : (pt : ℕ) (r : Rtp) (second : Bool) (order : Option PacketFault) → r.pt ≡ pt → second ≡ true
+    → Some SecondSource ≡ first_of (read_fault pt r second) order
 fault-source pt r second order same s = let e : (r.pt == pt) ≡ true = grind (arith, nat_tests) in rw (e, s) refl
 
 -- neither
-pub fault-order : (pt : ℕ) (r : Rtp) (second : Bool) (order here : Option PacketFault) → r.pt ≡ pt → second ≡ false → here ≡ order → here ≡ first_of (read_fault pt r second) order
+pub fault-order : (pt : ℕ) (r : Rtp) (second : Bool) (order here : Option PacketFault) → r.pt ≡ pt → second ≡ false → here ≡ order
+    → here ≡ first_of (read_fault pt r second) order
 fault-order pt r second order here same s h = let e : (r.pt == pt) ≡ true = grind (arith, nat_tests) in rw (e, s) h
 
 same_number : (a : ℕ) → not (a == a) ≡ false
 same_number a = grind (arith, nat_tests)
 
 -- the first packet has no packet before it
-pub fault-first : (packets : List FlowPacket) (pt i : ℕ) (r : Rtp) → r.pt ≡ pt → i ≡ 0 → None ≡ first_of (read_fault pt r (is_second_source packets i)) (order_fault 1024 packets i)
+pub fault-first : (packets : List FlowPacket) (pt i : ℕ) (r : Rtp) → r.pt ≡ pt → i ≡ 0
+    → None ≡ first_of (read_fault pt r (is_second_source packets i)) (order_fault 1024 packets i)
 fault-first packets pt i r same e =
     let source : is_second_source packets i ≡ false = ap (is_second_source packets) e ∙ same_number (rtp packets 0).ssrc in
     let order : order_fault 1024 packets i ≡ None = ap (order_fault 1024 packets) e in

@@ -34,7 +34,8 @@ pub unread-fault : (packets : List FlowPacket) (pt i : ℕ) (f : PacketFault) �
 unread-fault packets pt i f e = rw e refl
 
 -- a packet has a fault, and none before it: the flow is refused
-pub fault-ends : (claim : Claim) (all : List FlowPacket) (w : Walk) (p : FlowPacket) (i : ℕ) (f : PacketFault) (why : Unjudged) → Keeps claim all i (cuts all i) w → i < length all → packet all i ≡ p
+pub fault-ends : (claim : Claim) (all : List FlowPacket) (w : Walk) (p : FlowPacket) (i : ℕ) (f : PacketFault) (why : Unjudged)
+    → Keeps claim all i (cuts all i) w → i < length all → packet all i ≡ p
     → fault all claim.media.pt i ≡ Some f
     → ((m : Media) (kind : Kind) (g : FailProof) (run : ℕ) → Says m kind g run (refusal p.rec f) (Err why))
     → Says claim.media claim.kind claim.proof claim.run (judged all claim.media.pt claim.tai) (Err why)
@@ -43,12 +44,14 @@ fault-ends claim all w p i f why k within is has says =
     let x : FirstFault = record { index = i; fault = f } in
     let first : first_fault all pt ≡ Some x = fault-kept all pt (i + 1) (length all) x (omega (arith, within)) (fault-here all pt i f k.sound has) in
     let test : (length all == 0) ≡ false = grind (arith, nat_tests) in
-    let verdict : refusal p.rec f ≡ judged all pt claim.tai = judged-refused all pt claim.tai x no_packet (refusal p.rec f) test first (ap (λ (q : FlowPacket). refusal q.rec f) (sym is)) in
+    let verdict : refusal p.rec f ≡ judged all pt claim.tai =
+    judged-refused all pt claim.tai x no_packet (refusal p.rec f) test first (ap (λ (q : FlowPacket). refusal q.rec f) (sym is)) in
     subst (λ v. Says claim.media claim.kind claim.proof claim.run v (Err why)) verdict (says claim.media claim.kind claim.proof claim.run)
 
 -- one packet more, whatever comes after it
 pub stands-next : (claim : Claim) (old new : Walk) (packets : List FlowPacket) (p : FlowPacket) → StandsFor claim old packets
-    → ((all : List FlowPacket) (i : ℕ) → Keeps claim all i (cuts all i) old → packet all i ≡ p → i < length all → Keeps claim all (i + 1) (cuts all (i + 1)) new)
+    → ((all : List FlowPacket) (i : ℕ) → Keeps claim all i (cuts all i) old → packet all i ≡ p → i < length all
+    → Keeps claim all (i + 1) (cuts all (i + 1)) new)
     → StandsFor claim new (packets ++ p ∷ [])
 stands-next claim old new packets p s next = record {
   ahead = λ rest.

@@ -19,9 +19,11 @@ use Rattle.interval_checker.specs.declared.fault.CheckFault.TheVariants as check
 use Rattle.interval_checker.specs.declared.walk.Walk.{Walk}
 
 -- one source more was read, whose text is told
-goes-taken : {S : Type 0} (left : S → Option (List ℕ)) (claim : Claim) (rest : List S) (all done : List Record) (before : ℕ) (items : List Record) (texts : List (List ℕ)) (files : List (List Record)) (notes : List FileNote)
+goes-taken : {S : Type 0} (left : S → Option (List ℕ)) (claim : Claim) (rest : List S) (all done : List Record) (before : ℕ) (items : List Record)
+    (texts : List (List ℕ)) (files : List (List Record)) (notes : List FileNote)
     (old new : Walk) (taken : Result ℕ CheckFault)
-    → TellTexts left rest texts → AreRecords texts files notes → all ≡ done ++ (map (raised before) items ++ joined_after (before + length items) files) → StandsOn claim old done
+    → TellTexts left rest texts → AreRecords texts files notes → all ≡ done ++ (map (raised before) items ++ joined_after (before + length items) files)
+    → StandsOn claim old done
     → TakesAll claim before old new taken items → Goes left claim rest all new taken
 goes-taken left claim rest all done before items texts files notes old new (Ok after) tell are whole stands takes =
     let e : all ≡ (done ++ map (raised before) items) ++ joined_after after files =
@@ -34,10 +36,12 @@ goes-taken left claim rest all done before items texts files notes old new (Err 
 goes-taken left claim rest all done before items texts files notes old new (Err (check_fault.ReadFault s)) tell are whole stands takes = tt
 goes-taken left claim rest all done before items texts files notes old new (Err check_fault.OutOfMemory) tell are whole stands takes = tt
 
-goes-told : {S : Type 0} (left : S → Option (List ℕ)) (claim : Claim) (source : S) (rest : List S) (all done : List Record) (before : ℕ) (texts : List (List ℕ)) (files : List (List Record)) (notes : List FileNote)
+goes-told : {S : Type 0} (left : S → Option (List ℕ)) (claim : Claim) (source : S) (rest : List S) (all done : List Record) (before : ℕ) (texts : List (List ℕ))
+    (files : List (List Record)) (notes : List FileNote)
     (old new : Walk) (taken : Result ℕ CheckFault)
     → TellTexts left (source ∷ rest) texts → AreRecords texts files notes → all ≡ done ++ joined_after before files → StandsOn claim old done
-    → ((text : List ℕ) (items : List Record) (note : FileNote) → left source ≡ Some text → Records text (2 ^ 40) items note → TakesAll claim before old new taken items)
+    → ((text : List ℕ) (items : List Record) (note : FileNote) → left source ≡ Some text → Records text (2 ^ 40) items note
+    → TakesAll claim before old new taken items)
     → Goes left claim rest all new taken
 goes-told left claim source rest all done before [] files notes old new taken tell are whole stands takes = absurd tell
 goes-told left claim source rest all done before (t ∷ ts) [] notes old new taken tell are whole stands takes = absurd are
@@ -46,16 +50,19 @@ goes-told left claim source rest all done before (t ∷ ts) (f ∷ fs) (n ∷ ns
     goes-taken left claim rest all done before f ts fs ns old new taken tell.1 are.1 whole stands (takes t f n tell.0 are.0)
 
 -- one source more was read
-pub goes-next : {S : Type 0} (left : S → Option (List ℕ)) (claim : Claim) (source : S) (rest : List S) (all : List Record) (before : ℕ) (outcome taken : Result ℕ CheckFault) (old new : Walk)
+pub goes-next : {S : Type 0} (left : S → Option (List ℕ)) (claim : Claim) (source : S) (rest : List S) (all : List Record) (before : ℕ)
+    (outcome taken : Result ℕ CheckFault) (old new : Walk)
     → outcome ≡ Ok before
-    → ((text : List ℕ) (items : List Record) (note : FileNote) → left source ≡ Some text → Records text (2 ^ 40) items note → TakesAll claim before old new taken items)
+    → ((text : List ℕ) (items : List Record) (note : FileNote) → left source ≡ Some text → Records text (2 ^ 40) items note
+    → TakesAll claim before old new taken items)
     → Goes left claim (source ∷ rest) all old outcome → Goes left claim rest all new taken
 goes-next left claim source rest all before outcome taken old new e takes g =
     let h = subst (λ (o : Result ℕ CheckFault). Goes left claim (source ∷ rest) all old o) e g in
     goes-told left claim source rest all h.0 before h.1 h.2 h.3 old new taken h.4 h.5 h.6 h.7 takes
 
 -- a cause is known, and stays
-pub goes-stopped : {S : Type 0} (left : S → Option (List ℕ)) (claim : Claim) (source : S) (rest : List S) (all : List Record) (fault : CheckFault) (outcome : Result ℕ CheckFault) (old : Walk)
+pub goes-stopped : {S : Type 0} (left : S → Option (List ℕ)) (claim : Claim) (source : S) (rest : List S) (all : List Record) (fault : CheckFault)
+    (outcome : Result ℕ CheckFault) (old : Walk)
     → outcome ≡ Err fault → Goes left claim (source ∷ rest) all old outcome → Goes left claim rest all old (Err fault)
 goes-stopped left claim source rest all fault outcome old e g = subst (λ (o : Result ℕ CheckFault). Goes left claim (source ∷ rest) all old o) e g
 
@@ -80,7 +87,8 @@ hands-next name faults all back rest s n named later h = record {
 }
 
 -- all are handed back
-pub hands-all : {S : Type 0} (name : S → List ℕ) (faults : S → ℕ) (all back rest : List S) → rest ≡ [] → Hands name faults all back rest → AreBack name faults all back
+pub hands-all : {S : Type 0} (name : S → List ℕ) (faults : S → ℕ) (all back rest : List S) → rest ≡ [] → Hands name faults all back rest
+    → AreBack name faults all back
 hands-all name faults all back rest none h =
     subst (AreBack name faults all) (append-nil back) (h.back_are [] (subst (λ (r : List _). AreBack name faults r []) (sym none) tt))
 
@@ -93,12 +101,14 @@ back-same name faults (s ∷ ss) = (refl, omega arith, back-same name faults ss)
 abbrev pub FailedAt : {S : Type 0} → (faults : S → ℕ) → (all back : List S) → Result ℕ CheckFault → Type 0
 FailedAt faults all back outcome = IfReadFault outcome (λ k. (news : List _) → RoseAt faults all (back ++ news) k)
 
-failed-stays : {S : Type 0} (faults : S → ℕ) (all back : List S) (n : S) (fault : CheckFault) → FailedAt faults all back (Err fault) → FailedAt faults all (back ++ n ∷ []) (Err fault)
+failed-stays : {S : Type 0} (faults : S → ℕ) (all back : List S) (n : S) (fault : CheckFault) → FailedAt faults all back (Err fault)
+    → FailedAt faults all (back ++ n ∷ []) (Err fault)
 failed-stays faults all back n (check_fault.ReadFault k) h = λ news. subst (λ l. RoseAt faults all l k) (sym (append_assoc back (n ∷ []) news)) (h (n ∷ news))
 failed-stays faults all back n (check_fault.FlowFault why) h = tt
 failed-stays faults all back n check_fault.OutOfMemory h = tt
 
-failed-here : {S : Type 0} (name : S → List ℕ) (faults : S → ℕ) (all back rest : List S) (s n : S) (number : ℕ) (taken : Result ℕ CheckFault) → number ≡ length back
+failed-here : {S : Type 0} (name : S → List ℕ) (faults : S → ℕ) (all back rest : List S) (s n : S) (number : ℕ) (taken : Result ℕ CheckFault)
+    → number ≡ length back
     → IfReadFault taken (λ k. (k ≡ number) × Rose (faults s) (faults n)) → Hands name faults all back (s ∷ rest) → FailedAt faults all (back ++ n ∷ []) taken
 failed-here name faults all back rest s n number (Ok after) place cause h = tt
 failed-here name faults all back rest s n number (Err (check_fault.ReadFault k)) place cause h = λ news.
@@ -109,26 +119,31 @@ failed-here name faults all back rest s n number (Err (check_fault.FlowFault why
 failed-here name faults all back rest s n number (Err check_fault.OutOfMemory) place cause h = tt
 
 -- one source more was read, or passed over
-pub failed-next : {S : Type 0} (name : S → List ℕ) (faults : S → ℕ) (all back rest : List S) (s n : S) (number : ℕ) (outcome taken : Result ℕ CheckFault) → number ≡ length back
+pub failed-next : {S : Type 0} (name : S → List ℕ) (faults : S → ℕ) (all back rest : List S) (s n : S) (number : ℕ) (outcome taken : Result ℕ CheckFault)
+    → number ≡ length back
     → IfReadFault taken (λ k. IfOk outcome (λ _. (k ≡ number) × Rose (faults s) (faults n))) → IfErr outcome (λ fault. taken ≡ Err fault)
     → Hands name faults all back (s ∷ rest) → FailedAt faults all back outcome → FailedAt faults all (back ++ n ∷ []) taken
-failed-next name faults all back rest s n number (Ok before) taken place cause kept h failed = failed-here name faults all back rest s n number taken place cause h
+failed-next name faults all back rest s n number (Ok before) taken place cause kept h failed =
+    failed-here name faults all back rest s n number taken place cause h
 failed-next name faults all back rest s n number (Err fault) taken place cause kept h failed =
     subst (λ (o : Result ℕ CheckFault). FailedAt faults all (back ++ n ∷ []) o) (sym kept) (failed-stays faults all back n fault failed)
 
 -- the records before the source after the next
-pub before-next : (outcome taken : Result ℕ CheckFault) (back more : ℕ) → more ≡ back + 1 → IfOk taken (λ after. IfOk outcome (λ before. after ≤ before + 2 ^ 36)) → IfErr outcome (λ fault. taken ≡ Err fault)
+pub before-next : (outcome taken : Result ℕ CheckFault) (back more : ℕ) → more ≡ back + 1
+    → IfOk taken (λ after. IfOk outcome (λ before. after ≤ before + 2 ^ 36)) → IfErr outcome (λ fault. taken ≡ Err fault)
     → IfOk outcome (λ before. before ≤ 2 ^ 36 * back) → IfOk taken (λ after. after ≤ 2 ^ 36 * more)
 before-next (Ok before) (Ok after) back more one few kept most = omega (arith, one, few, most)
 before-next (Ok before) (Err fault) back more one few kept most = tt
 before-next (Err fault) taken back more one few kept most = subst (λ (o : Result ℕ CheckFault). IfOk o (λ after. after ≤ 2 ^ 36 * more)) (sym kept) tt
 
-pub before-few : (outcome : Result ℕ CheckFault) (back : ℕ) → back < 16 → IfOk outcome (λ before. before ≤ 2 ^ 36 * back) → IfOk outcome (λ before. before ≤ 2 ^ 40)
+pub before-few : (outcome : Result ℕ CheckFault) (back : ℕ) → back < 16 → IfOk outcome (λ before. before ≤ 2 ^ 36 * back)
+    → IfOk outcome (λ before. before ≤ 2 ^ 40)
 before-few (Ok before) back few most = omega (arith, few, most)
 before-few (Err fault) back few most = tt
 
 -- there was room for it
-pub pushed : {S T E : Type 0} (result : Result T E) (old new : List S) (s : S) → IsOk result → new ≡ (if is_ok result then old ++ s ∷ [] else old) → new ≡ old ++ s ∷ []
+pub pushed : {S T E : Type 0} (result : Result T E) (old new : List S) (s : S) → IsOk result → new ≡ (if is_ok result then old ++ s ∷ [] else old)
+    → new ≡ old ++ s ∷ []
 pushed (Ok x) old new s ok e = e
 pushed (Err x) old new s ok e = absurd (differ ok)
   where
@@ -136,7 +151,8 @@ pushed (Err x) old new s ok e = absurd (differ ok)
     differ e = cc
 
 -- no record is taken yet
-pub goes-none : {S : Type 0} (left : S → Option (List ℕ)) (claim : Claim) (sources rest : List S) (texts : List (List ℕ)) (files : List (List Record)) (notes : List FileNote) (w : Walk)
+pub goes-none : {S : Type 0} (left : S → Option (List ℕ)) (claim : Claim) (sources rest : List S) (texts : List (List ℕ)) (files : List (List Record))
+    (notes : List FileNote) (w : Walk)
     → rest ≡ sources → StandsFor claim w [] → TellTexts left sources texts → AreRecords texts files notes → Goes left claim rest (joined files) w (Ok 0)
 goes-none left claim sources rest texts files notes w same none tell are =
     ([], texts, files, notes, subst (λ (r : List _). TellTexts left r texts) (sym same) tell, are, refl, none)
@@ -151,7 +167,8 @@ no_file [] (f ∷ fs) notes e are = absurd are
 no_file (t ∷ ts) files notes e are = cc
 
 -- all records were taken, where no cause is known
-pub goes-all : {S : Type 0} (left : S → Option (List ℕ)) (claim : Claim) (rest : List S) (all : List Record) (w : Walk) (outcome : Result ℕ CheckFault) → rest ≡ []
+pub goes-all : {S : Type 0} (left : S → Option (List ℕ)) (claim : Claim) (rest : List S) (all : List Record) (w : Walk) (outcome : Result ℕ CheckFault)
+    → rest ≡ []
     → Goes left claim rest all w outcome → OnOk outcome (StandsOn claim w all)
 goes-all left claim rest all w (Ok before) none g =
     let texts : g.1 ≡ [] = no_text left g.1 (subst (λ (r : List _). TellTexts left r g.1) none g.4) in
@@ -160,15 +177,18 @@ goes-all left claim rest all w (Ok before) none g =
     subst (λ (l : List Record). StandsOn claim w l) (sym whole) g.7
 goes-all left claim rest all w (Err fault) none g = tt
 
-checked-fault : (result : Result Bool CheckFault) (fault : CheckFault) (P : Result Bool Unjudged → Type 0) → result ≡ Err fault → OnFlowFault fault (λ why. P (Err why)) → IfChecked result P
+checked-fault : (result : Result Bool CheckFault) (fault : CheckFault) (P : Result Bool Unjudged → Type 0) → result ≡ Err fault
+    → OnFlowFault fault (λ why. P (Err why)) → IfChecked result P
 checked-fault result (check_fault.FlowFault why) P e h = subst (λ (r : Result Bool CheckFault). IfChecked r P) (sym e) h
 checked-fault result (check_fault.ReadFault s) P e h = subst (λ (r : Result Bool CheckFault). IfChecked r P) (sym e) tt
 checked-fault result check_fault.OutOfMemory P e h = subst (λ (r : Result Bool CheckFault). IfChecked r P) (sym e) tt
 
 -- the answer, by what the sources defined
-pub goes-says : {S : Type 0} (left : S → Option (List ℕ)) (claim : Claim) (rest : List S) (all : List Record) (w : Walk) (outcome : Result ℕ CheckFault) (result : Result Bool CheckFault) → rest ≡ []
+pub goes-says : {S : Type 0} (left : S → Option (List ℕ)) (claim : Claim) (rest : List S) (all : List Record) (w : Walk) (outcome : Result ℕ CheckFault)
+    (result : Result Bool CheckFault) → rest ≡ []
     → Goes left claim rest all w outcome
-    → (OnOk outcome (StandsOn claim w all) → IfOk outcome (λ _. IfChecked result (Says claim.media claim.kind claim.proof claim.run (judged (flow all claim.media) claim.media.pt claim.tai))))
+    → (OnOk outcome (StandsOn claim w all) → IfOk outcome (λ _. IfChecked result
+    (Says claim.media claim.kind claim.proof claim.run (judged (flow all claim.media) claim.media.pt claim.tai))))
     → IfErr outcome (λ fault. result ≡ Err fault)
     → IfChecked result (Says claim.media claim.kind claim.proof claim.run (judged (flow all claim.media) claim.media.pt claim.tai))
 goes-says left claim rest all w (Ok before) result none g says kept = says (goes-all left claim rest all w (Ok before) none g)
@@ -181,7 +201,8 @@ never-fault (Err (check_fault.ReadFault s)) P h = absurd h
 never-fault (Err (check_fault.FlowFault why)) P h = tt
 never-fault (Err check_fault.OutOfMemory) P h = tt
 
-failed-fault : {S : Type 0} (faults : S → ℕ) (all back : List S) (fault : CheckFault) (result : Result Bool CheckFault) → result ≡ Err fault → FailedAt faults all back (Err fault)
+failed-fault : {S : Type 0} (faults : S → ℕ) (all back : List S) (fault : CheckFault) (result : Result Bool CheckFault) → result ≡ Err fault
+    → FailedAt faults all back (Err fault)
     → IfReadFault result (RoseAt faults all back)
 failed-fault faults all back (check_fault.ReadFault k) result e h =
     subst (λ (r : Result Bool CheckFault). IfReadFault r (RoseAt faults all back)) (sym e) (subst (λ l. RoseAt faults all l k) (append-nil back) (h []))
@@ -189,7 +210,8 @@ failed-fault faults all back (check_fault.FlowFault why) result e h = subst (λ 
 failed-fault faults all back check_fault.OutOfMemory result e h = subst (λ (r : Result Bool CheckFault). IfReadFault r (RoseAt faults all back)) (sym e) tt
 
 -- a failed read has its cause, where all were handed back
-pub failed-all : {S : Type 0} (faults : S → ℕ) (all back : List S) (outcome : Result ℕ CheckFault) (result : Result Bool CheckFault) → FailedAt faults all back outcome
+pub failed-all : {S : Type 0} (faults : S → ℕ) (all back : List S) (outcome : Result ℕ CheckFault) (result : Result Bool CheckFault)
+    → FailedAt faults all back outcome
     → IfErr outcome (λ fault. result ≡ Err fault) → OnOk outcome (IfReadFault result (λ _. ⊥)) → IfReadFault result (RoseAt faults all back)
 failed-all faults all back (Ok before) result h kept answers = never-fault result (RoseAt faults all back) answers
 failed-all faults all back (Err fault) result h kept answers = failed-fault faults all back fault result kept h
@@ -198,19 +220,21 @@ pub none-left : {S : Type 0} (xs : List S) → length xs ≡ 0 → xs ≡ []
 none-left [] e = refl
 none-left (x ∷ xs) e = absurd (omega (arith, e))
 
--- the same at the code's values
-
-pub goes-at : {S : Type 0} (left : S → Option (List ℕ)) (claim : Claim) (some rest : List S) (all : List Record) (w : Walk) (outcome : Result ℕ CheckFault) → some ≡ rest
+-- sources that are left, by an equation
+pub goes-at : {S : Type 0} (left : S → Option (List ℕ)) (claim : Claim) (some rest : List S) (all : List Record) (w : Walk) (outcome : Result ℕ CheckFault)
+    → some ≡ rest
     → Goes left claim some all w outcome → Goes left claim rest all w outcome
 goes-at left claim some rest all w outcome same g = subst (λ (r : List _). Goes left claim r all w outcome) same g
 
-pub hands-more : {S : Type 0} (name : S → List ℕ) (faults : S → ℕ) (all back some new rest : List S) (s n : S) → some ≡ s ∷ rest → new ≡ back ++ n ∷ [] → name n ≡ name s → faults s ≤ faults n
+pub hands-more : {S : Type 0} (name : S → List ℕ) (faults : S → ℕ) (all back some new rest : List S) (s n : S) → some ≡ s ∷ rest → new ≡ back ++ n ∷ []
+    → name n ≡ name s → faults s ≤ faults n
     → Hands name faults all back some → Hands name faults all new rest
 hands-more name faults all back some new rest s n same pushed named later h =
     subst (λ (b : List _). Hands name faults all b rest) (sym pushed)
     (hands-next name faults all back rest s n named later (subst (λ (r : List _). Hands name faults all back r) same h))
 
-pub failed-more : {S : Type 0} (name : S → List ℕ) (faults : S → ℕ) (all back some new rest : List S) (s n : S) (number : ℕ) (outcome taken : Result ℕ CheckFault) → some ≡ s ∷ rest → new ≡ back ++ n ∷ []
+pub failed-more : {S : Type 0} (name : S → List ℕ) (faults : S → ℕ) (all back some new rest : List S) (s n : S) (number : ℕ)
+    (outcome taken : Result ℕ CheckFault) → some ≡ s ∷ rest → new ≡ back ++ n ∷ []
     → number ≡ length back → IfReadFault taken (λ k. IfOk outcome (λ _. (k ≡ number) × Rose (faults s) (faults n))) → IfErr outcome (λ fault. taken ≡ Err fault)
     → Hands name faults all back some → FailedAt faults all back outcome → FailedAt faults all new taken
 failed-more name faults all back some new rest s n number outcome taken same pushed place cause kept h failed =

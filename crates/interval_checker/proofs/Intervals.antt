@@ -11,7 +11,8 @@ use Rattle.interval_checker.specs.Samples.{AreSampled}
 use Rattle.interval_checker.specs.declared.sample.Sample.{Sample}
 
 -- an interval of judged packets confirms what breaks the limit of its model
-pub confirms-by : (m other : Media) (n size : ℕ) (stamps : List ℕ) (kind : Kind) (f : FailProof) (model : Broken) (b : Bool) → other ≡ m → size ≡ n → f.model ≡ model
+pub confirms-by : (m other : Media) (n size : ℕ) (stamps : List ℕ) (kind : Kind) (f : FailProof) (model : Broken) (b : Bool) → other ≡ m → size ≡ n
+    → f.model ≡ model
     → f.from ≤ f.to → f.to < length stamps → (IsTrue b ↔ BreaksLimit other size stamps kind f model) → IsTrue b ↔ Confirms m n stamps kind f
 confirms-by m other n size stamps kind f model b em en e order within h =
     let at_media = subst (λ x. IsTrue b ↔ BreaksLimit x size stamps kind f model) em h in
@@ -30,12 +31,14 @@ pub eq-says : (a b x y : ℕ) → a ≡ x → b ≡ y → IsTrue (a == b) ↔ (x
 eq-says a b x y ea eb = (λ t. sym ea ∙ (same_of a b t ∙ eb), λ e. of_same a b (ea ∙ (e ∙ sym eb)))
 
 -- the stamps of the packets that a claim speaks of
-pub sampled-to : (f : FailProof) (tai : ℕ) (stamps : List ℕ) (s : Sample) → AreSampled f tai stamps s → f.to < length stamps → s.to + tai * 10 ^ 9 ≡ slice_index stamps f.to
+pub sampled-to : (f : FailProof) (tai : ℕ) (stamps : List ℕ) (s : Sample) → AreSampled f tai stamps s → f.to < length stamps
+    → s.to + tai * 10 ^ 9 ≡ slice_index stamps f.to
 sampled-to f tai stamps s h l = omega (arith, h.sample.to l, h.added f.to l)
 
 pub sampled-counted : (f : FailProof) (tai : ℕ) (stamps : List ℕ) (s : Sample) → AreSampled f tai stamps s → 0 < f.count → f.count ≤ length stamps
     → s.last_counted + tai * 10 ^ 9 ≡ slice_index stamps (f.count - 1)
 sampled-counted f tai stamps s h some l = omega (arith, h.sample.last_counted some l, h.added (f.count - 1) (omega (arith, some, l)))
 
-pub sampled-behind : (f : FailProof) (tai : ℕ) (stamps : List ℕ) (s : Sample) → AreSampled f tai stamps s → f.count < length stamps → s.behind + tai * 10 ^ 9 ≡ slice_index stamps f.count
+pub sampled-behind : (f : FailProof) (tai : ℕ) (stamps : List ℕ) (s : Sample) → AreSampled f tai stamps s → f.count < length stamps
+    → s.behind + tai * 10 ^ 9 ≡ slice_index stamps f.count
 sampled-behind f tai stamps s h l = omega (arith, h.sample.behind l, h.added f.count l)

@@ -23,12 +23,14 @@ use Rattle.interval_checker.specs.declared.claim.Claim.{Claim}
 use Rattle.interval_checker.specs.declared.marks.Marks.{Marks}
 use Rattle.interval_checker.specs.declared.walk.Walk.{Walk}
 
-outcome-few : (packets : List FlowPacket) (tai from to : ℕ) → length (markers packets from to) < 2 → run_outcome packets tai from to ≡ no_whole_frame (head_len (markers packets from to) from to)
+outcome-few : (packets : List FlowPacket) (tai from to : ℕ) → length (markers packets from to) < 2
+    → run_outcome packets tai from to ≡ no_whole_frame (head_len (markers packets from to) from to)
 outcome-few packets tai from to few =
     let e : nat_lt (length (markers packets from to)) 2 ≡ true = grind (arith, nat_tests) in
     ap (λ b. if b then no_whole_frame (head_len (markers packets from to) from to) else whole_frames (judged_run packets tai from to)) e
 
-outcome-many : (packets : List FlowPacket) (tai from to : ℕ) → 2 ≤ length (markers packets from to) → run_outcome packets tai from to ≡ whole_frames (judged_run packets tai from to)
+outcome-many : (packets : List FlowPacket) (tai from to : ℕ) → 2 ≤ length (markers packets from to)
+    → run_outcome packets tai from to ≡ whole_frames (judged_run packets tai from to)
 outcome-many packets tai from to two =
     let e : nat_lt (length (markers packets from to)) 2 ≡ false = grind (arith, nat_tests) in
     ap (λ b. if b then no_whole_frame (head_len (markers packets from to) from to) else whole_frames (judged_run packets tai from to)) e
@@ -57,7 +59,8 @@ many-of xs m size are e = elim (cases_lt 1 (length xs)) as (λ _. 2 ≤ length x
 ]
 
 -- a run of one marker
-pub says-one : (claim : Claim) (packets : List FlowPacket) (i : ℕ) (places : List ℕ) (w : Walk) (m : Marks) (head : ℕ) → Keeps claim packets i places w → w.marks ≡ Some m → m.size ≡ None
+pub says-one : (claim : Claim) (packets : List FlowPacket) (i : ℕ) (places : List ℕ) (w : Walk) (m : Marks) (head : ℕ) → Keeps claim packets i places w
+    → w.marks ≡ Some m → m.size ≡ None
     → head ≡ m.first + 1 - w.start
     → SaysOutcome claim.media claim.kind claim.proof (run_outcome packets claim.tai (last_place (0 ∷ places)) i) (Err (NoWholeFrame head))
 says-one claim packets i places w m head k e size is =
@@ -90,7 +93,8 @@ length-stamps packets tai first last order within =
     let long : length part ≡ min ((last + 1) - (first + 1)) (length rest) = length-take ((last + 1) - (first + 1)) rest in
     length-map part (stamp_of tai) ∙ omega (arith, long, size, order, within)
 
-sample-fewer : (claim : Claim) (stamps : ℕ → ℕ) (few many : ℕ) (w : Walk) → few ≤ many → IsSample claim.proof stamps many w.sample → IsSample claim.proof stamps few w.sample
+sample-fewer : (claim : Claim) (stamps : ℕ → ℕ) (few many : ℕ) (w : Walk) → few ≤ many → IsSample claim.proof stamps many w.sample
+    → IsSample claim.proof stamps few w.sample
 sample-fewer claim stamps few many w h s = record {
   first = λ l. s.first (omega (arith, l, h));
   from = λ l. s.from (omega (arith, l, h));
@@ -100,7 +104,8 @@ sample-fewer claim stamps few many w h s = record {
 }
 
 says-judged : (m : Media) (kind : Kind) (f : FailProof) (packets : List FlowPacket) (tai from to : ℕ) (b : Bool)
-    → (IsTrue b ↔ Confirms m (judged_run packets tai from to).n (judged_run packets tai from to).stamps kind f) → SaysJudged m kind f (judged_run packets tai from to) (Ok b)
+    → (IsTrue b ↔ Confirms m (judged_run packets tai from to).n (judged_run packets tai from to).stamps kind f)
+    → SaysJudged m kind f (judged_run packets tai from to) (Ok b)
 says-judged m kind f packets tai from to true h = h.0 refl
 says-judged m kind f packets tai from to false h = λ c. differ (h.1 c)
   where
@@ -111,8 +116,10 @@ size-is : (s : Option ℕ) (n k : ℕ) → s ≡ Some n → s ≡ Some k → n �
 size-is s n k e f = cc
 
 -- a run of two markers and more
-pub says-some : (claim : Claim) (packets : List FlowPacket) (i : ℕ) (places : List ℕ) (w : Walk) (m : Marks) (size : ℕ) (b : Bool) → Keeps claim packets i places w → w.marks ≡ Some m → m.size ≡ Some size
-    → ((stamps : List ℕ) → length stamps ≡ m.last - m.first → AreSampled claim.proof claim.tai stamps w.sample → IsTrue b ↔ Confirms claim.media size stamps claim.kind claim.proof)
+pub says-some : (claim : Claim) (packets : List FlowPacket) (i : ℕ) (places : List ℕ) (w : Walk) (m : Marks) (size : ℕ) (b : Bool)
+    → Keeps claim packets i places w → w.marks ≡ Some m → m.size ≡ Some size
+    → ((stamps : List ℕ) → length stamps ≡ m.last - m.first → AreSampled claim.proof claim.tai stamps w.sample → IsTrue b
+    ↔ Confirms claim.media size stamps claim.kind claim.proof)
     → SaysOutcome claim.media claim.kind claim.proof (run_outcome packets claim.tai (last_place (0 ∷ places)) i) (Ok b)
 says-some claim packets i places w m size b k e is confirms =
     let from = last_place (0 ∷ places) in
@@ -129,7 +136,13 @@ says-some claim packets i places w m size b k e is confirms =
       raw = stamp_behind packets m.first;
       added = added;
       rising = λ j l order low.
-          omega (arith, added j (omega (arith, order, low)), added l low, k.rising (m.first + 1 + j) (m.first + 1 + l) (omega (arith, order)) (omega (arith, low, long, later)));
+          omega (
+            arith,
+            added j (omega (arith, order, low)),
+            added l low,
+            k.rising (m.first + 1 + j) (m.first + 1 + l) (omega (arith, order))
+                (omega (arith, low, long, later)),
+          );
       sample = sample-fewer claim (stamp_behind packets m.first) (length stamps) (i - (m.first + 1)) w (omega (arith, long, later)) (k.sample m e);
     } in
     let same_size : size ≡ group_len xs = size-is m.size size (group_len xs) is (are.more two) in
@@ -142,28 +155,34 @@ says-some claim packets i places w m size b k e is confirms =
     subst (λ o. SaysOutcome claim.media claim.kind claim.proof o (Ok b)) (sym (outcome-many packets claim.tai from i two))
     (says-judged claim.media claim.kind claim.proof packets claim.tai from i b here)
 
-says-last : (m : Media) (kind : Kind) (f : FailProof) (outs : List RunOutcome) (o : RunOutcome) (run : ℕ) (a : Result Bool Unjudged) → length outs ≡ run → SaysOutcome m kind f o a → SaysAt m kind f (outs ++ o ∷ []) run a
+says-last : (m : Media) (kind : Kind) (f : FailProof) (outs : List RunOutcome) (o : RunOutcome) (run : ℕ) (a : Result Bool Unjudged) → length outs ≡ run
+    → SaysOutcome m kind f o a → SaysAt m kind f (outs ++ o ∷ []) run a
 says-last m kind f [] o run a e h = subst (λ r. SaysAt m kind f (o ∷ []) r a) e h
 says-last m kind f (x ∷ outs) o zero a e h = absurd (omega (arith, e))
 says-last m kind f (x ∷ outs) o (suc run) a e h = says-last m kind f outs o run a (omega (arith, e)) h
 
-says-other : (m : Media) (kind : Kind) (f : FailProof) (outs : List RunOutcome) (o : RunOutcome) (run : ℕ) (a : Result Bool Unjudged) → length outs ≢ run → SaysAt m kind f outs run a → SaysAt m kind f (outs ++ o ∷ []) run a
+says-other : (m : Media) (kind : Kind) (f : FailProof) (outs : List RunOutcome) (o : RunOutcome) (run : ℕ) (a : Result Bool Unjudged) → length outs ≢ run
+    → SaysAt m kind f outs run a → SaysAt m kind f (outs ++ o ∷ []) run a
 says-other m kind f [] o zero a ne h = absurd (ne refl)
 says-other m kind f [] o (suc run) a ne h = h
 says-other m kind f (x ∷ outs) o zero a ne h = h
 says-other m kind f (x ∷ outs) o (suc run) a ne h = says-other m kind f outs o run a (λ e. ne (omega (arith, e))) h
 
 with-open : (claim : Claim) (packets : List FlowPacket) (i : ℕ) (places : List ℕ) (w : Walk) (k : Keeps claim packets i places w)
-    → map (λ (r : FlowRun). r.outcome) (runs_between packets claim.tai i 0 places) ≡ map (λ (r : FlowRun). r.outcome) k.done ++ run_outcome packets claim.tai (last_place (0 ∷ places)) i ∷ []
+    → map (λ (r : FlowRun). r.outcome) (runs_between packets claim.tai i 0 places)
+    ≡ map (λ (r : FlowRun). r.outcome) k.done ++ run_outcome packets claim.tai (last_place (0 ∷ places)) i ∷ []
 with-open claim packets i places w k =
-    ap (map (λ (r : FlowRun). r.outcome)) (k.runs i) ∙ map-append (λ (r : FlowRun). r.outcome) k.done (run_at packets claim.tai (last_place (0 ∷ places)) i ∷ [])
+    ap (map (λ (r : FlowRun). r.outcome)) (k.runs i) ∙ map-append (λ (r : FlowRun). r.outcome) k.done
+    (run_at packets claim.tai (last_place (0 ∷ places)) i ∷ [])
 
 -- the open run is the claim's
-pub answer-open : (claim : Claim) (packets : List FlowPacket) (i : ℕ) (places : List ℕ) (w : Walk) (a : Result Bool Unjudged) → Keeps claim packets i places w → w.cuts ≡ claim.run
+pub answer-open : (claim : Claim) (packets : List FlowPacket) (i : ℕ) (places : List ℕ) (w : Walk) (a : Result Bool Unjudged) → Keeps claim packets i places w
+    → w.cuts ≡ claim.run
     → SaysOutcome claim.media claim.kind claim.proof (run_outcome packets claim.tai (last_place (0 ∷ places)) i) a
     → SaysAt claim.media claim.kind claim.proof (map (λ (r : FlowRun). r.outcome) (runs_between packets claim.tai i 0 places)) claim.run a
 answer-open claim packets i places w a k e h =
-    let long : length (map (λ (r : FlowRun). r.outcome) k.done) ≡ claim.run = length-map k.done (λ (r : FlowRun). r.outcome) ∙ (k.count ∙ (sym k.cut_count ∙ e)) in
+    let long : length (map (λ (r : FlowRun). r.outcome) k.done) ≡ claim.run =
+    length-map k.done (λ (r : FlowRun). r.outcome) ∙ (k.count ∙ (sym k.cut_count ∙ e)) in
     subst (λ outs. SaysAt claim.media claim.kind claim.proof outs claim.run a) (sym (with-open claim packets i places w k))
     (says-last claim.media claim.kind claim.proof (map (λ (r : FlowRun). r.outcome) k.done) _ claim.run a long h)
 
@@ -175,7 +194,8 @@ answer-done claim packets i places w k ne =
     subst (λ outs. SaysAt claim.media claim.kind claim.proof outs claim.run w.answer) (sym (with-open claim packets i places w k))
     (says-other claim.media claim.kind claim.proof (map (λ (r : FlowRun). r.outcome) k.done) _ claim.run w.answer (λ e. ne (sym long ∙ e)) k.answer)
 
-ends : (claim : Claim) (packets : List FlowPacket) (w : Walk) → StandsFor claim w packets → Keeps claim packets (length packets) (cuts packets (length packets)) w
+ends : (claim : Claim) (packets : List FlowPacket) (w : Walk) → StandsFor claim w packets
+    → Keeps claim packets (length packets) (cuts packets (length packets)) w
 ends claim packets w s = subst (λ xs. Keeps claim xs (length packets) (cuts xs (length packets)) w) (append-nil packets) (s.ahead [])
 
 -- no packet came
@@ -188,7 +208,8 @@ finish-absent claim packets w s e =
     subst (λ v. Says claim.media claim.kind claim.proof claim.run v (Err Absent))
     (sym (ap (λ b. if b then absent else refused_or packets (first_fault packets claim.media.pt) (judged_runs packets claim.tai)) test)) refl
 
-no_cut : (packets : List FlowPacket) (tai : ℕ) (xs : List ℕ) → length xs ≡ 0 → map (λ (r : FlowRun). r.outcome) (runs_between packets tai (length packets) 0 xs) ≡ run_outcome packets tai 0 (length packets) ∷ []
+no_cut : (packets : List FlowPacket) (tai : ℕ) (xs : List ℕ) → length xs ≡ 0
+    → map (λ (r : FlowRun). r.outcome) (runs_between packets tai (length packets) 0 xs) ≡ run_outcome packets tai 0 (length packets) ∷ []
 no_cut packets tai [] e = refl
 no_cut packets tai (x ∷ xs) e = absurd (omega (arith, e))
 
@@ -197,7 +218,8 @@ zero_of n e = grind (arith, nat_tests)
 
 by_cuts : (claim : Claim) (packets : List FlowPacket) (a : Result Bool Unjudged) (b : Bool) → (length (cuts packets (length packets)) == 0) ≡ b
     → SaysAt claim.media claim.kind claim.proof (map (λ (r : FlowRun). r.outcome) (runs packets claim.tai)) claim.run a
-    → Says claim.media claim.kind claim.proof claim.run (if b then in_one_run (run_outcome packets claim.tai 0 (length packets)) else in_runs (runs packets claim.tai)) a
+    → Says claim.media claim.kind claim.proof claim.run (if b then in_one_run (run_outcome packets claim.tai 0 (length packets))
+    else in_runs (runs packets claim.tai)) a
 by_cuts claim packets a true e h =
     subst (λ outs. SaysAt claim.media claim.kind claim.proof outs claim.run a) (no_cut packets claim.tai (cuts packets (length packets)) (zero_of _ e)) h
 by_cuts claim packets a false e h = h

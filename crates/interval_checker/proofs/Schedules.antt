@@ -16,7 +16,8 @@ pub are_reads : (m : Media) (n : ℕ) (anchor : ℤ) (gapped : Bool) (a offset :
     → r.start ≡ a * r.group + offset
     → AreReads m n anchor gapped r
 are_reads m n anchor gapped a offset r have sizes same is start =
-    let reads = λ (x t : ℕ). reads-by-place m n anchor gapped a 480 r.den r.group r.step offset x t (480 * r.group) (parts_at r x) (parts_of r t) have sizes r.den_some is
+    let reads = λ (x t : ℕ). reads-by-place m n anchor gapped a 480 r.den r.group r.step offset x t (480 * r.group) (parts_at r x)
+    (parts_of r t) have sizes r.den_some is
     (rw (start, same) (omega arith)) refl in
     record { before = λ x t. (reads x t).0; after = λ x t. (reads x t).1 }
 

@@ -1,4 +1,4 @@
--- Records that are taken one after the other.
+-- Records that are taken into a walk, one after the other.
 use Rattle.std.proofs.Common.{◌≡◌, ◌+◌, ℕ, Bool, true, false, List, [], ◌∷◌, ◌++◌, refl, sym, ap, ◌∙◌, subst}
 use Rattle.std.specs.Prelude.{◌≢◌, if◌then◌else◌, Option, Some, None, Result, Ok, Err, IfOk, IfErr, OnOk}
 use Rattle.std.specs.List.{cons_option}
@@ -54,7 +54,8 @@ record-ends old new r p (Err why) e h = λ items rest s.
     let claim = old.claim.now in
     let all : flow (items ++ (r ∷ rest)) claim.media ≡ flow items claim.media ++ p ∷ flow rest claim.media =
     filter_map-append (flow_packet claim.media) items (r ∷ rest) ∙ ap (λ o. flow items claim.media ++ cons_option o (flow rest claim.media)) e in
-    subst (λ f. Says claim.media claim.kind claim.proof claim.run (judged f claim.media.pt claim.tai) (Err why)) (sym all) (h (flow items claim.media) (flow rest claim.media) s)
+    subst (λ f. Says claim.media claim.kind claim.proof claim.run (judged f claim.media.pt claim.tai) (Err why)) (sym all)
+    (h (flow items claim.media) (flow rest claim.media) s)
 
 -- all records of a capture were taken, where no read failed
 pub takes-all : (before : ℕ) (old new : Checking) (taken : Taken) (items : List Record) (end : FileNote)

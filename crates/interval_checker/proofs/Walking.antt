@@ -64,7 +64,8 @@ pub record IsCutOf (old new : Walk) : Type 0 where
   pub marks : new.marks ≡ None
 
 -- a cut stands at packet i
-pub cut-keeps : (claim : Claim) (packets : List FlowPacket) (i : ℕ) (old new : Walk) → Keeps claim packets i (cuts packets i) old → is_cut packets i ≡ true → IsCutOf old new
+pub cut-keeps : (claim : Claim) (packets : List FlowPacket) (i : ℕ) (old new : Walk) → Keeps claim packets i (cuts packets i) old → is_cut packets i ≡ true
+    → IsCutOf old new
     → SaysAt claim.media claim.kind claim.proof (map (λ (r : FlowRun). r.outcome) (runs_between packets claim.tai i 0 (cuts packets i))) claim.run new.answer
     → Keeps claim packets i (cuts packets (i + 1)) new
 cut-keeps claim packets i old new k e is says =
@@ -78,19 +79,22 @@ cut-keeps claim packets i old new k e is says =
       before = subst (ComesAfter packets i) (sym is.before) k.before;
       cut_count = omega (arith, is.cut_count, k.cut_count, more);
       start = is.start ∙ (k.fed ∙ sym at);
-      marks = subst (λ s. AreMarked (markers packets s i) new.marks) (sym at) (subst (AreMarked (markers packets i i)) (sym is.marks) (places-none (has_marker packets) i i (omega arith)));
+      marks = subst (λ s. AreMarked (markers packets s i) new.marks) (sym at)
+          (subst (AreMarked (markers packets i i)) (sym is.marks) (places-none (has_marker packets) i i (omega arith)));
       sized = sized-enter packets i from refl k.sized;
       rising = k.rising;
       sample = λ m f. absurd (no_mark new.marks m is.marks f);
       done = runs_between packets claim.tai i 0 (cuts packets i);
-      runs = λ to. runs-cut packets claim.tai i from k.done (runs_between packets claim.tai i 0 (cuts packets i)) (run_at packets claim.tai from i) e (k.runs i) refl k.runs to
+      runs = λ to. runs-cut packets claim.tai i from k.done (runs_between packets claim.tai i 0 (cuts packets i))
+          (run_at packets claim.tai from i) e (k.runs i) refl k.runs to
           ∙ ap (λ s. runs_between packets claim.tai i 0 (cuts packets i) ++ run_at packets claim.tai s to ∷ []) (sym at);
       count = ap length (k.runs i) ∙ omega (arith, length-append k.done (run_at packets claim.tai from i ∷ []), k.count, more);
       answer = says;
     }
 
 -- no cut stands there
-pub other-keeps : (claim : Claim) (packets : List FlowPacket) (i : ℕ) (w : Walk) → Keeps claim packets i (cuts packets i) w → is_cut packets i ≡ false → Keeps claim packets i (cuts packets (i + 1)) w
+pub other-keeps : (claim : Claim) (packets : List FlowPacket) (i : ℕ) (w : Walk) → Keeps claim packets i (cuts packets i) w → is_cut packets i ≡ false
+    → Keeps claim packets i (cuts packets (i + 1)) w
 other-keeps claim packets i w k e = subst (λ places. Keeps claim packets i places w) (sym (cuts-other packets i e)) k
 
 not_back : (i a b : ℕ) → (nat_lt 0 i && nat_lt a b) ≡ false → 0 < i → b ≤ a
@@ -131,7 +135,8 @@ pub record IsPassed (claim : Claim) (packets : List FlowPacket) (i : ℕ) (old n
       → IsSample claim.proof stamps (old.fed - (o.first + 1) + 1) new.sample
   pub behind : (o : Marks) → old.marks ≡ Some o → o.first < old.fed
 
-marked-next : (claim : Claim) (packets : List FlowPacket) (i : ℕ) (old new : Walk) (b : Bool) → has_marker packets i ≡ b → Keeps claim packets i (cuts packets (i + 1)) old → IsPassed claim packets i old new
+marked-next : (claim : Claim) (packets : List FlowPacket) (i : ℕ) (old new : Walk) (b : Bool) → has_marker packets i ≡ b
+    → Keeps claim packets i (cuts packets (i + 1)) old → IsPassed claim packets i old new
     → AreMarked (markers packets (run_start packets i) (i + 1)) new.marks
 marked-next claim packets i old new true e k is =
     subst (λ xs. AreMarked xs new.marks) (sym (markers-here packets i e))
@@ -150,7 +155,8 @@ sample-none claim stamps count w e = record {
   behind = λ h. absurd (omega (arith, h, e));
 }
 
-sampled-next : (claim : Claim) (packets : List FlowPacket) (i : ℕ) (old new : Walk) (marks : Option Marks) → old.marks ≡ marks → Keeps claim packets i (cuts packets (i + 1)) old → IsPassed claim packets i old new
+sampled-next : (claim : Claim) (packets : List FlowPacket) (i : ℕ) (old new : Walk) (marks : Option Marks) → old.marks ≡ marks
+    → Keeps claim packets i (cuts packets (i + 1)) old → IsPassed claim packets i old new
     → (m : Marks) → new.marks ≡ Some m → IsSample claim.proof (stamp_behind packets m.first) ((i + 1) - (m.first + 1)) new.sample
 sampled-next claim packets i old new None e k is m f =
     sample-none claim (stamp_behind packets m.first) ((i + 1) - (m.first + 1)) new (omega (arith, is.begins m e f, k.fed))
@@ -167,7 +173,8 @@ sampled-next claim packets i old new (Some o) e k is m f =
     (subst (λ x. IsSample claim.proof (stamp_behind packets o.first) x new.sample) more next)
 
 -- packet i has no fault
-pub pass-keeps : (claim : Claim) (packets : List FlowPacket) (i : ℕ) (old new : Walk) → Keeps claim packets i (cuts packets (i + 1)) old → i < length packets → fault packets claim.media.pt i ≡ None
+pub pass-keeps : (claim : Claim) (packets : List FlowPacket) (i : ℕ) (old new : Walk) → Keeps claim packets i (cuts packets (i + 1)) old → i < length packets
+    → fault packets claim.media.pt i ≡ None
     → IsPassed claim packets i old new → Keeps claim packets (i + 1) (cuts packets (i + 1)) new
 pass-keeps claim packets i old new k within none is = record {
   within = omega (arith, within);

@@ -6,7 +6,8 @@ use Rattle.timing_base.specs.declared.packet.FlowPacket.{FlowPacket}
 -- a head of one packet, and a group of five at once
 abbrev pub five_at_once : List FlowPacket
 five_at_once =
-    sent 11 0 6 0 true ∷ sent 12 7 7 1 false ∷ sent 13 7 8 1 false ∷ sent 14 7 9 1 false ∷ sent 15 7 10 1 false ∷ sent 16 7 11 1 true ∷ []
+    sent 11 0 6 0 true ∷ sent 12 7 7 1 false ∷ sent 13 7 8 1 false ∷ sent 14 7 9 1 false ∷ sent 15 7 10 1 false
+    ∷ sent 16 7 11 1 true ∷ []
 
 -- a packet of one run, and two of another
 abbrev pub two_runs : List FlowPacket

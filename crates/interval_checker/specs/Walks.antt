@@ -33,13 +33,16 @@ pub record Keeps (claim : Claim) (packets : List FlowPacket) (i : ℕ) (places :
   pub sized : IsSized i (markers packets (last_place (0 ∷ places)) i)
   pub rising : (j k : ℕ) → j ≤ k → k < i → (packet packets j).at ≤ (packet packets k).at
   -- the stamps of the open run
-  pub sample : (m : Marks) → w.marks ≡ Some m → IsSample claim.proof (stamp_behind packets m.first) (i - (m.first + 1)) w.sample
+  pub sample : (m : Marks) → w.marks ≡ Some m → IsSample claim.proof (stamp_behind packets m.first)
+      (i - (m.first + 1)) w.sample
   -- the runs that are over
   pub done : List FlowRun
-  pub runs : (to : ℕ) → runs_between packets claim.tai to 0 places ≡ done ++ run_at packets claim.tai (last_place (0 ∷ places)) to ∷ []
+  pub runs : (to : ℕ) → runs_between packets claim.tai to 0 places
+      ≡ done ++ run_at packets claim.tai (last_place (0 ∷ places)) to ∷ []
   pub count : length done ≡ length places
   pub answer : SaysAt claim.media claim.kind claim.proof (map (λ r. r.outcome) done) claim.run w.answer
 
 -- the walk was fed these packets and no others, as far as later calls can tell; whatever packets follow
 pub record StandsFor (claim : Claim) (w : Walk) (packets : List FlowPacket) : Type 0 where
-  pub ahead : (rest : List FlowPacket) → Keeps claim (packets ++ rest) (length packets) (cuts (packets ++ rest) (length packets)) w
+  pub ahead : (rest : List FlowPacket) → Keeps claim (packets ++ rest) (length packets)
+      (cuts (packets ++ rest) (length packets)) w

@@ -14,7 +14,8 @@ invariant-loop-source g l =
     let left = g.S.Source.left in
     let faults = g.S.Source.faults in
     record {
-      goes : (texts : List (List ℕ)) (files : List (List Record)) (notes : List FileNote) → TellTexts left l.fn.sources.items texts → AreRecords texts files notes
+      goes : (texts : List (List ℕ)) (files : List (List Record)) (notes : List FileNote) → TellTexts left l.fn.sources.items texts
+          → AreRecords texts files notes
           → Goes left l.claim l.source-iterator.rest.items (joined files) l.walk l.outcome;
       hands : Hands g.S.Source.name faults l.fn.sources.items l.back.items l.source-iterator.rest.items;
       failed : FailedAt faults l.fn.sources.items l.back.items l.outcome;

@@ -13,14 +13,14 @@ returns-after-taken-clause-told g c = λ rest all goes.
     let old : Checking = record { claim = c.args.claim; walk = c.args.walk.now } in
     goes-next g.S.Source.left claim c.args.source rest all c.in-Ok.before c.args.outcome c.match-taken.after old.walk
     c.match-taken.walk c.in-Ok.is (λ text items note left is.
-        let given = c.in-Ok-start.ensures.gives text items note left is in
-        elim c.match-taken.branch as (λ _. TakesAll claim c.in-Ok.before old.walk c.match-taken.walk c.match-taken.after items) [
-          | in-Ok-taken+then-read_failed w ↦ rw (w.after-is) tt
-          | in-Ok-taken+else-read_failed w ↦ rw (w.walk-is, w.after-is)
-              (takes-all c.in-Ok.before old c.take_records-taken.new.taker w.in-Ok-taken.taken items note
-              (w.if-read_failed.ensures.whole refl) (w.in-Ok-taken.ensures.told items note given))
-          | in-Err-taken w ↦ rw (w.after-is) (w.in-Err-taken.ensures.told items note given)
-        ]) goes
+    let given = c.in-Ok-start.ensures.gives text items note left is in
+    elim c.match-taken.branch as (λ _. TakesAll claim c.in-Ok.before old.walk c.match-taken.walk c.match-taken.after items) [
+      | in-Ok-taken+then-read_failed w ↦ rw (w.after-is) tt
+      | in-Ok-taken+else-read_failed w ↦ rw (w.walk-is, w.after-is)
+          (takes-all c.in-Ok.before old c.take_records-taken.new.taker w.in-Ok-taken.taken items note
+          (w.if-read_failed.ensures.whole refl) (w.in-Ok-taken.ensures.told items note given))
+      | in-Err-taken w ↦ rw (w.after-is) (w.in-Err-taken.ensures.told items note given)
+    ]) goes
 
 pub returns-after-taken-clause-count : goal.returns-after-taken-clause-count
 returns-after-taken-clause-count g c =

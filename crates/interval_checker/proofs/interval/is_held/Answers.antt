@@ -15,10 +15,12 @@ returns-then-not-is_due c = λ stamps within sampled.
     let f = c.args.claim.now.proof in
     let gapped = gapped_of c.args.claim.now.kind in
     let are = c.reads-reads.ensures stamps (omega (arith, within)) sampled in
-    let at : c.args.sample.now.to + c.added.result ≡ slice_index stamps f.to = omega (arith, c.added.ensures.value, sampled-to f c.args.claim.now.tai stamps c.args.sample.now sampled within) in
+    let at : c.args.sample.now.to + c.added.result ≡ slice_index stamps f.to =
+    omega (arith, c.added.ensures.value, sampled-to f c.args.claim.now.tai stamps c.args.sample.now sampled within) in
     let isnt : c.is_due.result ≡ false = search rules in (
       λ never. cc,
-      λ held. absurd (held-more m n stamps gapped c.reads-reads.result f.to f.count (f.to + 1 - f.count) _ c.is_due.result are c.requires.some (omega arith) refl at (omega arith)
+      λ held. absurd (held-more m n stamps gapped c.reads-reads.result f.to f.count (f.to + 1 - f.count) _ c.is_due.result are c.requires.some (omega arith)
+          refl at (omega arith)
           (c.is_due.ensures m n (anchor_of m (slice_index stamps 0)) gapped are) isnt held),
     )
 

@@ -14,12 +14,20 @@ fits lifted n group offset few most small low =
 pub overflow_mul-result : goal.overflow_mul-result
 overflow_mul-result c =
     let s = c.sizes_of-sizes in
-    omega (arith, fits c.lifted.result c.args.params.now.n s.result.group s.result.offset c.lifted.ensures.small (omega arith) s.ensures.group_small s.ensures.offset_small)
+    omega (
+      arith,
+      fits c.lifted.result c.args.params.now.n s.result.group s.result.offset c.lifted.ensures.small (omega arith) s.ensures.group_small
+          s.ensures.offset_small,
+    )
 
 pub overflow_add-result : goal.overflow_add-result
 overflow_add-result c =
     let s = c.sizes_of-sizes in
-    omega (arith, fits c.lifted.result c.args.params.now.n s.result.group s.result.offset c.lifted.ensures.small (omega arith) s.ensures.group_small s.ensures.offset_small)
+    omega (
+      arith,
+      fits c.lifted.result c.args.params.now.n s.result.group s.result.offset c.lifted.ensures.small (omega arith) s.ensures.group_small
+          s.ensures.offset_small,
+    )
 
 pub invariant_of-result-clause-start_small : goal.invariant_of-result-clause-start_small
 invariant_of-result-clause-start_small c =

@@ -8,7 +8,8 @@ use Rattle.interval_checker.proofs.records.CheckingTaker.take.Goals as goal
 pub feed-requires-clause-stamp : goal.feed-requires-clause-stamp
 feed-requires-clause-stamp c =
     let same : c.in-Some.packet.at ≡ c.args.at =
-    packet-at c.args.self.now.claim.now.media c.args.number c.args.at (datagram_of c.args.frame.now) c.in-Some.packet (sym c.packet_of.ensures ∙ c.in-Some.is) in
+    packet-at c.args.self.now.claim.now.media c.args.number c.args.at (datagram_of c.args.frame.now) c.in-Some.packet
+    (sym c.packet_of.ensures ∙ c.in-Some.is) in
     omega (arith, same, c.requires.stamp)
 
 pub returns-in-None-clause-takes : goal.returns-in-None-clause-takes

@@ -26,8 +26,10 @@ returns-in-Some-clause-ends c = λ packets rest s.
     let k = s.ahead (p ∷ rest) in
     let is = seam packets rest p in
     let within = seam-within packets rest p in
-    let has : fault all c.args.claim.now.media.pt i ≡ Some c.in-Some.fault = elim c.match-packet.branch as (λ _. fault all c.args.claim.now.media.pt i ≡ Some c.in-Some.fault) [
+    let has : fault all c.args.claim.now.media.pt i ≡ Some c.in-Some.fault =
+    elim c.match-packet.branch as (λ _. fault all c.args.claim.now.media.pt i ≡ Some c.in-Some.fault) [
       | in-Ok w ↦ sym (w.step-fault.ensures.ends all i k (read-of all i p w.in-Ok.rtp is w.in-Ok.is) within) ∙ (sym w.fault-is ∙ c.in-Some.is)
-      | in-Err w ↦ unread-fault all c.args.claim.now.media.pt i w.in-Err.fault (ap (λ (q : FlowPacket). q.rtp) is ∙ w.in-Err.is) ∙ (sym w.fault-is ∙ c.in-Some.is)
+      | in-Err w ↦ unread-fault all c.args.claim.now.media.pt i w.in-Err.fault (ap (λ (q : FlowPacket). q.rtp) is ∙ w.in-Err.is)
+          ∙ (sym w.fault-is ∙ c.in-Some.is)
     ] in
     fault-ends c.args.claim.now all c.args.self.now p i c.in-Some.fault c.refusal.result k within is has c.refusal.ensures

@@ -3,4 +3,5 @@ use Rattle.interval_checker.proofs.Walking.{new-keeps}
 use Rattle.interval_checker.proofs.walk.Walk.new.Goals as goal
 
 pub returns-clause-stands : goal.returns-clause-stands
-returns-clause-stands c = λ claim. record { ahead = λ rest. new-keeps claim rest _ record { fed = refl; before = refl; cut_count = refl; start = refl; marks = refl; answer = refl } }
+returns-clause-stands c =
+    λ claim. record { ahead = λ rest. new-keeps claim rest _ record { fed = refl; before = refl; cut_count = refl; start = refl; marks = refl; answer = refl } }

@@ -7,4 +7,5 @@ returns-in-None-size c = λ packets i places k.
 
 pub returns-in-Some-size : goal.returns-in-Some-size
 returns-in-Some-size c = λ packets i places k.
-    says-some c.args.claim.now packets i places c.args.self.now c.in-Some.marks c.in-Some-size.size c.is_confirmed.result k c.in-Some.is c.in-Some-size.is c.is_confirmed.ensures
+    says-some c.args.claim.now packets i places c.args.self.now c.in-Some.marks c.in-Some-size.size c.is_confirmed.result k c.in-Some.is c.in-Some-size.is
+    c.is_confirmed.ensures
