@@ -1,16 +1,11 @@
 -- The whole of a flow that is shaped.
-use Rattle.std.specs.Prelude.{IfOk, Result, Ok, Err, cond, is_some, slice_index, string_bytes, nat_lt, max, if◌then◌else◌}
-use Rattle.std.proofs.Common.{◌≡◌, ◌+◌, ◌-◌, ◌*◌, ◌^◌, ℕ, zero, suc, Bool, true, false, List, [], ◌∷◌, ◌++◌, length, map, take, drop, min, Option, Some, None}
-use Rattle.std.proofs.Common.{refl, arith, ap, ◌∙◌, sym, subst, inl, inr, append-nil, length-append}
-use Rattle.std.specs.List.{cons_option, count_by}
-use Rattle.std.proofs.lemmas.Bool.{false≢true}
-use Rattle.std.proofs.lemmas.List.{get_or_append_left, map-append}
-use Rattle.std.proofs.Math.Seq.{get_or-append_seam}
-use Rattle.pcap_reader.specs.WrittenHeads.{file_head, record_head}
-use Rattle.flow_shaper.specs.declared.departure.Departure.{Departure}
+use Rattle.std.specs.Prelude.{string_bytes, nat_lt}
+use Rattle.std.proofs.Common.{◌≡◌, ℕ, Bool, true, false, List, [], ◌++◌, length, Option, Some, None}
+use Rattle.std.proofs.Common.{refl, arith, ap, ◌∙◌, sym, subst, inl, inr}
+use Rattle.std.specs.List.{count_by}
 use Rattle.flow_shaper.specs.declared.departure.Late.{Late}
 use Rattle.timing_base.specs.Captures.{Record}
-use Rattle.timing_base.specs.Judged.{JudgedRun, judged, stamp_of}
+use Rattle.timing_base.specs.Judged.{JudgedRun}
 use Rattle.timing_base.specs.Media.{Media}
 use Rattle.timing_base.specs.Verdicts.{Judged}
 use Rattle.timing_base.specs.declared.media.Kind.{Kind}
@@ -18,20 +13,16 @@ use Rattle.timing_base.specs.declared.packet.FlowPacket.{FlowPacket}
 use Rattle.timing_report.specs.declared.status.Status.TheVariants as status
 use Rattle.timing_steps.specs.Answers.{Answer}
 use Rattle.timing_reach.specs.judged.Runs.{IsRunOf, gauged}
-use Rattle.udp_rtp.specs.Flow.{flow, flow_packet}
-use Rattle.timing_reach.specs.shape.Leaving.{HasGiven, HasLeft, IsFit, IsPartOf, Part, Takes, part_of, stamps_in}
-use Rattle.timing_reach.specs.Shapes.{AreBounds, HasShape, IsLate, IsList, LeaveInTime, Prints, delays, delays_line, end_of, flow_records, greatest, not_shaped}
-use Rattle.timing_reach.specs.Shapes.{packet_line, packet_lines, shaped_capture}
-use Rattle.timing_reach.specs.shape.Shaping.{Copies, Ends, HasMade, IsGoing, IsListed, IsShaping, OnLate, Passes, ShapesOn, Tells}
+use Rattle.udp_rtp.specs.Flow.{flow}
+use Rattle.timing_reach.specs.shape.Leaving.{HasGiven, IsFit, IsPartOf, Part, part_of, stamps_in}
+use Rattle.timing_reach.specs.Shapes.{AreBounds, HasShape, IsLate, IsList, LeaveInTime, Prints, delays, delays_line, end_of, flow_records, not_shaped}
+use Rattle.timing_reach.specs.Shapes.{packet_lines, shaped_capture}
+use Rattle.timing_reach.specs.shape.Shaping.{Ends, HasMade, IsGoing, IsListed, IsShaping, OnLate, ShapesOn}
 use Rattle.timing_reach.specs.declared.shape.delays.Delays.{Delays}
-use Rattle.timing_reach.specs.declared.shape.leaver.Leaver.{Leaver}
-use Rattle.timing_reach.specs.declared.shape.leaver.Turn.TheVariants as turn
 use Rattle.timing_reach.specs.declared.shape.shaping.Shaping.{Shaping}
-use Rattle.timing_reach.proofs.Copies.{capture-beside, capture-judged, record_at}
-use Rattle.timing_reach.proofs.Gauges.{gauged-none}
 use Rattle.timing_reach.proofs.Leavings.{length-stamps, retold}
 use Rattle.timing_reach.proofs.Judgings.{one-run, within-run}
-use Rattle.timing_reach.proofs.Listings.{bounds-more, bounds-none, count-more, delays-more, greatest-more, late-more, length-delays, lines-more}
+use Rattle.timing_reach.proofs.Listings.{length-delays}
 use Rattle.timing_reach.proofs.Shapings.{going-of}
 
 -- where all judged packets came, or one was late, none is put in another's place

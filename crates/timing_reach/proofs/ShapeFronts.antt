@@ -1,37 +1,17 @@
 -- The first packets of a flow that is shaped, and their records.
-use Rattle.std.specs.Prelude.{IfOk, Result, Ok, Err, cond, is_some, slice_index, string_bytes, nat_lt, max, if◌then◌else◌}
-use Rattle.std.proofs.Common.{◌≡◌, ◌+◌, ◌-◌, ◌*◌, ◌^◌, ℕ, zero, suc, Bool, true, false, List, [], ◌∷◌, ◌++◌, length, map, take, drop, min, Option, Some, None}
-use Rattle.std.proofs.Common.{refl, arith, ap, ◌∙◌, sym, subst, inl, inr, append-nil, length-append}
-use Rattle.std.specs.List.{cons_option, count_by}
-use Rattle.std.proofs.lemmas.Bool.{false≢true}
+use Rattle.std.specs.Prelude.{is_some, if◌then◌else◌}
+use Rattle.std.proofs.Common.{◌≡◌, ◌+◌, ℕ, zero, suc, List, [], ◌∷◌, ◌++◌, length, map, take, drop, Option, Some, None}
+use Rattle.std.proofs.Common.{refl, arith, ap, ◌∙◌, sym, subst, length-append}
+use Rattle.std.specs.List.{cons_option}
 use Rattle.std.proofs.lemmas.List.{get_or_append_left, map-append}
-use Rattle.std.proofs.Math.Seq.{get_or-append_seam}
-use Rattle.pcap_reader.specs.WrittenHeads.{file_head, record_head}
-use Rattle.flow_shaper.specs.declared.departure.Departure.{Departure}
-use Rattle.flow_shaper.specs.declared.departure.Late.{Late}
 use Rattle.timing_base.specs.Captures.{Record}
-use Rattle.timing_base.specs.Judged.{JudgedRun, judged, stamp_of}
+use Rattle.timing_base.specs.Judged.{stamp_of}
 use Rattle.timing_base.specs.Media.{Media}
-use Rattle.timing_base.specs.Verdicts.{Judged}
-use Rattle.timing_base.specs.declared.media.Kind.{Kind}
 use Rattle.timing_base.specs.declared.packet.FlowPacket.{FlowPacket}
-use Rattle.timing_report.specs.declared.status.Status.TheVariants as status
-use Rattle.timing_steps.specs.Answers.{Answer}
-use Rattle.timing_reach.specs.judged.Runs.{IsRunOf, gauged}
 use Rattle.udp_rtp.specs.Flow.{flow, flow_packet}
-use Rattle.timing_reach.specs.shape.Leaving.{HasGiven, HasLeft, IsFit, IsPartOf, Part, Takes, part_of, stamps_in}
-use Rattle.timing_reach.specs.Shapes.{AreBounds, HasShape, IsLate, IsList, LeaveInTime, Prints, delays, delays_line, end_of, flow_records, greatest, not_shaped}
-use Rattle.timing_reach.specs.Shapes.{packet_line, packet_lines, shaped_capture}
-use Rattle.timing_reach.specs.shape.Shaping.{Copies, Ends, HasMade, IsGoing, IsListed, IsShaping, OnLate, Passes, ShapesOn, Tells}
-use Rattle.timing_reach.specs.declared.shape.delays.Delays.{Delays}
-use Rattle.timing_reach.specs.declared.shape.leaver.Leaver.{Leaver}
-use Rattle.timing_reach.specs.declared.shape.leaver.Turn.TheVariants as turn
-use Rattle.timing_reach.specs.declared.shape.shaping.Shaping.{Shaping}
-use Rattle.timing_reach.proofs.Copies.{capture-beside, capture-judged, record_at}
-use Rattle.timing_reach.proofs.Gauges.{gauged-none}
-use Rattle.timing_reach.proofs.Leavings.{length-stamps, retold}
-use Rattle.timing_reach.proofs.Judgings.{one-run, within-run}
-use Rattle.timing_reach.proofs.Listings.{bounds-more, bounds-none, count-more, delays-more, greatest-more, late-more, length-delays, lines-more}
+use Rattle.timing_reach.specs.shape.Leaving.{IsFit, Part, stamps_in}
+use Rattle.timing_reach.specs.Shapes.{IsLate, end_of, flow_records}
+use Rattle.timing_reach.proofs.Listings.{late-more}
 
 -- the first stamps of packets are those of fewer
 stamps-first : (w : Part) (packets more : List FlowPacket) → (later : List ℕ) × (stamps_in w (packets ++ more) ≡ stamps_in w packets ++ later)

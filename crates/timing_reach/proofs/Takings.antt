@@ -1,6 +1,6 @@
 -- The records of a capture that stands alone, and what follows from an answer or an option.
 use Rattle.std.specs.Prelude.{IfOk, Result, Ok, Err, is_some}
-use Rattle.std.proofs.Common.{◌≡◌, ◌^◌, ℕ, Bool, true, false, List, Option, Some, None, refl, sym, subst}
+use Rattle.std.proofs.Common.{◌≡◌, ◌^◌, ℕ, true, false, List, Option, Some, None, refl, sym, subst}
 use Rattle.std.proofs.lemmas.Bool.{false≢true}
 use Rattle.timing_base.specs.Captures.{Record}
 use Rattle.timing_base.specs.declared.capture.FileNote.{FileNote}

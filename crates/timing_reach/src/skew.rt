@@ -27,7 +27,9 @@ fn answer_pair<H: Shelf>(
     first: &Media,
     second: &Media,
 ) -> Result<Answer, Failure>
-    ensures follows { Yields result (ReadsCaptures (seen_of H.Shelf shelf.old shelf.new) result job.now.captures (λ texts. Gives result (HasSkew job.now first.now second.now texts))) }
+    ensures follows { Yields result (ReadsCaptures (seen_of H.Shelf shelf.old shelf.new)
+        result job.now.captures
+        (λ texts. Gives result (HasSkew job.now first.now second.now texts))) }
     ensures cause { HasCause result (SkewInputRose job.now (seen_of H.Shelf shelf.old shelf.new)) }
     ensures stays { StaysAs H.text H.lacks H.faults shelf.old shelf.new }
 {
@@ -43,7 +45,8 @@ fn answer_second<H: Shelf>(
     media: &[Media],
     first: &Media,
 ) -> Result<Answer, Failure>
-    ensures follows { Yields result (ReadsPair (seen_of H.Shelf shelf.old shelf.new) result job.now (Some first.now) (slice_get media.now job.now.pair)) }
+    ensures follows { Yields result (ReadsPair (seen_of H.Shelf shelf.old shelf.new)
+        result job.now (Some first.now) (slice_get media.now job.now.pair)) }
     ensures cause { HasCause result (SkewInputRose job.now (seen_of H.Shelf shelf.old shelf.new)) }
     ensures stays { StaysAs H.text H.lacks H.faults shelf.old shelf.new }
 {
@@ -60,7 +63,9 @@ fn answer_over<H: Shelf>(
     shelf: &mut H,
     media: &[Media],
 ) -> Result<Answer, Failure>
-    ensures follows { Yields result (ReadsPair (seen_of H.Shelf shelf.old shelf.new) result job.now (slice_get media.now job.now.media) (slice_get media.now job.now.pair)) }
+    ensures follows { Yields result (ReadsPair (seen_of H.Shelf shelf.old shelf.new)
+        result job.now (slice_get media.now job.now.media)
+        (slice_get media.now job.now.pair)) }
     ensures cause { HasCause result (SkewInputRose job.now (seen_of H.Shelf shelf.old shelf.new)) }
     ensures stays { StaysAs H.text H.lacks H.faults shelf.old shelf.new }
 {

@@ -33,7 +33,8 @@ impl Look for WindowLook {
     ghost answers = { λ look tai m items. HasLines m };
 
     ghost fresh = { λ look tai m judged first gauge.
-        IsGauged m judged.n tai (anchor_of m (first + tai * 10 ^ 9)) judged.head judged.packets gauge [] };
+        IsGauged m judged.n tai (anchor_of m (first + tai * 10 ^ 9)) judged.head judged.packets
+        gauge [] };
 
     fn begin(
         &self,

@@ -21,10 +21,12 @@ pub trait Look {
     type Meter: Taker<Stop = OutOfMemory> + Drop;
 
     /// The answer on this run of a media's flow, in a capture of these records. `tai` is in seconds.
-    ghost answers: { Self → (tai : ℕ) → MediaValue → List Record → JudgedRun → AnswerValue → Type 0 };
+    ghost answers: { Self → (tai : ℕ) → MediaValue → List Record → JudgedRun → AnswerValue
+        → Type 0 };
 
     /// The meter took no record yet of a media's flow that was judged so.
-    ghost fresh: { Self → (tai : ℕ) → MediaValue → JudgedValue → (first : ℕ) → Self.Meter → Type 0 };
+    ghost fresh: { Self → (tai : ℕ) → MediaValue → JudgedValue → (first : ℕ) → Self.Meter
+        → Type 0 };
 
     /// The meter before the first record of a media's flow that was judged so. Its first judged packet came
     /// at `first`, in nanoseconds, as the capture has it.
@@ -40,7 +42,8 @@ pub trait Look {
         requires first { IsStamp first }
         requires few { judged.now.packets ≤ 2 ^ 36 }
         ensures room { IfOk result (λ meter. Self.Meter.room 1 (2 ^ 36) meter) }
-        ensures fresh { IfOk result (λ meter. fresh self.now tai media.now judged.now first meter) };
+        ensures fresh { IfOk result (λ meter.
+            fresh self.now tai media.now judged.now first meter) };
 
     /// The answer on a flow that was judged so and ends here.
     fn finish(

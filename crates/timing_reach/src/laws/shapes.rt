@@ -20,9 +20,9 @@ pub fn one_shape_answer()
     ensures some { (list : Bool) (tai : ℕ) (kind : Kind) (m : Media) (items : List Record)
         (run : JudgedRun) → IsMedia m → 1 ≤ run.n → run.n ≤ 262144
         → (answer : Answer) × HasShape list tai kind m items run answer }
-    ensures once { (list : Bool) (tai : ℕ) (kind : Kind) (m : Media) (items : List Record) (run : JudgedRun)
-        (a b : Answer) → HasShape list tai kind m items run a → HasShape list tai kind m items run b
-        → a ≡ b }
+    ensures once { (list : Bool) (tai : ℕ) (kind : Kind) (m : Media) (items : List Record)
+        (run : JudgedRun) (a b : Answer) → HasShape list tai kind m items run a
+        → HasShape list tai kind m items run b → a ≡ b }
 {}
 
 /// Of five packets at once the last one is delayed, at 50 frames per second with 20 packets per frame.

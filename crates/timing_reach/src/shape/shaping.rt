@@ -43,7 +43,8 @@ impl Shaping {
     /// Before the first record.
     pub fn new(alloc: Global, leaver: Leaver, list: bool) -> Result<Shaping, OutOfMemory>
         requires { leaver.due ≤ 2 ^ 40 }
-        ensures { IfOk result (λ s. (w : Part) → HasGiven w leaver [] [] → IsShaping w list s [] []) }
+        ensures { IfOk result (λ s. (w : Part) → HasGiven w leaver [] []
+            → IsShaping w list s [] []) }
     {
         Ok(Shaping {
             leaver,
@@ -135,8 +136,8 @@ impl Shaping {
     /// The answer on so many judged packets.
     pub fn finish(mut self, alloc: Global, packets: u64) -> Result<Answer, OutOfMemory>
         ensures answers { IfOk result (λ answer. IsAnswered answer.status) }
-        ensures shape { IfOk result (λ answer. (w : Part) (list : _) (passed : List _) (items : List Record)
-            (run : JudgedRun) → Ends w list self passed items run packets
+        ensures shape { IfOk result (λ answer. (w : Part) (list : _) (passed : List _)
+            (items : List Record) (run : JudgedRun) → Ends w list self passed items run packets
             → HasShape list w.tai w.kind w.media items run answer) }
     {
         self.fill()?;

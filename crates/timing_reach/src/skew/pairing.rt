@@ -109,7 +109,8 @@ impl Taker for Pairing {
 fn packet_in(takes: bool, media: &Media, number: u64, at: u64, frame: &[u8]) -> Option<FlowPacket>
     requires stamp { IsStamp at }
     ensures packet { cons_option result []
-        ≡ taken_of takes media.now (record { number = number; stamp = at; bytes = frame.now } ∷ []) }
+        ≡ taken_of takes media.now
+        (record { number = number; stamp = at; bytes = frame.now } ∷ []) }
     ensures stamp { ForSome result (λ packet. IsStamp packet.at) }
 {
     if takes {

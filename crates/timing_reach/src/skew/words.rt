@@ -14,7 +14,8 @@ use timing_steps::Answer;
 
 /// Adds the front of the line of a pair.
 fn add_head(text: &mut String, job: &SkewJob) -> Result<(), OutOfMemory>
-    ensures { IfOk result (λ _. string_bytes text.new ≡ string_bytes text.old ++ pair_head job.now) }
+    ensures { IfOk result (λ _. string_bytes text.new
+        ≡ string_bytes text.old ++ pair_head job.now) }
 {
     let first = u64::from(job.media) + 1;
     let file = job.captures.as_slice().len();
@@ -24,7 +25,8 @@ fn add_head(text: &mut String, job: &SkewJob) -> Result<(), OutOfMemory>
 
 /// Adds the rest of it.
 fn add_counts(text: &mut String, row: &SkewRow) -> Result<(), OutOfMemory>
-    ensures { IfOk result (λ _. string_bytes text.new ≡ string_bytes text.old ++ counts_text row.now) }
+    ensures { IfOk result (λ _. string_bytes text.new
+        ≡ string_bytes text.old ++ counts_text row.now) }
 {
     let SkewRow {
         matched,

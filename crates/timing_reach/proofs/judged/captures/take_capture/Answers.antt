@@ -1,4 +1,4 @@
-use Rattle.std.proofs.Common.{arith, subst, ◌≡◌, ◌+◌, ℕ}
+use Rattle.std.proofs.Common.{arith, subst, ◌≡◌, ◌+◌}
 use Rattle.timing_reach.proofs.Takings.{if-ok}
 use Rattle.timing_reach.proofs.judged.captures.take_capture.Goals as goal
 

@@ -1,4 +1,3 @@
-use Rattle.std.proofs.Common.{◌≡◌}
 use Rattle.timing_reach.proofs.Judgments.{measured}
 use Rattle.timing_reach.proofs.Takings.{if-ok}
 use Rattle.timing_reach.proofs.window.WindowLookLook.finish.Goals as goal
