@@ -44,7 +44,8 @@ deal_step f olds news row done rest x old new e h whole at put =
     omega (arith, a, b, h, length-append done (x ∷ rest)) in
     let here : length done < length news = deal_room f olds news row done rest x e h whole in
     let was : f old ≡ slice_index_or (map f olds) (length done) [] =
-    ap f at ∙ sym (get_or-map f news (length done) old [] here) ∙ ap (λ l. slice_index_or l (length done) []) e ∙ dealt-behind done (map f olds) (length done) (omega arith) in
+    ap f at ∙ sym (get_or-map f news (length done) old [] here) ∙ ap (λ l. slice_index_or l (length done) []) e
+    ∙ dealt-behind done (map f olds) (length done) (omega arith) in
     map-set f news (length done) new
     ∙ ap (λ l. slice_set l (length done) (f new)) e
     ∙ ap (λ l. slice_set (dealt done (map f olds)) (length done) l) (put ∙ ap (λ l. l ++ x ∷ []) was)
@@ -59,7 +60,8 @@ dealt-at (x ∷ row) (l ∷ ls) zero d h k = refl
 dealt-at (x ∷ row) (l ∷ ls) (suc n) d h k = dealt-at row ls n d (omega (arith, h)) (omega (arith, k))
 
 -- one row more
-pub dealt_all-more : {X : Type 0} (rows : List (List X)) (row : List X) (lists : List (List X)) → dealt_all (rows ++ row ∷ []) lists ≡ dealt row (dealt_all rows lists)
+pub dealt_all-more : {X : Type 0} (rows : List (List X)) (row : List X) (lists : List (List X))
+    → dealt_all (rows ++ row ∷ []) lists ≡ dealt row (dealt_all rows lists)
 dealt_all-more [] row lists = refl
 dealt_all-more (r ∷ rows) row lists = dealt_all-more rows row (dealt r lists)
 
@@ -72,7 +74,8 @@ pub deal_next : {A X : Type 0} (f : A → List X) (n : ℕ) (rows : List A) (row
     → map f news ≡ dealt (f row) (map f olds) → (map f news ≡ dealt_all (map f (rows ++ row ∷ [])) (replicate n [])) × (length news ≡ n)
 deal_next f n rows row olds news e now =
     let is : map f news ≡ dealt_all (map f (rows ++ row ∷ [])) (replicate n []) =
-    now ∙ ap (dealt (f row)) e ∙ sym (dealt_all-more (map f rows) (f row) (replicate n [])) ∙ ap (λ l. dealt_all l (replicate n [])) (sym (map-append f rows (row ∷ []))) in
+    now ∙ ap (dealt (f row)) e ∙ sym (dealt_all-more (map f rows) (f row) (replicate n []))
+    ∙ ap (λ l. dealt_all l (replicate n [])) (sym (map-append f rows (row ∷ []))) in
     (is, sym (length-map news f) ∙ ap length is ∙ length-dealt_all (map f (rows ++ row ∷ [])) (replicate n []) ∙ length-replicate n [])
 
 -- what holds of each holds of each behind the first

@@ -27,7 +27,8 @@ files_more first (suc n) media =
     ∙ sym (append_assoc (keys_of_file first 0 media) (keys_of_files (first + 1) n media) (keys_of_file (first + suc n) 0 media))
 
 -- one file more
-pub push_file : (olds news : List FlowKey) (n media : ℕ) → olds ≡ keys_of_files 0 n media → news ≡ olds ++ keys_of_file n 0 media → news ≡ keys_of_files 0 (n + 1) media
+pub push_file : (olds news : List FlowKey) (n media : ℕ) → olds ≡ keys_of_files 0 n media → news ≡ olds ++ keys_of_file n 0 media
+    → news ≡ keys_of_files 0 (n + 1) media
 push_file olds news n media e now =
     let s : n + 1 ≡ suc n = omega arith in
     let z : 0 + n ≡ n = omega arith in

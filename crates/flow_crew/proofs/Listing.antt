@@ -16,7 +16,8 @@ use Rattle.flow_crew.specs.Gathering.{AreQueued, ArePosted, IsKeyOf}
 file_keys : (P : FlowKey → Type 0) (file first n : ℕ) → ((m : ℕ) → m < first + n → P (key_of file m)) → All P (keys_of_file file first n)
 file_keys P file first zero each = All-nil P
 file_keys P file first (suc n) each =
-    All-cons P (key_of file first) (keys_of_file file (first + 1) n) (each first (omega arith)) (file_keys P file (first + 1) n (λ m h. each m (omega (arith, h))))
+    All-cons P (key_of file first) (keys_of_file file (first + 1) n) (each first (omega arith))
+    (file_keys P file (first + 1) n (λ m h. each m (omega (arith, h))))
 
 files_keys : (P : FlowKey → Type 0) (first n media : ℕ) → ((f m : ℕ) → f < first + n → m < media → P (key_of f m)) → All P (keys_of_files first n media)
 files_keys P first zero media each = All-nil P
@@ -26,7 +27,8 @@ files_keys P first (suc n) media each =
     (files_keys P (first + 1) n media (λ f m h k. each f m (omega (arith, h)) k))
 
 -- what holds of each media of each file holds of the keys of the run
-pub keys-all : (P : FlowKey → Type 0) (joined : Bool) (files media : ℕ) → ((f m : ℕ) → f < (if joined then 1 else files) → m < media → P (key_of f m)) → All P (keys_of joined files media)
+pub keys-all : (P : FlowKey → Type 0) (joined : Bool) (files media : ℕ) → ((f m : ℕ) → f < (if joined then 1 else files) → m < media → P (key_of f m))
+    → All P (keys_of joined files media)
 keys-all P joined files media each = files_keys P 0 (if joined then 1 else files) media (λ f m h k. each f m (omega (arith, h)) k)
 
 one_or : (joined : Bool) (files f : ℕ) → files ≤ 16 → f < (if joined then 1 else files) → f < 16
@@ -34,7 +36,8 @@ one_or true files f h k = omega (arith, k)
 one_or false files f h k = omega (arith, h, k)
 
 -- the keys that are listed are those of the run
-pub keys-are : (joined : Bool) (files media count : ℕ) (listed : List FlowKey) → count ≡ (if joined then 1 else files) → listed ≡ keys_of_files 0 count media → listed ≡ keys_of joined files media
+pub keys-are : (joined : Bool) (files media count : ℕ) (listed : List FlowKey) → count ≡ (if joined then 1 else files) → listed ≡ keys_of_files 0 count media
+    → listed ≡ keys_of joined files media
 keys-are joined files media count listed a b = b ∙ ap (λ n. keys_of_files 0 n media) a
 
 -- so each is a key of one of 16 files
@@ -42,14 +45,17 @@ pub keys-within : (joined : Bool) (files media : ℕ) (listed : List FlowKey) �
 keys-within joined files media listed few e =
     subst (All (IsKeyOf media)) (sym e) (keys-all (IsKeyOf media) joined files media (λ f m h k. record { file = one_or joined files f few h; media_is = k }))
 
-receipts_at : {A : Type 0} (f : A → List Receipt) (qs : List A) (n : ℕ) → n < length qs → slice_index_or (map (λ q. Some (f q)) qs) n None ≡ Some (slice_index_or (map f qs) n [])
+receipts_at : {A : Type 0} (f : A → List Receipt) (qs : List A) (n : ℕ) → n < length qs
+    → slice_index_or (map (λ q. Some (f q)) qs) n None ≡ Some (slice_index_or (map f qs) n [])
 receipts_at f [] n h = absurd (omega (arith, h))
 receipts_at f (q ∷ qs) zero h = refl
 receipts_at f (q ∷ qs) (suc n) h = receipts_at f qs n (omega (arith, h))
 
 -- receipts that are there for all workers are queued
-pub queued_by : {A : Type 0} (f : A → List Receipt) (book : Book) (row_for : FlowKey → Row) (media workers : ℕ) (keys listed : List FlowKey) (posted : List (Option (Vec Receipt Global))) (queues : List A)
-    → map receipts_in posted ≡ map (λ q. Some (f q)) queues → listed ≡ keys → ArePosted book row_for media workers keys posted → AreQueued book row_for media workers listed (map f queues)
+pub queued_by : {A : Type 0} (f : A → List Receipt) (book : Book) (row_for : FlowKey → Row) (media workers : ℕ) (keys listed : List FlowKey)
+    (posted : List (Option (Vec Receipt Global))) (queues : List A)
+    → map receipts_in posted ≡ map (λ q. Some (f q)) queues → listed ≡ keys → ArePosted book row_for media workers keys posted
+    → AreQueued book row_for media workers listed (map f queues)
 queued_by f book row_for media workers keys listed posted queues e same are =
     subst (λ (l : List FlowKey). AreQueued book row_for media workers l (map f queues)) (sym same)
     (λ w below.

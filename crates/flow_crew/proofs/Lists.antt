@@ -27,7 +27,8 @@ numbers-at (suc n) i d h =
     ]
 
 -- lists with the same of each
-pub at_map : {A B : Type 0} (f : A → B) (xs : List A) (ys : List B) (n : ℕ) (a : A) (b : B) → ys ≡ map f xs → n < length xs → slice_index_or ys n b ≡ f (slice_index_or xs n a)
+pub at_map : {A B : Type 0} (f : A → B) (xs : List A) (ys : List B) (n : ℕ) (a : A) (b : B) → ys ≡ map f xs → n < length xs
+    → slice_index_or ys n b ≡ f (slice_index_or xs n a)
 at_map f [] ys n a b e h = absurd (omega (arith, h))
 at_map f (x ∷ xs) ys zero a b e h = ap (λ l. slice_index_or l zero b) e
 at_map f (x ∷ xs) ys (suc n) a b e h = ap (λ l. slice_index_or l (suc n) b) e ∙ at_map f xs (map f xs) n a b refl (omega (arith, h))
@@ -49,12 +50,14 @@ filter-agree p q [] each = refl
 filter-agree p q (x ∷ xs) each =
     ap₂ (λ (b : Bool) (l : List _). cond b (x ∷ l) l) (each 0 x (omega arith)) (filter-agree p q xs (λ k d m. each (suc k) d (omega (arith, m))))
 
-kept_as : {A B : Type 0} (f g : A → B) (x : A) (kept : List A) (b c : Bool) → b ≡ c → (c ≡ true → f x ≡ g x) → map f kept ≡ map g kept → map f (cond b (x ∷ kept) kept) ≡ map g (cond b (x ∷ kept) kept)
+kept_as : {A B : Type 0} (f g : A → B) (x : A) (kept : List A) (b c : Bool) → b ≡ c → (c ≡ true → f x ≡ g x) → map f kept ≡ map g kept
+    → map f (cond b (x ∷ kept) kept) ≡ map g (cond b (x ∷ kept) kept)
 kept_as f g x kept true c e same rest = ap₂ (λ y l. y ∷ l) (same (sym e)) rest
 kept_as f g x kept false c e same rest = rest
 
 -- what agrees on the items that are kept gives the same of them
-pub map_kept-agree : {A B : Type 0} (p : A → Bool) (f g : A → B) (xs : List A) → All (λ x. p x ≡ true → f x ≡ g x) xs → map f (filter p xs) ≡ map g (filter p xs)
+pub map_kept-agree : {A B : Type 0} (p : A → Bool) (f g : A → B) (xs : List A) → All (λ x. p x ≡ true → f x ≡ g x) xs
+    → map f (filter p xs) ≡ map g (filter p xs)
 map_kept-agree p f g [] each = refl
 map_kept-agree p f g (x ∷ xs) each =
     kept_as f g x (filter p xs) (p x) (p x) refl (each 0 x (omega arith)) (map_kept-agree p f g xs (λ k d m. each (suc k) d (omega (arith, m))))
@@ -76,8 +79,10 @@ at_default (x ∷ xs) zero a b h = refl
 at_default (x ∷ xs) (suc n) a b h = at_default xs n a b (omega (arith, h))
 
 -- lists with the same at each place are one
-pub same_at : {A : Type 0} (xs ys : List A) → length xs ≡ length ys → ((n : ℕ) (a : A) → n < length xs → slice_index_or xs n a ≡ slice_index_or ys n a) → xs ≡ ys
+pub same_at : {A : Type 0} (xs ys : List A) → length xs ≡ length ys → ((n : ℕ) (a : A) → n < length xs → slice_index_or xs n a ≡ slice_index_or ys n a)
+    → xs ≡ ys
 same_at [] [] long each = refl
 same_at [] (y ∷ ys) long each = absurd (omega (arith, long))
 same_at (x ∷ xs) [] long each = absurd (omega (arith, long))
-same_at (x ∷ xs) (y ∷ ys) long each = ap₂ (λ z l. z ∷ l) (each 0 x (omega arith)) (same_at xs ys (omega (arith, long)) (λ n a h. each (suc n) a (omega (arith, h))))
+same_at (x ∷ xs) (y ∷ ys) long each =
+    ap₂ (λ z l. z ∷ l) (each 0 x (omega arith)) (same_at xs ys (omega (arith, long)) (λ n a h. each (suc n) a (omega (arith, h))))

@@ -25,18 +25,19 @@ pub file-more : (file : ℕ) (lanes : List LaneId) (lane : LaneId) (passes : Lis
     → s ≡ record { lane = lane; from = file; sent = [] } → HaveSentNothing file (lanes ++ lane ∷ []) (passes ++ s ∷ [])
 file-more file lanes lane passes s has is = record {
   count = omega (arith, has.count, length-append passes (s ∷ []), length-append lanes (lane ∷ []));
-  each = λ n d l m. elim (cases_lt n (length lanes)) as (λ _. slice_index_or (passes ++ s ∷ []) n d ≡ record { lane = slice_index_or (lanes ++ lane ∷ []) n l; from = file; sent = [] }) [
-    | inl before ↦
-        let there : n < length passes = omega (arith, before, has.count) in
-        get_or_append_left passes (s ∷ []) d n there ∙ has.each n d l before
-        ∙ ap (λ (x : LaneId). record { lane = x; from = file; sent = [] }) (sym (get_or_append_left lanes (lane ∷ []) l n before))
-    | inr after ↦
-        let last : n ≡ length lanes = omega (arith, after, m, length-append lanes (lane ∷ [])) in
-        let last_pass : n ≡ length passes = omega (arith, last, has.count) in
-        ap (λ k. slice_index_or (passes ++ s ∷ []) k d) last_pass ∙ get_or-append_seam passes s [] d ∙ is
-        ∙ ap (λ (x : LaneId). record { lane = x; from = file; sent = [] })
-        (sym (ap (λ k. slice_index_or (lanes ++ lane ∷ []) k l) last ∙ get_or-append_seam lanes lane [] l))
-  ];
+  each = λ n d l m. elim (cases_lt n (length lanes)) as (λ _. slice_index_or (passes ++ s ∷ []) n d
+      ≡ record { lane = slice_index_or (lanes ++ lane ∷ []) n l; from = file; sent = [] }) [
+        | inl before ↦
+            let there : n < length passes = omega (arith, before, has.count) in
+            get_or_append_left passes (s ∷ []) d n there ∙ has.each n d l before
+            ∙ ap (λ (x : LaneId). record { lane = x; from = file; sent = [] }) (sym (get_or_append_left lanes (lane ∷ []) l n before))
+        | inr after ↦
+            let last : n ≡ length lanes = omega (arith, after, m, length-append lanes (lane ∷ [])) in
+            let last_pass : n ≡ length passes = omega (arith, last, has.count) in
+            ap (λ k. slice_index_or (passes ++ s ∷ []) k d) last_pass ∙ get_or-append_seam passes s [] d ∙ is
+            ∙ ap (λ (x : LaneId). record { lane = x; from = file; sent = [] })
+            (sym (ap (λ k. slice_index_or (lanes ++ lane ∷ []) k l) last ∙ get_or-append_seam lanes lane [] l))
+      ];
 }
 
 -- the pass of a file among those of a new lane
@@ -47,7 +48,8 @@ row_pass lane row f d are none m =
     pass_is lane f (slice_index_or row f d) one.lane_is one.from_is (sym (get_or-map (λ (s : Sender). s.sent) row f d [] m) ∙ none f)
 
 -- one lane more
-pub made-more : (files worker : ℕ) (lanes : List LaneId) (jobs : List WorkJob) (columns : List (List Sender)) (lane : LaneId) (row : List Sender) (job : WorkJob)
+pub made-more : (files worker : ℕ) (lanes : List LaneId) (jobs : List WorkJob) (columns : List (List Sender)) (lane : LaneId) (row : List Sender)
+    (job : WorkJob)
     → AreMade files worker lanes jobs columns → AreSenders lane row → length row ≡ files → ((f : ℕ) → sent_of row f ≡ [])
     → job.worker ≡ worker → job.pass ≡ new_pass files lane
     → AreMade files (worker + 1) (lanes ++ lane ∷ []) (jobs ++ job ∷ []) (dealt row columns)
@@ -66,7 +68,8 @@ made-more files worker lanes jobs columns lane row job made are long none number
       let fits : length row ≤ length columns = omega (arith, long, made.file_count) in
       let d : Sender = record { lane = lane; from = file; sent = [] } in
       subst (HaveSentNothing file (lanes ++ lane ∷ [])) (sym (dealt-at row columns file d there fits))
-      (file-more file lanes lane (slice_index_or columns file []) (slice_index_or row file d) (made.file_passes file m) (row_pass lane row file d are none there));
+      (file-more file lanes lane (slice_index_or columns file []) (slice_index_or row file d) (made.file_passes file m)
+      (row_pass lane row file d are none there));
 }
 
 none-at : (n i : ℕ) → slice_index_or {A = List Sender} (replicate n []) i [] ≡ []
@@ -91,7 +94,8 @@ on_ok (Ok x) P Q more h = more x h
 on_ok (Err e) P Q more h = h
 
 -- the same of lists that are so
-pub made-next : (files worker : ℕ) (lanes now_lanes : List LaneId) (jobs now_jobs : List WorkJob) (columns now_columns : List (List Sender)) (lane : LaneId) (row : List Sender) (job : WorkJob)
+pub made-next : (files worker : ℕ) (lanes now_lanes : List LaneId) (jobs now_jobs : List WorkJob) (columns now_columns : List (List Sender)) (lane : LaneId)
+    (row : List Sender) (job : WorkJob)
     → AreMade files worker lanes jobs columns → AreSenders lane row → length row ≡ files → ((f : ℕ) → sent_of row f ≡ [])
     → job.worker ≡ worker → job.pass ≡ new_pass files lane → now_lanes ≡ lanes ++ lane ∷ [] → now_jobs ≡ jobs ++ job ∷ [] → now_columns ≡ dealt row columns
     → AreMade files (worker + 1) now_lanes now_jobs now_columns

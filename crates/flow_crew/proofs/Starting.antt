@@ -19,17 +19,20 @@ use Rattle.flow_crew.specs.Threads.{AreWorkJobs, AreWorked}
 use Rattle.flow_crew.proofs.Lists.{at_map, numbers-at, some_item}
 
 -- each worker's job is that of its place
-pub work_count : (files workers : ℕ) (lanes : List LaneId) (jobs : List WorkJob) (columns : List (List Sender)) → AreMade files workers lanes jobs columns → length jobs ≡ length lanes
+pub work_count : (files workers : ℕ) (lanes : List LaneId) (jobs : List WorkJob) (columns : List (List Sender)) → AreMade files workers lanes jobs columns
+    → length jobs ≡ length lanes
 work_count files workers lanes jobs columns made =
     sym (length-map jobs (λ (j : WorkJob). j.pass)) ∙ ap length made.worker_passes ∙ length-map lanes (new_pass files)
 
-pub job_number : (files workers : ℕ) (lanes : List LaneId) (jobs : List WorkJob) (columns : List (List Sender)) (w : ℕ) (j : WorkJob) → AreMade files workers lanes jobs columns → w < length jobs
+pub job_number : (files workers : ℕ) (lanes : List LaneId) (jobs : List WorkJob) (columns : List (List Sender)) (w : ℕ) (j : WorkJob)
+    → AreMade files workers lanes jobs columns → w < length jobs
     → (slice_index_or jobs w j).worker ≡ w
 job_number files workers lanes jobs columns w j made h =
     let below : w < workers = let a = work_count files workers lanes jobs columns made in omega (arith, h, a, made.lane_count) in
     sym (at_map (λ (k : WorkJob). k.worker) jobs (numbers workers) w j 0 (sym made.worker_numbers) h) ∙ numbers-at workers w 0 below
 
-job_pass : (files workers : ℕ) (lanes : List LaneId) (jobs : List WorkJob) (columns : List (List Sender)) (w : ℕ) (j : WorkJob) (l : LaneId) → AreMade files workers lanes jobs columns → w < length jobs
+job_pass : (files workers : ℕ) (lanes : List LaneId) (jobs : List WorkJob) (columns : List (List Sender)) (w : ℕ) (j : WorkJob) (l : LaneId)
+    → AreMade files workers lanes jobs columns → w < length jobs
     → (slice_index_or jobs w j).pass ≡ new_pass files (slice_index_or lanes w l)
 job_pass files workers lanes jobs columns w j l made h =
     let below : w < length lanes = let a = work_count files workers lanes jobs columns made in omega (arith, h, a) in
@@ -37,7 +40,8 @@ job_pass files workers lanes jobs columns w j l made h =
     ∙ at_map (new_pass files) lanes (map (new_pass files) lanes) w l (new_pass files l) refl below
 
 -- what is made are jobs of workers
-pub work_jobs : (files workers : ℕ) (lanes : List LaneId) (jobs : List WorkJob) (columns : List (List Sender)) → AreMade files workers lanes jobs columns → AreWorkJobs lanes jobs
+pub work_jobs : (files workers : ℕ) (lanes : List LaneId) (jobs : List WorkJob) (columns : List (List Sender)) → AreMade files workers lanes jobs columns
+    → AreWorkJobs lanes jobs
 work_jobs files workers lanes jobs columns made = λ w j h.
     let number = job_number files workers lanes jobs columns w j made h in
     let a = work_count files workers lanes jobs columns made in
@@ -50,22 +54,26 @@ work_jobs files workers lanes jobs columns made = λ w j h.
     }
 
 -- there is an intake for each source
-intake_count : {S : Type 0} (sources : List S) (columns : List (List Sender)) (jobs : List (IntakeJob S)) → AreIntakes sources columns jobs → length jobs ≡ length sources
+intake_count : {S : Type 0} (sources : List S) (columns : List (List Sender)) (jobs : List (IntakeJob S)) → AreIntakes sources columns jobs
+    → length jobs ≡ length sources
 intake_count {S} sources columns jobs are = sym (length-map jobs (λ (j : IntakeJob S). j.source)) ∙ ap length are.file_sources
 
-file_number : {S : Type 0} (sources : List S) (columns : List (List Sender)) (jobs : List (IntakeJob S)) (f : ℕ) (j : IntakeJob S) → AreIntakes sources columns jobs → f < length jobs
+file_number : {S : Type 0} (sources : List S) (columns : List (List Sender)) (jobs : List (IntakeJob S)) (f : ℕ) (j : IntakeJob S)
+    → AreIntakes sources columns jobs → f < length jobs
     → (slice_index_or jobs f j).file ≡ f
 file_number {S} sources columns jobs f j are h =
     let below : f < length sources = let a = intake_count sources columns jobs are in omega (arith, h, a) in
     sym (at_map (λ (k : IntakeJob S). k.file) jobs (numbers (length sources)) f j 0 (sym are.file_numbers) h) ∙ numbers-at (length sources) f 0 below
 
 -- what is made are jobs of intakes
-pub intake_jobs : {S : Type 0} (files workers : ℕ) (lanes : List LaneId) (wjobs : List WorkJob) (columns : List (List Sender)) (sources : List S) (jobs : List (IntakeJob S))
+pub intake_jobs : {S : Type 0} (files workers : ℕ) (lanes : List LaneId) (wjobs : List WorkJob) (columns : List (List Sender)) (sources : List S)
+    (jobs : List (IntakeJob S))
     → AreMade files workers lanes wjobs columns → AreIntakes sources columns jobs → length sources ≡ files → files ≤ 16 → AreIntakeJobs lanes jobs
 intake_jobs {S} files workers lanes wjobs columns sources jobs made are long few = λ f j h.
     let number = file_number sources columns jobs f j are h in
     let below : f < files = let a = intake_count sources columns jobs are in omega (arith, h, a, long) in
-    let passes : slice_index_or columns f [] ≡ (slice_index_or jobs f j).passes.items = at_map (λ (k : IntakeJob S). k.passes.items) jobs columns f j [] (sym are.file_passes) h in
+    let passes : slice_index_or columns f [] ≡ (slice_index_or jobs f j).passes.items =
+    at_map (λ (k : IntakeJob S). k.passes.items) jobs columns f j [] (sym are.file_passes) h in
     record {
       file = omega (arith, number, below, few);
       passes = subst (λ (n : ℕ). HaveSentNothing n lanes (slice_index_or jobs f j).passes.items) (sym number)
@@ -81,12 +89,14 @@ abbrev pub AreTakers : (files : ℕ) → List LaneId → List Taker → Type 0
 AreTakers files lanes takers = (w : ℕ) (l : LaneId) (t : Taker) → w < length lanes
     → ((slice_index_or takers w t).lane ≡ slice_index_or lanes w l) × ((slice_index_or takers w t).senders ≡ files)
 
-pub taker_count : (files workers : ℕ) (s : Setting) (book : Book) (lanes : List LaneId) (jobs : List WorkJob) (columns : List (List Sender)) (dones : List WorkDone) (takers : List Taker)
+pub taker_count : (files workers : ℕ) (s : Setting) (book : Book) (lanes : List LaneId) (jobs : List WorkJob) (columns : List (List Sender))
+    (dones : List WorkDone) (takers : List Taker)
     → AreMade files workers lanes jobs columns → AreWorked s files book jobs dones → takers ≡ map (λ d. d.pass) dones → length takers ≡ length lanes
 taker_count files workers s book lanes jobs columns dones takers made worked e =
     ap length e ∙ length-map dones (λ (d : WorkDone). d.pass) ∙ worked.count ∙ work_count files workers lanes jobs columns made
 
-pub takers_are : (files workers : ℕ) (s : Setting) (book : Book) (lanes : List LaneId) (jobs : List WorkJob) (columns : List (List Sender)) (dones : List WorkDone) (takers : List Taker)
+pub takers_are : (files workers : ℕ) (s : Setting) (book : Book) (lanes : List LaneId) (jobs : List WorkJob) (columns : List (List Sender))
+    (dones : List WorkDone) (takers : List Taker)
     → AreMade files workers lanes jobs columns → AreWorked s files book jobs dones → takers ≡ map (λ d. d.pass) dones → AreTakers files lanes takers
 takers_are files workers s book lanes jobs columns dones takers made worked e = λ w l t h.
     let a = work_count files workers lanes jobs columns made in
@@ -102,14 +112,16 @@ takers_are files workers s book lanes jobs columns dones takers made worked e = 
     )
 
 -- there is a row for each file
-pub row_count : {S : Type 0} (name : S → List ℕ) (left : S → Option (List ℕ)) (faults : S → ℕ) (s : Setting) (lanes : List LaneId) (columns : List (List Sender)) (sources : List S)
+pub row_count : {S : Type 0} (name : S → List ℕ) (left : S → Option (List ℕ)) (faults : S → ℕ) (s : Setting) (lanes : List LaneId)
+    (columns : List (List Sender)) (sources : List S)
     (jobs : List (IntakeJob S)) (dones : List (IntakeDone S)) (rows : List (Vec SendPass Global))
     → AreIntakes sources columns jobs → AreRead name left faults s lanes jobs dones → rows ≡ map (λ d. d.passes) dones → length rows ≡ length sources
 row_count {S} name left faults s lanes columns sources jobs dones rows are read e =
     ap length e ∙ length-map dones (λ (d : IntakeDone S). d.passes) ∙ read.count ∙ intake_count sources columns jobs are
 
 -- the row of a file
-pub row_at : {S : Type 0} (dones : List (IntakeDone S)) (rows : List (Vec SendPass Global)) (f : ℕ) (d : IntakeDone S) → rows ≡ map (λ d. d.passes) dones → f < length dones
+pub row_at : {S : Type 0} (dones : List (IntakeDone S)) (rows : List (Vec SendPass Global)) (f : ℕ) (d : IntakeDone S) → rows ≡ map (λ d. d.passes) dones
+    → f < length dones
     → slice_index_or (map (λ v. v.items) rows) f [] ≡ (slice_index_or dones f d).passes.items
 row_at {S} dones rows f d e h =
     let long : length rows ≡ length dones = ap length e ∙ length-map dones (λ (k : IntakeDone S). k.passes) in
@@ -117,22 +129,26 @@ row_at {S} dones rows f d e h =
     ∙ ap (λ (v : Vec SendPass Global). v.items) (at_map (λ (k : IntakeDone S). k.passes) dones rows f d d.passes e h)
 
 -- what a file's intake leaves
-pub read_at : {S : Type 0} (name : S → List ℕ) (left : S → Option (List ℕ)) (faults : S → ℕ) (s : Setting) (lanes : List LaneId) (columns : List (List Sender)) (sources : List S)
+pub read_at : {S : Type 0} (name : S → List ℕ) (left : S → Option (List ℕ)) (faults : S → ℕ) (s : Setting) (lanes : List LaneId) (columns : List (List Sender))
+    (sources : List S)
     (jobs : List (IntakeJob S)) (dones : List (IntakeDone S)) (f : ℕ) (j : IntakeJob S) (d : IntakeDone S)
     → AreIntakes sources columns jobs → AreRead name left faults s lanes jobs dones → f < length sources
-    → (f < length jobs) × (f < length dones) × ((slice_index_or jobs f j).file ≡ f) × HasRead name left faults s lanes (slice_index_or jobs f j) (slice_index_or dones f d)
+    → (f < length jobs) × (f < length dones) × ((slice_index_or jobs f j).file ≡ f)
+    × HasRead name left faults s lanes (slice_index_or jobs f j) (slice_index_or dones f d)
 read_at {S} name left faults s lanes columns sources jobs dones f j d are read h =
     let a = intake_count sources columns jobs are in
     let here : f < length jobs = omega (arith, a, h) in
     let there : f < length dones = let b = read.count in omega (arith, b, here) in
     (here, there, file_number sources columns jobs f j are here, read.each f j d here)
 
-pub rows_are : {S : Type 0} (name : S → List ℕ) (left : S → Option (List ℕ)) (faults : S → ℕ) (s : Setting) (lanes : List LaneId) (columns : List (List Sender)) (sources : List S)
+pub rows_are : {S : Type 0} (name : S → List ℕ) (left : S → Option (List ℕ)) (faults : S → ℕ) (s : Setting) (lanes : List LaneId) (columns : List (List Sender))
+    (sources : List S)
     (jobs : List (IntakeJob S)) (dones : List (IntakeDone S)) (rows : List (Vec SendPass Global))
     → AreIntakes sources columns jobs → AreRead name left faults s lanes jobs dones → rows ≡ map (λ d. d.passes) dones → AreRows lanes (map (λ v. v.items) rows)
 rows_are {S} name left faults s lanes columns sources jobs dones rows are read e = λ f h.
     let below : f < length sources =
-    let a = length-map rows (λ (v : Vec SendPass Global). v.items) in let b = row_count name left faults s lanes columns sources jobs dones rows are read e in omega (arith, h, a, b) in
+    let a = length-map rows (λ (v : Vec SendPass Global). v.items) in let b = row_count name left faults s lanes columns sources jobs dones rows are read e in
+    omega (arith, h, a, b) in
     let here : f < length jobs = let a = intake_count sources columns jobs are in omega (arith, a, below) in
     let there : f < length dones = let b = read.count in omega (arith, b, here) in
     let j : IntakeJob S = some_item jobs f here in

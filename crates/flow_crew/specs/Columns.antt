@@ -1,4 +1,5 @@
--- Passes that are dealt out. A lane gives a row of passes, one for each file; each file gets one of each lane; and back.
+-- Passes that are dealt out. A lane gives a row of passes, one for each file; each file gets one of each lane; and
+-- back.
 use Rattle.std.specs.Prelude.{List, [], ◌∷◌, ◌++◌}
 
 -- one item of a row more for each list, in order

@@ -19,19 +19,23 @@ pub record IsKeyOf (media : ℕ) (key : FlowKey) : Type 0 where
   pub media_is : key.media < media
 
 -- these receipts are of the book, and have the rows of these keys
-pub record IsQueue (book : Book) (row_for : FlowKey → Row) (keys : List FlowKey) (receipts : List Receipt) : Type 0 where
+pub record IsQueue (book : Book) (row_for : FlowKey → Row) (keys : List FlowKey)
+    (receipts : List Receipt) : Type 0 where
   pub posted : All (IsOf book) receipts
   pub rows : map row_of receipts ≡ map row_for keys
 
 -- each worker has receipts for the rows of those keys that are dealt to it
-abbrev pub AreQueued : Book → (row_for : FlowKey → Row) → (media workers : ℕ) → List FlowKey → List (List Receipt) → Type 0
+abbrev pub AreQueued : Book → (row_for : FlowKey → Row) → (media workers : ℕ) → List FlowKey → List (List Receipt)
+    → Type 0
 AreQueued book row_for media workers keys queues = (worker : ℕ) → worker < length queues
     → IsQueue book row_for (filter (λ key. route key media workers == worker) keys) (slice_index_or queues worker [])
 
 -- each worker has receipts, if it has any, for the rows of those keys that are dealt to it
-abbrev pub ArePosted : Book → (row_for : FlowKey → Row) → (media workers : ℕ) → List FlowKey → List (Option (Vec Receipt Global)) → Type 0
+abbrev pub ArePosted : Book → (row_for : FlowKey → Row) → (media workers : ℕ) → List FlowKey
+    → List (Option (Vec Receipt Global)) → Type 0
 ArePosted book row_for media workers keys posted = (worker : ℕ) → worker < length posted
-    → ForSome (slice_index_or (map receipts_in posted) worker None) (IsQueue book row_for (filter (λ key. route key media workers == worker) keys))
+    → ForSome (slice_index_or (map receipts_in posted) worker None)
+    (IsQueue book row_for (filter (λ key. route key media workers == worker) keys))
 
 -- the keys of a run
 abbrev pub run_keys : RunSetting → List FlowKey

@@ -13,10 +13,12 @@ AreTexts left (t ∷ ts) (s ∷ ss) = (left s ≡ Some t) × AreTexts left ts ss
 AreTexts left ts ss = ⊥
 
 -- the sources came back, in order; the count of one whose read failed rose
-abbrev pub AreBack : {S : Type 0} → (name : S → List ℕ) → (faults : S → ℕ) → (olds : List S) → List FileNote → (news : List S) → Type 0
+abbrev pub AreBack : {S : Type 0} → (name : S → List ℕ) → (faults : S → ℕ) → (olds : List S) → List FileNote
+    → (news : List S) → Type 0
 AreBack name faults [] [] [] = ⊤
 AreBack name faults (o ∷ os) (note ∷ notes) (n ∷ ns) =
-    (name n ≡ name o) × (faults o ≤ faults n) × (note ≡ Refused ReadFault → Rose (faults o) (faults n)) × AreBack name faults os notes ns
+    (name n ≡ name o) × (faults o ≤ faults n) × (note ≡ Refused ReadFault → Rose (faults o) (faults n))
+    × AreBack name faults os notes ns
 AreBack name faults os notes ns = ⊥
 
 -- whether the reads of a file did not fail

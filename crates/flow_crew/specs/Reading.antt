@@ -33,7 +33,8 @@ pub record IsIntakeJob {S : Type 0} (lanes : List LaneId) (job : IntakeJob S) : 
 pub record HasRead {S : Type 0} (name : S → List ℕ) (left : S → Option (List ℕ)) (faults : S → ℕ) (s : Setting)
     (lanes : List LaneId) (job : IntakeJob S) (done : IntakeDone S) : Type 0 where
   pub passes : AreOfFile job.file lanes done.passes.items
-  pub told : (text : List ℕ) (items : List Record) (end : FileNote) → left job.source ≡ Some text → Records text (2 ^ 40) items end
+  pub told : (text : List ℕ) (items : List Record) (end : FileNote) → left job.source ≡ Some text
+      → Records text (2 ^ 40) items end
       → HasTold s job.file lanes (record { records = items; note = end }) done.note done.passes.items
   pub name_is : name done.source ≡ name job.source
   pub later : faults job.source ≤ faults done.source
@@ -48,4 +49,5 @@ pub record AreRead {S : Type 0} (name : S → List ℕ) (left : S → Option (Li
 
 -- each is a job of an intake
 abbrev pub AreIntakeJobs : {S : Type 0} → List LaneId → List (IntakeJob S) → Type 0
-AreIntakeJobs {S} lanes jobs = (file : ℕ) (j : IntakeJob S) → file < length jobs → IsIntakeJob lanes (slice_index_or jobs file j)
+AreIntakeJobs {S} lanes jobs =
+    (file : ℕ) (j : IntakeJob S) → file < length jobs → IsIntakeJob lanes (slice_index_or jobs file j)

@@ -19,11 +19,13 @@ pub record HasWorked (s : Setting) (files : ℕ) (book : Book) (job : WorkJob) (
   pub judged : IfSome done.receipts (λ receipts. HasJudged s files job.worker done.pass book receipts.items)
 
 -- the same of all workers
-pub record AreWorked (s : Setting) (files : ℕ) (book : Book) (jobs : List WorkJob) (dones : List WorkDone) : Type 0 where
+pub record AreWorked (s : Setting) (files : ℕ) (book : Book) (jobs : List WorkJob)
+    (dones : List WorkDone) : Type 0 where
   pub count : length dones ≡ length jobs
   pub each : (worker : ℕ) (j : WorkJob) (d : WorkDone) → worker < length jobs
       → HasWorked s files book (slice_index_or jobs worker j) (slice_index_or dones worker d)
 
 -- each is a job of a worker
 abbrev pub AreWorkJobs : List LaneId → List WorkJob → Type 0
-AreWorkJobs lanes jobs = (worker : ℕ) (j : WorkJob) → worker < length jobs → IsWorkJob lanes (slice_index_or jobs worker j)
+AreWorkJobs lanes jobs =
+    (worker : ℕ) (j : WorkJob) → worker < length jobs → IsWorkJob lanes (slice_index_or jobs worker j)

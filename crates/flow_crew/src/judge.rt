@@ -71,13 +71,34 @@ fn run_threads<R: Threads + Wait + Sync, S: Source, G: Gate>(
 {
     let halt = Halt::new();
     let stop = &halt;
+    let RunSetting {
+        media,
+        lanes,
+        files,
+        joined,
+        tai,
+    } = *run;
     let (worked, read) = thread::join(
         rt,
         || -> Result<Vec<WorkDone>, OutOfMemory>
-            requires { IsRun run.now × AreWorkJobs run.now.lanes.now workers.items }
-            ensures { IfOk result (λ dones. AreWorked (setting_of run.entry.now) run.entry.now.files
-                book.entry.now workers.items dones.items) }
-        { run_workers(rt, alloc, run, book, stop, gate, workers) },
+            requires { IsRun (record { media = media; lanes = lanes; files = files; joined = joined; tai = tai })
+                × AreWorkJobs lanes.now workers.items }
+            ensures { IfOk result (λ dones. AreWorked (record {
+              media = media.entry.now;
+              workers = length lanes.entry.now;
+              joined = joined;
+              tai = tai;
+            }) files book.entry.now workers.items dones.items) }
+        {
+            let run = RunSetting {
+                media,
+                lanes,
+                files,
+                joined,
+                tai,
+            };
+            run_workers(rt, alloc, &run, book, stop, gate, workers)
+        },
         || -> Result<Vec<IntakeDone<S>>, OutOfMemory>
             requires { IsRun run.now × AreIntakeJobs run.now.lanes.now intakes.items }
             ensures { IfOk result (λ dones. AreRead S.name S.left S.faults (setting_of run.entry.now)

@@ -10,7 +10,8 @@ index_mut-requires c =
     let loop = c.loop-pass in
     let whole : c.args.row.items ≡ loop.yielded ++ (c.in-Some.pass ∷ c.next.new.self.rest.items) =
     loop.invariant.whole ∙ ap (λ (l : List Sender). loop.yielded ++ l) c.in-Some.ensures.steps.0 in
-    let room = deal_room (λ (v : Vec SendPass Global). v.items) c.args.columns.now.items loop.columns.items c.args.row.items loop.yielded c.next.new.self.rest.items c.in-Some.pass
+    let room = deal_room (λ (v : Vec SendPass Global). v.items) c.args.columns.now.items loop.columns.items c.args.row.items loop.yielded
+    c.next.new.self.rest.items c.in-Some.pass
     loop.invariant.dealt_out c.requires whole in
     omega (arith, room, loop.invariant.place_is)
 
@@ -26,6 +27,7 @@ loop-pass-preserved c =
       place_is = omega (arith, loop.invariant.place_is, length-append loop.yielded (c.in-Some.pass ∷ []));
       dealt_out =
           ap (λ n. map (λ (v : Vec SendPass Global). v.items) (slice_set loop.columns.items n c.push.new.self)) loop.invariant.place_is
-          ∙ deal_step (λ (v : Vec SendPass Global). v.items) c.args.columns.now.items loop.columns.items c.args.row.items loop.yielded c.next.new.self.rest.items c.in-Some.pass
+          ∙ deal_step (λ (v : Vec SendPass Global). v.items) c.args.columns.now.items loop.columns.items c.args.row.items loop.yielded
+          c.next.new.self.rest.items c.in-Some.pass
           c.index_mut.result.now c.push.new.self loop.invariant.dealt_out c.requires whole at c.in_ok-push.ensures.items;
     }

@@ -13,7 +13,8 @@ loop-row-preserved c =
       whole =
           loop.invariant.whole ∙ ap (λ (l : List (Vec SendPass Global)). loop.yielded ++ l) next
           ∙ sym (append_assoc loop.yielded (c.in-Some.row ∷ []) c.next.new.self.rest.items);
-      fit = behind_first (λ (v : Vec SendPass Global). length v.items ≡ c.args.count) c.in-Some.row c.next.new.self.rest.items loop.row-iterator.rest.items next loop.invariant.fit;
+      fit = behind_first (λ (v : Vec SendPass Global). length v.items ≡ c.args.count) c.in-Some.row c.next.new.self.rest.items loop.row-iterator.rest.items next
+          loop.invariant.fit;
       long = dealt.1;
       dealt_out = dealt.0;
     }

@@ -16,8 +16,10 @@ unreachable-requires c =
     let loop = c.loop-key in
     let room : c.route-worker.result < length loop.queues.items = omega (arith, c.route-worker.ensures.within, loop.invariant.count) in
     let none : length (into_iter_items c.index_mut.result.now) ≡ 0 = omega (arith, c.in_default.ensures.cases.0, c.index_mut.result.now.rest.ok.0) in
-    some_receipt into_iter_items c.args.book.now loop.invariant.some.0 c.args.media c.args.workers c.args.keys.now loop.key-index (slice_index_or c.args.keys.now loop.key-index no_key) no_key
-    loop.queues.items c.route-worker.result c.index_mut.result.now loop.invariant.some.1 c.loop-key-test.true refl c.route-worker.ensures.value room c.index_mut.ensures.value none
+    some_receipt into_iter_items c.args.book.now loop.invariant.some.0 c.args.media c.args.workers c.args.keys.now loop.key-index
+    (slice_index_or c.args.keys.now loop.key-index no_key) no_key
+    loop.queues.items c.route-worker.result c.index_mut.result.now loop.invariant.some.1 c.loop-key-test.true refl c.route-worker.ensures.value room
+    c.index_mut.ensures.value none
 
 pub read-requires : goal.read-requires
 unfolding no_key
@@ -25,7 +27,8 @@ read-requires c =
     let loop = c.loop-key in
     let room : c.route-worker.result < length loop.queues.items = omega (arith, c.route-worker.ensures.within, loop.invariant.count) in
     record {
-      book = (take_receipt into_iter_items c.args.book.now loop.invariant.some.0 c.args.media c.args.workers c.args.keys.now loop.key-index (slice_index_or c.args.keys.now loop.key-index no_key) no_key
+      book = (take_receipt into_iter_items c.args.book.now loop.invariant.some.0 c.args.media c.args.workers c.args.keys.now loop.key-index
+          (slice_index_or c.args.keys.now loop.key-index no_key) no_key
           loop.queues.items c.route-worker.result c.index_mut.result.now c.next.new.self c.in-Some.receipt
           loop.invariant.some.1 c.loop-key-test.true refl c.route-worker.ensures.value room c.index_mut.ensures.value c.in-Some.ensures.items).1;
     }
@@ -35,8 +38,10 @@ unfolding no_key
 loop-key-preserved c =
     let loop = c.loop-key in
     let room : c.route-worker.result < length loop.queues.items = omega (arith, c.route-worker.ensures.within, loop.invariant.count) in
-    let taken = λ (row_for : FlowKey → Row) (queued : AreQueued c.args.book.now row_for c.args.media c.args.workers (drop loop.key-index c.args.keys.now) (map into_iter_items loop.queues.items)).
-    take_receipt into_iter_items c.args.book.now row_for c.args.media c.args.workers c.args.keys.now loop.key-index (slice_index_or c.args.keys.now loop.key-index no_key) no_key
+    let taken = λ (row_for : FlowKey → Row) (queued : AreQueued c.args.book.now row_for c.args.media c.args.workers (drop loop.key-index c.args.keys.now)
+    (map into_iter_items loop.queues.items)).
+    take_receipt into_iter_items c.args.book.now row_for c.args.media c.args.workers c.args.keys.now loop.key-index
+    (slice_index_or c.args.keys.now loop.key-index no_key) no_key
     loop.queues.items c.route-worker.result c.index_mut.result.now c.next.new.self c.in-Some.receipt
     queued c.loop-key-test.true refl c.route-worker.ensures.value room c.index_mut.ensures.value c.in-Some.ensures.items in
     record {

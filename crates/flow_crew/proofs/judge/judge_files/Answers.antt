@@ -13,7 +13,7 @@ use Rattle.flow_crew.proofs.judge.judge_files.Goals as goal
 
 pub run_threads-requires-clause-run : goal.run_threads-requires-clause-run
 run_threads-requires-clause-run g c κs within =
-    let count : length c.args.sources.items ≡ c.len.result = omega (arith, c.args.sources.ok.0, c.len.ensures) in
+    let count : length c.args.sources.items ≡ c.len-files.result = omega (arith, c.args.sources.ok.0, c.len-files.ensures) in
     let lanes : length c.deref.result.now ≡ c.args.workers = ap length c.deref.ensures.value ∙ c.in_ok-lanes.ensures.made.lane_count in
     record {
       some_media = c.requires.some_media;
@@ -32,21 +32,23 @@ run_threads-requires-clause-workers g c κs within =
 
 pub run_threads-requires-clause-intakes : goal.run_threads-requires-clause-intakes
 run_threads-requires-clause-intakes g c κs within =
-    let count : length c.args.sources.items ≡ c.len.result = omega (arith, c.args.sources.ok.0, c.len.ensures) in
+    let count : length c.args.sources.items ≡ c.len-files.result = omega (arith, c.args.sources.ok.0, c.len-files.ensures) in
     subst (λ (l : List LaneId). AreIntakeJobs l c.in_ok-intakes.intakes.items) (sym c.deref.ensures.value)
-    (intake_jobs _ _ c.in_ok-lanes.field-0.lanes.items _ _ c.args.sources.items c.in_ok-intakes.intakes.items c.in_ok-lanes.ensures.made c.in_ok-intakes.ensures count
+    (intake_jobs _ _ c.in_ok-lanes.field-0.lanes.items _ _ c.args.sources.items c.in_ok-intakes.intakes.items c.in_ok-lanes.ensures.made c.in_ok-intakes.ensures
+    count
     (omega (arith, c.requires.few_files, count)))
 
 pub deal_all-requires : goal.deal_all-requires
 deal_all-requires g c =
     let made = made_on _ _ _ c.deref.result.now _ _ c.deref.ensures.value c.in_ok-lanes.ensures.made in
     each_long c.in_ok-lanes.field-0.lanes.items (length c.deref.result.now) c.in_ok-sources.field-0.rows.items made.lane_count
-    (rows_are g.S.Source.name g.S.Source.left g.S.Source.faults _ c.in_ok-lanes.field-0.lanes.items _ c.args.sources.items c.in_ok-intakes.intakes.items c.in_ok-worked.read.items c.in_ok-sources.field-0.rows.items
+    (rows_are g.S.Source.name g.S.Source.left g.S.Source.faults _ c.in_ok-lanes.field-0.lanes.items _ c.args.sources.items c.in_ok-intakes.intakes.items
+    c.in_ok-worked.read.items c.in_ok-sources.field-0.rows.items
     c.in_ok-intakes.ensures (read_on _ _ _ _ _ _ _ _ c.deref.ensures.value c.in_ok-worked.ensures.read) c.in_ok-sources.ensures.rows)
 
 pub rows_if_whole-rows-requires : goal.rows_if_whole-rows-requires
 rows_if_whole-rows-requires g c =
-    let count : length c.args.sources.items ≡ c.len.result = omega (arith, c.args.sources.ok.0, c.len.ensures) in
+    let count : length c.args.sources.items ≡ c.len-files.result = omega (arith, c.args.sources.ok.0, c.len-files.ensures) in
     let made = made_on _ _ _ c.deref.result.now _ _ c.deref.ensures.value c.in_ok-lanes.ensures.made in
     let lanes : length c.deref.result.now ≡ c.args.workers = ap length c.deref.ensures.value ∙ c.in_ok-lanes.ensures.made.lane_count in
     record {
@@ -61,7 +63,7 @@ rows_if_whole-rows-requires g c =
 
 pub close_all-requires : goal.close_all-requires
 close_all-requires g c =
-    let count : length c.args.sources.items ≡ c.len.result = omega (arith, c.args.sources.ok.0, c.len.ensures) in
+    let count : length c.args.sources.items ≡ c.len-files.result = omega (arith, c.args.sources.ok.0, c.len-files.ensures) in
     let made = made_on _ _ _ c.deref.result.now _ _ c.deref.ensures.value c.in_ok-lanes.ensures.made in
     can_close _ _ _ _ _ _
     (run_is g.S.Source.name g.S.Source.left g.S.Source.faults _ _ _ _ _ c.args.sources.items _ _ _ _ _ _ _
@@ -70,7 +72,8 @@ close_all-requires g c =
 
 pub returns-clause-back : goal.returns-clause-back
 returns-clause-back g c =
-    sources_back g.S.Source.name g.S.Source.left g.S.Source.faults _ _ _ _ _ _ _ _ c.in_ok-intakes.ensures c.in_ok-worked.ensures.read c.in_ok-sources.ensures.notes c.in_ok-sources.ensures.sources
+    sources_back g.S.Source.name g.S.Source.left g.S.Source.faults _ _ _ _ _ _ _ _ c.in_ok-intakes.ensures c.in_ok-worked.ensures.read
+    c.in_ok-sources.ensures.notes c.in_ok-sources.ensures.sources
 
 pub returns-clause-whole : goal.returns-clause-whole
 returns-clause-whole g c =
@@ -78,7 +81,7 @@ returns-clause-whole g c =
 
 pub returns-clause-keys : goal.returns-clause-keys
 returns-clause-keys g c =
-    let count : length c.args.sources.items ≡ c.len.result = omega (arith, c.args.sources.ok.0, c.len.ensures) in
+    let count : length c.args.sources.items ≡ c.len-files.result = omega (arith, c.args.sources.ok.0, c.len-files.ensures) in
     let made = made_on _ _ _ c.deref.result.now _ _ c.deref.ensures.value c.in_ok-lanes.ensures.made in
     IfSome_then c.rows_if_whole-rows.result c.rows_if_whole-rows.ensures.rows
     (λ rows are.
@@ -87,7 +90,7 @@ returns-clause-keys g c =
 
 pub returns-clause-told : goal.returns-clause-told
 returns-clause-told g c =
-    let count : length c.args.sources.items ≡ c.len.result = omega (arith, c.args.sources.ok.0, c.len.ensures) in
+    let count : length c.args.sources.items ≡ c.len-files.result = omega (arith, c.args.sources.ok.0, c.len-files.ensures) in
     let made = made_on _ _ _ c.deref.result.now _ _ c.deref.ensures.value c.in_ok-lanes.ensures.made in
     let lanes : length c.deref.result.now ≡ c.args.workers = ap length c.deref.ensures.value ∙ c.in_ok-lanes.ensures.made.lane_count in
     if_both c.rows_if_whole-rows.result _ _ _ c.rows_if_whole-rows.ensures.whole c.rows_if_whole-rows.ensures.rows
@@ -95,5 +98,6 @@ returns-clause-told g c =
     found g.S.Source.name g.S.Source.left g.S.Source.faults _ _ _ _ _ c.args.sources.items _ _ _ _ _ _ c.in_ok-sources.field-0.notes.items _ _ rows.items texts
     (record { some = omega (arith, c.requires.some_workers, lanes); targets = c.requires.targets })
     made c.in_ok-intakes.ensures count c.in_ok-worked.ensures.worked c.in_ok-takers.ensures.takers c.in_ok-takers.ensures.posted
-    (read_on _ _ _ _ _ _ _ _ c.deref.ensures.value c.in_ok-worked.ensures.read) c.in_ok-sources.ensures.notes c.in_ok-sources.ensures.rows c.in_ok-senders.ensures
+    (read_on _ _ _ _ _ _ _ _ c.deref.ensures.value c.in_ok-worked.ensures.read) c.in_ok-sources.ensures.notes c.in_ok-sources.ensures.rows
+    c.in_ok-senders.ensures
     c.close_all.ensures (subst (All IsWhole) c.deref-2.ensures.value whole) are are_texts)
