@@ -12,6 +12,7 @@ mod Reported
 mod Reports
 mod Rows
 mod SelfTests
+mod Serving
 mod Small
 mod Takings
 mod Verified
