@@ -17,7 +17,7 @@ use Rattle.pcap_reader.specs.Taken.{TakesFew}
 use Rattle.pcap_reader.proofs.Captures.{files-length, map-raised, records-push}
 use Rattle.pcap_reader.proofs.Lists.{some_by}
 use Rattle.fail_interval.specs.Rows.{rows_from, rows_of, rows_of_files}
-use Rattle.fail_interval.specs.Stands.{Feeds, IsFed, StandsFor}
+use Rattle.fail_interval.specs.BankStands.{Feeds, IsFed, StandsFor}
 use Rattle.fail_interval.specs.declared.bank.Bank.{Bank}
 use Rattle.timing_report.specs.Outcomes.{AreOfSession}
 use Rattle.pcap_reader.specs.Records.{AreRecords}

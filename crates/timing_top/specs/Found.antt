@@ -12,7 +12,7 @@ use Rattle.pcapng_reader.specs.Classic.{classic_texts}
 use Rattle.sdp_reader.specs.Session.{session}
 use Rattle.fail_interval.specs.Found.{AreFound}
 use Rattle.fail_interval.specs.Rows.{rows_of}
-use Rattle.fail_interval.specs.Stands.{Feeds, StandsFor}
+use Rattle.fail_interval.specs.BankStands.{Feeds, StandsFor}
 use Rattle.fail_interval.specs.declared.bank.Bank.{Bank}
 use Rattle.pcap_reader.specs.declared.records.Taken.{Taken}
 use Rattle.timing_report.specs.Outcomes.{AreOfSession}

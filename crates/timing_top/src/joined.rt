@@ -7,7 +7,7 @@ ghost use Rattle.timing_outside.specs.Shelves.{StaysAs};
 ghost use Rattle.pcapng_reader.specs.Sources.{faults_of, left_of, name_of};
 ghost use Rattle.timing_steps.specs.Answers.{OnReadFault, seen_of};
 ghost use Rattle.fail_interval.specs.Rows.{rows_of};
-ghost use Rattle.fail_interval.specs.Stands.{IsFed, records};
+ghost use Rattle.fail_interval.specs.BankStands.{IsFed, records};
 ghost use Rattle.timing_top.specs.Found.{IsJudged, JoinsNext};
 
 use crate::captures::Found;

@@ -1,7 +1,7 @@
 use Rattle.std.proofs.Common.{rules, refl, ◌≡◌, ◌∙◌, ◌++◌, [], List}
 use Rattle.std.specs.Prelude.{IfOk}
 use Rattle.timing_base.specs.Captures.{Record}
-use Rattle.fail_interval.specs.Stands.{IsFed, StandsFor}
+use Rattle.fail_interval.specs.BankStands.{IsFed, StandsFor}
 use Rattle.pcapng_reader.specs.Classic.{classic_texts}
 use Rattle.pcapng_reader.specs.Sources.{faults_of, left_of, name_of}
 use Rattle.timing_top.specs.Found.{AreJoined}

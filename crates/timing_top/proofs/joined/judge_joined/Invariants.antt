@@ -2,7 +2,7 @@ use Rattle.std.proofs.Common.{◌≡◌, ◌≤◌, ◌+◌, ◌*◌, ◌^◌, �
 use Rattle.std.specs.Prelude.{All, IfOk}
 use Rattle.timing_base.specs.Captures.{Record}
 use Rattle.timing_outside.specs.Shelves.{StaysAs}
-use Rattle.fail_interval.specs.Stands.{StandsFor, records}
+use Rattle.fail_interval.specs.BankStands.{StandsFor, records}
 use Rattle.timing_steps.specs.Fetched.{AreFetched, Reading}
 use Rattle.pcapng_reader.specs.Classic.{classic_texts}
 use Rattle.pcapng_reader.specs.Sources.{faults_of, left_of, name_of}
