@@ -18,7 +18,7 @@ use Rattle.pcap_reader.specs.Records.{AreRecords, Records}
 use Rattle.pcap_reader.proofs.Lists.{only_by, some_by}
 use Rattle.fail_interval.specs.Rows.{rows_of, rows_of_files, rows_over}
 use Rattle.capture_gen.specs.Capture.{capture}
-use Rattle.capture_gen.specs.Heads.{file_head}
+use Rattle.pcap_reader.specs.WrittenHeads.{file_head}
 use Rattle.capture_gen.specs.Sdp.{sdp_text}
 use Rattle.timing_report.specs.declared.status.Input.{Input}
 use Rattle.timing_report.specs.declared.status.Status.TheVariants as status
