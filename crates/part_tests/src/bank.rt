@@ -7,7 +7,7 @@ use pcap_reader::{MOST, PcapReader, Taken, take_records};
 use std::alloc::{AllocError, Global};
 use std::test::Fail;
 use timing_base::worked::undeclared_to;
-use timing_base::{FileNote, FlowKey, PacketFault, Row, Unjudged, Verdict};
+use timing_base::{FileNote, FlowKey, PacketFault, PcapFault, Row, Unjudged, Verdict};
 use timing_outside::{MemorySource, OpenFault};
 
 // A frame to port 50000 and so many more, with the packet of this number: the last of its frame, or
@@ -133,8 +133,9 @@ fn cut_capture(rt: HostRuntime) -> Result<(), Fail> {
 fn failed_read(rt: HostRuntime) -> Result<(), Fail> {
     let text = capture(rt.alloc())?;
     for number in 1..7 {
-        let failed = taken(rt.alloc(), &text, &[number]).err();
-        assert_eq!(rt; failed, Some(OpenFault::Failed), "at read {number}");
+        let (taken, _) = taken(rt.alloc(), &text, &[number])?;
+        let want = FileNote::Refused(PcapFault::ReadFault);
+        assert_eq!(rt; taken.note, want, "at read {number}");
     }
     Ok(())
 }
