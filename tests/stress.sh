@@ -2,6 +2,8 @@
 # Runs the program on 16 captures with 64 media each, with 1 to 16 workers, and compares each report with that of one
 # thread. Captures and description are made from those under examples/: each media has the plain sender's packets at a
 # port of its own, and each capture lacks one packet of some media.
+# Then it runs it on 16 captures of 20 MB, with fewer workers than captures, so that the workers are behind: no run may take more
+# than 64 MB.
 #
 #   tests/stress.sh [TIMES [PROGRAM]]      100 times, the program that ./run builds
 #
@@ -61,4 +63,38 @@ for way in "" --joined --json; do
         fi
     done
     echo "check $way: $times runs with 1 to 16 workers print the one-thread report, status $serial"
+done
+
+# the greatest memory of a run in kilobytes, as the kernel tells it while the run lasts; its status is in $status
+most=0
+watch() {
+    "$@" > many &
+    local child=$! now
+    most=0
+    while now=$(awk '/^VmHWM/ { print $2 }' "/proc/$child/status" 2>/dev/null) && [ -n "$now" ]; do
+        most=$now
+        sleep 0.01
+    done
+    wait $child
+    status=$?
+}
+
+perl "$top/tests/long_capture.pl" "$top/examples/plain.sdp" "$top/examples/plain.pcap" 110 long.sdp long.pcap || exit 1
+captures=$(for _ in {1..16}; do echo long.pcap; done)
+for way in "" --joined; do
+    # shellcheck disable=SC2086
+    "$program" check --serial $way --sdp long.sdp $captures > serial; serial=$?
+    for workers in 1 2 4 16; do
+        # shellcheck disable=SC2086
+        watch "$program" check --workers $workers $way --sdp long.sdp $captures
+        if [ $status -ne $serial ] || ! cmp -s serial many; then
+            echo "differs: 16 long captures $way, $workers workers, status $status and not $serial" >&2
+            exit 1
+        fi
+        if [ "$most" -gt 65536 ]; then
+            echo "takes $most kB: 16 long captures $way, $workers workers" >&2
+            exit 1
+        fi
+        echo "16 long captures $way with $workers workers take $most kB"
+    done
 done

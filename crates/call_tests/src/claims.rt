@@ -222,3 +222,23 @@ fn reports_of_several_flows(rt: HostRuntime) -> Result<(), Fail> {
     let absent = (Status::NotAllJudged, "2.1 N not judged\nstatus 4\n");
     verifies_report(&rt, &job, other, &mut shelf, absent)
 }
+
+// Two fails of the first capture, between two of the second: each is answered by its own capture. The
+// burst of the second frame has five packets, and not four; of packets that are spread evenly the second
+// comes too late.
+#[test]
+fn fails_of_two_captures(rt: HostRuntime) -> Result<(), Fail> {
+    let alloc = rt.alloc();
+    let mut shelf = shelf_with(alloc, "a.pcap", &BURST.capture(alloc)?)?;
+    put(alloc, &mut shelf, "b.pcap", &EVEN.capture(alloc)?, &[])?;
+    verifies_report(
+        &rt,
+        &reported(&rt, 0, false)?,
+        "{\"flows\":[{\"file\":2,\"media\":1,\"types\":[{\"type\":\"N\",\"proof\":{\"count\":1,\"from\":1,\"limit\":2,\"model\":\"Empty\",\"to\":1}}]},{\"file\":1,\"media\":1,\"types\":[{\"type\":\"N\",\"proof\":{\"count\":5,\"from\":20,\"limit\":4,\"model\":\"Bucket\",\"to\":24}},{\"type\":\"NL\",\"proof\":{\"count\":5,\"from\":20,\"limit\":4,\"model\":\"Bucket\",\"to\":23}}]},{\"file\":2,\"media\":1,\"types\":[{\"type\":\"W\",\"proof\":{\"count\":5,\"from\":20,\"limit\":4,\"model\":\"Bucket\",\"to\":24}}]}]}",
+        &mut shelf,
+        (
+            Status::Fail,
+            "2.1 N confirmed\n1.1 N confirmed\n1.1 NL not confirmed\n2.1 W not confirmed\nstatus 1\n",
+        ),
+    )
+}

@@ -6,7 +6,7 @@ ghost use Rattle.flow_worker.specs.Intakes.{AreOfFile, HaveSentNothing};
 use capture_gen::examples::{FRAME, HEAD, source_of};
 use capture_gen::{capture_len, sdp_bytes, write_capture};
 use flow_worker::{IntakeDone, RunSetting, intake};
-use ruled_intake::{Closed, Halt, Lane, Message, SendPass, TakePass};
+use ruled_intake::{Closed, Halt, Lane, Message, NoLesson, SendPass, TakePass};
 use sdp_reader::read_sdp;
 use std::alloc::{AllocError, Global};
 use std::process::Abort;
@@ -55,6 +55,7 @@ fn taken_in<R: Wait + Abort + AllocGlobal, S: Source>(
         files: 1,
         joined: false,
         tai: 0,
+        turns: &[],
     };
     let (done, raised) = intake(rt, rt.alloc(), &run, 0, source, passes, &halt, &NoGate);
     assert!(rt; raised.is_none());
@@ -68,7 +69,7 @@ fn take<R: Wait>(rt: &R, lane: &Lane, taker: &mut TakePass) -> Option<Message>
     ensures lane { taker.new.lane ≡ taker.old.lane }
     ensures senders { taker.new.senders ≡ taker.old.senders }
 {
-    lane.take(rt, taker)
+    lane.take::<NoLesson, R>(rt, taker)
 }
 
 // Ends a lane with one sender.

@@ -17,6 +17,7 @@ mod faults;
 mod joined;
 mod pairs;
 mod pcapng;
+mod readings;
 mod refused;
 mod self_tests;
 mod senders;

@@ -115,6 +115,7 @@ fn worked_on<R: Wait + Abort>(
         files: 2,
         joined: asked.joined,
         tai: 37,
+        turns: &[],
     };
     work(rt, alloc, &run, worker, taker, book, &halt, &NoGate).receipts
 }

@@ -17,7 +17,8 @@ flat_map-map-filter h g left_out [] = refl
 flat_map-map-filter {A = A} h g left_out (x ∷ xs) =
     let rest = flat_map-map-filter h g left_out xs in
     let all = flat_map (λ j. if left_out j then [] else h (g j)) xs in
-    let P : Bool → Type 0 = λ b. flat_map h (map g (if not b then x ∷ filter (λ j. not (left_out j)) xs else filter (λ j. not (left_out j)) xs)) ≡ (if b then [] else h (g x)) ++ all in
+    let P : Bool → Type 0 = λ b. flat_map h (map g (if not b then x ∷ filter (λ j. not (left_out j)) xs else filter (λ j. not (left_out j)) xs))
+    ≡ (if b then [] else h (g x)) ++ all in
     elim (left_out x) as P [ true ↦ rest | false ↦ ap (λ l. h (g x) ++ l) rest ]
 
 -- the numbers from a on, cut in two

@@ -18,7 +18,8 @@ use Rattle.capture_gen.proofs.Puts.{front_after, front_longer, front_of_pieces, 
 pub frame_bytes-places : (f : Frame) (n : ℕ) → n ≡ 20 → frame_bytes f ≡ flat_map (place_bytes f) (range_with_len 0 n)
 unfolding frame_bytes packets_of
 frame_bytes-places f n e =
-    flat_map-map-filter record_of (packet_of f) (is_left_out f.flaw f.last) (range_with_len 0 20) ∙ ap (λ k. flat_map (place_bytes f) (range_with_len 0 k)) (sym e)
+    flat_map-map-filter record_of (packet_of f) (is_left_out f.flaw f.last) (range_with_len 0 20) ∙ ap (λ k. flat_map (place_bytes f) (range_with_len 0 k))
+    (sym e)
 
 -- k places of a frame, and a front of the next one
 pub front_of_frame : (a b c : Option (List ℕ)) (f : Frame) (k n : ℕ) → n ≡ 20 → k < n
@@ -40,10 +41,12 @@ unfolding frames_bytes
 front_of_frames a b c number frames flaw k h p q = front_of_pieces a b c (bytes_of_frame number frames flaw) k frames h p q
 
 -- a capture: its head, its first record, and its frames
-pub capture-parts : (number frames flaw : ℕ) → capture number frames flaw ≡ file_head ++ (record_of (head_packet number) ++ frames_bytes number frames (flaw_of flaw))
+pub capture-parts : (number frames flaw : ℕ) → capture number frames flaw ≡ file_head
+    ++ (record_of (head_packet number) ++ frames_bytes number frames (flaw_of flaw))
 unfolding capture packets frames_bytes frame_bytes
 capture-parts number frames flaw =
-    ap (λ l. file_head ++ (record_of (head_packet number) ++ l)) (flat_map-flat_map record_of (λ k. packets_of (frame_of number frames (flaw_of flaw) k)) (range_with_len 0 frames))
+    ap (λ l. file_head ++ (record_of (head_packet number) ++ l))
+    (flat_map-flat_map record_of (λ k. packets_of (frame_of number frames (flaw_of flaw) k)) (range_with_len 0 frames))
 
 -- a front of the first piece, or of the second one after the first, is a front of the whole
 pub front_in_head : (a b : Option (List ℕ)) (xs ys zs : List ℕ) → AppendsFront a b xs → AppendsFront a b (xs ++ (ys ++ zs))

@@ -17,8 +17,12 @@ front_longer a b xs ys p =
 
 -- a whole piece, and then a front of the next one
 pub front_after : (a b c : Option (List ℕ)) (xs ys : List ℕ) → Appends a b xs → AppendsFront b c ys → AppendsFront a c (xs ++ ys)
-front_after a b c xs ys p q =
-    (length xs + q.0, omega (arith, q.1, length-append xs ys), subst (Appends a c) (sym (take-append-add xs ys q.0)) (Appends-trans a b c xs (take q.0 ys) p q.2))
+front_after a b c xs ys p q = (
+  length xs + q.0,
+  omega (arith, q.1, length-append xs ys),
+  subst (Appends a c) (sym (take-append-add xs ys q.0))
+      (Appends-trans a b c xs (take q.0 ys) p q.2),
+)
 
 -- a whole piece, and then what comes of the next one
 pub puts_after : {T E : Type 0} (a b c : Option (List ℕ)) (xs ys : List ℕ) (r : Result T E)

@@ -89,7 +89,9 @@ length-packets number frames flaw h =
     omega (arith, all number frames (flaw_of flaw) (frames - 1) (omega arith), lost-number flaw)
 
 -- the bytes of a capture
-pub length-capture : (number frames flaw : ℕ) → 1 ≤ frames → length (capture number frames flaw) ≡ 24 + 72 * (1 + 20 * frames - (if nat_le 3 flaw then 1 else 0))
+pub length-capture : (number frames flaw : ℕ) → 1 ≤ frames → length (capture number frames flaw) ≡ 24
+    + 72 * (1 + 20 * frames - (if nat_le 3 flaw then 1 else 0))
 unfolding capture
 length-capture number frames flaw h =
-    length-append file_head (flat_map record_of (packets number frames flaw)) ∙ ap (λ n. 24 + n) (length-records (packets number frames flaw) ∙ ap (λ n. 72 * n) (length-packets number frames flaw h))
+    length-append file_head (flat_map record_of (packets number frames flaw)) ∙ ap (λ n. 24 + n)
+    (length-records (packets number frames flaw) ∙ ap (λ n. 72 * n) (length-packets number frames flaw h))

@@ -12,7 +12,8 @@ abbrev pub instant : Spread → ℕ → ℕ → ℕ
 instant s group place = 1600000000 * 1000000000 + s.first + s.group_nanos * group
     + (if is_bunched s group place then 0 else s.packet_nanos * place)
 
--- a packet of a group. Its RTP timestamp rises by 1,800 ticks with each group; number 0 is that of the packet before them
+-- a packet of a group. Its RTP timestamp rises by 1,800 ticks with each group; number 0 is that of the packet before
+-- them
 abbrev pub packet_at : Spread → ℕ → ℕ → Packet
 packet_at s group place = record {
   at = instant s group place;

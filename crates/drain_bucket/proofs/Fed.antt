@@ -1,12 +1,12 @@
 -- A bucket stands for one packet more after it is fed.
 use Rattle.std.proofs.Common.{◌≡◌, ◌≤◌, ◌<◌, ◌+◌, ◌-◌, ℕ, suc, List, [], ◌∷◌, ◌++◌, length, slice_index, refl, sym, ap, subst, inl, inr, ◌∙◌, arith, max}
-use Rattle.std.proofs.Common.{length-append, None, Some, ◌*◌, ◌/◌}
-use Rattle.std.proofs.Math.Nat.{zero-div}
+use Rattle.std.proofs.Common.{length-append, ◌^◌}
 use Rattle.std.proofs.Math.Seq.{get_or-append_seam}
 use Rattle.std.proofs.lemmas.List.{get_or_append_left}
 use Rattle.std.proofs.lemmas.Bool.{cases_lt}
 use Rattle.fraction128.specs.Clocks.{HasPassed, StandsAt, passed_by}
 use Rattle.fraction128.specs.declared.clock.Clock.{Clock}
+use Rattle.fraction128.proofs.Due.{one_in}
 use Rattle.sender_params.specs.declared.params.Params.{Params}
 use Rattle.sender_params.specs.Ticks.{NeverFall, ticks_at, ticks_of}
 use Rattle.drain_bucket.specs.Stands.{CanFollow, IsAfter, StandsFor}
@@ -14,13 +14,12 @@ use Rattle.drain_bucket.specs.Word.{count_after}
 use Rattle.drain_bucket.specs.declared.bucket.Bucket.{Bucket}
 use Rattle.drain_bucket.proofs.Reich.{Rises, count_after-same, count_after-suc, excess, rises_to, ticks_at-rises}
 
--- the numbers after a packet, from those before it
-pub record Fed (b c : Bucket) (now : ℕ) : Type 0 where
+-- the numbers after a packet, where so many ticks came since the one before
+pub record Drained (b c : Bucket) (ticks : ℕ) : Type 0 where
   pub origin : c.origin ≡ b.origin
-  pub count : c.count ≡ (b.count - (now - b.last_tick)) + 1
+  pub count : c.count ≡ (b.count - ticks) + 1
   pub fresh : c.count ≡ 1 → c.begin ≡ b.seen
   pub kept : 1 < c.count → c.begin ≡ b.begin
-  pub last : c.last_tick ≡ now
   pub seen : c.seen ≡ b.seen + 1
   pub peak : c.peak ≡ max b.peak c.count
 
@@ -28,7 +27,6 @@ pub record Fed (b c : Bucket) (now : ℕ) : Type 0 where
 pub record Reads (b : Bucket) (clock : ℕ → ℕ) (i : ℕ) : Type 0 where
   pub seen : b.seen ≡ i + 1
   pub count : b.count ≡ count_after clock i
-  pub last_tick : b.last_tick ≡ clock i
   pub begins : b.begin ≤ i
   pub begin_load : excess clock b.begin i ≡ b.count
   pub latest : (j : ℕ) → j ≤ i → excess clock j i ≡ b.count → j ≤ b.begin
@@ -40,18 +38,18 @@ pub one_more : (b c : Bucket) (f g : ℕ → ℕ) (i : ℕ)
     → Reads b f i
     → ((k : ℕ) → k ≤ i → g k ≡ f k)
     → Rises g (i + 1)
-    → Fed b c (g (i + 1))
+    → (ticks : ℕ)
+    → g i + ticks ≡ g (i + 1)
+    → Drained b c ticks
     → Reads c g (i + 1)
-one_more b c f g i s same up n =
+one_more b c f g i s same up ticks sum n =
     let here = same i (omega arith) in
     let before : count_after g i ≡ count_after f i = count_after-same g f i same in
     let next : i + 1 ≡ suc i = omega arith in
     let step : count_after g (i + 1) ≡ (count_after g i - (g (i + 1) - g i)) + 1 = ap (count_after g) next ∙ count_after-suc g i in
-    let rising : b.last_tick ≤ g (i + 1) = omega (arith, s.last_tick, here, up i (omega arith)) in
-    let count : c.count ≡ count_after g (i + 1) = omega (arith, n.count, s.count, before, step, here, s.last_tick) in
+    let count : c.count ≡ count_after g (i + 1) = omega (arith, n.count, s.count, before, step, sum) in
     record {
       seen = omega (arith, n.seen, s.seen);
-      last_tick = n.last;
       count = count;
       begins = elim (cases_lt 1 c.count) as (λ _. c.begin ≤ i + 1) [
         | inl some ↦ omega (arith, n.kept some, s.begins)
@@ -68,8 +66,7 @@ one_more b c f g i s same up n =
               same b.begin s.begins,
               here,
               n.count,
-              rising,
-              s.last_tick,
+              sum,
               s.begins,
               rises_to g (i + 1) up b.begin i s.begins (omega arith),
             )
@@ -87,10 +84,9 @@ one_more b c f g i s same up n =
                   e,
                   some,
                   n.count,
-                  rising,
+                  sum,
                   here,
                   same j early,
-                  s.last_tick,
                   early,
                   rises_to g (i + 1) up j i early (omega arith),
                 )),
@@ -112,12 +108,11 @@ one_more b c f g i s same up n =
     }
 
 -- the first packet
-pub first : (b c : Bucket) (g : ℕ → ℕ) → b.count ≡ 0 → b.seen ≡ 0 → b.peak ≡ 0 → Fed b c (g 0) → Reads c g 0
-first b c g none unseen low n =
+pub first : (b c : Bucket) (g : ℕ → ℕ) (ticks : ℕ) → b.count ≡ 0 → b.seen ≡ 0 → b.peak ≡ 0 → Drained b c ticks → Reads c g 0
+first b c g ticks none unseen low n =
     let e : c.begin ≡ 0 = omega (arith, n.fresh (omega (arith, n.count, none)), unseen) in
     record {
       seen = omega (arith, n.seen, unseen);
-      last_tick = n.last;
       count = omega (arith, n.count, none);
       begins = omega (arith, e);
       begin_load = omega (arith, e, ap g e, n.count, none);
@@ -157,48 +152,54 @@ falls-append stamps at h last j i order few =
           ]
     ]
 
--- the numbers as a bucket's, with its next tick
-pub is_after : (params : Params) (b : Bucket) (clock : Clock) (stamps : List ℕ) (i : ℕ)
+-- what a bucket's numbers say, with its last packet and its next tick
+pub is_after : (params : Params) (b : Bucket) (stamps : List ℕ) (i stood : ℕ)
     → slice_index stamps 0 ≡ b.origin
-    → b.next ≡ Some clock
-    → StandsAt params.drain clock b.origin (slice_index stamps i)
+    → b.last ≡ slice_index stamps i
+    → stood ≤ b.last
+    → StandsAt params.drain b.next b.origin stood
     → Reads b (ticks_at params.media params.n stamps) i
     → IsAfter params b stamps i
-is_after params b clock stamps i origin next stands r = record {
+is_after params b stamps i stood origin last early stands r = record {
   origin = origin;
   count = r.count;
-  last_tick = r.last_tick;
   begins = r.begins;
   begin_load = r.begin_load;
   latest = r.latest;
   peak_most = r.peak_most;
   peak_reached = r.peak_reached;
-  next = (clock, next, stands);
+  last = last;
+  next = (stood, early, stands);
 }
 
+-- the line of the drain has the ticks as its instants
+pub ticks-are : (params : Params) (a0 at : ℕ) → passed_by params.drain a0 at ≡ ticks_of params.media params.n a0 at
+ticks-are params a0 at = rw (params.drain_num, params.drain_den) refl
+
 -- after a packet the bucket stands for one more
-pub fed_more : (params : Params) (b c : Bucket) (clock : Clock) (stamps : List ℕ) (at : ℕ)
+pub fed_more : (params : Params) (b c : Bucket) (stamps : List ℕ) (at ticks stood : ℕ)
     → StandsFor params b stamps
     → CanFollow b stamps at
-    → Fed b c (ticks_of params.media params.n b.origin at)
-    → c.next ≡ Some clock
-    → StandsAt params.drain clock c.origin at
+    → passed_by params.drain b.origin b.last + ticks ≡ passed_by params.drain b.origin at
+    → Drained b c ticks
+    → c.last ≡ at
+    → stood ≤ at
+    → StandsAt params.drain c.next c.origin stood
     → StandsFor params c (stamps ++ at ∷ [])
-fed_more params b c clock [] at s f n next stands =
+fed_more params b c [] at ticks stood s f sum n last early stands =
     let m = params.media in
     let fresh = s.fresh refl in
-    let here : at ≡ b.origin = f.first refl in
-    let fed : Fed b c (ticks_of m params.n at at) = subst (λ o. Fed b c (ticks_of m params.n o at)) (sym here) n in
-    let start : at ≡ c.origin = here ∙ sym n.origin in
+    let start : at ≡ c.origin = f.first refl ∙ sym n.origin in
     let zero_th : IsAfter params c (at ∷ []) 0 =
-    is_after params c clock (at ∷ []) 0 start next stands (first b c (ticks_at m params.n (at ∷ [])) fresh.count s.seen fresh.peak fed) in
+    is_after params c (at ∷ []) 0 stood start last (omega (arith, early, last)) stands
+    (first b c (ticks_at m params.n (at ∷ [])) ticks fresh.count s.seen fresh.peak n) in
     record {
       ordered = falls-append [] at s.ordered f.later;
       seen = omega (arith, n.seen, s.seen);
       fresh = λ e. absurd (omega (arith, e));
       fed = λ i size. let z : i ≡ 0 = omega (arith, size) in subst (λ j. IsAfter params c (at ∷ []) j) (sym z) zero_th;
     }
-fed_more params b c clock (x ∷ xs) at s f n tick stands =
+fed_more params b c (x ∷ xs) at ticks stood s f sum n last early stands =
     let m = params.media in
     let old = x ∷ xs in
     let new = old ++ at ∷ [] in
@@ -207,18 +208,20 @@ fed_more params b c clock (x ∷ xs) at s f n tick stands =
     let was = s.fed i size in
     let long : length new ≡ length old + 1 = length-append old (at ∷ []) in
     let falls : NeverFall new = falls-append old at s.ordered f.later in
-    let last : i + 1 ≡ length old = omega arith in
-    let there : slice_index new (i + 1) ≡ at = ap (slice_index new) last ∙ get_or-append_seam old at [] 0 in
+    let here : i + 1 ≡ length old = omega arith in
+    let there : slice_index new (i + 1) ≡ at = ap (slice_index new) here ∙ get_or-append_seam old at [] 0 in
     let same : (k : ℕ) → k ≤ i → ticks_at m params.n new k ≡ ticks_at m params.n old k =
     λ k few. ap (ticks_of m params.n x) (get_or_append_left old (at ∷ []) 0 k (omega (arith, few))) in
     let up : Rises (ticks_at m params.n new) (i + 1) = ticks_at-rises m params.n new (i + 1) falls (omega (arith, long)) in
-    let now : ticks_of m params.n b.origin at ≡ ticks_at m params.n new (i + 1) =
-    ap (λ o. ticks_of m params.n o at) (sym was.origin) ∙ ap (ticks_of m params.n x) (sym there) in
-    let fed : Fed b c (ticks_at m params.n new (i + 1)) = subst (Fed b c) now n in
+    let before_is : passed_by params.drain b.origin b.last ≡ ticks_at m params.n new i =
+    ticks-are params b.origin b.last ∙ ap (λ o. ticks_of m params.n o b.last) (sym was.origin) ∙ ap (ticks_of m params.n x) was.last
+    ∙ sym (same i (omega arith)) in
+    let now_is : passed_by params.drain b.origin at ≡ ticks_at m params.n new (i + 1) =
+    ticks-are params b.origin at ∙ ap (λ o. ticks_of m params.n o at) (sym was.origin) ∙ ap (ticks_of m params.n x) (sym there) in
+    let more : ticks_at m params.n new i + ticks ≡ ticks_at m params.n new (i + 1) = ap (λ k. k + ticks) (sym before_is) ∙ sum ∙ now_is in
     let before : Reads b (ticks_at m params.n old) i = record {
       seen = omega (arith, s.seen);
       count = was.count;
-      last_tick = was.last_tick;
       begins = was.begins;
       begin_load = was.begin_load;
       latest = was.latest;
@@ -227,8 +230,8 @@ fed_more params b c clock (x ∷ xs) at s f n tick stands =
     } in
     let start : x ≡ c.origin = was.origin ∙ sym n.origin in
     let next : IsAfter params c new (i + 1) =
-    is_after params c clock new (i + 1) start tick (subst (StandsAt params.drain clock c.origin) (sym there) stands)
-    (one_more b c (ticks_at m params.n old) (ticks_at m params.n new) i before same up fed) in
+    is_after params c new (i + 1) stood start (last ∙ sym there) (omega (arith, early, last)) stands
+    (one_more b c (ticks_at m params.n old) (ticks_at m params.n new) i before same up ticks more n) in
     record {
       ordered = falls;
       seen = omega (arith, n.seen, s.seen, long);
@@ -236,83 +239,82 @@ fed_more params b c clock (x ∷ xs) at s f n tick stands =
       fed = λ j sz. let e : j ≡ i + 1 = omega (arith, sz, long) in subst (λ k. IsAfter params c new k) (sym e) next;
     }
 
--- the line of the drain has the ticks as its instants
-pub ticks-are : (params : Params) (a0 at : ℕ) → passed_by params.drain a0 at ≡ ticks_of params.media params.n a0 at
-ticks-are params a0 at = rw (params.drain_num, params.drain_den) refl
-
--- no tick is at the first packet
-pub none_at : (params : Params) (a0 : ℕ) → passed_by params.drain a0 a0 ≡ 0
-none_at params a0 =
-    let none : a0 - a0 ≡ 0 = omega arith in
-    let product : (a0 - a0) * params.drain.den ≡ 0 = omega (arith, ap (λ d. d * params.drain.den) none) in
-    ap (λ d. d / params.drain.num) product ∙ zero-div params.drain.num
-
--- what a bucket's clock says before a packet: where it stands, and that the ticks up to there are the bucket's
-pub record Before (params : Params) (b : Bucket) (clock : Clock) (at : ℕ) : Type 0 where
-  pub last : ℕ
-  pub order : last ≤ at
-  pub ticks : b.last_tick ≡ passed_by params.drain b.origin last
-  pub stands : StandsAt params.drain clock b.origin last
+-- what a bucket says before a packet: when the last one came, and after which instant its tick is the first
+pub record Before (params : Params) (b : Bucket) (at : ℕ) : Type 0 where
+  pub order : b.last ≤ at
+  pub stood : ℕ
+  pub early : stood ≤ b.last
+  pub stands : StandsAt params.drain b.next b.origin stood
 
 -- so it is before each packet
-pub before : (params : Params) (b : Bucket) (clock : Clock) (stamps : List ℕ) (at : ℕ)
+pub before : (params : Params) (b : Bucket) (stamps : List ℕ) (at : ℕ)
+    → at < 2 ^ 62
     → StandsFor params b stamps
     → CanFollow b stamps at
-    → (b.next ≡ None → StandsAt params.drain clock b.origin b.origin)
-    → ((next : Clock) → b.next ≡ Some next → clock ≡ next)
-    → Before params b clock at
-before params b clock [] at s f start going =
+    → Before params b at
+before params b [] at in_time s f =
     let fresh = s.fresh refl in
-    record {
-      last = b.origin;
-      order = omega (arith, f.first refl);
-      ticks = fresh.last_tick ∙ sym (none_at params b.origin);
-      stands = start fresh.next;
-    }
-before params b clock (x ∷ xs) at s f start going =
-    let stamps = x ∷ xs in
+    record { order = omega (arith, fresh.last); stood = b.last; early = omega arith; stands = fresh.next (omega (arith, f.first refl, in_time)) }
+before params b (x ∷ xs) at in_time s f =
     let i = length xs in
-    let size : length stamps ≡ i + 1 = omega arith in
+    let size : length (x ∷ xs) ≡ i + 1 = omega arith in
     let was = s.fed i size in
-    let same : clock ≡ was.next.0 = going was.next.0 was.next.1 in
-    let last = slice_index stamps i in
-    record {
-      last = last;
-      order = f.later i size;
-      ticks = was.last_tick ∙ ap (λ o. ticks_of params.media params.n o last) was.origin ∙ sym (ticks-are params b.origin last);
-      stands = subst (λ k. StandsAt params.drain k b.origin last) (sym same) was.next.2;
-    }
+    record { order = omega (arith, was.last, f.later i size); stood = was.next.0; early = was.next.1; stands = was.next.2 }
 
--- the numbers after a packet, where so many ticks came since the one before
-pub record Drained (b c : Bucket) (ticks : ℕ) : Type 0 where
-  pub origin : c.origin ≡ b.origin
-  pub count : c.count ≡ (b.count - ticks) + 1
-  pub fresh : c.count ≡ 1 → c.begin ≡ b.seen
-  pub kept : 1 < c.count → c.begin ≡ b.begin
-  pub last : c.last_tick ≡ b.last_tick + ticks
-  pub seen : c.seen ≡ b.seen + 1
-  pub peak : c.peak ≡ max b.peak c.count
-
--- a bucket that goes on with its clock stands for one packet more
-pub drained_more : (params : Params) (b c : Bucket) (old new : Clock) (stamps : List ℕ) (at ticks : ℕ)
+-- a clock that goes on to the last packet and then to this one
+pub ticks_more : (params : Params) (b c : Bucket) (middle : Clock) (stamps : List ℕ) (at missed ticks : ℕ)
     → StandsFor params b stamps
     → CanFollow b stamps at
-    → Before params b old at
-    → ((origin last : ℕ) → last ≤ at → StandsAt params.drain old origin last → HasPassed params.drain new origin last at ticks)
+    → Before params b at
+    → ((origin stood : ℕ) → stood ≤ b.last → StandsAt params.drain b.next origin stood → HasPassed params.drain middle origin stood b.last missed)
+    → ((origin last : ℕ) → last ≤ at → StandsAt params.drain middle origin last → HasPassed params.drain c.next origin last at ticks)
     → Drained b c ticks
-    → c.next ≡ Some new
+    → c.last ≡ at
     → StandsFor params c (stamps ++ at ∷ [])
-drained_more params b c old new stamps at ticks s f was goes n next =
-    let passed = goes b.origin was.last was.order was.stands in
-    let now : ticks_of params.media params.n b.origin at ≡ b.last_tick + ticks =
-    sym (ticks-are params b.origin at) ∙ sym passed.exact ∙ ap (λ k. k + ticks) (sym was.ticks) in
-    let stands : StandsAt params.drain new c.origin at = subst (λ o. StandsAt params.drain new o at) (sym n.origin) passed.stands in
-    fed_more params b c new stamps at s f (record {
+ticks_more params b c middle stamps at missed ticks s f was reaches goes n last =
+    let reached = reaches b.origin was.stood was.early was.stands in
+    let gone = goes b.origin b.last was.order reached.stands in
+    fed_more params b c stamps at ticks at s f gone.exact n last (omega arith) (subst (λ o. StandsAt params.drain c.next o at) (sym n.origin) gone.stands)
+
+-- the numbers after a packet for which no tick was counted
+pub record Spaced (b c : Bucket) (at : ℕ) : Type 0 where
+  pub origin : c.origin ≡ b.origin
+  pub count : c.count ≡ 1
+  pub begin : c.begin ≡ b.seen
+  pub seen : c.seen ≡ b.seen + 1
+  pub peak : c.peak ≡ b.peak
+  pub last : c.last ≡ at
+  pub next : c.next ≡ b.next
+
+-- the last packet of a bucket that isn't empty came at the origin or after
+pub last-begun : (params : Params) (b : Bucket) (stamps : List ℕ) → StandsFor params b stamps → b.count ≡ 1 → b.origin ≤ b.last
+last-begun params b [] s one = absurd (omega (arith, one, (s.fresh refl).count))
+last-begun params b (x ∷ xs) s one =
+    let i = length xs in
+    let size : length (x ∷ xs) ≡ i + 1 = omega arith in
+    let was = s.fed i size in
+    omega (arith, was.origin, was.last, s.ordered 0 i (omega arith) (omega arith))
+
+-- a packet that comes more than the time of a tick after one that is alone in the bucket
+pub spaced_more : (params : Params) (b c : Bucket) (stamps : List ℕ) (at : ℕ)
+    → at < 2 ^ 62
+    → StandsFor params b stamps
+    → CanFollow b stamps at
+    → b.count ≡ 1
+    → b.last + params.drain.whole < at
+    → Spaced b c at
+    → StandsFor params c (stamps ++ at ∷ [])
+spaced_more params b c stamps at in_time s f one far n =
+    let was = before params b stamps at in_time s f in
+    let some = one_in params.drain b.origin b.last at (last-begun params b stamps s one) far in
+    let ticks = passed_by params.drain b.origin at - passed_by params.drain b.origin b.last in
+    let stands : StandsAt params.drain c.next c.origin was.stood =
+    subst (λ o. StandsAt params.drain c.next o was.stood) (sym n.origin) (subst (λ k. StandsAt params.drain k b.origin was.stood) (sym n.next) was.stands) in
+    fed_more params b c stamps at ticks was.stood s f (omega (arith, some)) (record {
       origin = n.origin;
-      count = omega (arith, n.count, now);
-      fresh = n.fresh;
-      kept = n.kept;
-      last = n.last ∙ sym now;
+      count = omega (arith, n.count, one, some);
+      fresh = λ _. n.begin;
+      kept = λ many. absurd (omega (arith, many, n.count));
       seen = n.seen;
-      peak = n.peak;
-    }) next stands
+      peak = omega (arith, n.peak, n.count, b.count_within, one);
+    }) n.last (omega (arith, was.early, was.order)) stands

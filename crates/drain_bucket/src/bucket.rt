@@ -1,9 +1,12 @@
 //! The bucket.
 
-ghost use Rattle.std.specs.Prelude.{◌≡◌, ◌≤◌, ◌<◌, ◌*◌, ◌^◌, ◌++◌, ◌∷◌, [], ℕ, List, None, Some};
+ghost use Rattle.std.specs.Prelude.{◌≡◌, ◌≤◌, ◌<◌, ◌+◌, ◌^◌, ◌++◌, ◌∷◌, [], ℕ, List};
 
-use fraction128::{Clock, Line};
+use fraction128::Clock;
 use sender_params::Params;
+
+/// The latest stamp, in nanoseconds of TAI.
+const LATEST: u64 = (1 << 62) - 1;
 
 /// The bucket between two packets of one flow.
 #[derive(Clone, Copy, Debug, PartialEq, Eq)]
@@ -15,38 +18,36 @@ pub struct Bucket {
     /// The latest packet, counted from 0, from which on the packets to the last one, less the
     /// ticks after it, are the count.
     pub begin: u64,
-    /// The ticks of the drain from `origin` up to the last packet.
-    pub last_tick: u128,
     /// The packets fed.
     pub seen: u64,
     /// The greatest count after any packet, and 0 before the first.
     pub peak: u64,
-    /// The next tick, from the first packet on.
-    next: Option<Clock>,
-    ghost count_within: { count ≤ seen },
+    /// The stamp of the last packet, in nanoseconds of TAI, and 0 before the first.
+    last: u64,
+    /// The first tick after some instant that isn't later than `last`: ticks were counted up to there.
+    next: Clock,
+    ghost count_within: { count ≤ peak },
     ghost begin_within: { begin ≤ seen },
     ghost peak_within: { peak ≤ seen },
-    ghost last_tick_within: { last_tick ≤ seen * 2 ^ 63 },
+    ghost last_within: { last < 2 ^ 62 },
 }
 
 impl Bucket {
-    ghost use Rattle.fraction128.specs.Clocks.{StandsAt};
-    ghost use Rattle.fraction128.specs.declared.clock.Clock.{Clock};
     ghost use Rattle.drain_bucket.specs.Stands.{CanFollow, StandsFor};
 
     /// The empty bucket of a flow whose first packet comes at `origin`, in nanoseconds of TAI.
-    pub fn new(origin: u64) -> Bucket
+    pub fn new(params: &Params, origin: u64) -> Bucket
         ensures origin { result.origin ≡ origin }
-        ensures stands { (params : _) → StandsFor params result [] }
+        ensures stands { StandsFor params.now result [] }
     {
         Bucket {
             origin,
             count: 0,
             begin: 0,
-            last_tick: 0,
             seen: 0,
             peak: 0,
-            next: None,
+            last: 0,
+            next: Clock::start(&params.drain, origin.min(LATEST)),
         }
     }
 
@@ -55,7 +56,8 @@ impl Bucket {
     /// empty bucket is lost (SMPTE ST 2110-21, network compatibility model).
     ///
     /// Feed one bucket stamps that never fall, the first of them its origin, with one `Params`
-    /// alone: `stands` says nothing of other stamps.
+    /// alone: `stands` says nothing of other stamps. A packet that comes more than T_DRAIN after one
+    /// that found the bucket empty finds it empty too, and no tick is counted for it.
     #[inline(always)]
     pub fn feed(&mut self, params: &Params, at: u64) -> u64
         requires begun { self.old.origin ≤ at }
@@ -64,35 +66,45 @@ impl Bucket {
 
         ensures count { result ≡ self.new.count }
         ensures origin { self.new.origin ≡ self.old.origin }
+        ensures seen { self.new.seen ≡ self.old.seen + 1 }
 
         // Whatever packets the bucket stood for, it now stands for those and this one.
         ensures stands { (stamps : List ℕ) → StandsFor params.now self.old stamps
             → CanFollow self.old stamps at
             → StandsFor params.now self.new (stamps ++ at ∷ []) }
     {
-        let mut next = self.next_tick(&params.drain);
+        if self.count == 1 && at > self.last + params.drain.whole {
+            self.begin = self.seen;
+            self.seen += 1;
+            self.last = at;
+            return 1;
+        }
+        self.feed_by_ticks(params, at);
+        self.count
+    }
+
+    /// Puts in the next packet, and counts the ticks between the last one and it.
+    #[inline(never)]
+    fn feed_by_ticks(&mut self, params: &Params, at: u64)
+        requires in_time { at < 2 ^ 62 }
+        requires few { self.old.seen < 2 ^ 41 }
+        ensures origin { self.new.origin ≡ self.old.origin }
+        ensures seen { self.new.seen ≡ self.old.seen + 1 }
+        ensures stands { (stamps : List ℕ) → StandsFor params.now self.old stamps
+            → CanFollow self.old stamps at
+            → StandsFor params.now self.new (stamps ++ at ∷ []) }
+    {
+        let mut next = self.next;
+        next.advance(&params.drain, self.last);
         let drained = next.advance(&params.drain, at);
         let left = self.count.saturating_sub(drained);
         if left == 0 {
             self.begin = self.seen;
         }
-        self.next = Some(next);
+        self.next = next;
+        self.last = at;
         self.count = left + 1;
-        self.last_tick += u128::from(drained);
         self.seen += 1;
         self.peak = self.peak.max(self.count);
-        self.count
-    }
-
-    /// The next tick after the last packet, and the first one where none was fed.
-    fn next_tick(&self, drain: &Line) -> Clock
-        requires { self.now.origin < 2 ^ 62 }
-        ensures fresh { self.now.next ≡ None → StandsAt drain.now result self.now.origin self.now.origin }
-        ensures fed { (next : Clock) → self.now.next ≡ Some next → result ≡ next }
-    {
-        match self.next {
-            Some(next) => next,
-            None => Clock::start(drain, self.origin),
-        }
     }
 }

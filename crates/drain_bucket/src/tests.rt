@@ -26,7 +26,7 @@ fn fed_late(rt: &impl Abort, bucket: &mut Bucket, late: u64) -> u64 {
 
 #[test]
 fn plain_narrow(rt: HostRuntime) {
-    let mut bucket = Bucket::new(FIRST);
+    let mut bucket = Bucket::new(&plain(), FIRST);
     for frame in 0..2 {
         for place in 0..20 {
             let late = 20_000_000 * frame + 960_000 * place;
@@ -35,7 +35,6 @@ fn plain_narrow(rt: HostRuntime) {
     }
     assert_eq!(rt; bucket.peak, 1);
     assert_eq!(rt; bucket.seen, 40);
-    assert_eq!(rt; bucket.last_tick, 42);
     assert_eq!(rt; plain().c_max(Kind::N), 4);
 }
 
@@ -44,7 +43,7 @@ fn plain_narrow(rt: HostRuntime) {
 fn interlaced_narrow(rt: HostRuntime) {
     let params = Params::of(&video(1080, true, 25, 1), 10);
     let first = 1_600_000_000_000_782_000;
-    let mut bucket = Bucket::new(first);
+    let mut bucket = Bucket::new(&params, first);
     for field in 0..4 {
         for place in 0..10 {
             let at = first + 20_000_000 * field + 1_920_000 * place;
@@ -53,7 +52,6 @@ fn interlaced_narrow(rt: HostRuntime) {
     }
     assert_eq!(rt; bucket.peak, 1);
     assert_eq!(rt; bucket.seen, 40);
-    assert_eq!(rt; bucket.last_tick, 42);
 }
 
 // 1080p at 60000/1001 with 4320 packets per frame: T_DRAIN is 284,375/81 ns. Two frames from TAI second
@@ -62,7 +60,7 @@ fn interlaced_narrow(rt: HostRuntime) {
 #[test]
 fn usual_equipment(rt: HostRuntime) {
     let params = Params::of(&video(1080, false, 60_000, 1001), 4320);
-    let mut bucket = Bucket::new(1_601_600_000_000_636_674);
+    let mut bucket = Bucket::new(&params, 1_601_600_000_000_636_674);
     for packet in 0..8640 {
         let (frame, place) = (packet / 4320, packet % 4320);
         let read = (450_450_000 * frame + 17_217_200 + 100_100 * place) / 27;
@@ -71,7 +69,6 @@ fn usual_equipment(rt: HostRuntime) {
     }
     assert_eq!(rt; bucket.peak, 1);
     assert_eq!(rt; bucket.seen, 8640);
-    assert_eq!(rt; bucket.last_tick, 9312);
     assert_eq!(rt; params.c_max(Kind::N), 6);
     assert_eq!(rt; params.c_max(Kind::NL), 5);
     assert_eq!(rt; params.c_max(Kind::W), 16);
@@ -96,11 +93,10 @@ fn five_at_once(rt: HostRuntime) {
         (0, 5, 0),
         (4_800_000, 1, 5),
     ];
-    let mut bucket = Bucket::new(FIRST);
+    let mut bucket = Bucket::new(&plain(), FIRST);
     fed_rows(&rt, &mut bucket, &rows);
     assert_eq!(rt; bucket.peak, 5);
     assert_eq!(rt; bucket.seen, 6);
-    assert_eq!(rt; bucket.last_tick, 5);
 }
 
 #[test]
@@ -112,14 +108,14 @@ fn four_at_once(rt: HostRuntime) {
         (0, 4, 0),
         (3_840_000, 1, 4),
     ];
-    let mut bucket = Bucket::new(FIRST);
+    let mut bucket = Bucket::new(&plain(), FIRST);
     fed_rows(&rt, &mut bucket, &rows);
     assert_eq!(rt; bucket.peak, 4);
 }
 
 #[test]
 fn burst_in_second_frame(rt: HostRuntime) {
-    let mut bucket = Bucket::new(FIRST);
+    let mut bucket = Bucket::new(&plain(), FIRST);
     for place in 0..20 {
         assert_eq!(rt;
             fed_late(&rt, &mut bucket, 960_000 * place),
@@ -133,4 +129,24 @@ fn burst_in_second_frame(rt: HostRuntime) {
         assert_eq!(rt; bucket.begin, 20);
     }
     assert_eq!(rt; bucket.peak, 5);
+}
+
+// Ticks come 909,090 10/11 and 1,818,181 9/11 ns after the first packet. The second packet finds the
+// bucket empty; the third comes less than a tick later, and the fourth just after the next tick.
+#[test]
+fn ticks_after_spaced(rt: HostRuntime) {
+    let rows = [
+        // nanoseconds after the first packet, count, begin
+        (0, 1, 0),
+        (909_091, 1, 1),
+        (1_818_181, 2, 1),
+        (1_818_182, 2, 1),
+        (10_000_000, 1, 4),
+        (20_000_000, 1, 5),
+        (20_000_000, 2, 5),
+    ];
+    let mut bucket = Bucket::new(&plain(), FIRST);
+    fed_rows(&rt, &mut bucket, &rows);
+    assert_eq!(rt; bucket.peak, 2);
+    assert_eq!(rt; bucket.seen, 7);
 }

@@ -7,7 +7,7 @@ use Rattle.std.proofs.Math.Logic.{∥∥₁_elim}
 use Rattle.std.proofs.lemmas.List.{get_or_append_left}
 use Rattle.std.proofs.lemmas.Bool.{cases_lt}
 use Rattle.sender_params.specs.declared.params.Params.{Params}
-use Rattle.fail_interval.specs.Meters.{AreWithin, CanFollow}
+use Rattle.fail_interval.specs.Meters.{CanFollow}
 use Rattle.fail_interval.specs.SoFar.{AreStamps}
 use Rattle.fail_interval.specs.declared.meters.RunMeters.{RunMeters}
 
@@ -30,8 +30,8 @@ before-few stamps at fit = omega (arith, fit.few, length-append stamps (at ∷ [
 
 pub record Bounds (params : Params) (meters : RunMeters) (at : ℕ) : Type 0 where
   pub begun : meters.bucket.origin ≤ at
+  pub in_time : at < 2 ^ 62
   pub few : meters.bucket.seen < 2 ^ 41
-  pub within : AreWithin meters.narrow meters.narrow_linear meters.wide at
 
 pub bounds : (params : Params) (meters : RunMeters) (stamps : List ℕ) (at : ℕ) → CanFollow params meters stamps at → Bounds params meters at
 bounds params meters stamps at c = record {
@@ -39,13 +39,8 @@ bounds params meters stamps at c = record {
     | inl some ↦ omega (arith, c.stands.fed.first some, first-low stamps at c.fit some)
     | inr none ↦ omega (arith, c.first (omega (arith, none)))
   ];
+  in_time = last-early stamps at c.fit;
   few = omega (arith, c.stands.fed.bucket.seen, before-few stamps at c.fit);
-  within = record {
-    in_time = last-early stamps at c.fit;
-    narrow_few = omega (arith, c.stands.fed.narrow.vrx.seen, before-few stamps at c.fit);
-    narrow_linear_few = omega (arith, c.stands.fed.narrow_linear.vrx.seen, before-few stamps at c.fit);
-    wide_few = omega (arith, c.stands.fed.wide.vrx.seen, before-few stamps at c.fit);
-  };
 }
 
 pub bounds-known : (params : Params) (meters : RunMeters) (at : ℕ) → ∥ ((stamps : List ℕ) × CanFollow params meters stamps at) ∥₁ → Bounds params meters at

@@ -12,6 +12,8 @@ use Rattle.timing_base.specs.declared.target.Target.{Target}
 use Rattle.udp_rtp.specs.Flow.{datagram_packet, flow, flow_packet, is_same_target}
 use Rattle.udp_rtp.specs.Frames.{Datagram, datagram_of}
 use Rattle.udp_rtp.specs.Reading.{reading}
+use Rattle.udp_rtp.specs.Carried.{carries}
+use Rattle.udp_rtp.proofs.PlainFrames.{carried, packet-carried}
 use Rattle.udp_rtp.proofs.Flows.{flow-append_none, flow-append_some}
 use Rattle.fail_interval.specs.Stands.{StandsFor}
 use Rattle.timing_base.specs.Keys.{key_of}
@@ -64,13 +66,20 @@ takes_packet old new r d rtp is same target read feeds m file number tai items h
           (feeds m (key_of file number) tai (flow items m) h.judge);
     }
 
--- where it could be fed
-pub takes_packet_if : {T E : Type 0} (result : Result T E) (old new : MediaJudge) (n stamp : ℕ) (d : Datagram) (rtp : Result Rtp PacketFault)
-    → is_same_target d.target old.target ≡ true
-    → new.target ≡ old.target → rtp ≡ reading d.payload
+-- a packet that the frame carries to the media is fed, where memory is there
+pub takes_carried_if : {T E : Type 0} (result : Result T E) (old new : MediaJudge) (n stamp : ℕ) (p : Rtp) → new.target ≡ old.target
     → ((m : Media) (key : FlowKey) (tai : ℕ) (packets : List FlowPacket) → StandsFor m key tai old.judge packets
-    → OnOk result (StandsFor m key tai new.judge (packets ++ record { rec = n; at = stamp; rtp = rtp } ∷ [])))
-    → IfOk result (λ _. (bytes : List ℕ) → datagram_of bytes ≡ Some d → TakesRecord (record { number = n; stamp = stamp; bytes = bytes }) old new)
-takes_packet_if (Ok x) old new n stamp d rtp same target read feeds = λ bytes is.
-    takes_packet old new record { number = n; stamp = stamp; bytes = bytes } d rtp is same target read feeds
-takes_packet_if (Err e) old new n stamp d rtp same target read feeds = tt
+    → OnOk result (StandsFor m key tai new.judge (packets ++ record { rec = n; at = stamp; rtp = Ok p } ∷ [])))
+    → IfOk result (λ _. (bytes : List ℕ) → carries old.target p bytes ≡ true
+    → TakesRecord (record { number = n; stamp = stamp; bytes = bytes }) old new)
+takes_carried_if (Ok x) old new n stamp p target feeds = λ bytes plain m file number tai items h.
+    let r : Record = record { number = n; stamp = stamp; bytes = bytes } in
+    let packet : FlowPacket = record { rec = n; at = stamp; rtp = Ok p } in
+    let kept : flow_packet m r ≡ Some packet =
+    packet-carried m p r (carried (target_of m) p bytes (subst (λ (t : Target). carries t p bytes ≡ true) h.target plain)) in
+    record {
+      target = target ∙ h.target;
+      judge = subst (StandsFor m (key_of file number) tai new.judge) (sym (flow-append_some m items r packet kept))
+          (feeds m (key_of file number) tai (flow items m) h.judge);
+    }
+takes_carried_if (Err e) old new n stamp p target feeds = tt

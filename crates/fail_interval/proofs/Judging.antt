@@ -71,7 +71,7 @@ more m key tai rec at rtp judge state known packets stamp s is = record {
   state = is;
 }
 
-at-flow : (m : Media) (tai at : ℕ) (state : State) (flow : Flow) (packets : List FlowPacket) → state ≡ Going flow → IsAt m tai packets state
+pub at-flow : (m : Media) (tai at : ℕ) (state : State) (flow : Flow) (packets : List FlowPacket) → state ≡ Going flow → IsAt m tai packets state
     → (flow.media ≡ m) × (flow.tai ≡ tai) × FlowStandsFor flow packets
 at-flow m tai at state flow packets e is = subst (IsAt m tai packets) e is
 

@@ -2,6 +2,7 @@
 pub mod Confirmed
 -- of this crate alone
 mod Banks
+mod Expecting
 mod Feeding
 mod Fit
 mod Flows
@@ -11,7 +12,9 @@ mod Judges
 mod Judging
 mod Limits
 mod Lulls
+mod Targets
 mod Metering
+mod OneTakes
 mod Prefixes
 mod Readings
 mod Rows

@@ -1,5 +1,5 @@
 -- A lull goes on.
-use Rattle.std.proofs.Common.{◌≡◌, ◌≤◌, ◌<◌, ◌+◌, ◌-◌, ◌*◌, ◌^◌, ℕ, ℤ, Bool, None, List, [], ◌∷◌, ◌++◌, slice_index, arith, ap, ◌∙◌, sym, subst, inl, inr}
+use Rattle.std.proofs.Common.{◌≡◌, ◌≤◌, ◌<◌, ◌+◌, ◌-◌, ◌*◌, ◌^◌, ℕ, ℤ, Bool, None, List, [], ◌∷◌, ◌++◌, length, slice_index, arith, ap, sym, subst, inl, inr}
 use Rattle.std.proofs.Math.Nat.{mul-le-mul_right}
 use Rattle.std.proofs.lemmas.Bool.{cases_lt}
 use Rattle.fraction128.specs.Fractions.{AtMost, Below, whole}
@@ -19,16 +19,17 @@ use Rattle.fail_interval.specs.Lulls.{IsCalm}
 use Rattle.fail_interval.specs.declared.kind.KindMeter.{KindMeter}
 
 -- the peak of a buffer is no more than its packets
-pub peak-few : (params : Params) (vrx : Vrx) (stamps : List ℕ) → VrxStandsFor params vrx stamps → vrx.peak ≤ vrx.seen
+pub peak-few : (params : Params) (vrx : Vrx) (stamps : List ℕ) → VrxStandsFor params vrx stamps → vrx.peak ≤ length stamps
 peak-few params vrx stamps s =
-    elim (cases_lt 0 vrx.peak) as (λ _. vrx.peak ≤ vrx.seen) [
-      | inl some ↦ let top = s.peak_reached some in omega (arith, top.1, top.2, s.seen)
+    elim (cases_lt 0 vrx.peak) as (λ _. vrx.peak ≤ length stamps) [
+      | inl some ↦ let top = s.peak_reached some in omega (arith, top.1, top.2)
       | inr none ↦ omega (arith, none)
     ]
 
 -- a lull that is over
-pub calm-over : (params : Params) (origin : ℕ) (meter : KindMeter) (left brim : ℕ) (b : Between) → left ≡ 0 → brim ≡ 0 → IsCalm params origin meter left brim b
-calm-over params origin meter left brim b none empty = record {
+pub calm-over : (params : Params) (origin seen : ℕ) (meter : KindMeter) (left brim : ℕ) (b : Between) → left ≡ 0 → brim ≡ 0
+    → IsCalm params origin seen meter left brim b
+calm-over params origin seen meter left brim b none empty = record {
   within = λ _. omega (arith, empty);
   due = record { due = λ j at low. absurd (omega (arith, low, none)) };
   ahead = λ _. record { ahead = λ j at low. absurd (omega (arith, low, none)) };
@@ -40,7 +41,7 @@ pub calm-quiet : (params : Params) (origin : ℕ) (meter : KindMeter) (left brim
     → at < 2 ^ 62
     → 1 ≤ left
     → Holds b at
-    → IsCalm params origin meter left brim b
+    → IsCalm params origin (length stamps) meter left brim b
     → IsQuiet params meter.vrx stamps at
 calm-quiet params origin meter left brim b stamps at first in_time some held calm =
     let m = params.media in
@@ -48,12 +49,13 @@ calm-quiet params origin meter left brim b stamps at first in_time some held cal
     let g = gapped_of meter.vrx.kind in
     let here : HoldsAfter b 0 at = record { in_time = in_time; from = omega (arith, held.0); up_to = omega (arith, held.1) } in
     let anchor : anchor_of m origin ≡ anchor_of m (slice_index (stamps ++ at ∷ []) 0) = ap (anchor_of m) (sym first) in
-    let read : (meter.vrx.seen - meter.vrx.peak) + 0 ≡ meter.vrx.seen - meter.vrx.peak = omega arith in
-    let own : meter.vrx.seen + 0 ≡ meter.vrx.seen = omega arith in
+    let seen = length stamps in
+    let read : (seen - meter.vrx.peak) + 0 ≡ seen - meter.vrx.peak = omega arith in
+    let own : seen + 0 ≡ seen = omega arith in
     record {
-      due = subst (λ a. AtMost (read_of m n a g (meter.vrx.seen - meter.vrx.peak)) (whole at)) anchor
+      due = subst (λ a. AtMost (read_of m n a g (seen - meter.vrx.peak)) (whole at)) anchor
           (subst (λ x. AtMost (read_of m n (anchor_of m origin) g x) (whole at)) read (calm.due.due 0 at (omega (arith, some)) here));
-      ahead = λ none. subst (λ a. Below (whole at) (read_of m n a g meter.vrx.seen)) anchor
+      ahead = λ none. subst (λ a. Below (whole at) (read_of m n a g seen)) anchor
           (subst (λ x. Below (whole at) (read_of m n (anchor_of m origin) g x)) own ((calm.ahead none).ahead 0 at (omega (arith, some)) here));
     }
 
@@ -66,57 +68,49 @@ GoesOn b c =
     → IsUpTo m n anchor gapped (late + 1) left c)
 
 -- after it the lull goes on
-pub calm-next : (params : Params) (origin also : ℕ) (meter new : KindMeter) (left more brim : ℕ) (b c : Between)
+pub calm-next : (params : Params) (origin also seen more_seen : ℕ) (meter : KindMeter) (left more brim : ℕ) (b c : Between)
     → origin ≡ also
+    → more_seen ≡ seen + 1
     → left + 1 ≡ more
-    → meter.vrx.peak ≤ meter.vrx.seen
-    → new.vrx.kind ≡ meter.vrx.kind
-    → new.vrx.seen ≡ meter.vrx.seen + 1
-    → new.vrx.peak ≡ meter.vrx.peak
-    → new.vrx.fault ≡ meter.vrx.fault
-    → new.verdict ≡ meter.verdict
-    → new.c_max ≡ meter.c_max
+    → meter.vrx.peak ≤ seen
     → GoesOn b c
-    → IsCalm params origin meter more brim b
-    → IsCalm params also new left brim c
-calm-next params origin also meter new left more brim b c same one few kind seen peak fault verdict c_max goes calm =
+    → IsCalm params origin seen meter more brim b
+    → IsCalm params also more_seen meter left brim c
+calm-next params origin also seen more_seen meter left more brim b c same long one few goes calm =
     let m = params.media in
     let n = params.n in
+    let g = gapped_of meter.vrx.kind in
+    let peak = meter.vrx.peak in
     let anchor : anchor_of m origin ≡ anchor_of m also = ap (anchor_of m) same in
-    let g : gapped_of meter.vrx.kind ≡ gapped_of new.vrx.kind = ap gapped_of (sym kind) in
-    let early : (meter.vrx.seen - meter.vrx.peak) + 1 ≡ new.vrx.seen - new.vrx.peak = omega (arith, seen, peak, few) in
-    let due = subst (λ k. IsFrom m n (anchor_of m origin) (gapped_of meter.vrx.kind) (meter.vrx.seen - meter.vrx.peak) k b) (sym one) calm.due in
+    let early : (seen - peak) + 1 ≡ more_seen - peak = omega (arith, long, few) in
+    let due = subst (λ k. IsFrom m n (anchor_of m origin) g (seen - peak) k b) (sym one) calm.due in
     record {
-      within = λ pass. omega (arith, calm.within (sym verdict ∙ pass), c_max);
-      due = subst (λ a. IsFrom m n a (gapped_of new.vrx.kind) (new.vrx.seen - new.vrx.peak) left c) anchor
-          (subst (λ k. IsFrom m n (anchor_of m origin) k (new.vrx.seen - new.vrx.peak) left c) g
-          (subst (λ x. IsFrom m n (anchor_of m origin) (gapped_of meter.vrx.kind) x left c) early
-          (goes.0 m n (anchor_of m origin) (gapped_of meter.vrx.kind) (meter.vrx.seen - meter.vrx.peak) left due)));
+      within = calm.within;
+      due = subst (λ a. IsFrom m n a g (more_seen - peak) left c) anchor
+          (subst (λ x. IsFrom m n (anchor_of m origin) g x left c) early (goes.0 m n (anchor_of m origin) g (seen - peak) left due));
       ahead = λ none.
-          let up_to = subst (λ k. IsUpTo m n (anchor_of m origin) (gapped_of meter.vrx.kind) meter.vrx.seen k b) (sym one) (calm.ahead (sym fault ∙ none)) in
-          subst (λ a. IsUpTo m n a (gapped_of new.vrx.kind) new.vrx.seen left c) anchor
-          (subst (λ k. IsUpTo m n (anchor_of m origin) k new.vrx.seen left c) g
-          (subst (λ x. IsUpTo m n (anchor_of m origin) (gapped_of meter.vrx.kind) x left c) (sym seen)
-          (goes.1 m n (anchor_of m origin) (gapped_of meter.vrx.kind) meter.vrx.seen left up_to)));
+          let up_to = subst (λ k. IsUpTo m n (anchor_of m origin) g seen k b) (sym one) (calm.ahead none) in
+          subst (λ a. IsUpTo m n a g more_seen left c) anchor
+          (subst (λ x. IsUpTo m n (anchor_of m origin) g x left c) (sym long) (goes.1 m n (anchor_of m origin) g seen left up_to));
     }
 
 -- a lull begins
-pub calm-begins : (params : Params) (origin : ℕ) (meter : KindMeter) (left brim early late : ℕ) (gapped : Bool) (b : Between)
+pub calm-begins : (params : Params) (origin seen : ℕ) (meter : KindMeter) (left brim early late : ℕ) (gapped : Bool) (b : Between)
     → gapped_of meter.vrx.kind ≡ gapped
-    → early ≡ meter.vrx.seen - meter.vrx.peak
-    → late ≡ meter.vrx.seen
+    → early ≡ seen - meter.vrx.peak
+    → late ≡ seen
     → (meter.verdict ≡ Pass → brim ≤ meter.c_max)
     → IsFrom params.media params.n (anchor_of params.media origin) gapped early left b
     → (meter.vrx.fault ≡ None → IsUpTo params.media params.n (anchor_of params.media origin) gapped late left b)
-    → IsCalm params origin meter left brim b
-calm-begins params origin meter left brim early late gapped b kind first last within due ahead =
+    → IsCalm params origin seen meter left brim b
+calm-begins params origin seen meter left brim early late gapped b kind first last within due ahead =
     let m = params.media in
     let n = params.n in
     let a = anchor_of m origin in
     record {
       within = within;
-      due = subst (λ k. IsFrom m n a k (meter.vrx.seen - meter.vrx.peak) left b) (sym kind) (subst (λ x. IsFrom m n a gapped x left b) first due);
-      ahead = λ none. subst (λ k. IsUpTo m n a k meter.vrx.seen left b) (sym kind) (subst (λ x. IsUpTo m n a gapped x left b) last (ahead none));
+      due = subst (λ k. IsFrom m n a k (seen - meter.vrx.peak) left b) (sym kind) (subst (λ x. IsFrom m n a gapped x left b) first due);
+      ahead = λ none. subst (λ k. IsUpTo m n a k seen left b) (sym kind) (subst (λ x. IsUpTo m n a gapped x left b) last (ahead none));
     }
 
 -- reads that are due stay so

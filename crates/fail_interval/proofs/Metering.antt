@@ -27,7 +27,7 @@ use Rattle.read_schedule.specs.declared.schedule.Schedule.{Schedule}
 use Rattle.vrx_buffer.specs.Stands.{StandsFor as VrxStandsFor}
 use Rattle.vrx_buffer.specs.declared.vrx.Vrx.{Vrx}
 use Rattle.fail_interval.specs.Fails.{greatest, kind_verdict}
-use Rattle.fail_interval.specs.Kinds.{ComesNext, PassesBy, StandsFor as KindStandsFor}
+use Rattle.fail_interval.specs.Kinds.{ComesNext, StandsFor as KindStandsFor}
 use Rattle.fail_interval.specs.Lulls.{IsCalm}
 use Rattle.fail_interval.specs.Meters.{AreFed, CanFollow, StandsFor, last_stamp, with_bucket}
 use Rattle.fail_interval.specs.Row.{judged_values}
@@ -36,6 +36,7 @@ use Rattle.fail_interval.specs.declared.kind.KindMeter.{KindMeter}
 use Rattle.fail_interval.specs.declared.lull.Lull.{Lull}
 use Rattle.fail_interval.specs.declared.meters.RunMeters.{RunMeters}
 use Rattle.fail_interval.proofs.Lulls.{calm-over, calm-quiet, stands-later}
+use Rattle.fail_interval.proofs.SenderTypes.{passes-by}
 
 greatest-most : (f : ℕ → ℕ) (count peak : ℕ) → ((k : ℕ) → k < count → f k ≤ peak) → greatest f count ≤ peak
 greatest-most f zero peak h = omega arith
@@ -273,9 +274,7 @@ later-by params gapped schedule origin also stamps at same falls stood =
     (stands-later params.media params.n (anchor_of params.media origin) gapped schedule (last_stamp stamps) at (last-low stamps at falls) stood))
 
 -- a sender type lets the packet pass in a lull
-pub kind-passes : (params : Params) (meter new : KindMeter) (bucket : Bucket) (origin left brim : ℕ) (b : Between) (stamps : List ℕ) (at : ℕ)
-    → ((params : Params) (bucket : Bucket) (stamps : List ℕ) (at : ℕ) → KindStandsFor params meter stamps → PassesBy params bucket meter stamps at
-    → KindStandsFor params new (stamps ++ at ∷ []))
+pub kind-passes : (params : Params) (meter : KindMeter) (bucket : Bucket) (origin left brim : ℕ) (b : Between) (stamps : List ℕ) (at : ℕ)
     → NeverFall (stamps ++ at ∷ [])
     → BucketStandsFor params bucket (stamps ++ at ∷ [])
     → slice_index (stamps ++ at ∷ []) 0 ≡ origin
@@ -283,11 +282,11 @@ pub kind-passes : (params : Params) (meter new : KindMeter) (bucket : Bucket) (o
     → 1 ≤ left
     → bucket.count ≤ brim
     → HoldsBetween b at
-    → IsCalm params origin meter left brim b
+    → IsCalm params origin (length stamps) meter left brim b
     → KindStandsFor params meter stamps
-    → KindStandsFor params new (stamps ++ at ∷ [])
-kind-passes params meter new bucket origin left brim b stamps at passes falls stands first in_time some within held calm s =
-    passes params bucket stamps at s record {
+    → KindStandsFor params meter (stamps ++ at ∷ [])
+kind-passes params meter bucket origin left brim b stamps at falls stands first in_time some within held calm s =
+    passes-by params meter bucket stamps at s record {
       ordered = falls;
       bucket_is = stands;
       within = λ pass. omega (arith, within, calm.within pass);
@@ -327,9 +326,9 @@ fresh params origin n0 bucket gapped linear narrow narrow_linear wide lull e anc
         wide = w_stands;
       };
       lull = record {
-        narrow = calm-over params bucket.origin narrow lull.left lull.brim lull.gapped left brim;
-        narrow_linear = calm-over params bucket.origin narrow_linear lull.left lull.brim lull.linear left brim;
-        wide = calm-over params bucket.origin wide lull.left lull.brim lull.linear left brim;
+        narrow = calm-over params bucket.origin 0 narrow lull.left lull.brim lull.gapped left brim;
+        narrow_linear = calm-over params bucket.origin 0 narrow_linear lull.left lull.brim lull.linear left brim;
+        wide = calm-over params bucket.origin 0 wide lull.left lull.brim lull.linear left brim;
       };
     }
 

@@ -1,9 +1,10 @@
 -- A sender type is fed one packet.
-use Rattle.std.proofs.Common.{◌≡◌, ◌≤◌, ◌<◌, ◌+◌, ℕ, Bool, true, false, nat_lt, List, [], ◌∷◌, ◌++◌, length, length-append, slice_index, Option, Some, None}
-use Rattle.std.proofs.Common.{refl, arith, ap, ◌∙◌, subst, sym}
+use Rattle.std.proofs.Common.{◌≡◌, ◌≤◌, ◌<◌, ◌+◌, ◌-◌, ℕ, Bool, true, false, nat_lt, List, [], ◌∷◌, ◌++◌, length, length-append, slice_index}
+use Rattle.std.proofs.Common.{Option, Some, None, refl, arith, ap, ◌∙◌, subst, sym}
 use Rattle.std.specs.Prelude.{if◌then◌else◌, is_some}
 use Rattle.std.proofs.lemmas.Bool.Decides.{nat_tests}
 use Rattle.fraction128.specs.Fractions.{whole}
+use Rattle.timing_base.specs.Media.{Media}
 use Rattle.timing_base.specs.declared.fail.FailProof.{FailProof}
 use Rattle.timing_base.specs.declared.fail.Broken.{Broken}
 use Rattle.timing_base.specs.declared.fail.Broken.TheVariants as broken
@@ -25,6 +26,7 @@ use Rattle.vrx_buffer.specs.Stands.{StandsFor as VrxStandsFor}
 use Rattle.vrx_buffer.specs.declared.vrx.Vrx.{Vrx}
 use Rattle.vrx_buffer.specs.declared.vrx.VrxFault.{VrxFault}
 use Rattle.vrx_buffer.specs.declared.vrx.VrxFault.TheVariants.{Over, Empty}
+use Rattle.vrx_buffer.proofs.Quiet.{known-none, known-stands}
 use Rattle.fail_interval.specs.Early.{early_at, early_by}
 use Rattle.fail_interval.specs.Fails.{is_overfull, kind_verdict, latest_start, verdict_next}
 use Rattle.fail_interval.specs.Kinds.{ComesNext, PassesBy, StandsFor}
@@ -289,17 +291,30 @@ passed-verdict params bucket due kind stamps at limit Pass next e within none =
     quiet-verdict params bucket due kind stamps at limit Pass next e (within refl) none
 passed-verdict params bucket due kind stamps at limit (Fail proof) next e within none = refl
 
--- a packet that passes by
-pub passes-by : (params : Params) (meter : KindMeter) (vrx : Vrx) (bucket : Bucket) (stamps : List ℕ) (at : ℕ)
+-- a packet that passes by changes nothing of the meter
+pub passes-by : (params : Params) (meter : KindMeter) (bucket : Bucket) (stamps : List ℕ) (at : ℕ)
     → StandsFor params meter stamps
     → PassesBy params bucket meter stamps at
-    → vrx.kind ≡ meter.vrx.kind
-    → VrxStandsFor params vrx (stamps ++ at ∷ [])
-    → (BreaksNowhere params.media params.n stamps meter.vrx.kind → fault_at params.media params.n (stamps ++ at ∷ []) meter.vrx.kind (length stamps) ≡ None)
-    → StandsFor params (meter_by vrx meter.verdict meter.c_max) (stamps ++ at ∷ [])
-passes-by params meter vrx bucket stamps at s passes kind stands none =
+    → StandsFor params meter (stamps ++ at ∷ [])
+passes-by params meter bucket stamps at s passes =
     let due = due-some-at params meter.vrx.kind stamps at in
     let next : ComesNext params bucket due.0 meter.vrx.kind stamps at = record { ordered = passes.ordered; bucket_is = passes.bucket_is; due_is = due.1 } in
-    kind-more params meter vrx meter.verdict bucket due.0 stamps at s next kind stands
+    kind-more params meter meter.vrx meter.verdict bucket due.0 stamps at s next refl (known-stands params meter.vrx stamps at s.vrx passes.quiet)
     (passed-verdict params bucket due.0 meter.vrx.kind stamps at meter.c_max meter.verdict next s.c_max passes.within
-    (λ pass. none (pass-nowhere params meter stamps s pass)))
+    (λ pass. known-none params meter.vrx stamps at s.vrx passes.quiet (pass-nowhere params meter stamps s pass)))
+
+-- the number of the packet that comes next
+pub next-number : (params : Params) (bucket : Bucket) (due : Due) (kind : Kind) (stamps : List ℕ) (at : ℕ) → ComesNext params bucket due kind stamps at
+    → bucket.seen - 1 ≡ length stamps
+next-number params bucket due kind stamps at next = omega (arith, next.bucket_is.seen, length-append stamps (at ∷ []))
+
+-- the fault of the packet of this number
+pub fault-number : (m : Media) (n : ℕ) (stamps : List ℕ) (kind : Kind) (packet i : ℕ) (fault : Option VrxFault) → packet ≡ i
+    → fault ≡ fault_at m n stamps kind packet
+    → fault ≡ fault_at m n stamps kind i
+fault-number m n stamps kind packet i fault same is = is ∙ ap (fault_at m n stamps kind) same
+
+-- a packet of this number that has no fault
+pub quiet-none : (m : Media) (n : ℕ) (stamps : List ℕ) (kind : Kind) (packet i : ℕ) → packet ≡ i → fault_at m n stamps kind packet ≡ None
+    → fault_at m n stamps kind i ≡ None
+quiet-none m n stamps kind packet i same none = sym (fault-number m n stamps kind packet i None same (sym none))

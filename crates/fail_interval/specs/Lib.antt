@@ -16,6 +16,7 @@ pub mod Groups
 pub mod Kinds
 pub mod Lulls
 pub mod Meters
+pub mod Orders
 pub mod Runs
 pub mod SoFar
 pub mod States

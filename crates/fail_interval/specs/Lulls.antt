@@ -16,17 +16,18 @@ pub record Holds (lull : Lull) (count at : ℕ) : Type 0 where
   pub gapped : HoldsBetween lull.gapped at
   pub linear : HoldsBetween lull.linear at
 
--- for `left` packets at these instants of the reads of a sender type: no more is held than before, and as long as it
--- has no fault each comes before its own read; and as long as it passes, the bucket is within its limit up to the brim
-pub record IsCalm (params : Params) (origin : ℕ) (meter : KindMeter) (left brim : ℕ) (b : Between) : Type 0 where
+-- for `left` packets after `seen` ones, at these instants of the reads of a sender type: no more is held than before,
+-- and as long as it has no fault each comes before its own read; and as long as it passes, the bucket is within its
+-- limit up to the brim
+pub record IsCalm (params : Params) (origin seen : ℕ) (meter : KindMeter) (left brim : ℕ) (b : Between) : Type 0 where
   pub within : meter.verdict ≡ Pass → brim ≤ meter.c_max
   pub due : IsFrom params.media params.n (anchor_of params.media origin) (gapped_of meter.vrx.kind)
-      (meter.vrx.seen - meter.vrx.peak) left b
+      (seen - meter.vrx.peak) left b
   pub ahead : meter.vrx.fault ≡ None → IsUpTo params.media params.n (anchor_of params.media origin)
-      (gapped_of meter.vrx.kind) meter.vrx.seen left b
+      (gapped_of meter.vrx.kind) seen left b
 
 -- so of each sender type: narrow, narrow linear and wide
-pub record IsLull (params : Params) (origin : ℕ) (first second third : KindMeter) (lull : Lull) : Type 0 where
-  pub narrow : IsCalm params origin first lull.left lull.brim lull.gapped
-  pub narrow_linear : IsCalm params origin second lull.left lull.brim lull.linear
-  pub wide : IsCalm params origin third lull.left lull.brim lull.linear
+pub record IsLull (params : Params) (origin seen : ℕ) (first second third : KindMeter) (lull : Lull) : Type 0 where
+  pub narrow : IsCalm params origin seen first lull.left lull.brim lull.gapped
+  pub narrow_linear : IsCalm params origin seen second lull.left lull.brim lull.linear
+  pub wide : IsCalm params origin seen third lull.left lull.brim lull.linear

@@ -9,7 +9,6 @@ use Rattle.timing_base.specs.declared.media.Kind.TheVariants.{N, NL, W}
 use Rattle.fail_interval.specs.Kinds.{StandsFor as KindStandsFor}
 use Rattle.fail_interval.specs.Lulls.{IsLull}
 use Rattle.fail_interval.specs.SoFar.{AreStamps}
-use Rattle.fail_interval.specs.declared.kind.KindMeter.{KindMeter}
 use Rattle.fail_interval.specs.declared.meters.RunMeters.{RunMeters}
 
 -- the last stamp, or 0
@@ -34,14 +33,14 @@ pub record AreFed (params : Params) (meters : RunMeters) (stamps : List ℕ) : T
 -- the meters were fed packets with these stamps and no others
 pub record StandsFor (params : Params) (meters : RunMeters) (stamps : List ℕ) : Type 0 where
   pub fed : AreFed params meters stamps
-  pub lull : IsLull params meters.bucket.origin meters.narrow meters.narrow_linear meters.wide meters.lull
+  pub lull : IsLull params meters.bucket.origin (length stamps) meters.narrow meters.narrow_linear meters.wide
+      meters.lull
 
--- three buffers can take one packet more, which comes at this instant
-pub record AreWithin (narrow narrow_linear wide : KindMeter) (at : ℕ) : Type 0 where
+-- the bucket took a packet that came at this instant, and no more than may be
+pub record IsWithin (bucket : Bucket) (at : ℕ) : Type 0 where
   pub in_time : at < 2 ^ 62
-  pub narrow_few : narrow.vrx.seen < 2 ^ 41
-  pub narrow_linear_few : narrow_linear.vrx.seen < 2 ^ 41
-  pub wide_few : wide.vrx.seen < 2 ^ 41
+  pub some : 1 ≤ bucket.seen
+  pub few : bucket.seen ≤ 2 ^ 41
 
 -- a packet at this instant may be the next one
 pub record CanFollow (params : Params) (meters : RunMeters) (stamps : List ℕ) (at : ℕ) : Type 0 where

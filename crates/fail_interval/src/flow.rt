@@ -7,6 +7,7 @@ ghost use Rattle.timing_base.specs.declared.packet.FlowPacket.{FlowPacket};
 ghost use Rattle.timing_base.specs.declared.packet.Rtp.{Rtp as RtpValue};
 ghost use Rattle.timing_base.specs.Judged.{judged};
 ghost use Rattle.frame_group.specs.Cuts.{cut_at};
+ghost use Rattle.frame_group.specs.Expected.{expected_after};
 ghost use Rattle.timing_base.specs.Media.{Media as MediaValue};
 ghost use Rattle.fail_interval.specs.Row.{verdict_of};
 ghost use Rattle.fail_interval.specs.SoFar.{SoFar, in_head, so_far_next};
@@ -143,6 +144,15 @@ impl Flow {
         let run = OpenRun::start(self.alloc, &self.media, expected, rec, at, number, marker)?;
         self.open = Some(run);
         Ok(())
+    }
+
+    /// The next packet, if it goes on as most do.
+    #[inline(always)]
+    pub fn expected(&self) -> Option<Rtp>
+        ensures { (packets : List FlowPacket) → StandsFor self.now packets
+            → result ≡ expected_after packets self.now.media.pt }
+    {
+        self.grouper.expected()
     }
 
     /// Takes the next packet, which was read, where it goes on in a run with the timestamp of the packet before and no

@@ -1,6 +1,7 @@
 //! The judge of one flow.
 
 ghost use Rattle.std.specs.Prelude.{◌≡◌, ◌≤◌, ◌<◌, ◌+◌, ◌^◌, ◌++◌, ◌∷◌, [], ℕ, List, Ok, Err, IsErr, OnErr, OnOk, true, false};
+ghost use Rattle.frame_group.specs.Expected.{expected_after};
 ghost use Rattle.timing_base.specs.Captures.{IsStamp};
 ghost use Rattle.timing_base.specs.declared.packet.FlowPacket.{FlowPacket};
 ghost use Rattle.timing_base.specs.declared.key.FlowKey.{FlowKey as KeyValue};
@@ -94,6 +95,19 @@ impl FlowJudge {
             key,
             fed: 0,
             state: State::Going(Flow::new(alloc, media, tai)),
+        }
+    }
+
+    /// The next packet, if it goes on in its frame or field as most do. `None` before the first packet, after one
+    /// with the marker, and after a fault.
+    #[inline(always)]
+    pub(crate) fn expected(&self) -> Option<Rtp>
+        ensures { (media : MediaValue) (key : KeyValue) (tai : ℕ) (packets : List FlowPacket)
+            → StandsFor media key tai self.now packets → result ≡ expected_after packets media.pt }
+    {
+        match &self.state {
+            State::Going(flow) => flow.expected(),
+            _ => None,
         }
     }
 

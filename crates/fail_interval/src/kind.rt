@@ -18,9 +18,7 @@ pub struct KindMeter {
 }
 
 impl KindMeter {
-    ghost use Rattle.drain_bucket.specs.declared.bucket.Bucket.{Bucket as BucketValue};
-    ghost use Rattle.fail_interval.specs.Kinds.{ComesNext, PassesBy, StandsFor};
-    ghost use Rattle.sender_params.specs.declared.params.Params.{Params};
+    ghost use Rattle.fail_interval.specs.Kinds.{ComesNext, StandsFor};
 
     /// The meter of this sender type before the first packet.
     pub fn new(params: &Params, kind: Kind) -> KindMeter
@@ -38,14 +36,15 @@ impl KindMeter {
     /// schedule of this sender type.
     #[inline(always)]
     pub fn feed(&mut self, params: &Params, bucket: &Bucket, due: Due)
-        requires { self.old.vrx.seen < 2 ^ 41 }
+        requires some { 1 ≤ bucket.now.seen }
+        requires few { bucket.now.seen ≤ 2 ^ 41 }
         ensures kind { self.new.vrx.kind ≡ self.old.vrx.kind }
         ensures stands { (stamps : List ℕ) (at : ℕ) → StandsFor params.now self.old stamps
             → ComesNext params.now bucket.now due self.old.vrx.kind stamps at
             → StandsFor params.now self.new (stamps ++ at ∷ []) }
     {
-        let packet = self.vrx.seen;
-        if self.vrx.feed_quiet(due) {
+        let packet = bucket.seen - 1;
+        if self.vrx.is_quiet_at(packet, due) {
             if bucket.count > self.c_max {
                 self.overfill(params, bucket, packet);
             }
@@ -54,24 +53,7 @@ impl KindMeter {
         if let KindVerdict::Pass = self.verdict {
             return self.feed_passing(params, bucket, due);
         }
-        self.vrx.pass_due(params, due);
-    }
-
-    /// Takes the next packet, which changes neither peak nor verdict.
-    #[inline(always)]
-    pub fn pass(&mut self)
-        requires { self.old.vrx.seen < 2 ^ 41 }
-        ensures kind { self.new.vrx.kind ≡ self.old.vrx.kind }
-        ensures seen { self.new.vrx.seen ≡ self.old.vrx.seen + 1 }
-        ensures peak { self.new.vrx.peak ≡ self.old.vrx.peak }
-        ensures fault { self.new.vrx.fault ≡ self.old.vrx.fault }
-        ensures verdict { self.new.verdict ≡ self.old.verdict }
-        ensures c_max { self.new.c_max ≡ self.old.c_max }
-        ensures stands { (params : Params) (bucket : BucketValue) (stamps : List ℕ) (at : ℕ)
-            → StandsFor params self.old stamps → PassesBy params bucket self.old stamps at
-            → StandsFor params self.new (stamps ++ at ∷ []) }
-    {
-        self.vrx.pass_quiet();
+        self.vrx.pass_due(params, packet, due);
     }
 
     /// The most packets in the bucket that leave the verdict.
@@ -104,7 +86,8 @@ impl KindMeter {
     /// Takes the next judged packet as long as the verdict is Pass.
     #[inline(never)]
     fn feed_passing(&mut self, params: &Params, bucket: &Bucket, due: Due)
-        requires few { self.old.vrx.seen < 2 ^ 41 }
+        requires some { 1 ≤ bucket.now.seen }
+        requires few { bucket.now.seen ≤ 2 ^ 41 }
         requires passes { self.old.verdict ≡ Pass }
         ensures kind { self.new.vrx.kind ≡ self.old.vrx.kind }
         ensures stands { (stamps : List ℕ) (at : ℕ) → StandsFor params.now self.old stamps
@@ -112,8 +95,8 @@ impl KindMeter {
             → StandsFor params.now self.new (stamps ++ at ∷ []) }
     {
         let kind = self.vrx.kind;
-        let packet = self.vrx.seen;
-        let fault = self.vrx.feed_due(params, due);
+        let packet = bucket.seen - 1;
+        let fault = self.vrx.feed_due(params, packet, due);
         if bucket.count > self.c_max || fault.is_some() {
             self.verdict = verdict_at(params, kind, bucket, fault, packet);
         }

@@ -5,8 +5,9 @@
 //! the interval of packets that breaks a limit first. Times are nanoseconds of TAI; packets count from 0.
 //!
 //! A [`Bank`] takes the records of one file, or of files that are joined. A record's frame is parsed once, and
-//! where its target is that of a media, its packet is read and goes to the judge of that media. Files and media
-//! count from 0, records from 1; stamps are nanoseconds since 1970-01-01 00:00:00.
+//! where its target is that of a media, its packet is read and goes to the judge of that media. A frame that carries
+//! the packet that goes on in the flow whose turn it is, as most do, is only compared with it. Files and media count
+//! from 0, records from 1; stamps are nanoseconds since 1970-01-01 00:00:00.
 #![tactic(auto)]
 
 mod bank;
@@ -17,6 +18,7 @@ pub mod laws;
 mod lull;
 mod media_judge;
 mod meters;
+mod order;
 mod run;
 
 pub use bank::Bank;

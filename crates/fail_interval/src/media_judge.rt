@@ -1,9 +1,10 @@
 //! The judge of one media.
 
-ghost use Rattle.std.specs.Prelude.{◌≡◌, ◌≤◌, ◌<◌, ◌+◌, ◌^◌, [], Some, ℕ, List, IfOk};
+ghost use Rattle.std.specs.Prelude.{◌≡◌, ◌≤◌, ◌<◌, ◌+◌, ◌^◌, [], Some, ℕ, true, List, IfOk, IfSome};
 ghost use Rattle.timing_base.specs.Captures.{IsStamp, Record};
 ghost use Rattle.timing_base.specs.Media.{Media as MediaValue};
-ghost use Rattle.udp_rtp.specs.Flow.{flow};
+ghost use Rattle.udp_rtp.specs.Carried.{carries};
+ghost use Rattle.udp_rtp.specs.Flow.{flow, is_same_target};
 ghost use Rattle.udp_rtp.specs.Frames.{datagram_of};
 ghost use Rattle.fail_interval.specs.Row.{row};
 ghost use Rattle.fail_interval.specs.Stands.{count_fed};
@@ -11,8 +12,8 @@ ghost use Rattle.timing_base.specs.Keys.{key_of};
 
 use crate::judge::FlowJudge;
 use std::alloc::{AllocError as OutOfMemory, Global};
-use timing_base::{FlowKey, Media, Row, Target};
-use udp_rtp::{Datagram, read_rtp};
+use timing_base::{FlowKey, Media, Row, Rtp, Target};
+use udp_rtp::{Datagram, carries, read_rtp};
 
 /// A media's target, and the judge of its flow.
 #[derive(Drop)]
@@ -41,19 +42,48 @@ impl MediaJudge {
         }
     }
 
-    /// Takes the datagram of a record, where it goes to this media.
+    /// The packet that is expected next of this media, where the frame carries it.
     #[inline(always)]
-    pub fn take(&mut self, rec: u64, at: u64, datagram: &Datagram<'_>) -> Result<(), OutOfMemory>
+    pub fn expected_in(&self, frame: &[u8]) -> Option<Rtp>
+        ensures { IfSome result (λ p. carries self.now.target p frame.now ≡ true) }
+    {
+        let expected = self.judge.expected()?;
+        if !carries(frame, self.target, expected) {
+            return None;
+        }
+        Some(expected)
+    }
+
+    /// Takes the packet that the frame of a record carries to this media.
+    #[inline(always)]
+    pub fn take_carried(&mut self, rec: u64, at: u64, rtp: Rtp) -> Result<(), OutOfMemory>
         requires stamp { IsStamp at }
         requires few { count_fed self.old.judge < 2 ^ 41 }
+        ensures target { self.new.target ≡ self.old.target }
         ensures fed { count_fed self.new.judge ≤ count_fed self.old.judge + 1 }
+        ensures stands { IfOk result (λ _. (bytes : List ℕ) → carries self.old.target rtp bytes ≡ true
+            → TakesRecord (record { number = rec; stamp = at; bytes = bytes }) self.old self.new) }
+    {
+        self.judge.feed(rec, at, Ok(rtp))
+    }
+
+    /// Takes the datagram of a record, where it goes to this media, and answers whether it does. `Err` is want of
+    /// memory.
+    #[inline(always)]
+    pub fn take(&mut self, rec: u64, at: u64, datagram: &Datagram<'_>) -> Result<bool, OutOfMemory>
+        requires stamp { IsStamp at }
+        requires few { count_fed self.old.judge < 2 ^ 41 }
+        ensures target { self.new.target ≡ self.old.target }
+        ensures fed { count_fed self.new.judge ≤ count_fed self.old.judge + 1 }
+        ensures goes { IfOk result (λ goes. goes ≡ is_same_target datagram.now.target self.old.target) }
         ensures stands { IfOk result (λ _. (bytes : List ℕ) → datagram_of bytes ≡ Some datagram.now
             → TakesRecord (record { number = rec; stamp = at; bytes = bytes }) self.old self.new) }
     {
         if datagram.target != self.target {
-            return Ok(());
+            return Ok(false);
         }
-        self.judge.feed(rec, at, read_rtp(datagram.payload))
+        self.judge.feed(rec, at, read_rtp(datagram.payload))?;
+        Ok(true)
     }
 
     /// The row of the flow.

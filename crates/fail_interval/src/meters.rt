@@ -26,7 +26,7 @@ pub struct RunMeters {
 
 impl RunMeters {
     ghost use Rattle.fail_interval.specs.Lulls.{Holds, IsLull};
-    ghost use Rattle.fail_interval.specs.Meters.{AreFed, AreWithin, CanFollow, StandsFor, TakesNext};
+    ghost use Rattle.fail_interval.specs.Meters.{AreFed, CanFollow, IsWithin, StandsFor, TakesNext};
     ghost use Rattle.sender_params.specs.declared.params.Params.{Params as ParamsValue};
 
     /// The meters before the first packet, which comes at `origin` in nanoseconds of TAI.
@@ -37,7 +37,7 @@ impl RunMeters {
     {
         let n0 = params.anchor(origin);
         RunMeters {
-            bucket: Bucket::new(origin),
+            bucket: Bucket::new(params, origin),
             gapped: Schedule::new(params, true, n0),
             linear: Schedule::new(params, false, n0),
             narrow: KindMeter::new(params, Kind::N),
@@ -76,17 +76,14 @@ impl RunMeters {
         }
     }
 
-    /// Takes the next judged packet, which went into the bucket, in a lull.
+    /// Takes the next judged packet, which went into the bucket, in a lull. No other meter changes.
     #[inline(always)]
     fn pass(&mut self, at: u64)
         requires lull { Holds self.old.lull self.old.bucket.count at }
-        requires within { AreWithin self.old.narrow self.old.narrow_linear self.old.wide at }
+        requires in_time { at < 2 ^ 62 }
         ensures bucket { self.new.bucket ≡ self.old.bucket }
         ensures takes { (params : ParamsValue) → TakesNext params self.old self.new at }
     {
-        self.narrow.pass();
-        self.narrow_linear.pass();
-        self.wide.pass();
         self.lull.left -= 1;
         self.lull.gapped.go_on(at);
         self.lull.linear.go_on(at);
@@ -95,7 +92,7 @@ impl RunMeters {
     /// Takes the next judged packet, which went into the bucket, in no lull.
     #[inline(never)]
     fn tell(&mut self, params: &Params, at: u64)
-        requires { AreWithin self.old.narrow self.old.narrow_linear self.old.wide at }
+        requires { IsWithin self.old.bucket at }
         ensures bucket { self.new.bucket ≡ self.old.bucket }
         ensures takes { TakesNext params.now self.old self.new at }
     {
@@ -104,27 +101,36 @@ impl RunMeters {
         self.narrow.feed(params, &self.bucket, gapped);
         self.narrow_linear.feed(params, &self.bucket, linear);
         self.wide.feed(params, &self.bucket, linear);
-        self.lull = self.next_lull();
+        self.lull = self.next_lull(at);
     }
 
-    /// The lull from the next packet on.
-    fn next_lull(&self) -> Lull
+    /// The lull from the next packet on, after one that came at `last`.
+    fn next_lull(&self, last: u64) -> Lull
         ensures { (params : ParamsValue) (stamps : List ℕ) → AreFed params self.now stamps
-            → IsLull params self.now.bucket.origin self.now.narrow self.now.narrow_linear self.now.wide result }
+            → IsLull params self.now.bucket.origin (length stamps) self.now.narrow self.now.narrow_linear
+            self.now.wide result }
     {
-        let seen = self.narrow.vrx.seen;
-        let gapped = seen.saturating_sub(self.narrow.vrx.peak);
-        let linear = seen.saturating_sub(self.narrow_linear.vrx.peak);
+        let seen = self.bucket.seen;
+        let gapped_read = seen.saturating_sub(self.narrow.vrx.peak);
+        let linear_read = seen.saturating_sub(self.narrow_linear.vrx.peak);
         let breaks = both_break(self.narrow_linear.vrx.fault, self.wide.vrx.fault);
+        let gapped = calm(
+            &self.gapped,
+            gapped_read,
+            seen,
+            last,
+            self.narrow.vrx.fault.is_some(),
+        );
+        let linear = calm(&self.linear, linear_read, seen, last, breaks);
         Lull {
-            left: left(&self.gapped, gapped, seen).min(left(&self.linear, linear, seen)),
+            left: gapped.lasts.min(linear.lasts),
             brim: self
                 .narrow
                 .brim()
                 .min(self.narrow_linear.brim())
                 .min(self.wide.brim()),
-            gapped: calm(&self.gapped, gapped, seen, self.narrow.vrx.fault.is_some()),
-            linear: calm(&self.linear, linear, seen, breaks),
+            gapped,
+            linear,
         }
     }
 
@@ -160,7 +166,7 @@ impl RunMeters {
 ghost use Rattle.std.specs.Prelude.{ℤ, Bool, false, None};
 ghost use Rattle.timing_base.specs.Media.{Media as MediaValue};
 ghost use Rattle.read_schedule.specs.Between.{IsFrom, IsUpTo};
-ghost use Rattle.read_schedule.specs.Stands.{StandsBy, left_of};
+ghost use Rattle.read_schedule.specs.Stands.{StandsBy};
 
 /// Whether two buffers have a fault.
 fn both_break(first: Option<VrxFault>, second: Option<VrxFault>) -> bool
@@ -170,26 +176,19 @@ fn both_break(first: Option<VrxFault>, second: Option<VrxFault>) -> bool
     first.is_some() && second.is_some()
 }
 
-/// The packets for which two reads go on in their groups.
-fn left(schedule: &Schedule, early: u64, late: u64) -> u64
-    ensures early { result ≤ left_of schedule.now early }
-    ensures late { result ≤ left_of schedule.now late }
-{
-    schedule.reads_left(early).min(schedule.reads_left(late))
-}
-
-/// The instants from one read on; up to the other one, too, where nothing breaks yet.
-fn calm(schedule: &Schedule, early: u64, late: u64, breaks: bool) -> Between
+/// The instants from one read on, after a packet that came at `last`; up to the other read, too, where
+/// nothing breaks yet.
+fn calm(schedule: &Schedule, early: u64, late: u64, last: u64, breaks: bool) -> Between
     ensures due { (m : MediaValue) (n : ℕ) (anchor : ℤ) (gapped : Bool) (at left : ℕ)
-        → StandsBy m n anchor gapped schedule.now at → left ≤ left_of schedule.now early
+        → StandsBy m n anchor gapped schedule.now at → left ≤ result.lasts
         → IsFrom m n anchor gapped early left result }
     ensures ahead { (m : MediaValue) (n : ℕ) (anchor : ℤ) (gapped : Bool) (at left : ℕ)
-        → StandsBy m n anchor gapped schedule.now at → left ≤ left_of schedule.now late
+        → StandsBy m n anchor gapped schedule.now at → left ≤ result.lasts
         → breaks ≡ false → IsUpTo m n anchor gapped late left result }
 {
     if breaks {
         schedule.after(early)
     } else {
-        schedule.between(early, late)
+        schedule.between(early, late, last)
     }
 }

@@ -262,7 +262,8 @@ pub run_is : {S : Type 0} (name : S → List ℕ) (left : S → Option (List ℕ
 run_is {S} name left faults s files book lanes columns sources wjobs wdones takers ijobs idones passes senders made intakes long worked a read b dealt_out =
     record {
       lane_count = made.lane_count;
-      row_count = length-map passes (λ (v : Vec SendPass Global). v.items) ∙ row_count name left faults s lanes columns sources ijobs idones passes intakes read b
+      row_count = length-map passes (λ (v : Vec SendPass Global). v.items) ∙ row_count name left faults s lanes columns sources ijobs idones passes intakes read
+          b
           ∙ long;
       taker_count = taker_count files s.workers s book lanes wjobs columns wdones takers made worked a;
       are_rows = rows_are name left faults s lanes columns sources ijobs idones passes intakes read b;

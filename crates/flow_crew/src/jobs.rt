@@ -4,7 +4,7 @@ ghost use Rattle.std.specs.Prelude.{◌≡◌, ◌≤◌, ◌<◌, ◌+◌, [], 
 ghost use Rattle.flow_crew.specs.Jobs.{AreIntakes, AreMade};
 
 use crate::columns::{deal, no_columns};
-use ruled_intake::{Lane, SendPass, TakePass};
+use ruled_intake::{Lane, SendPass, TakePass, Turn};
 use std::alloc::{AllocError as OutOfMemory, Global};
 use timing_outside::Source;
 
@@ -91,4 +91,15 @@ pub fn make_intakes<S: Source>(
         file += 1;
     }
     Ok(jobs)
+}
+
+/// The turns of so many files, of which none is read yet. `Err` is want of memory.
+pub fn make_turns(alloc: Global, files: u32) -> Result<Vec<Turn>, OutOfMemory>
+    ensures { IfOk result (λ turns. length turns.items ≡ files) }
+{
+    let mut turns = Vec::new(alloc);
+    for _ in 0..files {
+        turns.push(Turn::new())?;
+    }
+    Ok(turns)
 }

@@ -15,7 +15,7 @@ use crate::close::close_all;
 use crate::columns::deal_all;
 use crate::ends::{Worked, take_posted, take_worked};
 use crate::gather::{gather, list_keys};
-use crate::jobs::{IntakeJob, Made, WorkJob, make_intakes, make_lanes};
+use crate::jobs::{IntakeJob, Made, WorkJob, make_intakes, make_lanes, make_turns};
 use crate::reading::run_intakes;
 use crate::reads::{Read, take_read};
 use crate::threads::run_workers;
@@ -71,17 +71,20 @@ fn run_threads<R: Threads + Wait + Sync, S: Source, G: Gate>(
 {
     let halt = Halt::new();
     let stop = &halt;
+    // The first closure makes the setting again from its parts: from a closure that captures a reference to a
+    // struct of references the proof doesn't learn what the closure ensures.
     let RunSetting {
         media,
         lanes,
         files,
         joined,
         tai,
+        turns,
     } = *run;
     let (worked, read) = thread::join(
         rt,
         || -> Result<Vec<WorkDone>, OutOfMemory>
-            requires { IsRun (record { media = media; lanes = lanes; files = files; joined = joined; tai = tai })
+            requires { IsRun (record { media = media; lanes = lanes; files = files; joined = joined; tai = tai; turns = turns })
                 × AreWorkJobs lanes.now workers.items }
             ensures { IfOk result (λ dones. AreWorked (record {
               media = media.entry.now;
@@ -96,6 +99,7 @@ fn run_threads<R: Threads + Wait + Sync, S: Source, G: Gate>(
                 files,
                 joined,
                 tai,
+                turns,
             };
             run_workers(rt, alloc, &run, book, stop, gate, workers)
         },
@@ -103,7 +107,7 @@ fn run_threads<R: Threads + Wait + Sync, S: Source, G: Gate>(
             requires { IsRun run.now × AreIntakeJobs run.now.lanes.now intakes.items }
             ensures { IfOk result (λ dones. AreRead S.name S.left S.faults (setting_of run.entry.now)
                 run.entry.now.lanes.now intakes.items dones.items) }
-        { run_intakes(rt, alloc, run, stop, gate, intakes) },
+        { run_intakes(rt, alloc, run, stop, gate, intakes).map_err(|_raised| OutOfMemory) },
     );
     Ok((worked?, read?))
 }
@@ -190,6 +194,7 @@ pub fn judge_files<R: Threads + Wait + Sync, S: Source, G: Gate>(
         columns,
     } = make_lanes(alloc, files, workers)?;
     let intakes = make_intakes(alloc, sources, columns)?;
+    let turns = make_turns(alloc, files)?;
     let book = Book::new(alloc)?;
     let run = RunSetting {
         media,
@@ -197,6 +202,7 @@ pub fn judge_files<R: Threads + Wait + Sync, S: Source, G: Gate>(
         files,
         joined,
         tai,
+        turns: &turns,
     };
     let (worked, read) = run_threads(rt, alloc, &run, &book, gate, jobs, intakes)?;
     let Read {

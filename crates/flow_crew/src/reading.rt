@@ -1,18 +1,18 @@
 //! The intakes of a run, beside each other.
 
-ghost use Rattle.std.specs.Prelude.{IfOk};
+ghost use Rattle.std.specs.Prelude.{◌≡◌, IfErr, IfOk};
 ghost use Rattle.flow_worker.specs.Settings.{setting_of};
 ghost use Rattle.flow_crew.specs.Reading.{AreIntakeJobs, AreRead, HasRead, IsIntakeJob, IsRun};
 
 use crate::jobs::IntakeJob;
 use flow_worker::{IntakeDone, RunSetting, intake};
-use ruled_intake::Halt;
-use std::alloc::{AllocError as OutOfMemory, Global};
+use ruled_intake::{Halt, Raised};
+use std::alloc::Global;
 use std::sync::Wait;
 use std::thread::{self, Threads};
 use timing_outside::{Gate, Source};
 
-/// Runs the intake of a job.
+/// Runs the intake of a job, in the turn of its file.
 fn read_one<R: Wait, S: Source, G: Gate>(
     rt: &R,
     alloc: Global,
@@ -30,24 +30,28 @@ fn read_one<R: Wait, S: Source, G: Gate>(
         source,
         passes,
     } = job;
+    let reading = run.begin_turn(file);
     let (done, _raised) = intake(rt, alloc, run, file, source, passes, halt, gate);
+    drop(reading);
     done
 }
 
 /// Runs the intakes, each on a thread of its own where one can be made. `Err` is want of memory; the
-/// halt is then raised, since an intake that didn't run sends no end.
-pub fn run_intakes<R: Threads + Wait + Sync, S: Source, G: Gate>(
+/// halt is then raised, since an intake that didn't run sends no end, and the workers of all lanes were
+/// woken for it.
+pub fn run_intakes<'h, R: Threads + Wait + Sync, S: Source, G: Gate>(
     rt: &R,
     alloc: Global,
-    run: &RunSetting<'_>,
-    halt: &Halt,
+    run: &RunSetting<'h>,
+    halt: &'h Halt,
     gate: &G,
     jobs: Vec<IntakeJob<S>>,
-) -> Result<Vec<IntakeDone<S>>, OutOfMemory>
+) -> Result<Vec<IntakeDone<S>>, Raised<'h>>
     requires run { IsRun run.now }
     requires jobs { AreIntakeJobs run.now.lanes.now jobs.items }
-    ensures { IfOk result (λ dones. AreRead S.name S.left S.faults (setting_of run.now)
+    ensures read { IfOk result (λ dones. AreRead S.name S.left S.faults (setting_of run.now)
         run.now.lanes.now jobs.items dones.items) }
+    ensures raised { IfErr result (λ raised. raised ≡ record { halt = halt.now; woken = run.now.lanes.now }) }
 {
     let one = |job: IntakeJob<S>| -> IntakeDone<S>
         requires { IsRun run.now × IsIntakeJob run.now.lanes.now job }
@@ -55,9 +59,6 @@ pub fn run_intakes<R: Threads + Wait + Sync, S: Source, G: Gate>(
     { read_one(rt, alloc, run, halt, gate, job) };
     match thread::map_vec(rt, jobs, &one) {
         Ok(dones) => Ok(dones),
-        Err(refused) => {
-            halt.raise(rt, run.lanes);
-            Err(refused)
-        }
+        Err(_) => Err(halt.raise(rt, run.lanes)),
     }
 }

@@ -31,7 +31,8 @@ pub fn first_leaves_as_it_comes()
         → slice_index departures 0 ≡ slice_index arrivals 0 }
 {}
 
-/// As departures they keep the bucket of the type, and at no packet the buffer holds more than VRX_FULL.
+/// The departures of the least plan, taken as the stamps of a flow, keep the bucket within C_MAX of the type, and
+/// at none of its packets the buffer holds more than VRX_FULL.
 pub fn shaped_keeps()
     ensures bucket { (m : Media) (n : ℕ) (kind : Kind) (arrivals departures : List ℕ) → IsMedia m → 1 ≤ n
         → Shaped m n kind arrivals departures → KeepsBucket m n departures kind }
@@ -104,12 +105,22 @@ pub fn buffer_by_hand()
     ensures next_full { (models_of hd_50_wide_bucket 20 N first).held 9 (first + 960445) ≡ 8 }
 {}
 
-/// Of type NL with CMAX=100 twelve packets at once wait for linear reads 0 to 3, 1,000,000 ns apart.
+/// 1080p at 50 with 20 packets per frame, of type NL with CMAX=100, where VRX_FULL is 8: of twelve packets at
+/// once packets 8, 9, 10 and 11 wait for linear reads 0 to 3, of which the first is at 444 4/9 ns and each other
+/// one 1,000,000 ns after the one before.
 pub fn linear_buffer_by_hand()
     ensures over { (models_of (described 1080 false 50 1 (Some NL) None (Some 100)) 20 NL first).held
         8 (first + 444) ≡ 9 }
     ensures full { (models_of (described 1080 false 50 1 (Some NL) None (Some 100)) 20 NL first).held
         8 (first + 445) ≡ 8 }
+    ensures tenth_over { (models_of (described 1080 false 50 1 (Some NL) None (Some 100)) 20 NL first).held
+        9 (first + 1000444) ≡ 9 }
+    ensures tenth_full { (models_of (described 1080 false 50 1 (Some NL) None (Some 100)) 20 NL first).held
+        9 (first + 1000445) ≡ 8 }
+    ensures eleventh_over { (models_of (described 1080 false 50 1 (Some NL) None (Some 100)) 20 NL first).held
+        10 (first + 2000444) ≡ 9 }
+    ensures eleventh_full { (models_of (described 1080 false 50 1 (Some NL) None (Some 100)) 20 NL first).held
+        10 (first + 2000445) ≡ 8 }
     ensures last_over { (models_of (described 1080 false 50 1 (Some NL) None (Some 100)) 20 NL first).held
         11 (first + 3000444) ≡ 9 }
     ensures last_full { (models_of (described 1080 false 50 1 (Some NL) None (Some 100)) 20 NL first).held

@@ -47,16 +47,20 @@ has_end-here f o k taken =
     has_end-append f taken (ending f o k ∷ []) ∙ or_right (has_end f taken) (has_end f (ending f o k ∷ [])) (ap (λ (b : Bool). b || false) (eq-eqb f f refl))
 
 -- the packets of a flow, where each file is judged for itself
-taken_apart : (s : Setting) (files : ℕ) (taken : List Message) (key : FlowKey) → s.joined ≡ false → taken_packets s files taken key ≡ media_packets key.media (file_packets key.file taken)
-taken_apart s files taken key e = ap (λ (b : Bool). if b then joined_packets key.media 0 0 files taken else media_packets key.media (file_packets key.file taken)) e
+taken_apart : (s : Setting) (files : ℕ) (taken : List Message) (key : FlowKey) → s.joined ≡ false → taken_packets s files taken key
+    ≡ media_packets key.media (file_packets key.file taken)
+taken_apart s files taken key e =
+    ap (λ (b : Bool). if b then joined_packets key.media 0 0 files taken else media_packets key.media (file_packets key.file taken)) e
 
 -- a message that changes nothing for a file
-file-kept : (s : Setting) (files worker : ℕ) (taken : List Message) (m : Message) (f : ℕ) (one : OneFile) → s.joined ≡ false → has_end f (taken ++ m ∷ []) ≡ has_end f taken
+file-kept : (s : Setting) (files worker : ℕ) (taken : List Message) (m : Message) (f : ℕ) (one : OneFile) → s.joined ≡ false → has_end f (taken ++ m ∷ [])
+    ≡ has_end f taken
     → file_packets f (taken ++ m ∷ []) ≡ file_packets f taken → IsFile s files worker taken f one → IsFile s files worker (taken ++ m ∷ []) f one
 file-kept s files worker taken m f one alone end packets h = record {
   ended = h.ended ∙ sym end;
   fed = fed-same s worker f (taken_packets s files taken) (taken_packets s files (taken ++ m ∷ [])) one.judges
-      (λ n. taken_apart s files taken (key_of f n) alone ∙ ap (media_packets n) (sym packets) ∙ sym (taken_apart s files (taken ++ m ∷ []) (key_of f n) alone)) h.fed;
+      (λ n. taken_apart s files taken (key_of f n) alone ∙ ap (media_packets n) (sym packets) ∙ sym (taken_apart s files (taken ++ m ∷ []) (key_of f n) alone))
+      h.fed;
 }
 
 batch-kept : (s : Setting) (files worker : ℕ) (taken : List Message) (g : ℕ) (ps : List Packet) (f : ℕ) (one : OneFile) → s.joined ≡ false
@@ -97,7 +101,8 @@ pub file-at : (s : Setting) (files worker : ℕ) (taken : List Message) (apart :
     → ApartStandsFor s files worker taken apart → IsFile s files worker taken g (get_or apart.files.items g d)
 file-at s files worker taken apart g d within h =
     let z : 0 + g ≡ g = omega arith in
-    subst (λ (f : ℕ). IsFile s files worker taken f (get_or apart.files.items g d)) z (each-at (IsFile s files worker taken) 0 apart.files.items g d within h.each)
+    subst (λ (f : ℕ). IsFile s files worker taken f (get_or apart.files.items g d)) z
+    (each-at (IsFile s files worker taken) 0 apart.files.items g d within h.each)
 
 map-raised_none : (xs : List FlowPacket) → map (raised_packet 0) xs ≡ xs
 map-raised_none [] = refl
@@ -106,9 +111,11 @@ map-raised_none (x ∷ xs) =
     ap₂ (λ (r : ℕ) (l : List FlowPacket). record { rec = r; at = x.at; rtp = x.rtp } ∷ l) z (map-raised_none xs)
 
 -- the batch is fed to the judges of its file
-pub apart-fed : (s : Setting) (files worker : ℕ) (taken : List Message) (g : ℕ) (ps : List Packet) (old new : Apart) (d one : OneFile) → g < length old.files.items
+pub apart-fed : (s : Setting) (files worker : ℕ) (taken : List Message) (g : ℕ) (ps : List Packet) (old new : Apart) (d one : OneFile) → g
+    < length old.files.items
     → (get_or old.files.items g d).ended ≡ false → one.ended ≡ (get_or old.files.items g d).ended → new.files.items ≡ set old.files.items g one
-    → Feeds 0 ps (get_or old.files.items g d).judges one.judges → ApartStandsFor s files worker taken old → ApartStandsFor s files worker (taken ++ batch g ps ∷ []) new
+    → Feeds 0 ps (get_or old.files.items g d).judges one.judges → ApartStandsFor s files worker taken old
+    → ApartStandsFor s files worker (taken ++ batch g ps ∷ []) new
 apart-fed s files worker taken g ps old new d one within going same written feeds h =
     let was = file-at s files worker taken old g d within h in
     let none : has_end g taken ≡ false = sym was.ended ∙ going in
@@ -139,7 +146,8 @@ apart-room s files worker taken g ps apart d within few h =
     let none : packets [] ≡ 0 = refl in
     room-from s worker g (taken_packets s files taken) (get_or apart.files.items g d).judges (length ps) was.fed
     (λ n.
-    let same : length (taken_packets s files taken (key_of g n)) ≡ length (media_packets n (file_packets g taken)) = ap length (taken_apart s files taken (key_of g n) h.alone) in
+    let same : length (taken_packets s files taken (key_of g n)) ≡ length (media_packets n (file_packets g taken)) =
+    ap length (taken_apart s files taken (key_of g n) h.alone) in
     let own = media_packets-few n (file_packets g taken) in
     let some = file_packets-few g taken in
     omega (arith, all, one, none, same, own, some, few.few_packets))
@@ -155,7 +163,8 @@ apart-beyond s files worker taken g o k apart beyond h = record {
 }
 
 -- the end of one that is
-pub apart-ended : (s : Setting) (files worker : ℕ) (taken : List Message) (g : ℕ) (o : FileNote) (k : ℕ) (old new : Apart) (d one : OneFile) → g < length old.files.items
+pub apart-ended : (s : Setting) (files worker : ℕ) (taken : List Message) (g : ℕ) (o : FileNote) (k : ℕ) (old new : Apart) (d one : OneFile) → g
+    < length old.files.items
     → one.ended ≡ true → one.judges ≡ (get_or old.files.items g d).judges → new.files.items ≡ set old.files.items g one
     → ApartStandsFor s files worker taken old → ApartStandsFor s files worker (taken ++ ending g o k ∷ []) new
 apart-ended s files worker taken g o k old new d one within ended same written h =
@@ -165,7 +174,8 @@ apart-ended s files worker taken g o k old new d one within ended same written h
       ended = ended ∙ sym (has_end-here g o k taken);
       fed = fed-same s worker g (taken_packets s files taken) (taken_packets s files (taken ++ ending g o k ∷ [])) one.judges
           (λ n. taken_apart s files taken (key_of g n) h.alone ∙ ap (media_packets n) (sym (file_packets-ending g g o k taken))
-          ∙ sym (taken_apart s files (taken ++ ending g o k ∷ []) (key_of g n) h.alone)) (subst (AreFed s worker g (taken_packets s files taken)) (sym same) was.fed);
+          ∙ sym (taken_apart s files (taken ++ ending g o k ∷ []) (key_of g n) h.alone))
+          (subst (AreFed s worker g (taken_packets s files taken)) (sym same) was.fed);
     } in
     record {
       alone = h.alone;
@@ -206,12 +216,15 @@ pub record HasFileRows (s : Setting) (files worker : ℕ) (taken : List Message)
   pub whole : rows ++ own_rows s worker (taken_packets s files taken) (keys_of_files number (length left) (length s.media))
       ≡ map (taken_row s files taken) (own_keys s files worker)
 
-own_rows-append : (s : Setting) (worker : ℕ) (fed : FlowKey → List FlowPacket) (xs ys : List FlowKey) → own_rows s worker fed (xs ++ ys) ≡ own_rows s worker fed xs ++ own_rows s worker fed ys
+own_rows-append : (s : Setting) (worker : ℕ) (fed : FlowKey → List FlowPacket) (xs ys : List FlowKey) → own_rows s worker fed (xs ++ ys)
+    ≡ own_rows s worker fed xs ++ own_rows s worker fed ys
 own_rows-append s worker fed xs ys =
-    ap (map (λ key. row_over s key (fed key))) (filter-append (is_own s worker) xs ys) ∙ map-append (λ key. row_over s key (fed key)) (filter (is_own s worker) xs) (filter (is_own s worker) ys)
+    ap (map (λ key. row_over s key (fed key))) (filter-append (is_own s worker) xs ys) ∙ map-append (λ key. row_over s key (fed key))
+    (filter (is_own s worker) xs) (filter (is_own s worker) ys)
 
 -- no row is posted yet
-pub file_rows-first : (s : Setting) (files worker : ℕ) (taken : List Message) (apart : Apart) (rows : List Row) (left : List OneFile) → rows ≡ [] → left ≡ apart.files.items
+pub file_rows-first : (s : Setting) (files worker : ℕ) (taken : List Message) (apart : Apart) (rows : List Row) (left : List OneFile) → rows ≡ [] → left
+    ≡ apart.files.items
     → ApartStandsFor s files worker taken apart → HasFileRows s files worker taken rows left
 file_rows-first s files worker taken apart rows left none e h = record {
   number = 0;
@@ -221,8 +234,10 @@ file_rows-first s files worker taken apart rows left none e h = record {
 }
 
 -- the rows of one file more
-pub file_rows-more : (s : Setting) (files worker : ℕ) (taken : List Message) (rows more : List Row) (one : OneFile) (left later : List OneFile) → left ≡ one ∷ later
-    → ((file : ℕ) (fed : FlowKey → List FlowPacket) → AreFed s worker file fed one.judges → more ≡ rows ++ own_rows s worker fed (keys_of_file file 0 (length s.media)))
+pub file_rows-more : (s : Setting) (files worker : ℕ) (taken : List Message) (rows more : List Row) (one : OneFile) (left later : List OneFile) → left ≡ one
+    ∷ later
+    → ((file : ℕ) (fed : FlowKey → List FlowPacket) → AreFed s worker file fed one.judges → more ≡ rows
+    ++ own_rows s worker fed (keys_of_file file 0 (length s.media)))
     → HasFileRows s files worker taken rows left → HasFileRows s files worker taken more later
 file_rows-more s files worker taken rows more one left later e gives h =
     let each = subst (EachFrom (IsFile s files worker taken) h.number) e h.each in
@@ -233,7 +248,8 @@ file_rows-more s files worker taken rows more one left later e gives h =
       number = h.number + 1;
       each = each.1;
       whole = ap (λ (l : List Row). l ++ rest) (gives h.number fed each.0.fed) ∙ append_assoc rows own rest
-          ∙ ap (λ (l : List Row). rows ++ l) (sym (own_rows-append s worker fed (keys_of_file h.number 0 (length s.media)) (keys_of_files (h.number + 1) (length later) (length s.media))))
+          ∙ ap (λ (l : List Row). rows ++ l)
+          (sym (own_rows-append s worker fed (keys_of_file h.number 0 (length s.media)) (keys_of_files (h.number + 1) (length later) (length s.media))))
           ∙ ap (λ (n : ℕ). rows ++ own_rows s worker fed (keys_of_files h.number n (length s.media))) (sym (ap length e)) ∙ h.whole;
     }
 
@@ -241,10 +257,12 @@ file_rows-more s files worker taken rows more one left later e gives h =
 pub file_rows-all : (s : Setting) (files worker : ℕ) (taken : List Message) (rows : List Row) (left : List OneFile) → length left ≡ 0
     → HasFileRows s files worker taken rows left → rows ≡ map (taken_row s files taken) (own_keys s files worker)
 file_rows-all s files worker taken rows left e h =
-    sym (append-nil rows) ∙ ap (λ (n : ℕ). rows ++ own_rows s worker (taken_packets s files taken) (keys_of_files h.number n (length s.media))) (sym e) ∙ h.whole
+    sym (append-nil rows) ∙ ap (λ (n : ℕ). rows ++ own_rows s worker (taken_packets s files taken) (keys_of_files h.number n (length s.media))) (sym e) ∙
+    h.whole
 
 -- no file is there yet
-pub file-new : (s : Setting) (files worker file : ℕ) (one : OneFile) → s.joined ≡ false → one.ended ≡ false → AreFed s worker file (λ key. []) one.judges → IsFile s files worker [] file one
+pub file-new : (s : Setting) (files worker file : ℕ) (one : OneFile) → s.joined ≡ false → one.ended ≡ false → AreFed s worker file (λ key. []) one.judges
+    → IsFile s files worker [] file one
 file-new s files worker file one alone ended fed = record {
   ended = ended;
   fed = fed-same s worker file (λ key. []) (taken_packets s files []) one.judges (λ n. sym (taken_apart s files [] (key_of file n) alone)) fed;
@@ -254,6 +272,8 @@ file-new s files worker file one alone ended fed = record {
 pub apart-fed_if : {X E : Type 0} (r : Result X E) (g : ℕ) (ps : List Packet) (old new : Apart) (d one : OneFile) → g < length old.files.items
     → (get_or old.files.items g d).ended ≡ false → one.ended ≡ (get_or old.files.items g d).ended → new.files.items ≡ set old.files.items g one
     → IfOk r (λ _. Feeds 0 ps (get_or old.files.items g d).judges one.judges)
-    → IfOk r (λ _. (s : Setting) (files worker : ℕ) (taken : List Message) → ApartStandsFor s files worker taken old → ApartStandsFor s files worker (taken ++ batch g ps ∷ []) new)
-apart-fed_if (Ok x) g ps old new d one within going same written feeds = λ s files worker taken h. apart-fed s files worker taken g ps old new d one within going same written feeds h
+    → IfOk r (λ _. (s : Setting) (files worker : ℕ) (taken : List Message) → ApartStandsFor s files worker taken old
+    → ApartStandsFor s files worker (taken ++ batch g ps ∷ []) new)
+apart-fed_if (Ok x) g ps old new d one within going same written feeds = λ s files worker taken h. apart-fed s files worker taken g ps old new d one within
+    going same written feeds h
 apart-fed_if (Err e) g ps old new d one within going same written feeds = tt

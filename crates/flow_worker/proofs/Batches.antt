@@ -39,7 +39,8 @@ rest-more size xs p h =
     let e : length (xs ++ p ∷ []) % size ≡ n % size + 1 = ap (λ (x : ℕ). x % size) (length_push xs p) ∙ mod-more n size few in
     let le : n % size ≤ n = omega (arith, div-add-mod' n size) in
     let at : length (xs ++ p ∷ []) - length (xs ++ p ∷ []) % size ≡ n - n % size = omega (arith, length_push xs p) in (
-      ap (λ (b : Bool). if b then drop (length (xs ++ p ∷ []) - size) (xs ++ p ∷ []) ∷ [] else []) (ne_eqb (length (xs ++ p ∷ []) % size) 0 (λ z. absurd (omega arith))),
+      ap (λ (b : Bool). if b then drop (length (xs ++ p ∷ []) - size) (xs ++ p ∷ []) ∷ [] else [])
+          (ne_eqb (length (xs ++ p ∷ []) % size) 0 (λ z. absurd (omega arith))),
       ap (λ (i : ℕ). drop i (xs ++ p ∷ [])) at ∙ drop-append-le (n - n % size) xs (p ∷ []) (omega arith),
     )
 

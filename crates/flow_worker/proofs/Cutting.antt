@@ -102,5 +102,8 @@ HasCut-prefix size f lane w ps more sent left lanes end h =
     let later = full_batches size f lane ps more in
     let ends = last_batches size f lane (ps ++ more) lanes ++ to_each end lanes in
     let all : full ++ (later ++ ends) ≡ sent_of size f lane (ps ++ more) lanes end =
-    sym (append_assoc full later ends) ∙ ap (λ (l : List Addressed). l ++ ends) (sym (full_batches-append size f lane [] ps more)) in
-    (for_lane w (later ++ ends), ap (λ (l : List Message). l ++ for_lane w (later ++ ends)) h.full ∙ sym (for_lane-append w full (later ++ ends)) ∙ ap (for_lane w) all)
+    sym (append_assoc full later ends) ∙ ap (λ (l : List Addressed). l ++ ends) (sym (full_batches-append size f lane [] ps more)) in (
+      for_lane w (later ++ ends),
+      ap (λ (l : List Message). l ++ for_lane w (later ++ ends)) h.full ∙ sym (for_lane-append w full (later ++ ends)) ∙ ap
+          (for_lane w) all,
+    )

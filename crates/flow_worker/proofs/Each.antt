@@ -31,7 +31,8 @@ each-weaker P Q k (x ∷ xs) f h = (
 )
 
 -- one value is another, and what follows of each of the others
-pub each-set : {X : Type 0} (P Q : ℕ → X → Type 0) (k : ℕ) (xs : List X) (i : ℕ) (y : X) → ((n : ℕ) (x : X) → (n ≡ k + i → ⊥) → n < k + length xs → P n x → Q n x) → Q (k + i) y
+pub each-set : {X : Type 0} (P Q : ℕ → X → Type 0) (k : ℕ) (xs : List X) (i : ℕ) (y : X)
+    → ((n : ℕ) (x : X) → (n ≡ k + i → ⊥) → n < k + length xs → P n x → Q n x) → Q (k + i) y
     → EachFrom P k xs → EachFrom Q k (set xs i y)
 each-set P Q k [] i y f is h = tt
 each-set P Q k (x ∷ xs) zero y f is h =
@@ -44,7 +45,8 @@ each-set P Q k (x ∷ xs) (suc i) y f is h =
     )
 
 -- one value more, under its number
-pub each-push-at : {X : Type 0} (P : ℕ → X → Type 0) (n : ℕ) (xs more : List X) (x : X) → length xs ≡ n → more ≡ xs ++ x ∷ [] → EachFrom P 0 xs → P n x → EachFrom P 0 more
+pub each-push-at : {X : Type 0} (P : ℕ → X → Type 0) (n : ℕ) (xs more : List X) (x : X) → length xs ≡ n → more ≡ xs ++ x ∷ [] → EachFrom P 0 xs → P n x
+    → EachFrom P 0 more
 each-push-at P n xs more x count e h is =
     let z : n ≡ 0 + length xs = omega (arith, count) in
     subst (EachFrom P 0) (sym e) (each-push P 0 xs x h (subst (λ (k : ℕ). P k x) z is))

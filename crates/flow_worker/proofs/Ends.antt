@@ -52,7 +52,8 @@ records_told-ending f g note n xs ms false e more = more
 pub records_told-of_file : (f : ℕ) (ms : List Message) → records_told f (of_file f ms) ≡ records_told f ms
 records_told-of_file f [] = refl
 records_told-of_file f (Batch one ∷ ms) =
-    either (λ l. records_told f l ≡ records_told f ms) (eqb one.file f) (batch one.file one.packets) (of_file f ms) (records_told-of_file f ms) (records_told-of_file f ms)
+    either (λ l. records_told f l ≡ records_told f ms) (eqb one.file f) (batch one.file one.packets) (of_file f ms) (records_told-of_file f ms)
+    (records_told-of_file f ms)
 records_told-of_file f (End one ∷ ms) = records_told-ending f one.file one.note one.records (of_file f ms) ms (eqb one.file f) refl (records_told-of_file f ms)
 
 -- where the end is among messages that begin batches and an end, all batches come before it

@@ -23,15 +23,18 @@ use Rattle.flow_worker.specs.declared.judges.Judges.{Judges}
 use Rattle.flow_worker.proofs.Each.{each-at, each-set, each-weaker}
 
 -- a place is the same under the same packets
-place-same : (s : Setting) (worker : ℕ) (key : FlowKey) (place : Option FlowJudge) (xs ys : List FlowPacket) → xs ≡ ys → IsPlace s worker key xs place → IsPlace s worker key ys place
+place-same : (s : Setting) (worker : ℕ) (key : FlowKey) (place : Option FlowJudge) (xs ys : List FlowPacket) → xs ≡ ys → IsPlace s worker key xs place
+    → IsPlace s worker key ys place
 place-same s worker key place xs ys e h = subst (λ (l : List FlowPacket). IsPlace s worker key l place) e h
 
 -- judges that were fed this were fed what is the same for each flow of theirs
-pub fed-same : (s : Setting) (worker file : ℕ) (fed others : FlowKey → List FlowPacket) (judges : Judges) → ((n : ℕ) → fed (key_of file n) ≡ others (key_of file n))
+pub fed-same : (s : Setting) (worker file : ℕ) (fed others : FlowKey → List FlowPacket) (judges : Judges)
+    → ((n : ℕ) → fed (key_of file n) ≡ others (key_of file n))
     → AreFed s worker file fed judges → AreFed s worker file others judges
 fed-same s worker file fed others judges e h = record {
   count = h.count;
-  each = each-weaker (λ n. IsPlace s worker (key_of file n) (fed (key_of file n))) (λ n. IsPlace s worker (key_of file n) (others (key_of file n))) 0 judges.places.items
+  each = each-weaker (λ n. IsPlace s worker (key_of file n) (fed (key_of file n))) (λ n. IsPlace s worker (key_of file n) (others (key_of file n))) 0
+      judges.places.items
       (λ n place low high is. place-same s worker (key_of file n) place (fed (key_of file n)) (others (key_of file n)) (e n) is) h.each;
 }
 
@@ -44,7 +47,8 @@ media_packets-none : (media : ℕ) (p : Packet) → (p.media ≡ media → ⊥) 
 media_packets-none media p n = ap (λ (b : Bool). cons_option (if b then Some (flow_packet p) else None) []) (ne_eqb p.media media n)
 
 -- a packet of another media changes nothing for a flow
-with-none : (before : ℕ) (p : Packet) (fed : FlowKey → List FlowPacket) (key : FlowKey) → (p.media ≡ key.media → ⊥) → fed key ≡ with_packets before (p ∷ []) fed key
+with-none : (before : ℕ) (p : Packet) (fed : FlowKey → List FlowPacket) (key : FlowKey) → (p.media ≡ key.media → ⊥) → fed key
+    ≡ with_packets before (p ∷ []) fed key
 with-none before p fed key n =
     sym (ap (λ (l : List FlowPacket). fed key ++ map (raised_packet before) l) (media_packets-none key.media p n) ∙ append-nil (fed key))
 
@@ -57,13 +61,15 @@ with-one before p fed key e = sym (ap (λ (l : List FlowPacket). fed key ++ map 
 pub feeds-beyond : (before : ℕ) (p : Packet) (judges : Judges) → length judges.places.items ≤ p.media → Feeds before (p ∷ []) judges judges
 feeds-beyond before p judges beyond s worker file fed h = record {
   count = h.count;
-  each = each-weaker (λ n. IsPlace s worker (key_of file n) (fed (key_of file n))) (λ n. IsPlace s worker (key_of file n) (with_packets before (p ∷ []) fed (key_of file n))) 0 judges.places.items
+  each = each-weaker (λ n. IsPlace s worker (key_of file n) (fed (key_of file n)))
+      (λ n. IsPlace s worker (key_of file n) (with_packets before (p ∷ []) fed (key_of file n))) 0 judges.places.items
       (λ n place low high is. place-same s worker (key_of file n) place (fed (key_of file n)) (with_packets before (p ∷ []) fed (key_of file n))
       (with-none before p fed (key_of file n) (λ e. absurd (omega (arith, high, beyond, e)))) is) h.each;
 }
 
 -- a place is written, and the others are as they were
-feeds-place : (before : ℕ) (p : Packet) (old new : Judges) (place : Option FlowJudge) → p.media < length old.places.items → new.places.items ≡ set old.places.items p.media place
+feeds-place : (before : ℕ) (p : Packet) (old new : Judges) (place : Option FlowJudge) → p.media < length old.places.items → new.places.items
+    ≡ set old.places.items p.media place
     → (s : Setting) (worker file : ℕ) (fed : FlowKey → List FlowPacket) → AreFed s worker file fed old
     → IsPlace s worker (key_of file p.media) (with_packets before (p ∷ []) fed (key_of file p.media)) place
     → AreFed s worker file (with_packets before (p ∷ []) fed) new
@@ -80,7 +86,8 @@ feeds-place before p old new place within e s worker file fed h is =
     }
 
 -- what is at the place of the packet's media
-place-at : (s : Setting) (worker file : ℕ) (fed : FlowKey → List FlowPacket) (judges : Judges) (i : ℕ) (d place : Option FlowJudge) → i < length judges.places.items
+place-at : (s : Setting) (worker file : ℕ) (fed : FlowKey → List FlowPacket) (judges : Judges) (i : ℕ) (d place : Option FlowJudge) → i
+    < length judges.places.items
     → get_or judges.places.items i d ≡ place → AreFed s worker file fed judges → IsPlace s worker (key_of file i) (fed (key_of file i)) place
 place-at s worker file fed judges i d place within e h =
     let P : ℕ → Option FlowJudge → Type 0 = λ n. IsPlace s worker (key_of file n) (fed (key_of file n)) in
@@ -93,13 +100,16 @@ pub feeds-none : (before : ℕ) (p : Packet) (old new : Judges) (i : ℕ) (d pla
 feeds-none before p old new i d place at within none same written s worker file fed h =
     let is : is_own s worker (key_of file i) ≡ false = place-at s worker file fed old i d None within none h in
     let own : is_own s worker (key_of file p.media) ≡ false = ap (λ (n : ℕ). is_own s worker (key_of file n)) (sym at) ∙ is in
-    let e : new.places.items ≡ set old.places.items p.media None = written ∙ ap (λ (n : ℕ). set old.places.items n place) at ∙ ap (set old.places.items p.media) same in
+    let e : new.places.items ≡ set old.places.items p.media None = written ∙ ap (λ (n : ℕ). set old.places.items n place) at ∙ ap (set old.places.items p.media)
+    same in
     feeds-place before p old new None (subst (λ (n : ℕ). n < length old.places.items) at within) e s worker file fed h own
 
 -- a packet that the judge of its media is fed
-pub feeds-some : (before : ℕ) (p : Packet) (old new : Judges) (i : ℕ) (d : Option FlowJudge) (judge next : FlowJudge) → i ≡ p.media → i < length old.places.items
+pub feeds-some : (before : ℕ) (p : Packet) (old new : Judges) (i : ℕ) (d : Option FlowJudge) (judge next : FlowJudge) → i ≡ p.media → i
+    < length old.places.items
     → get_or old.places.items i d ≡ Some judge → new.places.items ≡ set old.places.items i (Some next)
-    → ((m : Media) (key : FlowKey) (tai : ℕ) (packets : List FlowPacket) → StandsFor m key tai judge packets → StandsFor m key tai next (packets ++ raised_packet before (flow_packet p) ∷ []))
+    → ((m : Media) (key : FlowKey) (tai : ℕ) (packets : List FlowPacket) → StandsFor m key tai judge packets
+    → StandsFor m key tai next (packets ++ raised_packet before (flow_packet p) ∷ []))
     → Feeds before (p ∷ []) old new
 feeds-some before p old new i d judge next at within some written feeds s worker file fed h =
     let key = key_of file p.media in
@@ -111,18 +121,21 @@ feeds-some before p old new i d judge next at within some written feeds s worker
     (is.0, subst (StandsFor (media_of s.media key) key s.tai next) (with-one before p fed key refl) (feeds (media_of s.media key) key s.tai (fed key) is.1))
 
 -- where its judge takes it
-pub feeds-some_if : {X E : Type 0} (r : Result X E) (before : ℕ) (p : Packet) (old new : Judges) (i : ℕ) (d : Option FlowJudge) (judge next : FlowJudge) (q : FlowPacket) → i ≡ p.media
+pub feeds-some_if : {X E : Type 0} (r : Result X E) (before : ℕ) (p : Packet) (old new : Judges) (i : ℕ) (d : Option FlowJudge) (judge next : FlowJudge)
+    (q : FlowPacket) → i ≡ p.media
     → i < length old.places.items → get_or old.places.items i d ≡ Some judge → new.places.items ≡ set old.places.items i (Some next) → q ≡ flow_packet p
     → ((m : Media) (key : FlowKey) (tai : ℕ) (packets : List FlowPacket) → StandsFor m key tai judge packets
     → OnOk r (StandsFor m key tai next (packets ++ raised_packet before q ∷ [])))
     → IfOk r (λ _. Feeds before (p ∷ []) old new)
 feeds-some_if (Ok x) before p old new i d judge next q at within some written same feeds =
-    feeds-some before p old new i d judge next at within some written (subst (λ (y : FlowPacket). (m : Media) (key : FlowKey) (tai : ℕ) (packets : List FlowPacket) → StandsFor m key tai judge packets
+    feeds-some before p old new i d judge next at within some written
+    (subst (λ (y : FlowPacket). (m : Media) (key : FlowKey) (tai : ℕ) (packets : List FlowPacket) → StandsFor m key tai judge packets
     → StandsFor m key tai next (packets ++ raised_packet before y ∷ [])) same feeds)
 feeds-some_if (Err e) before p old new i d judge next q at within some written same feeds = tt
 
 -- packets, and then more
-pub feeds-append : (before : ℕ) (xs ys : List Packet) (old mid new : Judges) → Feeds before xs old mid → Feeds before ys mid new → Feeds before (xs ++ ys) old new
+pub feeds-append : (before : ℕ) (xs ys : List Packet) (old mid new : Judges) → Feeds before xs old mid → Feeds before ys mid new
+    → Feeds before (xs ++ ys) old new
 feeds-append before xs ys old mid new first second s worker file fed h =
     fed-same s worker file (with_packets before ys (with_packets before xs fed)) (with_packets before (xs ++ ys) fed) new
     (λ n.
@@ -130,7 +143,8 @@ feeds-append before xs ys old mid new first second s worker file fed h =
     let b : List FlowPacket = map (raised_packet before) (media_packets n ys) in
     append_assoc (fed (key_of file n)) a b
     ∙ ap (λ (l : List FlowPacket). fed (key_of file n) ++ l)
-    (sym (ap (map (raised_packet before)) (filter_map-append (media_packet n) xs ys) ∙ map-append (raised_packet before) (media_packets n xs) (media_packets n ys))))
+    (sym (ap (map (raised_packet before)) (filter_map-append (media_packet n) xs ys) ∙ map-append (raised_packet before) (media_packets n xs)
+    (media_packets n ys))))
     (second s worker file (with_packets before xs fed) (first s worker file fed h))
 
 -- no packets
@@ -139,7 +153,8 @@ feeds-nothing before judges s worker file fed h =
     fed-same s worker file fed (with_packets before [] fed) judges (λ n. sym (append-nil (fed (key_of file n)))) h
 
 -- one packet of a list more
-pub feeds-more : (before i : ℕ) (packets : List Packet) (p : Packet) (old mid new : Judges) → i < length packets → get_or packets i p ≡ p → Feeds before (take i packets) old mid
+pub feeds-more : (before i : ℕ) (packets : List Packet) (p : Packet) (old mid new : Judges) → i < length packets → get_or packets i p ≡ p
+    → Feeds before (take i packets) old mid
     → Feeds before (p ∷ []) mid new → Feeds before (take (i + 1) packets) old new
 feeds-more before i packets p old mid new within at first second =
     subst (λ (l : List Packet). Feeds before l old new) (sym (take_more packets i p within ∙ ap (λ (x : Packet). take i packets ++ x ∷ []) at))
@@ -150,7 +165,8 @@ pub room-same : (m n : ℕ) (judges : Judges) → m ≡ n → HaveRoom m judges 
 room-same m n judges e h = subst (λ (k : ℕ). HaveRoom k judges) e h
 
 -- a judge of a flow without packets, where the flow is the worker's own
-pub place-new : (s : Setting) (worker file n : ℕ) (m : Media) (place : Option FlowJudge) (own : Bool) → n < length s.media → get_or s.media n m ≡ m → (if s.joined then 0 else file) ≡ file
+pub place-new : (s : Setting) (worker file n : ℕ) (m : Media) (place : Option FlowJudge) (own : Bool) → n < length s.media → get_or s.media n m ≡ m
+    → (if s.joined then 0 else file) ≡ file
     → own ≡ eqb (route (key_of file n) (length s.media) s.workers) worker
     → IfSome place (λ judge. IsTrue own × StandsFor m (key_of file n) s.tai judge []) → IfNone place (IsTrue own → ⊥)
     → IsPlace s worker (key_of file n) [] place
@@ -167,12 +183,14 @@ room-less m n judges less h =
     All-weaker (λ place. fed_at place + m ≤ 2 ^ 41) (λ place. fed_at place + n ≤ 2 ^ 41) (λ place few. omega (arith, few, less)) judges.places.items h
 
 -- the packets of one batch more
-pub feeds-batch : (before i : ℕ) (batches : List Batch) (one : Batch) (old mid new : Judges) → i < length batches → get_or batches i one ≡ one → Feeds before (batched (take i batches)) old mid
+pub feeds-batch : (before i : ℕ) (batches : List Batch) (one : Batch) (old mid new : Judges) → i < length batches → get_or batches i one ≡ one
+    → Feeds before (batched (take i batches)) old mid
     → Feeds before one.packets mid new → Feeds before (batched (take (i + 1) batches)) old new
 feeds-batch before i batches one old mid new within at first second =
     subst (λ (l : List Packet). Feeds before l old new)
     (sym (ap batched (take_more batches i one within ∙ ap (λ (x : Batch). take i batches ++ x ∷ []) at)
-    ∙ flat_map-append (λ (b : Batch). b.packets) (take i batches) (one ∷ []) ∙ ap (λ (l : List Packet). batched (take i batches) ++ l) (append-nil one.packets)))
+    ∙ flat_map-append (λ (b : Batch). b.packets) (take i batches) (one ∷ []) ∙ ap (λ (l : List Packet). batched (take i batches) ++ l)
+    (append-nil one.packets)))
     (feeds-append before (batched (take i batches)) one.packets old mid new first second)
 
 -- the packets of the batches that are left

@@ -27,28 +27,33 @@ pub media_packets-few : (m : ℕ) (ps : List Packet) → length (media_packets m
 media_packets-few m [] = omega arith
 media_packets-few m (p ∷ ps) =
     let more = media_packets-few m ps in
-    elim (eqb p.media m) as (λ b. length (cons_option (if b then Some (flow_packet p) else None) (media_packets m ps)) ≤ length (p ∷ ps)) [ true ↦ omega (arith, more) | false ↦ omega (arith, more) ]
+    elim (eqb p.media m) as (λ b. length (cons_option (if b then Some (flow_packet p) else None) (media_packets m ps)) ≤ length (p ∷ ps))
+    [ true ↦ omega (arith, more) | false ↦ omega (arith, more) ]
 
 -- the packets of so many files from one on, before their first ends
 abbrev pub files_total : (file n : ℕ) → List Message → ℕ
 files_total file zero taken = 0
 files_total file (suc n) taken = length (file_packets file taken) + files_total (file + 1) n taken
 
-batch-here : (f g : ℕ) (ps : List Packet) (ms : List Message) → eqb g f ≡ true → length (file_packets f (batch g ps ∷ ms)) ≡ length ps + length (file_packets f ms)
+batch-here : (f g : ℕ) (ps : List Packet) (ms : List Message) → eqb g f ≡ true → length (file_packets f (batch g ps ∷ ms)) ≡ length ps
+    + length (file_packets f ms)
 batch-here f g ps ms e =
-    ap (λ (t : Bool). length (packets_in (cond t (batch g ps ∷ of_file f (before_end f ms)) (of_file f (before_end f ms))))) e ∙ length-append ps (file_packets f ms)
+    ap (λ (t : Bool). length (packets_in (cond t (batch g ps ∷ of_file f (before_end f ms)) (of_file f (before_end f ms))))) e ∙ length-append ps
+    (file_packets f ms)
 
 batch-other : (f g : ℕ) (ps : List Packet) (ms : List Message) → eqb g f ≡ false → length (file_packets f (batch g ps ∷ ms)) ≡ length (file_packets f ms)
 batch-other f g ps ms e = ap (λ (t : Bool). length (packets_in (cond t (batch g ps ∷ of_file f (before_end f ms)) (of_file f (before_end f ms))))) e
 
 end-kept : (f g : ℕ) (o : FileNote) (k : ℕ) (l : List Message) → length (packets_in (of_file f (ending g o k ∷ l))) ≤ length (packets_in (of_file f l))
 end-kept f g o k l =
-    elim (eqb g f) as (λ t. length (packets_in (cond t (ending g o k ∷ of_file f l) (of_file f l))) ≤ length (packets_in (of_file f l))) [ true ↦ omega arith | false ↦ omega arith ]
+    elim (eqb g f) as (λ t. length (packets_in (cond t (ending g o k ∷ of_file f l) (of_file f l))) ≤ length (packets_in (of_file f l)))
+    [ true ↦ omega arith | false ↦ omega arith ]
 
 end-few : (f g : ℕ) (o : FileNote) (k : ℕ) (ms : List Message) → length (file_packets f (ending g o k ∷ ms)) ≤ length (file_packets f ms)
 end-few f g o k ms =
     let kept = end-kept f g o k (before_end f ms) in
-    elim (eqb g f) as (λ t. length (packets_in (of_file f (cond t [] (ending g o k ∷ before_end f ms)))) ≤ length (file_packets f ms)) [ true ↦ omega arith | false ↦ kept ]
+    elim (eqb g f) as (λ t. length (packets_in (of_file f (cond t [] (ending g o k ∷ before_end f ms)))) ≤ length (file_packets f ms))
+    [ true ↦ omega arith | false ↦ kept ]
 
 total-nil : (file n : ℕ) → files_total file n [] ≡ 0
 total-nil file zero = refl
@@ -59,7 +64,8 @@ total-nil file (suc n) =
 total-below : (g : ℕ) (ps : List Packet) (ms : List Message) (file n : ℕ) → g < file → files_total file n (batch g ps ∷ ms) ≡ files_total file n ms
 total-below g ps ms file zero h = refl
 total-below g ps ms file (suc n) h =
-    ap₂ (λ (x y : ℕ). x + y) (batch-other file g ps ms (ne_eqb g file (λ e. absurd (omega (arith, h, e))))) (total-below g ps ms (file + 1) n (omega (arith, h)))
+    ap₂ (λ (x y : ℕ). x + y) (batch-other file g ps ms (ne_eqb g file (λ e. absurd (omega (arith, h, e)))))
+    (total-below g ps ms (file + 1) n (omega (arith, h)))
 
 total-batch : (g : ℕ) (ps : List Packet) (ms : List Message) (file n : ℕ) → files_total file n (batch g ps ∷ ms) ≤ length ps + files_total file n ms
 total-batch g ps ms file zero = omega arith
@@ -126,10 +132,12 @@ total-more file (suc n) taken =
     let f : file + 1 + n ≡ file + suc n = omega arith in
     let more = total-more (file + 1) n taken in
     let z : length (file_packets (file + 1 + n) taken) ≡ length (file_packets (file + suc n) taken) = ap (λ (x : ℕ). length (file_packets x taken)) f in
-    let e : length (file_packets file taken) + files_total (file + 1) (n + 1) taken ≡ (length (file_packets file taken) + files_total (file + 1) n taken) + length (file_packets (file + suc n) taken) = omega (arith, more, z) in
+    let e : length (file_packets file taken) + files_total (file + 1) (n + 1) taken ≡ (length (file_packets file taken) + files_total (file + 1) n taken)
+    + length (file_packets (file + suc n) taken) = omega (arith, more, z) in
     ap (λ (x : ℕ). files_total file x taken) s ∙ e
 
-room-place : (s : Setting) (worker : ℕ) (key : FlowKey) (fed : List FlowPacket) (more : ℕ) (place : Option FlowJudge) → IsPlace s worker key fed place → length fed + more ≤ 2 ^ 41 → fed_at place + more ≤ 2 ^ 41
+room-place : (s : Setting) (worker : ℕ) (key : FlowKey) (fed : List FlowPacket) (more : ℕ) (place : Option FlowJudge) → IsPlace s worker key fed place
+    → length fed + more ≤ 2 ^ 41 → fed_at place + more ≤ 2 ^ 41
 room-place s worker key fed more None h few = omega (arith, few)
 room-place s worker key fed more (Some judge) h few = omega (arith, few, h.1.fed)
 

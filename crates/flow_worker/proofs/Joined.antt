@@ -33,7 +33,8 @@ raised_datagram m before number stamp (Some d) =
 flow_packet-raised : (m : Media) (before : ℕ) (r : Record) → flow_packet m (raised before r) ≡ option_map (raised_packet before) (flow_packet m r)
 flow_packet-raised m before r = raised_datagram m before r.number r.stamp (datagram_of r.bytes)
 
-map-cons_option : (f : FlowPacket → FlowPacket) (o : Option FlowPacket) (ps : List FlowPacket) → cons_option (option_map f o) (map f ps) ≡ map f (cons_option o ps)
+map-cons_option : (f : FlowPacket → FlowPacket) (o : Option FlowPacket) (ps : List FlowPacket) → cons_option (option_map f o) (map f ps)
+    ≡ map f (cons_option o ps)
 map-cons_option f None ps = refl
 map-cons_option f (Some p) ps = refl
 

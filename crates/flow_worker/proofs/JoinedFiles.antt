@@ -49,11 +49,13 @@ min_next n files h = omega (arith, h)
 min_last : (n files : ℕ) → files ≤ n + 1 → min (n + 1) files ≡ files
 min_last n files h = omega (arith, h)
 
-first_end-kept : (taken more : List Message) (f : ℕ) (end : Option FileEnd) → has_end f (taken ++ more) ≡ has_end f taken → IsFirstEnd taken f end → IsFirstEnd (taken ++ more) f end
+first_end-kept : (taken more : List Message) (f : ℕ) (end : Option FileEnd) → has_end f (taken ++ more) ≡ has_end f taken → IsFirstEnd taken f end
+    → IsFirstEnd (taken ++ more) f end
 first_end-kept taken more f None same h = same ∙ h
 first_end-kept taken more f (Some end) same h = (same ∙ h.0, h.1 ∙ sym (records_told-ended f taken more h.0))
 
-waiting-kept : (next : ℕ) (taken more : List Message) (f : ℕ) (w : Waiting) → has_end f (taken ++ more) ≡ has_end f taken → (next < f → file_packets f (taken ++ more) ≡ file_packets f taken)
+waiting-kept : (next : ℕ) (taken more : List Message) (f : ℕ) (w : Waiting) → has_end f (taken ++ more) ≡ has_end f taken
+    → (next < f → file_packets f (taken ++ more) ≡ file_packets f taken)
     → IsWaiting next taken f w → IsWaiting next (taken ++ more) f w
 waiting-kept next taken more f w end packets h = record {
   end = first_end-kept taken more f w.end end h.end;
@@ -65,14 +67,16 @@ pub waiting-at : (s : Setting) (files worker : ℕ) (taken : List Message) (join
     → JoinedIsAt s files worker taken joined → IsWaiting joined.next taken g (get_or joined.files.items g d)
 waiting-at s files worker taken joined g d within h =
     let z : 0 + g ≡ g = omega arith in
-    subst (λ (f : ℕ). IsWaiting joined.next taken f (get_or joined.files.items g d)) z (each-at (IsWaiting joined.next taken) 0 joined.files.items g d within h.each)
+    subst (λ (f : ℕ). IsWaiting joined.next taken f (get_or joined.files.items g d)) z
+    (each-at (IsWaiting joined.next taken) 0 joined.files.items g d within h.each)
 
 -- a file without an end
 pub no_end : (taken : List Message) (f : ℕ) (end : Option FileEnd) → end ≡ None → IsFirstEnd taken f end → has_end f taken ≡ false
 no_end taken f end e h = subst (IsFirstEnd taken f) e h
 
 -- and one with
-pub one_end : (taken : List Message) (f : ℕ) (end : Option FileEnd) (it : FileEnd) → end ≡ Some it → IsFirstEnd taken f end → (has_end f taken ≡ true) × (it.records ≡ records_told f taken)
+pub one_end : (taken : List Message) (f : ℕ) (end : Option FileEnd) (it : FileEnd) → end ≡ Some it → IsFirstEnd taken f end → (has_end f taken ≡ true)
+    × (it.records ≡ records_told f taken)
 one_end taken f end it e h = subst (IsFirstEnd taken f) e h
 
 -- so told by a test
@@ -85,13 +89,15 @@ tested_none None e = refl
 tested_none (Some it) e = absurd (false≢true (sym e))
 
 -- the files that are fed have the same packets, if the next one has
-first-kept : (n files : ℕ) (taken more : List Message) (key : FlowKey) → has_ends n taken ≡ true → n ≤ files → (n < files → file_packets n (taken ++ more) ≡ file_packets n taken)
+first-kept : (n files : ℕ) (taken more : List Message) (key : FlowKey) → has_ends n taken ≡ true → n ≤ files
+    → (n < files → file_packets n (taken ++ more) ≡ file_packets n taken)
     → of_first (min (n + 1) files) taken key ≡ of_first (min (n + 1) files) (taken ++ more) key
 first-kept n files taken more key done few same =
     elim (cases_eq n files) [
       | inl all ↦
           let m : min (n + 1) files ≡ n = min_last n files (omega (arith, all)) ∙ sym all in
-          ap (λ (x : ℕ). of_first x taken key) m ∙ sym (joined_packets-ended key.media n taken more done) ∙ ap (λ (x : ℕ). of_first x (taken ++ more) key) (sym m)
+          ap (λ (x : ℕ). of_first x taken key) m ∙ sym (joined_packets-ended key.media n taken more done) ∙ ap (λ (x : ℕ). of_first x (taken ++ more) key)
+          (sym m)
       | inr some ↦
           let below : n < files = omega (arith, few, some) in
           let m : min (n + 1) files ≡ n + 1 = min_next n files below in
@@ -111,11 +117,13 @@ first-more : (n before : ℕ) (taken : List Message) (ps : List Packet) (key : F
 first-more n before taken ps key told packets =
     let z : 0 + n ≡ n = omega arith in
     let b : before ≡ 0 + told_by 0 n taken = omega (arith, told) in
-    ap₂ (λ (x : ℕ) (l : List Packet). of_first n taken key ++ map (raised_packet x) (media_packets key.media l)) b (packets ∙ ap (λ (x : ℕ). file_packets x taken) (sym z))
+    ap₂ (λ (x : ℕ) (l : List Packet). of_first n taken key ++ map (raised_packet x) (media_packets key.media l)) b
+    (packets ∙ ap (λ (x : ℕ). file_packets x taken) (sym z))
     ∙ sym (joined_packets-more key.media 0 0 n taken)
 
 -- a batch of the next file comes behind
-first-batch : (n before : ℕ) (taken : List Message) (ps : List Packet) (key : FlowKey) → before ≡ told_by 0 n taken → has_ends n taken ≡ true → has_end n taken ≡ false
+first-batch : (n before : ℕ) (taken : List Message) (ps : List Packet) (key : FlowKey) → before ≡ told_by 0 n taken → has_ends n taken ≡ true → has_end n taken
+    ≡ false
     → with_packets before ps (of_first (n + 1) taken) key ≡ of_first (n + 1) (taken ++ batch n ps ∷ []) key
 first-batch n before taken ps key told done going =
     let m = batch n ps ∷ [] in
@@ -124,10 +132,12 @@ first-batch n before taken ps key told done going =
     let raise : List Packet → List FlowPacket = λ l. map (raised_packet before) (media_packets key.media l) in
     let was : of_first (n + 1) taken key ≡ of_first n taken key ++ raise (file_packets n taken) =
     joined_packets-more key.media 0 0 n taken
-    ∙ ap₂ (λ (x : ℕ) (l : List Packet). of_first n taken key ++ map (raised_packet x) (media_packets key.media l)) (sym b) (ap (λ (x : ℕ). file_packets x taken) z) in
+    ∙ ap₂ (λ (x : ℕ) (l : List Packet). of_first n taken key ++ map (raised_packet x) (media_packets key.media l)) (sym b)
+    (ap (λ (x : ℕ). file_packets x taken) z) in
     let both : raise (file_packets n taken) ++ raise ps ≡ raise (file_packets n (taken ++ m)) =
     sym (map-append (raised_packet before) (media_packets key.media (file_packets n taken)) (media_packets key.media ps))
-    ∙ ap (map (raised_packet before)) (sym (filter_map-append (media_packet key.media) (file_packets n taken) ps)) ∙ ap raise (sym (file_packets-batch n taken ps going)) in
+    ∙ ap (map (raised_packet before)) (sym (filter_map-append (media_packet key.media) (file_packets n taken) ps)) ∙ ap raise
+    (sym (file_packets-batch n taken ps going)) in
     ap (λ (l : List FlowPacket). l ++ raise ps) was ∙ append_assoc (of_first n taken key) (raise (file_packets n taken)) (raise ps)
     ∙ ap (λ (l : List FlowPacket). of_first n taken key ++ l) both
     ∙ ap (λ (l : List FlowPacket). l ++ raise (file_packets n (taken ++ m))) (sym (joined_packets-ended key.media n taken m done))
@@ -136,7 +146,8 @@ first-batch n before taken ps key told done going =
 -- a message changes nothing but what is said
 joined-step : (s : Setting) (files worker : ℕ) (taken : List Message) (m : Message) (old new : Joined) → new.next ≡ old.next → new.before ≡ old.before
     → length new.files.items ≡ length old.files.items → EachFrom (IsWaiting old.next (taken ++ m ∷ [])) 0 new.files.items
-    → AreFed s worker 0 (of_first (min (old.next + 1) files) (taken ++ m ∷ [])) new.judges → JoinedIsAt s files worker taken old → JoinedIsAt s files worker (taken ++ m ∷ []) new
+    → AreFed s worker 0 (of_first (min (old.next + 1) files) (taken ++ m ∷ [])) new.judges → JoinedIsAt s files worker taken old
+    → JoinedIsAt s files worker (taken ++ m ∷ []) new
 joined-step s files worker taken m old new next before count each fed h = record {
   one = h.one;
   few = h.few;
@@ -149,7 +160,8 @@ joined-step s files worker taken m old new next before count each fed h = record
   fed = subst (λ (n : ℕ). AreFed s worker 0 (of_first (min (n + 1) files) (taken ++ m ∷ [])) new.judges) (sym next) fed;
 }
 
-fed-kept : (s : Setting) (files worker : ℕ) (taken : List Message) (m : Message) (joined : Joined) → (joined.next < files → file_packets joined.next (taken ++ m ∷ []) ≡ file_packets joined.next taken)
+fed-kept : (s : Setting) (files worker : ℕ) (taken : List Message) (m : Message) (joined : Joined)
+    → (joined.next < files → file_packets joined.next (taken ++ m ∷ []) ≡ file_packets joined.next taken)
     → JoinedIsAt s files worker taken joined → AreFed s worker 0 (of_first (min (joined.next + 1) files) (taken ++ m ∷ [])) joined.judges
 fed-kept s files worker taken m joined same h =
     fed-same s worker 0 (of_first (min (joined.next + 1) files) taken) (of_first (min (joined.next + 1) files) (taken ++ m ∷ [])) joined.judges
@@ -168,7 +180,8 @@ joined-same s files worker taken m joined same h = record {
 }
 
 -- a batch of a file that isn't there, or has ended
-pub joined-passed : (s : Setting) (files worker : ℕ) (taken : List Message) (g : ℕ) (ps : List Packet) (joined : Joined) → (files ≤ g) ⊎ (has_end g taken ≡ true)
+pub joined-passed : (s : Setting) (files worker : ℕ) (taken : List Message) (g : ℕ) (ps : List Packet) (joined : Joined) → (files ≤ g)
+    ⊎ (has_end g taken ≡ true)
     → JoinedStandsFor s files worker taken joined → JoinedStandsFor s files worker (taken ++ batch g ps ∷ []) joined
 joined-passed s files worker taken g ps joined why h =
     joined-same s files worker taken (batch g ps) joined
@@ -185,7 +198,8 @@ joined-passed s files worker taken g ps joined why h =
     )) h
 
 -- an end of such a file
-pub joined-passed_end : (s : Setting) (files worker : ℕ) (taken : List Message) (g : ℕ) (o : FileNote) (k : ℕ) (joined : Joined) → (files ≤ g) ⊎ (has_end g taken ≡ true)
+pub joined-passed_end : (s : Setting) (files worker : ℕ) (taken : List Message) (g : ℕ) (o : FileNote) (k : ℕ) (joined : Joined) → (files ≤ g)
+    ⊎ (has_end g taken ≡ true)
     → JoinedStandsFor s files worker taken joined → JoinedStandsFor s files worker (taken ++ ending g o k ∷ []) joined
 joined-passed_end s files worker taken g o k joined why h =
     joined-same s files worker taken (ending g o k) joined
@@ -202,7 +216,8 @@ joined-passed_end s files worker taken g o k joined why h =
     )) h
 
 -- a batch of the next file is fed
-pub joined-fed : (s : Setting) (files worker : ℕ) (taken : List Message) (g : ℕ) (ps : List Packet) (old new : Joined) → g ≡ old.next → g < length old.files.items
+pub joined-fed : (s : Setting) (files worker : ℕ) (taken : List Message) (g : ℕ) (ps : List Packet) (old new : Joined) → g ≡ old.next → g
+    < length old.files.items
     → new.next ≡ old.next → new.before ≡ old.before → new.files.items ≡ old.files.items → Feeds old.before ps old.judges new.judges
     → JoinedStandsFor s files worker taken old → JoinedStandsFor s files worker (taken ++ batch g ps ∷ []) new
 joined-fed s files worker taken g ps old new here within next before same feeds h =
@@ -211,12 +226,14 @@ joined-fed s files worker taken g ps old new here within next before same feeds 
     let m : min (n + 1) files ≡ n + 1 = min_next n files below in
     let fed : AreFed s worker 0 (of_first (min (n + 1) files) (taken ++ batch n ps ∷ [])) new.judges =
     fed-same s worker 0 (with_packets old.before ps (of_first (min (n + 1) files) taken)) (of_first (min (n + 1) files) (taken ++ batch n ps ∷ [])) new.judges
-    (λ k. ap (λ (x : ℕ). with_packets old.before ps (of_first x taken) (key_of 0 k)) m ∙ first-batch n old.before taken ps (key_of 0 k) h.at.before h.at.done (h.going below)
+    (λ k. ap (λ (x : ℕ). with_packets old.before ps (of_first x taken) (key_of 0 k)) m ∙ first-batch n old.before taken ps (key_of 0 k) h.at.before h.at.done
+    (h.going below)
     ∙ ap (λ (x : ℕ). of_first x (taken ++ batch n ps ∷ []) (key_of 0 k)) (sym m)) (feeds s worker 0 (of_first (min (n + 1) files) taken) h.at.fed) in
     let each : EachFrom (IsWaiting n (taken ++ batch n ps ∷ [])) 0 new.files.items =
     subst (EachFrom (IsWaiting n (taken ++ batch n ps ∷ [])) 0) (sym same)
     (each-weaker (IsWaiting n taken) (IsWaiting n (taken ++ batch n ps ∷ [])) 0 old.files.items
-    (λ f w low high is. waiting-kept n taken (batch n ps ∷ []) f w (has_end-batch f n ps taken) (λ later. file_packets-other f n ps taken (λ e. absurd (omega (arith, later, e)))) is) h.at.each) in
+    (λ f w low high is. waiting-kept n taken (batch n ps ∷ []) f w (has_end-batch f n ps taken)
+    (λ later. file_packets-other f n ps taken (λ e. absurd (omega (arith, later, e)))) is) h.at.each) in
     subst (λ (x : ℕ). JoinedStandsFor s files worker (taken ++ batch x ps ∷ []) new) (sym here) record {
       at = joined-step s files worker taken (batch n ps) old new next before (ap length same) each fed h.at;
       going = λ more. ap (λ (x : ℕ). has_end x (taken ++ batch n ps ∷ [])) next ∙ has_end-batch n n ps taken ∙ h.going below;
@@ -225,12 +242,15 @@ joined-fed s files worker taken g ps old new here within next before same feeds 
 -- where its judges take it
 pub joined-fed_if : {X E : Type 0} (r : Result X E) (g : ℕ) (ps : List Packet) (old new : Joined) → g ≡ old.next → g < length old.files.items
     → new.next ≡ old.next → new.before ≡ old.before → new.files.items ≡ old.files.items → IfOk r (λ _. Feeds old.before ps old.judges new.judges)
-    → IfOk r (λ _. (s : Setting) (files worker : ℕ) (taken : List Message) → JoinedStandsFor s files worker taken old → JoinedStandsFor s files worker (taken ++ batch g ps ∷ []) new)
-joined-fed_if (Ok x) g ps old new here within next before same feeds = λ s files worker taken h. joined-fed s files worker taken g ps old new here within next before same feeds h
+    → IfOk r (λ _. (s : Setting) (files worker : ℕ) (taken : List Message) → JoinedStandsFor s files worker taken old
+    → JoinedStandsFor s files worker (taken ++ batch g ps ∷ []) new)
+joined-fed_if (Ok x) g ps old new here within next before same feeds = λ s files worker taken h. joined-fed s files worker taken g ps old new here within next
+    before same feeds h
 joined-fed_if (Err e) g ps old new here within next before same feeds = tt
 
 -- there is room for it
-pub joined-room : (s : Setting) (files worker : ℕ) (taken : List Message) (g : ℕ) (ps : List Packet) (joined : Joined) → g ≡ joined.next → g < length joined.files.items
+pub joined-room : (s : Setting) (files worker : ℕ) (taken : List Message) (g : ℕ) (ps : List Packet) (joined : Joined) → g ≡ joined.next → g
+    < length joined.files.items
     → IsFew taken (batch g ps) → JoinedStandsFor s files worker taken joined → HaveRoom (length ps) joined.judges
 joined-room s files worker taken g ps joined here within few h =
     let n = joined.next in
@@ -243,8 +263,10 @@ joined-room s files worker taken g ps joined here within few h =
     (λ k. let some = joined_packets-few k 0 0 (min (n + 1) files) taken in omega (arith, all, one, none, total, some, few.few_packets))
 
 -- a batch of another file waits
-pub joined-held : (s : Setting) (files worker : ℕ) (taken : List Message) (g : ℕ) (ps : List Packet) (it : Batch) (old new : Joined) (d w : Waiting) → (g ≡ old.next → ⊥) → g < length old.files.items
-    → it.packets ≡ ps → (get_or old.files.items g d).end ≡ None → w.end ≡ (get_or old.files.items g d).end → w.batches.items ≡ (get_or old.files.items g d).batches.items ++ it ∷ []
+pub joined-held : (s : Setting) (files worker : ℕ) (taken : List Message) (g : ℕ) (ps : List Packet) (it : Batch) (old new : Joined) (d w : Waiting)
+    → (g ≡ old.next → ⊥) → g < length old.files.items
+    → it.packets ≡ ps → (get_or old.files.items g d).end ≡ None → w.end ≡ (get_or old.files.items g d).end → w.batches.items
+    ≡ (get_or old.files.items g d).batches.items ++ it ∷ []
     → new.next ≡ old.next → new.before ≡ old.before → new.judges ≡ old.judges → new.files.items ≡ set old.files.items g w
     → JoinedStandsFor s files worker taken old → JoinedStandsFor s files worker (taken ++ batch g ps ∷ []) new
 joined-held s files worker taken g ps it old new d w other within packets none end pushed next before judges written h =
@@ -261,16 +283,19 @@ joined-held s files worker taken g ps it old new d w other within packets none e
     let each : EachFrom (IsWaiting n (taken ++ more)) 0 new.files.items =
     subst (EachFrom (IsWaiting n (taken ++ more)) 0) (sym written)
     (each-set (IsWaiting n taken) (IsWaiting n (taken ++ more)) 0 old.files.items g w
-    (λ f x unlike high at. waiting-kept n taken more f x (has_end-batch f g ps taken) (λ later. file_packets-other f g ps taken (λ e. unlike (sym e ∙ sym z))) at)
+    (λ f x unlike high at. waiting-kept n taken more f x (has_end-batch f g ps taken) (λ later. file_packets-other f g ps taken (λ e. unlike (sym e ∙ sym z)))
+    at)
     (subst (λ (f : ℕ). IsWaiting n (taken ++ more) f w) (sym z) is) h.at.each) in
     record {
       at = joined-step s files worker taken (batch g ps) old new next before (ap length written ∙ length-set old.files.items g w) each
-          (subst (AreFed s worker 0 (of_first (min (n + 1) files) (taken ++ more))) (sym judges) (fed-kept s files worker taken (batch g ps) old (λ below. file_packets-other n g ps taken other) h.at)) h.at;
+          (subst (AreFed s worker 0 (of_first (min (n + 1) files) (taken ++ more))) (sym judges)
+          (fed-kept s files worker taken (batch g ps) old (λ below. file_packets-other n g ps taken other) h.at)) h.at;
       going = λ below. ap (λ (x : ℕ). has_end x (taken ++ more)) next ∙ has_end-batch n g ps taken ∙ h.going (subst (λ (x : ℕ). x < files) next below);
     }
 
 -- the first end of a file is noted
-pub joined-ended : (s : Setting) (files worker : ℕ) (taken : List Message) (g : ℕ) (o : FileNote) (k : ℕ) (it : FileEnd) (old new : Joined) (d w : Waiting) → g < length old.files.items
+pub joined-ended : (s : Setting) (files worker : ℕ) (taken : List Message) (g : ℕ) (o : FileNote) (k : ℕ) (it : FileEnd) (old new : Joined) (d w : Waiting) → g
+    < length old.files.items
     → it.records ≡ k → (get_or old.files.items g d).end ≡ None → w.end ≡ Some it → w.batches.items ≡ (get_or old.files.items g d).batches.items
     → new.next ≡ old.next → new.before ≡ old.before → new.judges ≡ old.judges → new.files.items ≡ set old.files.items g w
     → JoinedIsAt s files worker taken old → JoinedIsAt s files worker (taken ++ ending g o k ∷ []) new
@@ -287,16 +312,19 @@ joined-ended s files worker taken g o k it old new d w within records none end b
     let each : EachFrom (IsWaiting n (taken ++ more)) 0 new.files.items =
     subst (EachFrom (IsWaiting n (taken ++ more)) 0) (sym written)
     (each-set (IsWaiting n taken) (IsWaiting n (taken ++ more)) 0 old.files.items g w
-    (λ f x unlike high at. waiting-kept n taken more f x (has_end-other f g o k taken (λ e. unlike (sym e ∙ sym z))) (λ later. file_packets-ending f g o k taken) at)
+    (λ f x unlike high at. waiting-kept n taken more f x (has_end-other f g o k taken (λ e. unlike (sym e ∙ sym z)))
+    (λ later. file_packets-ending f g o k taken) at)
     (subst (λ (f : ℕ). IsWaiting n (taken ++ more) f w) (sym z) is) h.each) in
     joined-step s files worker taken (ending g o k) old new next before (ap length written ∙ length-set old.files.items g w) each
-    (subst (AreFed s worker 0 (of_first (min (n + 1) files) (taken ++ more))) (sym judges) (fed-kept s files worker taken (ending g o k) old (λ below. file_packets-ending n g o k taken) h)) h
+    (subst (AreFed s worker 0 (of_first (min (n + 1) files) (taken ++ more))) (sym judges)
+    (fed-kept s files worker taken (ending g o k) old (λ below. file_packets-ending n g o k taken) h)) h
 
 later-waiting : (next : ℕ) (taken : List Message) (f : ℕ) (w : Waiting) → IsWaiting next taken f w → IsWaiting (next + 1) taken f w
 later-waiting next taken f w h = record { end = h.end; waits = λ later. h.waits (omega (arith, later)) }
 
 -- behind the next file, which has ended
-joined-next : (s : Setting) (files worker : ℕ) (taken : List Message) (records : ℕ) (old new : Joined) → HasEnded files taken old.next records → new.next ≡ old.next + 1
+joined-next : (s : Setting) (files worker : ℕ) (taken : List Message) (records : ℕ) (old new : Joined) → HasEnded files taken old.next records → new.next
+    ≡ old.next + 1
     → new.before ≡ old.before + records → length new.files.items ≡ length old.files.items → EachFrom (IsWaiting (old.next + 1) taken) 0 new.files.items
     → AreFed s worker 0 (of_first (min (old.next + 1 + 1) files) taken) new.judges → JoinedIsAt s files worker taken old → JoinedIsAt s files worker taken new
 joined-next s files worker taken records old new ended next before count each fed h =
@@ -318,7 +346,8 @@ joined-next s files worker taken records old new ended next before count each fe
     }
 
 -- where that was the last one
-pub joined-last : (s : Setting) (files worker : ℕ) (taken : List Message) (records : ℕ) (old new : Joined) → length old.files.items ≤ old.next + 1 → HasEnded files taken old.next records
+pub joined-last : (s : Setting) (files worker : ℕ) (taken : List Message) (records : ℕ) (old new : Joined) → length old.files.items ≤ old.next + 1
+    → HasEnded files taken old.next records
     → new.next ≡ old.next + 1 → new.before ≡ old.before + records → new.files.items ≡ old.files.items → new.judges ≡ old.judges
     → JoinedIsAt s files worker taken old → JoinedIsAt s files worker taken new
 joined-last s files worker taken records old new last ended next before same judges h =
@@ -328,11 +357,14 @@ joined-last s files worker taken records old new last ended next before same jud
     joined-next s files worker taken records old new ended next before (ap length same)
     (subst (EachFrom (IsWaiting (n + 1) taken) 0) (sym same)
     (each-weaker (IsWaiting n taken) (IsWaiting (n + 1) taken) 0 old.files.items (λ f w low high is. later-waiting n taken f w is) h.each))
-    (subst (AreFed s worker 0 (of_first (min (n + 1 + 1) files) taken)) (sym judges) (subst (λ (x : ℕ). AreFed s worker 0 (of_first x taken) old.judges) (all ∙ sym still) h.fed)) h
+    (subst (AreFed s worker 0 (of_first (min (n + 1 + 1) files) taken)) (sym judges)
+    (subst (λ (x : ℕ). AreFed s worker 0 (of_first x taken) old.judges) (all ∙ sym still) h.fed)) h
 
 -- and where what waited of the one behind is fed
-pub joined-on : (s : Setting) (files worker : ℕ) (taken : List Message) (records : ℕ) (old new : Joined) (d w : Waiting) → old.next + 1 < length old.files.items → HasEnded files taken old.next records
-    → new.next ≡ old.next + 1 → new.before ≡ old.before + records → w.end ≡ (get_or old.files.items (old.next + 1) d).end → new.files.items ≡ set old.files.items (old.next + 1) w
+pub joined-on : (s : Setting) (files worker : ℕ) (taken : List Message) (records : ℕ) (old new : Joined) (d w : Waiting) → old.next + 1 < length old.files.items
+    → HasEnded files taken old.next records
+    → new.next ≡ old.next + 1 → new.before ≡ old.before + records → w.end ≡ (get_or old.files.items (old.next + 1) d).end → new.files.items
+    ≡ set old.files.items (old.next + 1) w
     → Feeds (old.before + records) (batched (get_or old.files.items (old.next + 1) d).batches.items) old.judges new.judges
     → JoinedIsAt s files worker taken old → JoinedIsAt s files worker taken new
 joined-on s files worker taken records old new d w within ended next before end written feeds h =
@@ -356,19 +388,24 @@ joined-on s files worker taken records old new d w within ended next before end 
     (subst (λ (f : ℕ). IsWaiting (n + 1) taken f w) (sym z) is) h.each))
     (fed-same s worker 0 (with_packets (old.before + records) ps (of_first (min (n + 1) files) taken)) (of_first (min (n + 1 + 1) files) taken) new.judges
     (λ k. ap (λ (x : ℕ). with_packets (old.before + records) ps (of_first x taken) (key_of 0 k)) one
-    ∙ first-more (n + 1) (old.before + records) taken ps (key_of 0 k) raised (was.waits (omega arith)) ∙ ap (λ (x : ℕ). of_first x taken (key_of 0 k)) (sym two))
+    ∙ first-more (n + 1) (old.before + records) taken ps (key_of 0 k) raised (was.waits (omega arith)) ∙ ap (λ (x : ℕ). of_first x taken (key_of 0 k))
+    (sym two))
     (feeds s worker 0 (of_first (min (n + 1) files) taken) h.fed)) h
 
 -- where its judges take it
 pub joined-on_if : {X E : Type 0} (r : Result X E) (records : ℕ) (old new : Joined) (d w : Waiting) → old.next + 1 < length old.files.items
-    → new.next ≡ old.next + 1 → new.before ≡ old.before + records → w.end ≡ (get_or old.files.items (old.next + 1) d).end → new.files.items ≡ set old.files.items (old.next + 1) w
+    → new.next ≡ old.next + 1 → new.before ≡ old.before + records → w.end ≡ (get_or old.files.items (old.next + 1) d).end → new.files.items
+    ≡ set old.files.items (old.next + 1) w
     → IfOk r (λ _. Feeds (old.before + records) (batched (get_or old.files.items (old.next + 1) d).batches.items) old.judges new.judges)
-    → IfOk r (λ _. (s : Setting) (files worker : ℕ) (taken : List Message) → JoinedIsAt s files worker taken old → HasEnded files taken old.next records → JoinedIsAt s files worker taken new)
-joined-on_if (Ok x) records old new d w within next before end written feeds = λ s files worker taken h ended. joined-on s files worker taken records old new d w within ended next before end written feeds h
+    → IfOk r (λ _. (s : Setting) (files worker : ℕ) (taken : List Message) → JoinedIsAt s files worker taken old → HasEnded files taken old.next records
+    → JoinedIsAt s files worker taken new)
+joined-on_if (Ok x) records old new d w within next before end written feeds = λ s files worker taken h ended. joined-on s files worker taken records old new d
+    w within ended next before end written feeds h
 joined-on_if (Err e) records old new d w within next before end written feeds = tt
 
 -- there is room for it
-pub waiting-room : (s : Setting) (files worker : ℕ) (taken : List Message) (joined : Joined) (d : Waiting) → joined.next + 1 < length joined.files.items → IsWithin (2 ^ 41) taken
+pub waiting-room : (s : Setting) (files worker : ℕ) (taken : List Message) (joined : Joined) (d : Waiting) → joined.next + 1 < length joined.files.items
+    → IsWithin (2 ^ 41) taken
     → JoinedIsAt s files worker taken joined → HaveRoom (length (batched (get_or joined.files.items (joined.next + 1) d).batches.items)) joined.judges
 waiting-room s files worker taken joined d within few h =
     let n = joined.next in
@@ -386,7 +423,8 @@ waiting-room s files worker taken joined d within few h =
     omega (arith, own, total, more, some, same, few.few_packets))
 
 -- the records before stay within the limits
-pub before-few : (s : Setting) (files worker : ℕ) (taken : List Message) (joined : Joined) (records : ℕ) → HasEnded files taken joined.next records → JoinedIsAt s files worker taken joined
+pub before-few : (s : Setting) (files worker : ℕ) (taken : List Message) (joined : Joined) (records : ℕ) → HasEnded files taken joined.next records
+    → JoinedIsAt s files worker taken joined
     → joined.before + records ≤ 2 ^ 41
 before-few s files worker taken joined records ended h = omega (arith, h.below, h.few, h.next, ended.there, ended.few)
 
@@ -395,7 +433,8 @@ pub before-now : (s : Setting) (files worker : ℕ) (taken : List Message) (join
 before-now s files worker taken joined h = omega (arith, h.below, h.few, h.next)
 
 -- whether all have ended
-pub joined-ends : (s : Setting) (files worker : ℕ) (taken : List Message) (joined : Joined) (b : Bool) → leb (length joined.files.items) joined.next ≡ b → JoinedStandsFor s files worker taken joined
+pub joined-ends : (s : Setting) (files worker : ℕ) (taken : List Message) (joined : Joined) (b : Bool) → leb (length joined.files.items) joined.next ≡ b
+    → JoinedStandsFor s files worker taken joined
     → b ≡ has_ends files taken
 joined-ends s files worker taken joined true e h =
     let far = leb-true (length joined.files.items) joined.next e in
@@ -410,7 +449,8 @@ joined-ends s files worker taken joined false e h =
     ] refl
 
 -- the judges of all files
-pub joined-whole : (s : Setting) (files worker : ℕ) (taken : List Message) (joined : Joined) → JoinedStandsFor s files worker taken joined → has_ends files taken ≡ true
+pub joined-whole : (s : Setting) (files worker : ℕ) (taken : List Message) (joined : Joined) → JoinedStandsFor s files worker taken joined
+    → has_ends files taken ≡ true
     → AreFed s worker 0 (taken_packets s files taken) joined.judges
 joined-whole s files worker taken joined h ended =
     let all : joined.next ≡ files =
@@ -427,7 +467,8 @@ joined-whole s files worker taken joined h ended =
 
 -- their rows are those of the worker's flows
 pub joined-rows : (s : Setting) (files worker : ℕ) (taken : List Message) (rows before : List Row) → s.joined ≡ true → before ≡ []
-    → rows ≡ before ++ own_rows s worker (taken_packets s files taken) (keys_of_file 0 0 (length s.media)) → rows ≡ map (taken_row s files taken) (own_keys s files worker)
+    → rows ≡ before ++ own_rows s worker (taken_packets s files taken) (keys_of_file 0 0 (length s.media)) → rows
+    ≡ map (taken_row s files taken) (own_keys s files worker)
 joined-rows s files worker taken rows before one none e =
     e ∙ ap (λ (l : List Row). l ++ own_rows s worker (taken_packets s files taken) (keys_of_file 0 0 (length s.media))) none
     ∙ ap (own_rows s worker (taken_packets s files taken)) (sym (append-nil (keys_of_file 0 0 (length s.media))))
@@ -438,7 +479,8 @@ none-joined m before file zero = refl
 none-joined m before file (suc n) = none-joined m (before + 0) (file + 1) n
 
 -- nothing was taken yet
-pub joined-new : (s : Setting) (files worker : ℕ) (joined : Joined) → s.joined ≡ true → 1 ≤ files → files ≤ 16 → length joined.files.items ≡ files → joined.next ≡ 0 → joined.before ≡ 0
+pub joined-new : (s : Setting) (files worker : ℕ) (joined : Joined) → s.joined ≡ true → 1 ≤ files → files ≤ 16 → length joined.files.items ≡ files → joined.next
+    ≡ 0 → joined.before ≡ 0
     → EachFrom (IsWaiting 0 []) 0 joined.files.items → AreFed s worker 0 (λ key. []) joined.judges → JoinedStandsFor s files worker [] joined
 joined-new s files worker joined one some few count next before each fed = record {
   at = record {
@@ -450,20 +492,24 @@ joined-new s files worker joined one some few count next before each fed = recor
     before = before ∙ ap (λ (n : ℕ). told_by 0 n []) (sym next);
     below = omega (arith, before);
     each = subst (λ (n : ℕ). EachFrom (IsWaiting n []) 0 joined.files.items) (sym next) each;
-    fed = fed-same s worker 0 (λ key. []) (of_first (min (joined.next + 1) files) []) joined.judges (λ n. sym (none-joined n 0 0 (min (joined.next + 1) files))) fed;
+    fed = fed-same s worker 0 (λ key. []) (of_first (min (joined.next + 1) files) []) joined.judges (λ n. sym (none-joined n 0 0 (min (joined.next + 1) files)))
+        fed;
   };
   going = λ below. refl;
 }
 
 -- where the files that have ended are gone through
-pub joined-ended_if : {X E : Type 0} (r : Result X E) (g : ℕ) (o : FileNote) (k : ℕ) (it : FileEnd) (old mid new : Joined) (d w : Waiting) → g < length old.files.items
+pub joined-ended_if : {X E : Type 0} (r : Result X E) (g : ℕ) (o : FileNote) (k : ℕ) (it : FileEnd) (old mid new : Joined) (d w : Waiting) → g
+    < length old.files.items
     → it.records ≡ k → (get_or old.files.items g d).end ≡ None → w.end ≡ Some it → w.batches.items ≡ (get_or old.files.items g d).batches.items
     → mid.next ≡ old.next → mid.before ≡ old.before → mid.judges ≡ old.judges → mid.files.items ≡ set old.files.items g w
     → IfOk r (λ _. (s : Setting) (files worker : ℕ) (taken : List Message) → JoinedIsAt s files worker taken mid → JoinedStandsFor s files worker taken new)
-    → IfOk r (λ _. (s : Setting) (files worker : ℕ) (taken : List Message) → JoinedStandsFor s files worker taken old → JoinedStandsFor s files worker (taken ++ ending g o k ∷ []) new)
+    → IfOk r (λ _. (s : Setting) (files worker : ℕ) (taken : List Message) → JoinedStandsFor s files worker taken old
+    → JoinedStandsFor s files worker (taken ++ ending g o k ∷ []) new)
 joined-ended_if (Ok x) g o k it old mid new d w within records none end batches next before judges written goes =
     λ s files worker taken h.
-    goes s files worker (taken ++ ending g o k ∷ []) (joined-ended s files worker taken g o k it old mid d w within records none end batches next before judges written h.at)
+    goes s files worker (taken ++ ending g o k ∷ []) (joined-ended s files worker taken g o k it old mid d w within records none end batches next before judges
+    written h.at)
 joined-ended_if (Err e) g o k it old mid new d w within records none end batches next before judges written goes = tt
 
 -- a file of which nothing came

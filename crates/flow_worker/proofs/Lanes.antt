@@ -69,12 +69,14 @@ one_here size f lane w before p some e =
 
 -- a packet of any lane
 one_more : (size f : ℕ) (lane : Packet → ℕ) (w : ℕ) (before : List Packet) (p : Packet) → 1 ≤ size
-    → packets_in (for_lane w (map (addressed f (lane p)) (filled size (lane_packets lane (lane p) (before ++ p ∷ []))))) ++ rest size (lane_packets lane w (before ++ p ∷ []))
+    → packets_in (for_lane w (map (addressed f (lane p)) (filled size (lane_packets lane (lane p) (before ++ p ∷ [])))))
+    ++ rest size (lane_packets lane w (before ++ p ∷ []))
     ≡ rest size (lane_packets lane w before) ++ lane_packets lane w (p ∷ [])
 one_more size f lane w before p some =
     elim (cases_eq (lane p) w) [
       | inl e ↦
-          ap (λ (v : ℕ). packets_in (for_lane w (map (addressed f v) (filled size (lane_packets lane v (before ++ p ∷ []))))) ++ rest size (lane_packets lane w (before ++ p ∷ []))) e
+          ap (λ (v : ℕ). packets_in (for_lane w (map (addressed f v) (filled size (lane_packets lane v (before ++ p ∷ [])))))
+          ++ rest size (lane_packets lane w (before ++ p ∷ []))) e
           ∙ one_here size f lane w before p some e
       | inr n ↦
           ap₂ (λ (l : List Message) (m : List Packet). packets_in l ++ rest size m)

@@ -77,7 +77,8 @@ first_is number m ms r None e = past (number + 0) (number + 1) ms r (omega arith
 first_is number m ms r (Some p) e = pick_here (number + 0) number p (omega arith)
 
 -- a record that goes to one media goes to no other
-goes_nowhere : (m n : Media) (r : Record) (p : FlowPacket) (o : Option FlowPacket) → flow_packet m r ≡ Some p → (target_of m ≡ target_of n → ⊥) → flow_packet n r ≡ o → None ≡ o
+goes_nowhere : (m n : Media) (r : Record) (p : FlowPacket) (o : Option FlowPacket) → flow_packet m r ≡ Some p → (target_of m ≡ target_of n → ⊥)
+    → flow_packet n r ≡ o → None ≡ o
 goes_nowhere m n r p None e apart f = refl
 goes_nowhere m n r p (Some q) e apart f = absurd (apart (one_target m n r p q e f))
 

@@ -1,5 +1,6 @@
 -- What a step of an intake does to its outboxes.
-use Rattle.std.proofs.Common.{◌≡◌, ◌<◌, ◌≤◌, ◌+◌, ℕ, suc, zero, List, [], ◌∷◌, ◌++◌, length, map, set, inl, inr, refl, sym, ap, ap₂, ◌∙◌, subst, arith, append-nil, append_assoc, length-append}
+use Rattle.std.proofs.Common.{◌≡◌, ◌<◌, ◌≤◌, ◌+◌, ℕ, suc, zero, List, [], ◌∷◌, ◌++◌, length, map, set, inl, inr, refl, sym, ap, ap₂, ◌∙◌, subst, arith}
+use Rattle.std.proofs.Common.{append-nil, append_assoc, length-append}
 use Rattle.std.specs.Prelude.{slice_index_or, Result, Ok, Err, IfErr, IfOk, MatchResult, OnErr}
 use Rattle.std.proofs.lemmas.Bool.{cases_eq, cases_lt}
 use Rattle.std.proofs.lemmas.List.{set-get_or}
@@ -92,7 +93,8 @@ same-set old new k before s h here file lanes batches passes read lane from =
     }
 
 -- a message is sent by a pass
-pub sends-one : (old new : Outboxes) (k : ℕ) (m : Message) (before s : Sender) → AreOutboxes old → k < length old.lanes.now → new.file ≡ old.file → new.lanes.now ≡ old.lanes.now
+pub sends-one : (old new : Outboxes) (k : ℕ) (m : Message) (before s : Sender) → AreOutboxes old → k < length old.lanes.now → new.file ≡ old.file
+    → new.lanes.now ≡ old.lanes.now
     → new.batches.items ≡ old.batches.items → new.passes.items ≡ set old.passes.items k s → before ≡ slice_index_or old.passes.items k before
     → s ≡ with_sent before m → Sends old new k m
 sends-one old new k m before s h here file lanes batches passes read sent =
@@ -109,7 +111,8 @@ sends-one old new k m before s h here file lanes batches passes read sent =
     }
 
 -- or it isn't
-pub stays-same : (old new : Outboxes) → AreOutboxes old → new.file ≡ old.file → new.lanes.now ≡ old.lanes.now → length new.batches.items ≡ length old.batches.items
+pub stays-same : (old new : Outboxes) → AreOutboxes old → new.file ≡ old.file → new.lanes.now ≡ old.lanes.now → length new.batches.items
+    ≡ length old.batches.items
     → new.passes.items ≡ old.passes.items → Stays old new
 stays-same old new h file lanes batches passes = record {
   same = record { are = AreOutboxes-as old new file lanes passes batches h; file = file; lanes = lanes };
@@ -160,7 +163,8 @@ puts-few old new k p n h few = λ w below.
     elim (cases_eq k w) as (λ _. HaveFew (n + 1) new w) [
       | inl e ↦
           let first : length (sent_to old k) ≤ n = subst (λ (v : ℕ). length (sent_to old v) ≤ n) (sym e) was.messages in
-          let second : packets (sent_to old k) + length (open_for old k) ≤ n = subst (λ (v : ℕ). packets (sent_to old v) + length (open_for old v) ≤ n) (sym e) was.all_packets in
+          let second : packets (sent_to old k) + length (open_for old k) ≤ n = subst (λ (v : ℕ). packets (sent_to old v) + length (open_for old v) ≤ n) (sym e)
+          was.all_packets in
           elim (cases_lt (length (open_for old k) + 1) 256) as (λ _. HaveFew (n + 1) new w) [
             | inl less ↦
                 let t = h.more less in
@@ -200,12 +204,14 @@ puts-cut old new lane k p e h ps cut w below =
           elim (cases_lt (length (open_for old k) + 1) 256) as (λ _. HasCut 256 new.file lane w (ps ++ p ∷ []) (sent_to new w) (open_for new w)) [
             | inl less ↦
                 let t = h.more less in
-                subst goal_at same (cut-as lane k old.file new.file (ps ++ p ∷ []) (sent_to old k) (sent_to new k) (open_for old k ++ p ∷ []) (open_for new k) h.same.file t.0 t.1
+                subst goal_at same (cut-as lane k old.file new.file (ps ++ p ∷ []) (sent_to old k) (sent_to new k) (open_for old k ++ p ∷ []) (open_for new k)
+                h.same.file t.0 t.1
                 (HasCut-more 256 old.file lane k ps (sent_to old k) (open_for old k) p e less here))
             | inr most ↦
                 let full : length (open_for old k) + 1 ≡ 256 = omega (arith, most, h.within) in
                 let t = h.full full in
-                subst goal_at same (cut-as lane k old.file new.file (ps ++ p ∷ []) (sent_to old k ++ batch old.file (open_for old k ++ p ∷ []) ∷ []) (sent_to new k) [] (open_for new k) h.same.file t.0 t.1
+                subst goal_at same (cut-as lane k old.file new.file (ps ++ p ∷ []) (sent_to old k ++ batch old.file (open_for old k ++ p ∷ []) ∷ [])
+                (sent_to new k) [] (open_for new k) h.same.file t.0 t.1
                 (HasCut-full 256 old.file lane k ps (sent_to old k) (open_for old k) p e full here))
           ]
       | inr other ↦

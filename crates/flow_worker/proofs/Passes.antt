@@ -13,7 +13,8 @@ pub sender-is : (s : Sender) (lane : LaneId) (from : ℕ) (sent : List Message) 
     → s ≡ record { lane = lane; from = from; sent = sent }
 sender-is s lane from sent l f m =
     let first : s ≡ record { lane = lane; from = s.from; sent = s.sent } = ap (λ (x : LaneId). record { lane = x; from = s.from; sent = s.sent }) l in
-    let second : record { lane = lane; from = s.from; sent = s.sent } ≡ record { lane = lane; from = from; sent = s.sent } = ap (λ (x : ℕ). record { lane = lane; from = x; sent = s.sent }) f in
+    let second : record { lane = lane; from = s.from; sent = s.sent } ≡ record { lane = lane; from = from; sent = s.sent } =
+    ap (λ (x : ℕ). record { lane = lane; from = x; sent = s.sent }) f in
     first ∙ second ∙ ap (λ (x : List Message). record { lane = lane; from = from; sent = x }) m
 
 -- what was sent by the pass at a place
@@ -68,7 +69,8 @@ HaveSent-set file lanes ps k before s here h read lane from =
                 let as_before : before ≡ record { lane = slice_index_or lanes k l; from = file; sent = sent_of ps k } = read ∙ h.each k before l here in
                 let it : slice_index_or put k d ≡ record { lane = slice_index_or lanes k l; from = file; sent = sent_of put k } =
                 get_or-set_same ps k s d within
-                ∙ sender-is s (slice_index_or lanes k l) file (sent_of put k) (lane ∙ ap (λ (x : Sender). x.lane) as_before) (from ∙ ap (λ (x : Sender). x.from) as_before)
+                ∙ sender-is s (slice_index_or lanes k l) file (sent_of put k) (lane ∙ ap (λ (x : Sender). x.lane) as_before)
+                (from ∙ ap (λ (x : Sender). x.from) as_before)
                 (sym (sent_of-set_same ps k s within)) in
                 subst (λ (v : ℕ). slice_index_or put v d ≡ record { lane = slice_index_or lanes v l; from = file; sent = sent_of put v }) e it
             | inr n ↦

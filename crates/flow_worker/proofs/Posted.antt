@@ -37,7 +37,8 @@ own_rows-other s worker fed key keys e =
     ap (λ (b : Bool). map (λ key. row_over s key (fed key)) (cond b (key ∷ filter (is_own s worker) keys) (filter (is_own s worker) keys))) e
 
 -- no row is posted yet
-pub rows-first : (s : Setting) (worker file : ℕ) (fed : FlowKey → List FlowPacket) (judges : Judges) (before : List Row) (left : List (Option FlowJudge)) → left ≡ judges.places.items
+pub rows-first : (s : Setting) (worker file : ℕ) (fed : FlowKey → List FlowPacket) (judges : Judges) (before : List Row) (left : List (Option FlowJudge)) → left
+    ≡ judges.places.items
     → AreFed s worker file fed judges → HasRows s worker file fed before before left
 rows-first s worker file fed judges before left e h = record {
   number = 0;
@@ -46,7 +47,8 @@ rows-first s worker file fed judges before left e h = record {
 }
 
 -- a place without a judge
-pub rows-none : (s : Setting) (worker file : ℕ) (fed : FlowKey → List FlowPacket) (before rows : List Row) (place : Option FlowJudge) (left later : List (Option FlowJudge))
+pub rows-none : (s : Setting) (worker file : ℕ) (fed : FlowKey → List FlowPacket) (before rows : List Row) (place : Option FlowJudge)
+    (left later : List (Option FlowJudge))
     → left ≡ place ∷ later → place ≡ None → HasRows s worker file fed before rows left → HasRows s worker file fed before rows later
 rows-none s worker file fed before rows place left later e none h =
     let P : ℕ → Option FlowJudge → Type 0 = λ n. IsPlace s worker (key_of file n) (fed (key_of file n)) in
@@ -55,12 +57,14 @@ rows-none s worker file fed before rows place left later e none h =
     record {
       number = h.number + 1;
       each = each.1;
-      whole = ap (λ (l : List Row). rows ++ l) (sym (own_rows-other s worker fed (key_of file h.number) (keys_of_file file (h.number + 1) (length later)) other))
+      whole = ap (λ (l : List Row). rows ++ l)
+          (sym (own_rows-other s worker fed (key_of file h.number) (keys_of_file file (h.number + 1) (length later)) other))
           ∙ ap (λ (n : ℕ). rows ++ own_rows s worker fed (keys_of_file file h.number n)) (sym (ap length e)) ∙ h.whole;
     }
 
 -- the judge of a place gives its row
-pub rows-some : (s : Setting) (worker file : ℕ) (fed : FlowKey → List FlowPacket) (before rows more : List Row) (place : Option FlowJudge) (judge : FlowJudge) (left later : List (Option FlowJudge)) (r : Row)
+pub rows-some : (s : Setting) (worker file : ℕ) (fed : FlowKey → List FlowPacket) (before rows more : List Row) (place : Option FlowJudge) (judge : FlowJudge)
+    (left later : List (Option FlowJudge)) (r : Row)
     → left ≡ place ∷ later → place ≡ Some judge
     → ((m : Media) (key : FlowKey) (tai : ℕ) (packets : List FlowPacket) → StandsFor m key tai judge packets → r ≡ row packets key m tai)
     → more ≡ rows ++ r ∷ [] → HasRows s worker file fed before rows left → HasRows s worker file fed before more later

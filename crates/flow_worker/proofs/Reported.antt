@@ -14,7 +14,8 @@ use Rattle.flow_worker.specs.Opening.{Capture, Setting}
 use Rattle.flow_worker.specs.Posting.{judged_files, key_records, key_row, keys, records_if}
 
 -- the rows of the last media of a file
-rows-keys_from : (s : Setting) (captures : List Capture) (file number : ℕ) (ms : List Media) (items : List Record) → key_records s captures (key_of file 0) ≡ items
+rows-keys_from : (s : Setting) (captures : List Capture) (file number : ℕ) (ms : List Media) (items : List Record) → key_records s captures (key_of file 0)
+    ≡ items
     → ((i : ℕ) (m : Media) → slice_get ms i ≡ Some m → media_of s.media (key_of file (number + i)) ≡ m)
     → map (key_row s captures) (keys_of_file file number (length ms)) ≡ rows_from s.tai file number ms items
 rows-keys_from s captures file number [] items at media = refl
@@ -64,5 +65,6 @@ rows-keys_by s captures false e =
     ∙ ap (λ (x : ℕ). records_if (slice_get captures x)) z ∙ ap records_if at)
 
 -- the rows of all keys
-pub rows-keys : (s : Setting) (captures : List Capture) → map (key_row s captures) (keys s (length captures)) ≡ rows_of_files s.tai 0 s.media (judged_files s captures)
+pub rows-keys : (s : Setting) (captures : List Capture) → map (key_row s captures) (keys s (length captures))
+    ≡ rows_of_files s.tai 0 s.media (judged_files s captures)
 rows-keys s captures = rows-keys_by s captures s.joined refl

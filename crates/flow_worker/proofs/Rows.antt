@@ -83,7 +83,8 @@ whole_ends s files taken key f false e whole asked =
     ap (λ (x : ℕ). has_end x taken) same ∙ sym (ap (λ (b : Bool). if b then has_ends files taken else has_end key.file taken) e) ∙ whole
 
 -- where a worker may post, it took all of the flow
-took_all : (s : Setting) (captures : List Capture) (lane : ℕ) (key : FlowKey) (state : State) → IsInOrder s captures state → MayPost s (length captures) lane key state
+took_all : (s : Setting) (captures : List Capture) (lane : ℕ) (key : FlowKey) (state : State) → IsInOrder s captures state
+    → MayPost s (length captures) lane key state
     → HasTakenAll s captures key (state.taken lane)
 took_all s captures lane key state order may = λ f asked. record {
   in_order = (
@@ -156,7 +157,8 @@ run_keeps s captures (step ∷ steps) state is kept = run_keeps s captures steps
 }
 
 -- it holds at every moment of every run
-pub run_kept : (s : Setting) (captures : List Capture) (steps : List Step) → IsSetting s → IsKept s captures (run s (length captures) steps (opening s captures))
+pub run_kept : (s : Setting) (captures : List Capture) (steps : List Step) → IsSetting s
+    → IsKept s captures (run s (length captures) steps (opening s captures))
 run_kept s captures steps is = run_keeps s captures steps (opening s captures) is record {
   order = opening_in_order s captures;
   rows = record { rows = All-nil (IsKeyRow s captures); once = λ key. omega arith };
@@ -175,7 +177,8 @@ ended_end s captures state f lane order todo held file below =
     let c = get_or captures f no_capture in
     let w = messages_whole s captures f lane c (slice_get-get_or captures f no_capture file) below in
     let all : of_file f (state.taken lane) ≡ messages s captures f lane =
-    sym (ap₂ (λ (k : List Message) (l : List Addressed). of_file f (state.taken lane) ++ (of_file f k ++ for_lane lane l)) held todo ∙ append-nil (of_file f (state.taken lane)))
+    sym (ap₂ (λ (k : List Message) (l : List Addressed). of_file f (state.taken lane) ++ (of_file f k ++ for_lane lane l)) held todo ∙ append-nil
+    (of_file f (state.taken lane)))
     ∙ order f lane in
     sym (has_end-of_file f (state.taken lane)) ∙ ap (has_end f) (all ∙ w.whole) ∙ has_end-last f c.note (length c.records) w.batches
 
@@ -203,7 +206,8 @@ ended_posted s captures state key is kept ended k =
     elim (cases_eq (times key state.posted) 0) [
       | inl none ↦
           absurd (both_ways (may_post s (length captures) lane key state) (ended.posts lane key)
-          (and_from (is_key s (length captures) key && eqb (key_lane s key) lane && eqb (times key state.posted) 0) (is_whole s (length captures) (state.taken lane) key)
+          (and_from (is_key s (length captures) key && eqb (key_lane s key) lane && eqb (times key state.posted) 0)
+          (is_whole s (length captures) (state.taken lane) key)
           (and_from (is_key s (length captures) key && eqb (key_lane s key) lane) (eqb (times key state.posted) 0)
           (and_from (is_key s (length captures) key) (eqb (key_lane s key) lane) k (eq-eqb lane lane refl)) (eq-eqb (times key state.posted) 0 none)) whole))
       | inr some ↦ omega arith

@@ -31,7 +31,8 @@ pub taken-few : (old new : Taker) (m : Message) → HasTaken old new m → IsWit
 taken-few old new m h few = subst (IsWithin (2 ^ 41)) (taken-more old new m h) few
 
 -- receipts, where the rows were posted
-pub judged_if : {E A : Type 0} (r : Result (Vec Receipt A) E) (s : Setting) (files worker : ℕ) (pass : Taker) (book : Book) (judging : Judging) → StandsFor s files worker (messages pass.taken) judging
+pub judged_if : {E A : Type 0} (r : Result (Vec Receipt A) E) (s : Setting) (files worker : ℕ) (pass : Taker) (book : Book) (judging : Judging)
+    → StandsFor s files worker (messages pass.taken) judging
     → IsTrue (has_ends files (messages pass.taken)) → IfOk r (λ receipts. All (IsOf book) receipts.items)
     → IfOk r (λ receipts. (s : Setting) (files worker : ℕ) (taken : List Message) → StandsFor s files worker taken judging → IsTrue (has_ends files taken)
     → map row_of receipts.items ≡ map (taken_row s files taken) (own_keys s files worker))

@@ -21,7 +21,8 @@ has_end-append f (Batch one ∷ xs) ys = has_end-append f xs ys
 has_end-append f (End one ∷ xs) ys =
     elim (eqb one.file f) as (λ b. (b || has_end f (xs ++ ys)) ≡ (b || has_end f xs || has_end f ys)) [ true ↦ refl | false ↦ has_end-append f xs ys ]
 
-ended-ending : (f g : ℕ) (o : FileNote) (k : ℕ) (xs ys : List Message) (b : Bool) → eqb g f ≡ b → (has_end f xs ≡ true → before_end f (xs ++ ys) ≡ before_end f xs)
+ended-ending : (f g : ℕ) (o : FileNote) (k : ℕ) (xs ys : List Message) (b : Bool) → eqb g f ≡ b
+    → (has_end f xs ≡ true → before_end f (xs ++ ys) ≡ before_end f xs)
     → (b || has_end f xs) ≡ true → before_end f (ending g o k ∷ (xs ++ ys)) ≡ before_end f (ending g o k ∷ xs)
 ended-ending f g o k xs ys true e more ended =
     ap (λ (b : Bool). cond b [] (ending g o k ∷ before_end f (xs ++ ys))) e ∙ sym (ap (λ (b : Bool). cond b [] (ending g o k ∷ before_end f xs)) e)
@@ -33,7 +34,8 @@ before_end-ended f [] ys ended = absurd (false≢true ended)
 before_end-ended f (Batch one ∷ xs) ys ended = ap (λ (l : List Message). batch one.file one.packets ∷ l) (before_end-ended f xs ys ended)
 before_end-ended f (End one ∷ xs) ys ended = ended-ending f one.file one.note one.records xs ys (eqb one.file f) refl (before_end-ended f xs ys) ended
 
-open-ending : (f g : ℕ) (o : FileNote) (k : ℕ) (xs ys : List Message) (b : Bool) → eqb g f ≡ b → (has_end f xs ≡ false → before_end f (xs ++ ys) ≡ xs ++ before_end f ys)
+open-ending : (f g : ℕ) (o : FileNote) (k : ℕ) (xs ys : List Message) (b : Bool) → eqb g f ≡ b
+    → (has_end f xs ≡ false → before_end f (xs ++ ys) ≡ xs ++ before_end f ys)
     → (b || has_end f xs) ≡ false → before_end f (ending g o k ∷ (xs ++ ys)) ≡ ending g o k ∷ (xs ++ before_end f ys)
 open-ending f g o k xs ys true e more none = absurd (both_ways true none refl)
 open-ending f g o k xs ys false e more none =
@@ -50,7 +52,8 @@ pub file_packets-ended : (f : ℕ) (taken more : List Message) → has_end f tak
 file_packets-ended f taken more ended = ap (λ (l : List Message). packets_in (of_file f l)) (before_end-ended f taken more ended)
 
 -- and before
-pub file_packets-open : (f : ℕ) (taken more : List Message) → has_end f taken ≡ false → file_packets f (taken ++ more) ≡ file_packets f taken ++ file_packets f more
+pub file_packets-open : (f : ℕ) (taken more : List Message) → has_end f taken ≡ false → file_packets f (taken ++ more) ≡ file_packets f taken
+    ++ file_packets f more
 file_packets-open f taken more none =
     let all : before_end f taken ≡ taken = ap (before_end f) (sym (append-nil taken)) ∙ before_end-open f taken [] none ∙ append-nil taken in
     ap (λ (l : List Message). packets_in (of_file f l)) (before_end-open f taken more none)
@@ -59,7 +62,8 @@ file_packets-open f taken more none =
     ∙ ap (λ (l : List Message). packets_in (of_file f l) ++ file_packets f more) (sym all)
 
 -- a batch of the file is taken
-pub file_packets-batch : (f : ℕ) (taken : List Message) (ps : List Packet) → has_end f taken ≡ false → file_packets f (taken ++ batch f ps ∷ []) ≡ file_packets f taken ++ ps
+pub file_packets-batch : (f : ℕ) (taken : List Message) (ps : List Packet) → has_end f taken ≡ false → file_packets f (taken ++ batch f ps ∷ [])
+    ≡ file_packets f taken ++ ps
 file_packets-batch f taken ps none =
     file_packets-open f taken (batch f ps ∷ []) none
     ∙ ap (λ (b : Bool). file_packets f taken ++ packets_in (cond b (batch f ps ∷ []) [])) (eq-eqb f f refl)
@@ -69,7 +73,8 @@ ending_has_none : (f g : ℕ) (o : FileNote) (k : ℕ) (b c : Bool) → packets_
 ending_has_none f g o k true c = refl
 ending_has_none f g o k false c = elim (eqb g f) as (λ b. packets_in (cond b (ending g o k ∷ []) []) ≡ []) [ true ↦ refl | false ↦ refl ]
 
-of_whether : (f : ℕ) (taken more : List Message) (b : Bool) → has_end f taken ≡ b → file_packets f more ≡ [] → file_packets f (taken ++ more) ≡ file_packets f taken
+of_whether : (f : ℕ) (taken more : List Message) (b : Bool) → has_end f taken ≡ b → file_packets f more ≡ [] → file_packets f (taken ++ more)
+    ≡ file_packets f taken
 of_whether f taken more true e none = file_packets-ended f taken more e
 of_whether f taken more false e none =
     file_packets-open f taken more e ∙ ap (λ (l : List Packet). file_packets f taken ++ l) none ∙ append-nil (file_packets f taken)
@@ -83,7 +88,8 @@ pub file_packets-other : (f g : ℕ) (ps : List Packet) (taken : List Message) �
 file_packets-other f g ps taken n =
     of_whether f taken (batch g ps ∷ []) (has_end f taken) refl (ap packets_in (of_file-push_other f [] (batch g ps) n))
 
-told-ending : (f g : ℕ) (o : FileNote) (k : ℕ) (xs ys : List Message) (b : Bool) → eqb g f ≡ b → (has_end f xs ≡ true → records_told f (xs ++ ys) ≡ records_told f xs)
+told-ending : (f g : ℕ) (o : FileNote) (k : ℕ) (xs ys : List Message) (b : Bool) → eqb g f ≡ b
+    → (has_end f xs ≡ true → records_told f (xs ++ ys) ≡ records_told f xs)
     → (b || has_end f xs) ≡ true → records_told f (ending g o k ∷ (xs ++ ys)) ≡ records_told f (ending g o k ∷ xs)
 told-ending f g o k xs ys true e more ended =
     ap (λ (b : Bool). if b then k else records_told f (xs ++ ys)) e ∙ sym (ap (λ (b : Bool). if b then k else records_told f xs) e)
@@ -95,7 +101,8 @@ records_told-ended f [] more ended = absurd (false≢true ended)
 records_told-ended f (Batch one ∷ xs) more ended = records_told-ended f xs more ended
 records_told-ended f (End one ∷ xs) more ended = told-ending f one.file one.note one.records xs more (eqb one.file f) refl (records_told-ended f xs more) ended
 
-first-ending : (f g : ℕ) (o : FileNote) (k : ℕ) (xs ys : List Message) (b : Bool) → eqb g f ≡ b → (has_end f xs ≡ false → records_told f (xs ++ ys) ≡ records_told f ys)
+first-ending : (f g : ℕ) (o : FileNote) (k : ℕ) (xs ys : List Message) (b : Bool) → eqb g f ≡ b
+    → (has_end f xs ≡ false → records_told f (xs ++ ys) ≡ records_told f ys)
     → (b || has_end f xs) ≡ false → records_told f (ending g o k ∷ (xs ++ ys)) ≡ records_told f ys
 first-ending f g o k xs ys true e more none = absurd (both_ways true none refl)
 first-ending f g o k xs ys false e more none = ap (λ (b : Bool). if b then k else records_told f (xs ++ ys)) e ∙ more none
@@ -128,7 +135,8 @@ joined_packets-more media before file (suc n) taken =
     let f : file + 1 + n ≡ file + suc n = omega arith in
     ap (λ (x : ℕ). joined_packets media before file x taken) s
     ∙ ap (λ (l : List FlowPacket). head ++ l) (joined_packets-more media after (file + 1) n taken)
-    ∙ sym (append_assoc head (joined_packets media after (file + 1) n taken) (map (raised_packet (after + told_by (file + 1) n taken)) (media_packets media (file_packets (file + 1 + n) taken))))
+    ∙ sym (append_assoc head (joined_packets media after (file + 1) n taken)
+    (map (raised_packet (after + told_by (file + 1) n taken)) (media_packets media (file_packets (file + 1 + n) taken))))
     ∙ ap₂ (λ (x y : ℕ). (head ++ joined_packets media after (file + 1) n taken) ++ map (raised_packet x) (media_packets media (file_packets y taken))) b f
 
 -- the records of one file more
@@ -142,7 +150,8 @@ told_by-more file (suc n) taken =
     let f : file + 1 + n ≡ file + suc n = omega arith in
     let more = told_by-more (file + 1) n taken in
     let z : records_told (file + 1 + n) taken ≡ records_told (file + suc n) taken = ap (λ (x : ℕ). records_told x taken) f in
-    let e : records_told file taken + told_by (file + 1) (n + 1) taken ≡ (records_told file taken + told_by (file + 1) n taken) + records_told (file + suc n) taken = omega arith in
+    let e : records_told file taken + told_by (file + 1) (n + 1) taken ≡ (records_told file taken + told_by (file + 1) n taken)
+    + records_told (file + suc n) taken = omega arith in
     ap (λ (x : ℕ). told_by file x taken) s ∙ e
 
 -- files whose ends were taken are done with

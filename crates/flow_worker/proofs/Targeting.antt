@@ -31,7 +31,8 @@ packet_to-if : (r : Record) (d : Datagram) (n : ℕ) (rest : Option ℕ) (b : Bo
 packet_to-if r d n rest true = refl
 packet_to-if r d n rest false = refl
 
-packet_from-to : (n : ℕ) (ms : List Media) (r : Record) (d : Datagram) → datagram_of r.bytes ≡ Some d → packet_from n ms r ≡ packet_to r d (media_to d.target n ms)
+packet_from-to : (n : ℕ) (ms : List Media) (r : Record) (d : Datagram) → datagram_of r.bytes ≡ Some d → packet_from n ms r
+    ≡ packet_to r d (media_to d.target n ms)
 packet_from-to n [] r d e = refl
 packet_from-to n (m ∷ ms) r d e =
     ap (λ (o : Option Datagram). numbered_or n (datagram_packet m r.number r.stamp o) (packet_from (n + 1) ms r)) e
@@ -39,7 +40,8 @@ packet_from-to n (m ∷ ms) r d e =
     ∙ packet_to-if r d n (media_to d.target (n + 1) ms) (is_same_target d.target (target_of m))
 
 -- a record that goes to none of these media
-pub packet_from-other : (n : ℕ) (ms : List Media) (r : Record) (d : Datagram) → datagram_of r.bytes ≡ Some d → media_to d.target n ms ≡ None → packet_from n ms r ≡ None
+pub packet_from-other : (n : ℕ) (ms : List Media) (r : Record) (d : Datagram) → datagram_of r.bytes ≡ Some d → media_to d.target n ms ≡ None
+    → packet_from n ms r ≡ None
 packet_from-other n ms r d e none = packet_from-to n ms r d e ∙ ap (packet_to r d) none
 
 -- and one that goes to one of them

@@ -1,5 +1,6 @@
 -- The records of a file, as their packets are cut one after the other, and what an intake has sent of them when it ends.
-use Rattle.std.proofs.Common.{◌≡◌, ◌<◌, ◌+◌, ℕ, Bool, if◌then◌else◌, List, [], ◌∷◌, ◌++◌, length, inl, inr, refl, sym, ap, ◌∙◌, subst, append-nil, append_assoc, length-append, arith}
+use Rattle.std.proofs.Common.{◌≡◌, ◌<◌, ◌+◌, ℕ, Bool, if◌then◌else◌, List, [], ◌∷◌, ◌++◌, length, inl, inr, refl, sym, ap, ◌∙◌, subst, append-nil, append_assoc}
+use Rattle.std.proofs.Common.{length-append, arith}
 use Rattle.std.specs.Prelude.{map, Option, None, Some}
 use Rattle.std.proofs.lemmas.Bool.{cases_lt}
 use Rattle.std.proofs.lemmas.List.Elements.{filter_map-append}
@@ -59,13 +60,15 @@ taken-left old new items none h = record {
 
 -- all that is sent to a lane, once its packets are cut
 ends-are : (r : Routing) (o : Outboxes) (note : FileNote) (count w : ℕ) (items : List Record) → length items ≡ count → w < r.lanes
-    → HasCut 256 o.file (route_of r) w (session_packets r.media.now items) (sent_to o w) (open_for o w) → with_end o note count w ≡ sends_to r o.file w items note
+    → HasCut 256 o.file (route_of r) w (session_packets r.media.now items) (sent_to o w) (open_for o w) → with_end o note count w
+    ≡ sends_to r o.file w items note
 ends-are r o note count w items long below cut =
     HasCut-all 256 o.file (route_of r) w (session_packets r.media.now items) (sent_to o w) (open_for o w) r.lanes (ending o.file note count) below cut
     ∙ ap (λ (n : ℕ). for_lane w (sent_of 256 o.file (route_of r) (session_packets r.media.now items) r.lanes (ending o.file note n))) (sym long)
 
 -- all was sent
-pub sent-file : (r : Routing) (mid new : Outboxes) (note : FileNote) (count : ℕ) (items : List Record) (end : FileNote) → r.lanes ≡ length mid.lanes.now → AreSame mid new
+pub sent-file : (r : Routing) (mid new : Outboxes) (note : FileNote) (count : ℕ) (items : List Record) (end : FileNote) → r.lanes ≡ length mid.lanes.now
+    → AreSame mid new
     → ((w : ℕ) → w < length mid.lanes.now → sent_to new w ≡ with_end mid note count w) → HasCutAll r mid note count items end → HasSentFile r new note items end
 sent-file r mid new note count items end lanes same all h = record {
   before = h.before;
@@ -79,8 +82,10 @@ sent-file r mid new note count items end lanes same all h = record {
 }
 
 -- memory ran out while the last batches or the ends were sent
-pub begun-late : (r : Routing) (mid new : Outboxes) (note : FileNote) (count : ℕ) (items : List Record) (end : FileNote) → r.lanes ≡ length mid.lanes.now → AreSame mid new
-    → ((w : ℕ) → w < length mid.lanes.now → IsPrefix (sent_to new w) (with_end mid note count w)) → HasCutAll r mid note count items end → HasBegunFile r new items end
+pub begun-late : (r : Routing) (mid new : Outboxes) (note : FileNote) (count : ℕ) (items : List Record) (end : FileNote) → r.lanes ≡ length mid.lanes.now
+    → AreSame mid new
+    → ((w : ℕ) → w < length mid.lanes.now → IsPrefix (sent_to new w) (with_end mid note count w)) → HasCutAll r mid note count items end
+    → HasBegunFile r new items end
 begun-late r mid new note count items end lanes same begun h = record {
   note = note;
   before = h.before;
@@ -139,7 +144,8 @@ setting_by r joined tai = record { media = r.media.now; workers = r.lanes; joine
 sends-are : (r : Routing) (joined : Bool) (tai file w : ℕ) (items : List Record) (note : FileNote) → r.file ≡ (if joined then 0 else file)
     → sends_to r file w items note ≡ lane_sends (setting_by r joined tai) file (record { records = items; note = note }) w
 sends-are r joined tai file w items note e =
-    ap (λ (f : ℕ). for_lane w (sent_of 256 file (λ p. route (key_of f p.media) (length r.media.now) r.lanes) (session_packets r.media.now items) r.lanes (ending file note (length items)))) e
+    ap (λ (f : ℕ). for_lane w (sent_of 256 file (λ p. route (key_of f p.media) (length r.media.now) r.lanes) (session_packets r.media.now items) r.lanes
+    (ending file note (length items)))) e
 
 -- what is to be sent of a file with such a note was sent by these passes
 abbrev SentTo : (s : Setting) (file : ℕ) → List LaneId → List Sender → List Record → FileNote → Type 0
@@ -160,8 +166,10 @@ told-all s file lanes passes note end items before later whole ends sent =
 told-by : (s : Setting) (file : ℕ) (lanes : List LaneId) (passes : List Sender) (note end : FileNote) (items before later : List Record)
     → items ≡ before ++ later → GivesNote note later end → SentTo s file lanes passes before note
     → HasTold s file lanes (record { records = items; note = end }) (Some note) passes
-told-by s file lanes passes file_note.End end items before later whole ends sent = told-all s file lanes passes file_note.End end items before later whole ends sent
-told-by s file lanes passes (file_note.Cut at) end items before later whole ends sent = told-all s file lanes passes (file_note.Cut at) end items before later whole ends sent
+told-by s file lanes passes file_note.End end items before later whole ends sent = told-all s file lanes passes file_note.End end items before later whole ends
+    sent
+told-by s file lanes passes (file_note.Cut at) end items before later whole ends sent = told-all s file lanes passes (file_note.Cut at) end items before later
+    whole ends sent
 told-by s file lanes passes (file_note.Refused fault.ReadFault) end items before later whole ends sent =
     record { before = before; later = later; whole = whole; have_sent = sent }
 told-by s file lanes passes (file_note.Refused fault.BadMagic) end items before later whole ends sent =
@@ -185,7 +193,8 @@ of-same old new same =
     subst (λ (l : List LaneId). HaveSent old.file l (sent_to new) new.passes.items) same.lanes first
 
 -- all was sent, or all of the records before a read that failed
-pub told-file : (r : Routing) (old new : Outboxes) (joined : Bool) (tai : ℕ) (note end : FileNote) (items : List Record) → r.file ≡ (if joined then 0 else old.file) → AreSame old new
+pub told-file : (r : Routing) (old new : Outboxes) (joined : Bool) (tai : ℕ) (note end : FileNote) (items : List Record) → r.file
+    ≡ (if joined then 0 else old.file) → AreSame old new
     → HasSentFile r new note items end
     → HasTold (setting_by r joined tai) old.file old.lanes.now (record { records = items; note = end }) (Some note) new.passes.items
 told-file r old new joined tai note end items e same h =
@@ -199,7 +208,8 @@ told-file r old new joined tai note end items e same h =
     told-by s old.file old.lanes.now new.passes.items note end items h.before h.later h.whole h.ends sent
 
 -- memory ran out
-pub told-stopped : (r : Routing) (old new : Outboxes) (joined : Bool) (tai : ℕ) (end : FileNote) (items : List Record) → r.file ≡ (if joined then 0 else old.file) → AreSame old new
+pub told-stopped : (r : Routing) (old new : Outboxes) (joined : Bool) (tai : ℕ) (end : FileNote) (items : List Record) → r.file
+    ≡ (if joined then 0 else old.file) → AreSame old new
     → HasBegunFile r new items end
     → HasBegun (setting_by r joined tai) old.file old.lanes.now (record { records = items; note = end }) new.passes.items
 told-stopped r old new joined tai end items e same h =
@@ -222,7 +232,8 @@ told-stopped r old new joined tai end items e same h =
     }
 
 -- memory ran out before the first read
-pub told-nothing : (s : Setting) (file : ℕ) (lanes : List LaneId) (passes : List Sender) (items : List Record) (end : FileNote) → HaveSentNothing file lanes passes
+pub told-nothing : (s : Setting) (file : ℕ) (lanes : List LaneId) (passes : List Sender) (items : List Record) (end : FileNote)
+    → HaveSentNothing file lanes passes
     → HasBegun s file lanes (record { records = items; note = end }) passes
 told-nothing s file lanes passes items end h = record {
   part = record { records = items; note = end };

@@ -14,13 +14,15 @@ AreBatches f (Batch batch ∷ ms) = (batch.file ≡ f) × AreBatches f ms
 AreBatches f (End end ∷ ms) = ⊥
 
 -- the messages are batches of the file with these packets, and then its end
-pub record AreWhole (file : ℕ) (packets : List Packet) (note : FileNote) (records : ℕ) (messages : List Message) : Type 0 where
+pub record AreWhole (file : ℕ) (packets : List Packet) (note : FileNote) (records : ℕ) (messages : List Message) : Type
+    0 where
   pub batches : List Message
   pub whole : messages ≡ batches ++ ending file note records ∷ []
   pub are : AreBatches file batches
   pub have : packets_in batches ≡ packets
 
 -- of these packets of a file the full batches for the lane were sent, and what fills none is left
-pub record HasCut (size file : ℕ) (lane : Packet → ℕ) (w : ℕ) (packets : List Packet) (sent : List Message) (left : List Packet) : Type 0 where
+pub record HasCut (size file : ℕ) (lane : Packet → ℕ) (w : ℕ) (packets : List Packet) (sent : List Message)
+    (left : List Packet) : Type 0 where
   pub full : sent ≡ for_lane w (full_batches size file lane [] packets)
   pub open_batch : left ≡ rest size (lane_packets lane w packets)

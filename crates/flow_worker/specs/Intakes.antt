@@ -11,10 +11,11 @@ use Rattle.flow_worker.specs.Messages.{IsPrefix}
 use Rattle.flow_worker.specs.Opening.{Capture, Setting, file_sends, for_lane}
 
 -- the passes are those of a file for these lanes, in order, and by them these messages were sent
-pub record HaveSent (file : ℕ) (lanes : List LaneId) (sent : (lane : ℕ) → List Message) (passes : List Sender) : Type 0 where
-  pub count : length passes ≡ length lanes
-  pub each : (lane : ℕ) (d : Sender) (l : LaneId) → lane < length lanes
-      → slice_index_or passes lane d ≡ record { lane = slice_index_or lanes lane l; from = file; sent = sent lane }
+pub record HaveSent (file : ℕ) (lanes : List LaneId) (sent : (lane : ℕ) → List Message) (passes : List Sender) : Type 0
+  where
+    pub count : length passes ≡ length lanes
+    pub each : (lane : ℕ) (d : Sender) (l : LaneId) → lane < length lanes
+        → slice_index_or passes lane d ≡ record { lane = slice_index_or lanes lane l; from = file; sent = sent lane }
 
 -- nothing was sent
 abbrev pub HaveSentNothing : (file : ℕ) → List LaneId → List Sender → Type 0
@@ -43,14 +44,16 @@ pub record HasBegun (s : Setting) (file : ℕ) (lanes : List LaneId) (c : Captur
   pub begins : (lane : ℕ) → IsPrefix (sent lane) (lane_sends s file part lane)
 
 -- a read failed: what was sent is all of the records before
-pub record HasBroken (s : Setting) (file : ℕ) (lanes : List LaneId) (items : List Record) (passes : List Sender) : Type 0 where
+pub record HasBroken (s : Setting) (file : ℕ) (lanes : List LaneId) (items : List Record) (passes : List Sender) : Type
+    0 where
   pub before : List Record
   pub later : List Record
   pub whole : items ≡ before ++ later
   pub have_sent : HaveSent file lanes (lane_sends s file (record { records = before; note = Refused ReadFault })) passes
 
 -- the whole file was sent, and the note is how it ends
-pub record HasSentAll (s : Setting) (file : ℕ) (lanes : List LaneId) (c : Capture) (note : FileNote) (passes : List Sender) : Type 0 where
+pub record HasSentAll (s : Setting) (file : ℕ) (lanes : List LaneId) (c : Capture) (note : FileNote)
+    (passes : List Sender) : Type 0 where
   pub note_is : note ≡ c.note
   pub have_sent : HaveSent file lanes (lane_sends s file c) passes
 

@@ -25,7 +25,8 @@ is_own s worker key = key_lane s key == worker
 -- the place of a flow has a judge that was fed these packets, where the flow is the worker's own, and else none
 abbrev pub IsPlace : Setting → (worker : ℕ) → FlowKey → List FlowPacket → Option FlowJudge → Type 0
 IsPlace s worker key packets None = is_own s worker key ≡ false
-IsPlace s worker key packets (Some judge) = (is_own s worker key ≡ true) × StandsFor (media_of s.media key) key s.tai judge packets
+IsPlace s worker key packets (Some judge) = (is_own s worker key ≡ true)
+    × StandsFor (media_of s.media key) key s.tai judge packets
 
 -- the judges of a file are those of a worker's own flows, and each was fed what is told of its flow
 pub record AreFed (s : Setting) (worker file : ℕ) (fed : FlowKey → List FlowPacket) (judges : Judges) : Type 0 where
@@ -38,7 +39,8 @@ with_packets before packets fed key = fed key ++ map (raised_packet before) (med
 
 -- whatever the judges were fed, they were then fed these packets too, and no others
 abbrev pub Feeds : (before : ℕ) → List Packet → (old new : Judges) → Type 0
-Feeds before packets old new = (s : Setting) (worker file : ℕ) (fed : FlowKey → List FlowPacket) → AreFed s worker file fed old
+Feeds before packets old new = (s : Setting) (worker file : ℕ) (fed : FlowKey → List FlowPacket)
+    → AreFed s worker file fed old
     → AreFed s worker file (with_packets before packets fed) new
 
 -- how many packets the judge at a place was fed

@@ -25,7 +25,8 @@ HasTakenAll s captures key taken = (file : ℕ) → IsTrue (is_in_file s (length
 -- for each file and lane, what was taken, what is held and what is to be sent are the messages of the file for the lane
 abbrev pub IsInOrder : Setting → List Capture → State → Type 0
 IsInOrder s captures state = (file lane : ℕ)
-    → of_file file (state.taken lane) ++ (of_file file (state.held lane) ++ for_lane lane (state.todo file)) ≡ messages s captures file lane
+    → of_file file (state.taken lane) ++ (of_file file (state.held lane) ++ for_lane lane (state.todo file))
+    ≡ messages s captures file lane
 
 -- a row is that of its key, which is a key of the run
 pub record IsKeyRow (s : Setting) (captures : List Capture) (r : Row) : Type 0 where

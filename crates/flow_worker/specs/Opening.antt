@@ -99,7 +99,8 @@ full_batches size file lane before (p ∷ ps) =
 abbrev pub last_batches : (size file : ℕ) → (Packet → ℕ) → List Packet → (lanes : ℕ) → List Addressed
 last_batches size file lane packets zero = []
 last_batches size file lane packets (suc w) =
-    last_batches size file lane packets w ++ map (addressed file w) (unless_empty (rest size (lane_packets lane w packets)))
+    last_batches size file lane packets w
+    ++ map (addressed file w) (unless_empty (rest size (lane_packets lane w packets)))
 
 -- one message for each lane below another, rising
 abbrev pub to_each : Message → (lanes : ℕ) → List Addressed
@@ -114,7 +115,8 @@ sent_of size file lane packets lanes end =
 -- all that the intake of a file has to send
 abbrev pub file_sends : (size : ℕ) → Setting → (file : ℕ) → Capture → List Addressed
 file_sends size s file c =
-    sent_of size file (packet_lane s file) (session_packets s.media c.records) s.workers (ending file c.note (length c.records))
+    sent_of size file (packet_lane s file) (session_packets s.media c.records) s.workers
+    (ending file c.note (length c.records))
 
 -- that of a file, if it is there
 abbrev pub sends_if : (size : ℕ) → Setting → (file : ℕ) → Option Capture → List Addressed

@@ -67,7 +67,8 @@ records_if (Some c) = c.records
 
 -- the records that a flow is in: those of its file, or of all files as one
 abbrev pub key_records : Setting → List Capture → FlowKey → List Record
-key_records s captures key = if s.joined then joined (map (λ c. c.records) captures) else records_if (slice_get captures key.file)
+key_records s captures key = if s.joined then joined (map (λ c. c.records) captures)
+    else records_if (slice_get captures key.file)
 
 -- the row of a flow: that over its packets in these records
 abbrev pub key_row : Setting → List Capture → FlowKey → Row

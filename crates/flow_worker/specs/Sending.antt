@@ -80,7 +80,8 @@ pub record Puts (old new : Outboxes) (lane : ℕ) (packet : Packet) : Type 0 whe
   pub more : length (open_for old lane) + 1 < 256
       → (sent_to new lane ≡ sent_to old lane) × (open_for new lane ≡ open_for old lane ++ packet ∷ [])
   pub full : length (open_for old lane) + 1 ≡ 256
-      → (sent_to new lane ≡ sent_to old lane ++ batch old.file (open_for old lane ++ packet ∷ []) ∷ []) × (open_for new lane ≡ [])
+      → (sent_to new lane ≡ sent_to old lane ++ batch old.file (open_for old lane ++ packet ∷ []) ∷ [])
+      × (open_for new lane ≡ [])
   pub others : (w : ℕ) → (lane ≡ w → ⊥) → (sent_to new w ≡ sent_to old w) × (open_for new w ≡ open_for old w)
 
 -- what was sent to a lane, and then what fills no batch
@@ -117,7 +118,8 @@ abbrev pub Cuts : (Packet → ℕ) → (old new : Outboxes) → List Packet → 
 Cuts lane old new more = (ps : List Packet) → AreCut lane ps old → AreCut lane (ps ++ more) new
 
 -- of these records so many were read, and their packets cut, up to an end with this note: all, unless a read failed
-pub record HasCutAll (r : Routing) (o : Outboxes) (note : FileNote) (count : ℕ) (items : List Record) (end : FileNote) : Type 0 where
+pub record HasCutAll (r : Routing) (o : Outboxes) (note : FileNote) (count : ℕ) (items : List Record) (end : FileNote) :
+    Type 0 where
   pub before : List Record
   pub later : List Record
   pub whole : items ≡ before ++ later
@@ -136,15 +138,17 @@ pub record HasLeftOff (r : Routing) (o : Outboxes) (items : List Record) : Type 
 -- what a file with these records has to send to a lane
 abbrev pub sends_to : Routing → (file lane : ℕ) → List Record → FileNote → List Message
 sends_to r file lane items note =
-    for_lane lane (sent_of 256 file (route_of r) (session_packets r.media.now items) r.lanes (ending file note (length items)))
+    for_lane lane (sent_of 256 file (route_of r) (session_packets r.media.now items) r.lanes
+    (ending file note (length items)))
 
 -- all was sent of these records, up to an end with this note: of all of them, unless a read failed
-pub record HasSentFile (r : Routing) (o : Outboxes) (note : FileNote) (items : List Record) (end : FileNote) : Type 0 where
-  pub before : List Record
-  pub later : List Record
-  pub whole : items ≡ before ++ later
-  pub ends : GivesNote note later end
-  pub all : (w : ℕ) → w < length o.lanes.now → sent_to o w ≡ sends_to r o.file w before note
+pub record HasSentFile (r : Routing) (o : Outboxes) (note : FileNote) (items : List Record) (end : FileNote) : Type 0
+  where
+    pub before : List Record
+    pub later : List Record
+    pub whole : items ≡ before ++ later
+    pub ends : GivesNote note later end
+    pub all : (w : ℕ) → w < length o.lanes.now → sent_to o w ≡ sends_to r o.file w before note
 
 -- what was sent begins what is to be sent of these records: of all of them, unless a read failed
 pub record HasBegunFile (r : Routing) (o : Outboxes) (items : List Record) (end : FileNote) : Type 0 where

@@ -1,4 +1,5 @@
--- What an intake makes of the records of its file, as it takes them one after the other. Records count from 1, lanes from 0.
+-- What an intake makes of the records of its file, as it takes them one after the other. Records count from 1, lanes
+-- from 0.
 use Rattle.std.specs.Prelude.{◌≡◌, ◌≤◌, ◌<◌, ◌+◌, ◌^◌, ℕ, List, [], ◌++◌, length}
 use Rattle.std.proofs.Common.{refl, sym, ap, ◌∙◌, subst, append-nil, append_assoc, arith}
 use Rattle.std.proofs.lemmas.List.Elements.{filter_map-append}
@@ -25,7 +26,8 @@ pub record HasRoom {R : Type 0} (number count : ℕ) (s : Sorter R) : Type 0 whe
   pub limit : before + count ≤ 2 ^ 36
   pub few : HaveAllFew before s.outboxes
 
-pub room_less : {R : Type 0} (number few many : ℕ) (s : Sorter R) → few ≤ many → HasRoom number many s → HasRoom number few s
+pub room_less : {R : Type 0} (number few many : ℕ) (s : Sorter R) → few ≤ many → HasRoom number many s
+    → HasRoom number few s
 room_less number few many s less room = record {
   is = room.is;
   before = room.before;
@@ -46,9 +48,11 @@ pub record LeavesOff {R : Type 0} (old new : Sorter R) (items : List Record) : T
   pub before : List Record
   pub later : List Record
   pub whole : items ≡ before ++ later
-  pub full : (ps : List Packet) → AreCut (route_of old.routing) ps old.outboxes → (w : ℕ) → w < length new.outboxes.lanes.now
+  pub full : (ps : List Packet) → AreCut (route_of old.routing) ps old.outboxes → (w : ℕ) → w
+      < length new.outboxes.lanes.now
       → sent_to new.outboxes w ≡ for_lane w
-      (full_batches 256 new.outboxes.file (route_of old.routing) [] (ps ++ session_packets old.routing.media.now before))
+      (full_batches 256 new.outboxes.file (route_of old.routing) []
+      (ps ++ session_packets old.routing.media.now before))
 
 -- packets, and then those of some records and of others
 packets-append : (media : List Media) (ps : List Packet) (xs ys : List Record)
@@ -66,10 +70,12 @@ sorts_none s = record {
 }
 
 -- some records and then others
-pub sorts_more : {R : Type 0} (old mid new : Sorter R) (xs ys : List Record) → Sorts old mid xs → Sorts mid new ys → Sorts old new (xs ++ ys)
+pub sorts_more : {R : Type 0} (old mid new : Sorter R) (xs ys : List Record) → Sorts old mid xs → Sorts mid new ys
+    → Sorts old new (xs ++ ys)
 sorts_more old mid new xs ys first second =
     let cuts : Cuts (route_of old.routing) mid.outboxes new.outboxes (session_packets old.routing.media.now ys) =
-    subst (λ (r : Routing). Cuts (route_of r) mid.outboxes new.outboxes (session_packets r.media.now ys)) first.routing second.cuts in
+    subst (λ (r : Routing). Cuts (route_of r) mid.outboxes new.outboxes (session_packets r.media.now ys)) first.routing
+    second.cuts in
     record {
       routing = second.routing ∙ first.routing;
       same = λ are.
@@ -77,15 +83,20 @@ sorts_more old mid new xs ys first second =
           let b = second.same a.are in
           record { are = b.are; file = b.file ∙ a.file; lanes = b.lanes ∙ a.lanes };
       cuts = λ ps cut.
-          subst (λ (l : List Packet). AreCut (route_of old.routing) l new.outboxes) (packets-append old.routing.media.now ps xs ys)
+          subst (λ (l : List Packet). AreCut (route_of old.routing) l new.outboxes)
+          (packets-append old.routing.media.now ps xs ys)
           (cuts (ps ++ session_packets old.routing.media.now xs) (first.cuts ps cut));
     }
 
 -- some records, and then others at one of which memory ran out
-pub leaves_later : {R : Type 0} (old mid new : Sorter R) (xs ys : List Record) → Sorts old mid xs → LeavesOff mid new ys → LeavesOff old new (xs ++ ys)
+pub leaves_later : {R : Type 0} (old mid new : Sorter R) (xs ys : List Record) → Sorts old mid xs → LeavesOff mid new ys
+    → LeavesOff old new (xs ++ ys)
 leaves_later old mid new xs ys first second =
-    let left : Routing → Type 0 = λ r. (ps : List Packet) → AreCut (route_of r) ps mid.outboxes → (w : ℕ) → w < length new.outboxes.lanes.now
-    → sent_to new.outboxes w ≡ for_lane w (full_batches 256 new.outboxes.file (route_of r) [] (ps ++ session_packets r.media.now second.before)) in
+    let left : Routing → Type 0 = λ r. (ps : List Packet) → AreCut (route_of r) ps mid.outboxes → (w : ℕ) → w
+    < length new.outboxes.lanes.now
+    → sent_to new.outboxes w
+    ≡ for_lane w (full_batches 256 new.outboxes.file (route_of r) []
+    (ps ++ session_packets r.media.now second.before)) in
     let full = subst left first.routing second.full in
     record {
       same = λ are.
@@ -102,7 +113,8 @@ leaves_later old mid new xs ys first second =
     }
 
 -- what comes behind counts for nothing
-pub leaves_before : {R : Type 0} (old new : Sorter R) (xs ys : List Record) → LeavesOff old new xs → LeavesOff old new (xs ++ ys)
+pub leaves_before : {R : Type 0} (old new : Sorter R) (xs ys : List Record) → LeavesOff old new xs
+    → LeavesOff old new (xs ++ ys)
 leaves_before old new xs ys h = record {
   same = h.same;
   before = h.before;

@@ -1,6 +1,7 @@
 -- What the judges of a worker stand for: for what it took, where files are judged each for itself, and where they are
 -- joined. Files and workers count from 0.
-use Rattle.std.specs.Prelude.{◌≡◌, ◌≤◌, ◌<◌, ◌+◌, ◌*◌, ◌^◌, ℕ, Bool, true, false, List, ◌++◌, ◌∷◌, [], IsTrue, length, map, min, Option, Some, None}
+use Rattle.std.specs.Prelude.{◌≡◌, ◌≤◌, ◌<◌, ◌+◌, ◌*◌, ◌^◌, ℕ, Bool, true, false, List, ◌++◌, ◌∷◌, [], IsTrue, length}
+use Rattle.std.specs.Prelude.{map, min, Option, Some, None}
 use Rattle.timing_base.specs.declared.key.FlowKey.{FlowKey}
 use Rattle.timing_base.specs.declared.packet.FlowPacket.{FlowPacket}
 use Rattle.ruled_intake.specs.Lanes.{IsWithin}

@@ -8,4 +8,5 @@ use Rattle.udp_rtp.specs.Flow.{is_same_target}
 -- the number of the first of these media that has the target, where the first of them has this number
 abbrev pub media_to : Target → (number : ℕ) → List Media → Option ℕ
 media_to target number [] = None
-media_to target number (m ∷ ms) = if is_same_target target (target_of m) then Some number else media_to target (number + 1) ms
+media_to target number (m ∷ ms) = if is_same_target target (target_of m) then Some number
+    else media_to target (number + 1) ms

@@ -1,4 +1,5 @@
--- What two files have to send to two workers, worked by hand: each file has flows of two media. Files, lanes and media count
+-- What two files have to send to two workers, worked by hand: each file has flows of two media. Files, lanes and media
+-- count
 -- from 0, records from 1.
 use Rattle.std.specs.Prelude.{ℕ, Bool, false, List, [], ◌∷◌}
 use Rattle.timing_base.specs.Media.{Media}
@@ -45,7 +46,8 @@ media_at target = record {
 abbrev pub two_workers : Bool → Setting
 two_workers joined = record { media = media_at group ∷ media_at next_port ∷ []; workers = 2; joined = joined; tai = 0 }
 
--- five records, of which the first goes to the second media, and the last two to the first; and one that goes to the second
+-- five records, of which the first goes to the second media, and the last two to the first; and one that goes to the
+-- second
 abbrev pub two_files : List Capture
 two_files = record { records = first_capture; note = End } ∷ record { records = second_capture; note = End } ∷ []
 

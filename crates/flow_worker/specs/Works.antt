@@ -12,7 +12,8 @@ abbrev pub HasTakenNothing : LaneId → Taker → Type 0
 HasTakenNothing lane pass = (pass.lane ≡ lane) × (pass.taken ≡ [])
 
 -- the worker took an end of each file, and posted the row of each flow of its own, by rising file and then media
-pub record HasJudged (s : Setting) (files worker : ℕ) (pass : Taker) (book : Book) (receipts : List Receipt) : Type 0 where
-  pub ended : IsTrue (has_ends files (messages pass.taken))
-  pub posted : All (IsOf book) receipts
-  pub rows : map row_of receipts ≡ map (taken_row s files (messages pass.taken)) (own_keys s files worker)
+pub record HasJudged (s : Setting) (files worker : ℕ) (pass : Taker) (book : Book) (receipts : List Receipt) : Type 0
+  where
+    pub ended : IsTrue (has_ends files (messages pass.taken))
+    pub posted : All (IsOf book) receipts
+    pub rows : map row_of receipts ≡ map (taken_row s files (messages pass.taken)) (own_keys s files worker)

@@ -55,10 +55,12 @@ is_same_key a b = (a.file == b.file) && (a.media == b.media)
 abbrev pub times : FlowKey → List Row → ℕ
 times key rows = count_by (λ (r : Row). is_same_key r.key key) rows
 
--- whether the worker of a lane may post the row of a flow: the flow is its own, all of it was taken, and it isn't posted
+-- whether the worker of a lane may post the row of a flow: the flow is its own, all of it was taken, and it isn't
+-- posted
 abbrev pub may_post : Setting → (files lane : ℕ) → FlowKey → State → Bool
 may_post s files lane key state =
-    is_key s files key && (key_lane s key == lane) && (times key state.posted == 0) && is_whole s files (state.taken lane) key
+    is_key s files key && (key_lane s key == lane) && (times key state.posted == 0)
+    && is_whole s files (state.taken lane) key
 
 -- a row is posted, where it may be
 abbrev pub after_post : Bool → Row → State → State
@@ -70,7 +72,8 @@ after_post may row state = if may then
 abbrev pub after : Setting → (files : ℕ) → Step → State → State
 after s files (sends_next file) state = after_send file (state.todo file) state
 after s files (takes_front lane) state = after_take lane (state.held lane) state
-after s files (posts_row lane key) state = after_post (may_post s files lane key state) (taken_row s files (state.taken lane) key) state
+after s files (posts_row lane key) state = after_post (may_post s files lane key state)
+    (taken_row s files (state.taken lane) key) state
 
 -- steps, one after the other
 abbrev pub run : Setting → (files : ℕ) → List Step → State → State

@@ -96,18 +96,19 @@ impl<R: Wait> Sorter<'_, R> {
     }
 }
 
-/// Raises the halt for want of memory, so that the workers see it, and leaves what there is.
+/// Raises the halt for want of memory, wakes the workers of these lanes, so that they see it, and leaves
+/// what there is.
 fn stop<'h, R: Wait, S: Source>(
     rt: &R,
     source: S,
-    lanes: &[Lane],
+    lanes: &'h [Lane],
     passes: Vec<SendPass>,
     halt: &'h Halt,
 ) -> (IntakeDone<S>, Option<Raised<'h>>)
     ensures source { result.0.source ≡ source }
     ensures passes { result.0.passes ≡ passes }
     ensures note { result.0.note ≡ None }
-    ensures raised { result.1 ≡ Some halt.now }
+    ensures raised { result.1 ≡ Some (record { halt = halt.now; woken = lanes.now }) }
 {
     let raised = halt.raise(rt, lanes);
     let done = IntakeDone {
@@ -121,7 +122,7 @@ fn stop<'h, R: Wait, S: Source>(
 /// Sends all of a reader that has answered no record, and leaves what an intake leaves.
 fn take_file<'h, R: Wait, S: Source>(
     reader: PcapReader<S>,
-    sorter: Sorter<'_, R>,
+    sorter: Sorter<'h, R>,
     halt: &'h Halt,
 ) -> (IntakeDone<S>, Option<Raised<'h>>)
     requires begins { BeginsFile sorter.routing reader sorter.outboxes }
@@ -136,7 +137,8 @@ fn take_file<'h, R: Wait, S: Source>(
     ensures later { S.faults (under reader) ≤ S.faults result.0.source }
     ensures failed { result.0.note ≡ Some (file_note.Refused fault.ReadFault)
         → Rose (S.faults (under reader)) (S.faults result.0.source) }
-    ensures halt { result.0.note ≡ None → result.1 ≡ Some halt.now }
+    ensures halt { result.0.note ≡ None
+        → result.1 ≡ Some (record { halt = halt.now; woken = sorter.entry.outboxes.lanes.now }) }
 {
     let mut reader = reader;
     let mut sorter = sorter;
@@ -170,14 +172,18 @@ fn take_file<'h, R: Wait, S: Source>(
 /// A batch goes out when it has 256 packets. At the end of the file what is left goes out, by rising
 /// lane, and then an end for each lane, by rising lane. Where a read failed, the note is
 /// `Refused(ReadFault)`, and what was sent is all of the records before. Where memory ran out, there is
-/// no note, the halt is raised, of which the second value is the witness, and what was sent begins what
-/// was to be sent.
+/// no note, and what was sent begins what was to be sent; the halt is raised, of which the second value
+/// is the witness, and the workers of all lanes were woken for it.
+///
+/// An intake that is far ahead of a lane whose worker has begun sleeps until that has taken some. Where the
+/// files are joined, one that is far ahead of its turn sleeps while the file before is being read. The turn
+/// of its own file is the caller's to begin and to end.
 ///
 /// The passes are those of the lanes, in order. The call may wait, and promises if it returns.
 pub fn intake<'h, R: Wait, S: Source, G: Gate>(
-    rt: &R,
+    rt: &'h R,
     alloc: Global,
-    run: &RunSetting<'_>,
+    run: &RunSetting<'h>,
     file: u32,
     source: S,
     passes: Vec<SendPass>,
@@ -195,10 +201,11 @@ pub fn intake<'h, R: Wait, S: Source, G: Gate>(
     ensures later { S.faults source ≤ S.faults result.0.source }
     ensures failed { result.0.note ≡ Some (file_note.Refused fault.ReadFault)
         → Rose (S.faults source) (S.faults result.0.source) }
-    ensures halt { result.0.note ≡ None → result.1 ≡ Some halt.now }
+    ensures halt { result.0.note ≡ None
+        → result.1 ≡ Some (record { halt = halt.now; woken = run.now.lanes.now }) }
 {
     gate.meet(rt, u64::from(file));
-    let outboxes = match Outboxes::new(alloc, file, run.lanes, passes) {
+    let outboxes = match Outboxes::new(alloc, file, run.lanes, passes, run.turn_before(file)) {
         Ok(outboxes) => outboxes,
         Err(passes) => return stop(rt, source, run.lanes, passes, halt),
     };

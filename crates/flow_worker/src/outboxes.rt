@@ -6,10 +6,13 @@ ghost use Rattle.flow_worker.specs.Intakes.{HaveSent, HaveSentNothing};
 ghost use Rattle.flow_worker.specs.Messages.{IsPrefix, batch, ending};
 
 use crate::open_batch::OpenBatch;
-use ruled_intake::{Batch, FileEnd, Lane, Message, Packet, SendPass};
+use ruled_intake::{Batch, FileEnd, Lane, Message, Packet, SendPass, Turn};
 use std::alloc::{AllocError as OutOfMemory, Global};
 use std::sync::Wait;
 use timing_base::{FileNote, Items};
+
+/// So many batches are sent before the turn of a file: workers hold them until the files before have ended.
+const AHEAD_OF_TURN: u64 = 64;
 
 /// For each lane the pass of a file, and the batch that is being filled.
 #[derive(Drop)]
@@ -19,6 +22,10 @@ pub struct Outboxes<'a> {
     lanes: &'a [Lane],
     passes: Vec<SendPass>,
     batches: Vec<OpenBatch>,
+    /// The file that is judged before, where files are joined.
+    before: Option<&'a Turn>,
+    /// How many batches were sent to all lanes.
+    batches_sent: u64,
 }
 
 /// So many batches without a packet.
@@ -43,6 +50,7 @@ impl<'a> Outboxes<'a> {
         file: u32,
         lanes: &'a [Lane],
         passes: Vec<SendPass>,
+        before: Option<&'a Turn>,
     ) -> Result<Outboxes<'a>, Vec<SendPass>>
         requires { HaveSentNothing file lanes.now passes.items }
         ensures are { IfOk result AreOutboxes }
@@ -59,6 +67,8 @@ impl<'a> Outboxes<'a> {
                 lanes,
                 passes,
                 batches,
+                before,
+                batches_sent: 0,
             }),
             Err(_) => Err(passes),
         }
@@ -80,6 +90,8 @@ impl<'a> Outboxes<'a> {
             lanes: _,
             passes,
             batches: _,
+            before: _,
+            batches_sent: _,
         } = self;
         passes
     }
@@ -98,7 +110,18 @@ impl<'a> Outboxes<'a> {
         }
     }
 
-    /// Sends a batch to a lane, and lets its worker run first where that is far behind.
+    /// Waits for the end of the file before, where this one is far ahead of its turn.
+    fn wait_for_turn<R: Wait>(&self, rt: &R) {
+        if self.batches_sent < AHEAD_OF_TURN {
+            return;
+        }
+        if let Some(turn) = self.before {
+            turn.wait_for_end(rt);
+        }
+    }
+
+    /// Sends a batch to a lane. Then it waits where the lane's worker is far behind, or the file is far
+    /// ahead of its turn.
     fn send_batch<R: Wait>(
         &mut self,
         rt: &R,
@@ -116,7 +139,9 @@ impl<'a> Outboxes<'a> {
     {
         let file = self.file;
         self.send(rt, lane, Message::Batch(Batch { file, packets }))?;
-        self.lanes[lane].wait_for_room(&mut self.passes[lane]);
+        self.lanes[lane].wait_for_room(rt, &mut self.passes[lane]);
+        self.batches_sent = self.batches_sent.saturating_add(1);
+        self.wait_for_turn(rt);
         Ok(())
     }
 

@@ -1,6 +1,6 @@
 //! What the intakes and the workers of a run share.
 
-use ruled_intake::Lane;
+use ruled_intake::{Lane, Reading, Turn};
 use timing_base::Media;
 
 /// The setting of a run: what is asked of it, with the lanes that it has. In `specs/` it is read as a
@@ -17,4 +17,22 @@ pub struct RunSetting<'a> {
     pub joined: bool,
     /// The seconds that are added to the stamps.
     pub tai: u64,
+    /// The turn of each file. Where there is none, no intake waits for that of the file before.
+    pub turns: &'a [Turn],
+}
+
+impl<'a> RunSetting<'a> {
+    /// Begins the turn of a file, if it has one: it is being read until the answer is dropped.
+    pub fn begin_turn(&self, file: u32) -> Option<Reading<'a>> {
+        let turn = self.turns.get(file as usize)?;
+        Some(turn.begin())
+    }
+
+    /// The turn of the file that is judged before this one, where the files are joined.
+    pub(crate) fn turn_before(&self, file: u32) -> Option<&'a Turn> {
+        if !self.joined || file == 0 {
+            return None;
+        }
+        self.turns.get(file as usize - 1)
+    }
 }

@@ -11,7 +11,7 @@ ghost use Rattle.flow_worker.specs.Works.{HasJudged, HasTakenNothing};
 use crate::judging::Judging;
 use crate::setting::RunSetting;
 use crossbeam_utils::Backoff;
-use ruled_intake::{Halt, Lane, Message, TakePass};
+use ruled_intake::{Halt, Lane, Message, NoLesson, TakePass};
 use std::alloc::{AllocError as OutOfMemory, Global};
 use std::sync::Wait;
 use timing_outside::Gate;
@@ -55,7 +55,9 @@ pub fn work<R: Wait, G: Gate>(
 {
     let mut pass = pass;
     let lane = &run.lanes[worker as usize];
+    let working = lane.begin();
     let receipts = judged(rt, alloc, run, worker, lane, &mut pass, book, halt, gate);
+    drop(working);
     WorkDone {
         pass,
         receipts: receipts.ok(),
@@ -134,7 +136,7 @@ fn next_message<R: Wait>(
 {
     let backoff = Backoff::new();
     for _ in rt.forever() {
-        if let Some(message) = lane.take(rt, pass) {
+        if let Some(message) = lane.take::<NoLesson, R>(rt, pass) {
             return Ok(message);
         }
         if halt.raised().is_some() {

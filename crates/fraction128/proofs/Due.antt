@@ -152,3 +152,20 @@ one_more line clock origin count t stands come =
 -- the instants up to t are no fewer than those before
 pub so_far : (line : Line) (origin before t : ℕ) → before ≤ t → passed_by line origin before ≤ passed_by line origin t
 so_far line origin before t order = instants-rise line.num line.den origin before t (omega (arith, line.some, line.slow)) order
+
+-- where an interval is no shorter than from one instant to the next, some instant is in it
+pub one_in : (line : Line) (origin before t : ℕ) → origin ≤ before → before + line.whole < t → passed_by line origin before + 1 ≤ passed_by line origin t
+one_in line origin before t begun far =
+    let some : 1 ≤ line.num = omega (arith, line.some, line.slow) in
+    let wide : ((before - origin) + (line.whole + 1)) * line.den ≤ (t - origin) * line.den = mul-le-mul_right line.den (omega (arith, begun, far)) in
+    let parts = div-add-mod' ((before - origin) * line.den) line.num in
+    le-div (passed_by line origin before + 1) ((t - origin) * line.den) line.num some (omega (
+      arith,
+      wide,
+      add-mul (before - origin) (line.whole + 1) line.den,
+      add-mul line.whole 1 line.den,
+      add-mul (passed_by line origin before) 1 line.num,
+      line.split,
+      line.part_small,
+      parts,
+    ))

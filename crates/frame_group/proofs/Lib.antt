@@ -1,3 +1,4 @@
+pub mod Expecting
 pub mod Faults
 pub mod Sized
 pub mod Steps

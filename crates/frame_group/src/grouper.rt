@@ -6,6 +6,7 @@ ghost use Rattle.timing_base.specs.declared.packet.FlowPacket.{FlowPacket};
 ghost use Rattle.timing_base.specs.Flows.{cuts, fault, fault_if, first_of, is_second_source, markers_before, order_fault};
 ghost use Rattle.timing_base.specs.declared.packet.PacketFault.TheVariants.{SecondSource};
 ghost use Rattle.frame_group.specs.Cuts.{answer_at, cut_at};
+ghost use Rattle.frame_group.specs.Expected.{expected_after};
 
 use crate::before::Before;
 use crate::group::Group;
@@ -194,6 +195,28 @@ impl Grouper {
         Before::go_on(&mut self.before, at, rtp);
         Group::go_on_in(&mut self.group);
         self.fed += 1;
+    }
+
+    /// The next packet, if it goes on as most do: with the number after the last one's, its timestamp and no
+    /// marker. `None` before the first packet, after one with the marker, and after a fault.
+    #[inline(always)]
+    pub fn expected(&self) -> Option<Rtp>
+        ensures { (pt : ℕ) (packets : List FlowPacket) → StandsFor pt self.now packets
+            → result ≡ expected_after packets pt }
+    {
+        let Some(before) = self.before else {
+            return None;
+        };
+        if before.marker || self.fault.is_some() {
+            return None;
+        }
+        Some(Rtp {
+            number: before.number.wrapping_add(1),
+            timestamp: before.timestamp,
+            marker: false,
+            pt: self.pt,
+            ssrc: before.source,
+        })
     }
 
     /// Takes the next packet as [`Grouper::feed`] does, and answers that it did, if it goes on after the

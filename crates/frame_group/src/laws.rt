@@ -5,6 +5,7 @@ ghost use Rattle.std.specs.Prelude.{◌≡◌, ◌++◌, ◌∷◌, [], None, So
 ghost use Rattle.timing_base.specs.Examples.{sent, sent_by, two_groups, equal_low_halves};
 ghost use Rattle.timing_base.specs.Flows.{fault};
 ghost use Rattle.frame_group.specs.Cuts.{answer_at};
+ghost use Rattle.frame_group.specs.Expected.{expected_after};
 ghost use Rattle.frame_group.specs.Sizes.{GroupsAreSized};
 
 use timing_base::PacketFault;
@@ -59,4 +60,24 @@ pub fn faults_by_hand()
     // The second group is too short, and the third would have the size of the second.
     ensures short { answer_at (sent 1 0 6 0 true ∷ sent 2 0 7 1 false ∷ sent 3 0 8 1 true
         ∷ sent 4 0 9 2 true ∷ sent 5 0 10 3 true ∷ []) 96 4 ≡ Err (PacketFault.FrameSize 2 1) }
+{}
+
+/// Worked by hand: after number 11, the tail of two groups, number 12 with its timestamp is expected; none is
+/// before the first packet, after a marker and after a fault.
+pub fn expected_by_hand()
+    ensures tail { expected_after two_groups 96
+        ≡ Some (record { number = 12; timestamp = 103; marker = false; pt = 96; ssrc = 7 }) }
+    ensures wraps { expected_after (sent 1 0 4294967295 5 false ∷ []) 96
+        ≡ Some (record { number = 0; timestamp = 5; marker = false; pt = 96; ssrc = 7 }) }
+
+    // After a gap the next number counts from the packet behind it.
+    ensures gap { expected_after (sent 1 0 6 5 false ∷ sent 2 0 9 5 false ∷ []) 96
+        ≡ Some (record { number = 10; timestamp = 5; marker = false; pt = 96; ssrc = 7 }) }
+
+    ensures first { expected_after [] 96 ≡ None }
+    ensures marker { expected_after (sent 1 0 6 5 false ∷ sent 2 0 7 5 true ∷ []) 96 ≡ None }
+    ensures fault { expected_after (sent 1 1 6 5 false ∷ sent 2 0 7 5 false ∷ []) 96 ≡ None }
+    ensures earlier_fault { expected_after (sent 1 1 6 5 false ∷ sent 2 0 7 5 false
+        ∷ sent 3 1 8 5 false ∷ []) 96 ≡ None }
+    ensures payload { expected_after (sent 1 0 6 5 false ∷ []) 97 ≡ None }
 {}

@@ -2,9 +2,10 @@ pub mod Counts
 pub mod Faults
 pub mod Intervals
 pub mod Schedules
+pub mod Asks
 pub mod Walking
 pub mod Outcomes
 pub mod Feeding
-pub mod Takings
 pub mod Goings
+pub mod Takings
 pub mod Answering

@@ -1,13 +1,13 @@
 -- The answer on a run, and on the runs of a flow.
 use Rattle.std.proofs.Common.{◌≡◌, ◌≢◌, ◌≤◌, ◌<◌, ◌+◌, ◌-◌, ◌*◌, ◌^◌, ◌↔◌, ℕ, zero, suc, Bool, true, false, List, [], ◌∷◌, ◌++◌, length, map, min, drop}
-use Rattle.std.proofs.Common.{take, refl, ap, sym, ◌∙◌, subst, arith, inl, inr, append-nil}
-use Rattle.std.specs.Prelude.{IsTrue, Option, Some, None, Result, Ok, Err, slice_index, slice_range, nat_lt, ◌==◌, if◌then◌else◌}
+use Rattle.std.proofs.Common.{take, refl, ap, sym, ◌∙◌, subst, arith, inl, inr, append-nil, length-append}
+use Rattle.std.specs.Prelude.{IsSome, IsTrue, MatchOption, Option, Some, None, Result, Ok, Err, slice_index, slice_range, nat_lt, ◌==◌, if◌then◌else◌}
 use Rattle.std.proofs.lemmas.Bool.{cases_lt}
 use Rattle.std.proofs.lemmas.Bool.Decides.{nat_tests}
 use Rattle.std.proofs.lemmas.List.{get_or-drop, get_or-map, get_or-take, length-take, length-drop, length-map, map-append}
 use Rattle.timing_base.specs.Flows.{cuts, first_fault, last_place, markers, group_len, no_packet, packet}
-use Rattle.timing_base.specs.Judged.{FlowRun, RunOutcome, absent, head_len, in_one_run, in_runs, judged, judged_run, judged_runs, no_whole_frame, refused_or}
-use Rattle.timing_base.specs.Judged.{run_at, run_outcome, runs, runs_between, stamp_of, whole_frames}
+use Rattle.timing_base.specs.Judged.{FlowRun, JudgedRun, RunOutcome, absent, head_len, in_one_run, in_runs, judged, judged_run, judged_runs, no_whole_frame}
+use Rattle.timing_base.specs.Judged.{refused_or, run_at, run_outcome, runs, runs_between, stamp_of as stamp_of_packet, whole_frames}
 use Rattle.timing_base.specs.Media.{Media}
 use Rattle.timing_base.specs.declared.fail.FailProof.{FailProof}
 use Rattle.timing_base.specs.declared.media.Kind.{Kind}
@@ -15,13 +15,21 @@ use Rattle.timing_base.specs.declared.packet.FlowPacket.{FlowPacket}
 use Rattle.timing_base.specs.declared.row.Unjudged.{Unjudged}
 use Rattle.timing_base.specs.declared.row.Unjudged.TheVariants.{Absent, NoWholeFrame}
 use Rattle.sender_params.specs.Keeps.{Confirms}
+use Rattle.interval_checker.specs.Asking.{AreKept, EndsAs, EndsAt, IsRunKept, ending_of}
 use Rattle.interval_checker.specs.Checked.{Says, SaysAt, SaysJudged, SaysOutcome}
 use Rattle.interval_checker.specs.Markers.{AreMarked, AreMarks}
 use Rattle.interval_checker.specs.Samples.{AreSampled, IsSample}
 use Rattle.interval_checker.specs.Walks.{Keeps, StandsFor, stamp_behind}
+use Rattle.interval_checker.specs.declared.asked.Asked.{Asked}
 use Rattle.interval_checker.specs.declared.claim.Claim.{Claim}
+use Rattle.interval_checker.specs.declared.ending.Ending.{Ending}
+use Rattle.interval_checker.specs.declared.ending.Ending.TheVariants as ending
+use Rattle.interval_checker.specs.declared.ending.Frames.{Frames}
 use Rattle.interval_checker.specs.declared.marks.Marks.{Marks}
+use Rattle.interval_checker.specs.declared.sample.Sample.{Sample}
 use Rattle.interval_checker.specs.declared.walk.Walk.{Walk}
+use Rattle.interval_checker.proofs.Asks.{at-before, at-last, ended-at, none-some}
+use Rattle.interval_checker.proofs.Walking.{done-long, with-open}
 
 outcome-few : (packets : List FlowPacket) (tai from to : ℕ) → length (markers packets from to) < 2
     → run_outcome packets tai from to ≡ no_whole_frame (head_len (markers packets from to) from to)
@@ -58,56 +66,64 @@ many-of xs m size are e = elim (cases_lt 1 (length xs)) as (λ _. 2 ≤ length x
   | inr few ↦ absurd (differ-size m.size size (are.alone (omega (arith, few, are.some))) e)
 ]
 
+-- a run without a marker
+pub ends-none : (pt tai : ℕ) (packets : List FlowPacket) (i : ℕ) (places : List ℕ) (w : Walk) (head : ℕ) → Keeps pt tai packets i places w → w.marks ≡ None
+    → head ≡ w.fed - w.start
+    → EndsAs w.asked w.cuts tai (run_outcome packets tai (last_place (0 ∷ places)) i) (ending.NoWholeFrame head)
+ends-none pt tai packets i places w head k e is =
+    let from = last_place (0 ∷ places) in
+    let xs = markers packets from i in
+    let none : xs ≡ [] = subst (AreMarked xs) e k.marks in
+    let few : length xs ≡ 0 = ap length none in
+    let test : (length xs == 0) ≡ true = grind (arith, nat_tests) in
+    let same : head ≡ head_len xs from i =
+    is ∙ (ap (λ s. w.fed - s) k.start ∙ (ap (λ n. n - from) k.fed
+    ∙ sym (ap (λ b. if b then i - from else slice_index xs 0 + 1 - from) test))) in
+    subst (λ o. EndsAs w.asked w.cuts tai o (ending.NoWholeFrame head)) (sym (outcome-few packets tai from i (omega (arith, few))))
+    (ap (λ (h : ℕ). ending.NoWholeFrame h) same)
+
 -- a run of one marker
-pub says-one : (claim : Claim) (packets : List FlowPacket) (i : ℕ) (places : List ℕ) (w : Walk) (m : Marks) (head : ℕ) → Keeps claim packets i places w
+pub ends-one : (pt tai : ℕ) (packets : List FlowPacket) (i : ℕ) (places : List ℕ) (w : Walk) (m : Marks) (head : ℕ) → Keeps pt tai packets i places w
     → w.marks ≡ Some m → m.size ≡ None
     → head ≡ m.first + 1 - w.start
-    → SaysOutcome claim.media claim.kind claim.proof (run_outcome packets claim.tai (last_place (0 ∷ places)) i) (Err (NoWholeFrame head))
-says-one claim packets i places w m head k e size is =
+    → EndsAs w.asked w.cuts tai (run_outcome packets tai (last_place (0 ∷ places)) i) (ending.NoWholeFrame head)
+ends-one pt tai packets i places w m head k e size is =
     let from = last_place (0 ∷ places) in
     let xs = markers packets from i in
     let are = are-marks xs w.marks m e k.marks in
     let one : length xs ≡ 1 = alone-of xs m are size in
     let same : head ≡ head_len xs from i = is ∙ (ap (λ s. m.first + 1 - s) k.start ∙ (ap (λ x. x + 1 - from) are.first ∙ sym (head-one xs from i one))) in
-    subst (λ o. SaysOutcome claim.media claim.kind claim.proof o (Err (NoWholeFrame head))) (sym (outcome-few packets claim.tai from i (omega (arith, one))))
-    (ap (λ (h : ℕ). let r : Result Bool Unjudged = Err (NoWholeFrame h) in r) same)
+    subst (λ o. EndsAs w.asked w.cuts tai o (ending.NoWholeFrame head)) (sym (outcome-few packets tai from i (omega (arith, one))))
+    (ap (λ (h : ℕ). ending.NoWholeFrame h) same)
 
 -- the stamps of judged packets, one by one
 stamps-at : (packets : List FlowPacket) (tai first last k : ℕ) → first ≤ last → last < length packets → k < last - first
-    → slice_index (map (stamp_of tai) (slice_range packets (first + 1) (last + 1))) k ≡ (packet packets (first + 1 + k)).at + tai * 10 ^ 9
+    → slice_index (map (stamp_of_packet tai) (slice_range packets (first + 1) (last + 1))) k ≡ (packet packets (first + 1 + k)).at + tai * 10 ^ 9
 stamps-at packets tai first last k order within low =
     let rest = drop (first + 1) packets in
     let size : length rest ≡ length packets - (first + 1) = length-drop (first + 1) packets in
     let part = take ((last + 1) - (first + 1)) rest in
     let long : length part ≡ min ((last + 1) - (first + 1)) (length rest) = length-take ((last + 1) - (first + 1)) rest in
     let there : k < length part = omega (arith, long, size, order, within, low) in
-    get_or-map (stamp_of tai) part k no_packet 0 there
-    ∙ ap (stamp_of tai) (get_or-take ((last + 1) - (first + 1)) rest k no_packet (omega (arith, low)) ∙ get_or-drop (first + 1) packets k no_packet)
+    get_or-map (stamp_of_packet tai) part k no_packet 0 there
+    ∙ ap (stamp_of_packet tai) (get_or-take ((last + 1) - (first + 1)) rest k no_packet (omega (arith, low)) ∙ get_or-drop (first + 1) packets k no_packet)
 
 length-stamps : (packets : List FlowPacket) (tai first last : ℕ) → first ≤ last → last < length packets
-    → length (map (stamp_of tai) (slice_range packets (first + 1) (last + 1))) ≡ last - first
+    → length (map (stamp_of_packet tai) (slice_range packets (first + 1) (last + 1))) ≡ last - first
 length-stamps packets tai first last order within =
     let rest = drop (first + 1) packets in
     let size : length rest ≡ length packets - (first + 1) = length-drop (first + 1) packets in
     let part = take ((last + 1) - (first + 1)) rest in
     let long : length part ≡ min ((last + 1) - (first + 1)) (length rest) = length-take ((last + 1) - (first + 1)) rest in
-    length-map part (stamp_of tai) ∙ omega (arith, long, size, order, within)
+    length-map part (stamp_of_packet tai) ∙ omega (arith, long, size, order, within)
 
-sample-fewer : (claim : Claim) (stamps : ℕ → ℕ) (few many : ℕ) (w : Walk) → few ≤ many → IsSample claim.proof stamps many w.sample
-    → IsSample claim.proof stamps few w.sample
-sample-fewer claim stamps few many w h s = record {
-  first = λ l. s.first (omega (arith, l, h));
-  from = λ l. s.from (omega (arith, l, h));
-  to = λ l. s.to (omega (arith, l, h));
-  last_counted = λ o l. s.last_counted o (omega (arith, l, h));
-  behind = λ l. s.behind (omega (arith, l, h));
-}
+kept-fewer : (a : Asked) (run few many : ℕ) (stamps : ℕ → ℕ) → few ≤ many → AreKept a run stamps many → AreKept a run stamps few
+kept-fewer a run few many stamps h kept place low there = kept place (omega (arith, low, h)) there
 
-says-judged : (m : Media) (kind : Kind) (f : FailProof) (packets : List FlowPacket) (tai from to : ℕ) (b : Bool)
-    → (IsTrue b ↔ Confirms m (judged_run packets tai from to).n (judged_run packets tai from to).stamps kind f)
-    → SaysJudged m kind f (judged_run packets tai from to) (Ok b)
-says-judged m kind f packets tai from to true h = h.0 refl
-says-judged m kind f packets tai from to false h = λ c. differ (h.1 c)
+says-judged : (m : Media) (kind : Kind) (f : FailProof) (j : JudgedRun) (b : Bool) → (IsTrue b ↔ Confirms m j.n j.stamps kind f)
+    → SaysJudged m kind f j (Ok b)
+says-judged m kind f j true h = h.0 refl
+says-judged m kind f j false h = λ c. differ (h.1 c)
   where
     differ : (false ≡ true) → ⊥
     differ e = cc
@@ -116,23 +132,21 @@ size-is : (s : Option ℕ) (n k : ℕ) → s ≡ Some n → s ≡ Some k → n �
 size-is s n k e f = cc
 
 -- a run of two markers and more
-pub says-some : (claim : Claim) (packets : List FlowPacket) (i : ℕ) (places : List ℕ) (w : Walk) (m : Marks) (size : ℕ) (b : Bool)
-    → Keeps claim packets i places w → w.marks ≡ Some m → m.size ≡ Some size
-    → ((stamps : List ℕ) → length stamps ≡ m.last - m.first → AreSampled claim.proof claim.tai stamps w.sample → IsTrue b
-    ↔ Confirms claim.media size stamps claim.kind claim.proof)
-    → SaysOutcome claim.media claim.kind claim.proof (run_outcome packets claim.tai (last_place (0 ∷ places)) i) (Ok b)
-says-some claim packets i places w m size b k e is confirms =
+pub ends-some : (pt tai : ℕ) (packets : List FlowPacket) (i : ℕ) (places : List ℕ) (w : Walk) (m : Marks) (size : ℕ) (frames : Frames)
+    → Keeps pt tai packets i places w → w.marks ≡ Some m → m.size ≡ Some size → frames.size ≡ size → frames.count ≡ m.last - m.first
+    → EndsAs w.asked w.cuts tai (run_outcome packets tai (last_place (0 ∷ places)) i) (ending.WholeFrames frames)
+ends-some pt tai packets i places w m size frames k e is sized counted =
     let from = last_place (0 ∷ places) in
     let xs = markers packets from i in
     let are = are-marks xs w.marks m e k.marks in
     let two : 2 ≤ length xs = many-of xs m size are is in
-    let stamps : List ℕ = map (stamp_of claim.tai) (slice_range packets (m.first + 1) (m.last + 1)) in
+    let stamps : List ℕ = map (stamp_of_packet tai) (slice_range packets (m.first + 1) (m.last + 1)) in
     let later : m.last < i = omega (arith, k.sized.later two, are.last) in
     let within : m.last < length packets = omega (arith, later, k.within) in
-    let long : length stamps ≡ m.last - m.first = length-stamps packets claim.tai m.first m.last m.order within in
-    let added : (x : ℕ) → x < length stamps → slice_index stamps x ≡ stamp_behind packets m.first x + claim.tai * 10 ^ 9 = λ x l.
-    stamps-at packets claim.tai m.first m.last x m.order within (omega (arith, l, long)) in
-    let sampled : AreSampled claim.proof claim.tai stamps w.sample = record {
+    let long : length stamps ≡ m.last - m.first = length-stamps packets tai m.first m.last m.order within in
+    let added : (x : ℕ) → x < length stamps → slice_index stamps x ≡ stamp_behind packets m.first x + tai * 10 ^ 9 = λ x l.
+    stamps-at packets tai m.first m.last x m.order within (omega (arith, l, long)) in
+    let kept : IsRunKept w.asked w.cuts tai stamps = record {
       raw = stamp_behind packets m.first;
       added = added;
       rising = λ j l order low.
@@ -143,66 +157,111 @@ says-some claim packets i places w m size b k e is confirms =
             k.rising (m.first + 1 + j) (m.first + 1 + l) (omega (arith, order))
                 (omega (arith, low, long, later)),
           );
-      sample = sample-fewer claim (stamp_behind packets m.first) (length stamps) (i - (m.first + 1)) w (omega (arith, long, later)) (k.sample m e);
+      kept = kept-fewer w.asked w.cuts (length stamps) (i - (m.first + 1)) (stamp_behind packets m.first) (omega (arith, long, later)) (k.kept m e);
     } in
-    let same_size : size ≡ group_len xs = size-is m.size size (group_len xs) is (are.more two) in
-    let same_stamps : stamps ≡ (judged_run packets claim.tai from i).stamps =
-    ap (λ a. map (stamp_of claim.tai) (slice_range packets (a + 1) (m.last + 1))) are.first
-    ∙ ap (λ z. map (stamp_of claim.tai) (slice_range packets (slice_index xs 0 + 1) (z + 1))) are.last in
-    let here : IsTrue b ↔ Confirms claim.media (group_len xs) (judged_run packets claim.tai from i).stamps claim.kind claim.proof =
-    subst (λ n. IsTrue b ↔ Confirms claim.media n (judged_run packets claim.tai from i).stamps claim.kind claim.proof) same_size
-    (subst (λ s. IsTrue b ↔ Confirms claim.media size s claim.kind claim.proof) same_stamps (confirms stamps long sampled)) in
-    subst (λ o. SaysOutcome claim.media claim.kind claim.proof o (Ok b)) (sym (outcome-many packets claim.tai from i two))
-    (says-judged claim.media claim.kind claim.proof packets claim.tai from i b here)
+    let same_size : frames.size ≡ group_len xs = sized ∙ size-is m.size size (group_len xs) is (are.more two) in
+    let same_stamps : stamps ≡ (judged_run packets tai from i).stamps =
+    ap (λ a. map (stamp_of_packet tai) (slice_range packets (a + 1) (m.last + 1))) are.first
+    ∙ ap (λ z. map (stamp_of_packet tai) (slice_range packets (slice_index xs 0 + 1) (z + 1))) are.last in
+    let here : IsRunKept w.asked w.cuts tai (judged_run packets tai from i).stamps =
+    subst (IsRunKept w.asked w.cuts tai) same_stamps kept in
+    let count : frames.count ≡ length (judged_run packets tai from i).stamps = counted ∙ (sym long ∙ ap length same_stamps) in
+    subst (λ o. EndsAs w.asked w.cuts tai o (ending.WholeFrames frames)) (sym (outcome-many packets tai from i two)) ((same_size, count), here)
 
-says-last : (m : Media) (kind : Kind) (f : FailProof) (outs : List RunOutcome) (o : RunOutcome) (run : ℕ) (a : Result Bool Unjudged) → length outs ≡ run
-    → SaysOutcome m kind f o a → SaysAt m kind f (outs ++ o ∷ []) run a
-says-last m kind f [] o run a e h = subst (λ r. SaysAt m kind f (o ∷ []) r a) e h
-says-last m kind f (x ∷ outs) o zero a e h = absurd (omega (arith, e))
-says-last m kind f (x ∷ outs) o (suc run) a e h = says-last m kind f outs o run a (omega (arith, e)) h
+-- the stamps that a fail needs are those of its run
+pub sampled-of : (a : Asked) (run tai : ℕ) (f : FailProof) (stamps : List ℕ) (s : Sample) → IsRunKept a run tai stamps
+    → ((raw : ℕ → ℕ) (count : ℕ) → AreKept a run raw count → ((k : ℕ) → k < count → raw 0 ≤ raw k) → IsSample f raw count s)
+    → AreSampled f tai stamps s
+sampled-of a run tai f stamps s kept is = record {
+  raw = kept.raw;
+  added = kept.added;
+  rising = kept.rising;
+  sample = is kept.raw (length stamps) kept.kept (λ k low.
+      omega (arith, kept.added 0 (omega (arith, low)), kept.added k low, kept.rising 0 k (omega arith) low));
+}
 
-says-other : (m : Media) (kind : Kind) (f : FailProof) (outs : List RunOutcome) (o : RunOutcome) (run : ℕ) (a : Result Bool Unjudged) → length outs ≢ run
-    → SaysAt m kind f outs run a → SaysAt m kind f (outs ++ o ∷ []) run a
-says-other m kind f [] o zero a ne h = absurd (ne refl)
-says-other m kind f [] o (suc run) a ne h = h
-says-other m kind f (x ∷ outs) o zero a ne h = h
-says-other m kind f (x ∷ outs) o (suc run) a ne h = says-other m kind f outs o run a (λ e. ne (omega (arith, e))) h
+-- a run without a whole frame
+pub says-head : (m : Media) (kind : Kind) (f : FailProof) (a : Asked) (run tai head : ℕ) (o : RunOutcome) → EndsAs a run tai o (ending.NoWholeFrame head)
+    → SaysOutcome m kind f o (Err (NoWholeFrame head))
+says-head m kind f a run tai head (no_whole_frame other) h = ap (λ (n : ℕ). let r : Result Bool Unjudged = Err (NoWholeFrame n) in r) (head-of head other h)
+  where
+    head-of : (x y : ℕ) → ending.NoWholeFrame x ≡ ending.NoWholeFrame y → x ≡ y
+    head-of x y e = cc
+says-head m kind f a run tai head (whole_frames j) h = absurd h.0
 
-with-open : (claim : Claim) (packets : List FlowPacket) (i : ℕ) (places : List ℕ) (w : Walk) (k : Keeps claim packets i places w)
-    → map (λ (r : FlowRun). r.outcome) (runs_between packets claim.tai i 0 places)
-    ≡ map (λ (r : FlowRun). r.outcome) k.done ++ run_outcome packets claim.tai (last_place (0 ∷ places)) i ∷ []
-with-open claim packets i places w k =
-    ap (map (λ (r : FlowRun). r.outcome)) (k.runs i) ∙ map-append (λ (r : FlowRun). r.outcome) k.done
-    (run_at packets claim.tai (last_place (0 ∷ places)) i ∷ [])
+-- and one with whole frames
+pub says-frames : (m : Media) (kind : Kind) (f : FailProof) (a : Asked) (run tai : ℕ) (frames : Frames) (s : Sample) (b : Bool) (o : RunOutcome)
+    → EndsAs a run tai o (ending.WholeFrames frames)
+    → ((raw : ℕ → ℕ) (count : ℕ) → AreKept a run raw count → ((k : ℕ) → k < count → raw 0 ≤ raw k) → IsSample f raw count s)
+    → ((stamps : List ℕ) → length stamps ≡ frames.count → AreSampled f tai stamps s → IsTrue b ↔ Confirms m frames.size stamps kind f)
+    → SaysOutcome m kind f o (Ok b)
+says-frames m kind f a run tai frames s b (no_whole_frame head) h sample confirms = cc
+says-frames m kind f a run tai frames s b (whole_frames j) h sample confirms =
+    says-judged m kind f j b (subst (λ n. IsTrue b ↔ Confirms m n j.stamps kind f) h.0.0
+    (confirms j.stamps (sym h.0.1) (sampled-of a run tai f j.stamps s h.1 sample)))
 
--- the open run is the claim's
-pub answer-open : (claim : Claim) (packets : List FlowPacket) (i : ℕ) (places : List ℕ) (w : Walk) (a : Result Bool Unjudged) → Keeps claim packets i places w
-    → w.cuts ≡ claim.run
-    → SaysOutcome claim.media claim.kind claim.proof (run_outcome packets claim.tai (last_place (0 ∷ places)) i) a
-    → SaysAt claim.media claim.kind claim.proof (map (λ (r : FlowRun). r.outcome) (runs_between packets claim.tai i 0 places)) claim.run a
-answer-open claim packets i places w a k e h =
-    let long : length (map (λ (r : FlowRun). r.outcome) k.done) ≡ claim.run =
-    length-map k.done (λ (r : FlowRun). r.outcome) ∙ (k.count ∙ (sym k.cut_count ∙ e)) in
-    subst (λ outs. SaysAt claim.media claim.kind claim.proof outs claim.run a) (sym (with-open claim packets i places w k))
-    (says-last claim.media claim.kind claim.proof (map (λ (r : FlowRun). r.outcome) k.done) _ claim.run a long h)
+-- the answer on a run, by how it ends
+pub says-at : (m : Media) (kind : Kind) (f : FailProof) (a : Asked) (run tai behind : ℕ) (os : List RunOutcome) (e : Ending) (answer : Result Bool Unjudged)
+    → EndsAt a run tai os behind e
+    → ((o : RunOutcome) → EndsAs a run tai o e → SaysOutcome m kind f o answer) → SaysAt m kind f os behind answer
+says-at m kind f a run tai behind [] e answer h says = absurd h
+says-at m kind f a run tai zero (o ∷ os) e answer h says = says o h
+says-at m kind f a run tai (suc behind) (o ∷ os) e answer h says = says-at m kind f a run tai behind os e answer h says
 
--- another is
-pub answer-done : (claim : Claim) (packets : List FlowPacket) (i : ℕ) (places : List ℕ) (w : Walk) → Keeps claim packets i places w → w.cuts ≢ claim.run
-    → SaysAt claim.media claim.kind claim.proof (map (λ (r : FlowRun). r.outcome) (runs_between packets claim.tai i 0 places)) claim.run w.answer
-answer-done claim packets i places w k ne =
-    let long : length (map (λ (r : FlowRun). r.outcome) k.done) ≡ w.cuts = length-map k.done (λ (r : FlowRun). r.outcome) ∙ (k.count ∙ sym k.cut_count) in
-    subst (λ outs. SaysAt claim.media claim.kind claim.proof outs claim.run w.answer) (sym (with-open claim packets i places w k))
-    (says-other claim.media claim.kind claim.proof (map (λ (r : FlowRun). r.outcome) k.done) _ claim.run w.answer (λ e. ne (sym long ∙ e)) k.answer)
+-- a run that isn't there
+pub says-beyond : (m : Media) (kind : Kind) (f : FailProof) (run : ℕ) (os : List RunOutcome) → length os ≤ run → SaysAt m kind f os run (Ok false)
+says-beyond m kind f run [] low = refl
+says-beyond m kind f zero (o ∷ os) low = absurd (omega (arith, low))
+says-beyond m kind f (suc run) (o ∷ os) low = says-beyond m kind f run os (omega (arith, low))
 
-ends : (claim : Claim) (packets : List FlowPacket) (w : Walk) → StandsFor claim w packets
-    → Keeps claim packets (length packets) (cuts packets (length packets)) w
-ends claim packets w s = subst (λ xs. Keeps claim xs (length packets) (cuts xs (length packets)) w) (append-nil packets) (s.ahead [])
+long-open : (pt tai : ℕ) (packets : List FlowPacket) (i : ℕ) (places : List ℕ) (w : Walk) → Keeps pt tai packets i places w
+    → length (map (λ (r : FlowRun). r.outcome) (runs_between packets tai i 0 places)) ≡ w.cuts + 1
+long-open pt tai packets i places w k =
+    let outs = map (λ (r : FlowRun). r.outcome) k.done in
+    let o = run_outcome packets tai (last_place (0 ∷ places)) i in
+    ap length (with-open pt tai packets i places w k) ∙ (length-append outs (o ∷ []) ∙ ap (λ n. n + 1) (done-long pt tai packets i places w k))
+
+-- the open run
+pub at-open : (pt tai : ℕ) (packets : List FlowPacket) (i : ℕ) (places : List ℕ) (w : Walk) (run : ℕ) (e : Ending) → Keeps pt tai packets i places w
+    → run ≡ w.cuts
+    → EndsAs w.asked w.cuts tai (run_outcome packets tai (last_place (0 ∷ places)) i) e
+    → EndsAt w.asked run tai (map (λ (r : FlowRun). r.outcome) (runs_between packets tai i 0 places)) run e
+at-open pt tai packets i places w run e k here ends =
+    let outs = map (λ (r : FlowRun). r.outcome) k.done in
+    let o = run_outcome packets tai (last_place (0 ∷ places)) i in
+    subst (λ os. EndsAt w.asked run tai os run e) (sym (with-open pt tai packets i places w k))
+    (at-last w.asked tai run run outs o e (done-long pt tai packets i places w k ∙ sym here)
+    (subst (λ r. EndsAs w.asked r tai o e) (sym here) ends))
+
+-- a run that is over
+pub at-done : (pt tai : ℕ) (packets : List FlowPacket) (i : ℕ) (places : List ℕ) (w : Walk) (run : ℕ) (result : Option Ending)
+    → Keeps pt tai packets i places w → run < w.cuts
+    → result ≡ ending_of w.asked run → IsSome (ending_of w.asked run)
+    → MatchOption result (length (map (λ (r : FlowRun). r.outcome) (runs_between packets tai i 0 places)) ≤ run)
+    (EndsAt w.asked run tai (map (λ (r : FlowRun). r.outcome) (runs_between packets tai i 0 places)) run)
+at-done pt tai packets i places w run None k low e some = absurd (none-some (ending_of w.asked run) (sym e) some)
+at-done pt tai packets i places w run (Some x) k low e some =
+    let outs = map (λ (r : FlowRun). r.outcome) k.done in
+    let o = run_outcome packets tai (last_place (0 ∷ places)) i in
+    let long = done-long pt tai packets i places w k in
+    subst (λ os. EndsAt w.asked run tai os run x) (sym (with-open pt tai packets i places w k))
+    (at-before w.asked tai run run outs o x (ended-at w.asked tai 0 run run outs x (omega arith) (omega (arith, long, low)) (sym e) k.ended))
+
+-- a run that is not there
+pub at-beyond : (pt tai : ℕ) (packets : List FlowPacket) (i : ℕ) (places : List ℕ) (w : Walk) (run : ℕ) → Keeps pt tai packets i places w → w.cuts < run
+    → length (map (λ (r : FlowRun). r.outcome) (runs_between packets tai i 0 places)) ≤ run
+at-beyond pt tai packets i places w run k high = omega (arith, long-open pt tai packets i places w k, high)
+
+whole-keeps : (pt tai : ℕ) (packets : List FlowPacket) (w : Walk) → StandsFor pt tai w packets
+    → Keeps pt tai packets (length packets) (cuts packets (length packets)) w
+whole-keeps pt tai packets w s =
+    subst (λ xs. Keeps pt tai xs (length packets) (cuts xs (length packets)) w) (append-nil packets) (s.ahead [])
 
 -- no packet came
-pub finish-absent : (claim : Claim) (packets : List FlowPacket) (w : Walk) → StandsFor claim w packets → w.fed ≡ 0
+pub finish-absent : (claim : Claim) (packets : List FlowPacket) (w : Walk) → StandsFor claim.media.pt claim.tai w packets → w.fed ≡ 0
     → Says claim.media claim.kind claim.proof claim.run (judged packets claim.media.pt claim.tai) (Err Absent)
 finish-absent claim packets w s e =
-    let k = ends claim packets w s in
+    let k = whole-keeps claim.media.pt claim.tai packets w s in
     let none : length packets ≡ 0 = sym k.fed ∙ e in
     let test : (length packets == 0) ≡ true = grind (arith, nat_tests) in
     subst (λ v. Says claim.media claim.kind claim.proof claim.run v (Err Absent))
@@ -225,12 +284,12 @@ by_cuts claim packets a true e h =
 by_cuts claim packets a false e h = h
 
 -- the flow ends here
-pub finish-says : (claim : Claim) (packets : List FlowPacket) (w : Walk) (a : Result Bool Unjudged) → StandsFor claim w packets → w.fed ≢ 0
-    → ((all : List FlowPacket) (i : ℕ) (places : List ℕ) → Keeps claim all i places w
+pub finish-says : (claim : Claim) (packets : List FlowPacket) (w : Walk) (a : Result Bool Unjudged) → StandsFor claim.media.pt claim.tai w packets → w.fed ≢ 0
+    → ((all : List FlowPacket) (i : ℕ) (places : List ℕ) → Keeps claim.media.pt claim.tai all i places w
     → SaysAt claim.media claim.kind claim.proof (map (λ (r : FlowRun). r.outcome) (runs_between all claim.tai i 0 places)) claim.run a)
     → Says claim.media claim.kind claim.proof claim.run (judged packets claim.media.pt claim.tai) a
 finish-says claim packets w a s ne here =
-    let k = ends claim packets w s in
+    let k = whole-keeps claim.media.pt claim.tai packets w s in
     let some : length packets ≢ 0 = λ e. ne (k.fed ∙ e) in
     let test : (length packets == 0) ≡ false = grind (arith, nat_tests) in
     let sound : first_fault packets claim.media.pt ≡ None = k.sound in

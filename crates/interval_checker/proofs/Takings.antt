@@ -1,76 +1,253 @@
--- Records that are taken into a walk, one after the other.
-use Rattle.std.proofs.Common.{◌≡◌, ◌+◌, ℕ, Bool, true, false, List, [], ◌∷◌, ◌++◌, refl, sym, ap, ◌∙◌, subst}
-use Rattle.std.specs.Prelude.{◌≢◌, if◌then◌else◌, Option, Some, None, Result, Ok, Err, IfOk, IfErr, OnOk}
+-- Records that are given to readings, one after the other.
+use Rattle.std.proofs.Common.{◌≡◌, ◌≢◌, ◌≤◌, ◌<◌, ◌+◌, ◌^◌, ℕ, zero, suc, Bool, true, false, List, [], ◌∷◌, ◌++◌, length, map, take, get_or, set, refl, sym, ap}
+use Rattle.std.proofs.Common.{◌∙◌, subst, append_assoc, append-nil, arith}
+use Rattle.std.specs.Prelude.{if◌then◌else◌, IfErr, OnOk, Option, Some, None, Result, Ok, Err}
 use Rattle.std.specs.List.{cons_option}
+use Rattle.std.specs.Result.{result_err}
+use Rattle.std.proofs.Math.Seq.{take-append_seam}
 use Rattle.std.proofs.lemmas.List.Elements.{filter_map-append}
-use Rattle.timing_base.specs.Captures.{Record}
+use Rattle.timing_base.specs.Captures.{Record, raised}
 use Rattle.timing_base.specs.Judged.{judged}
+use Rattle.timing_base.specs.Media.{Media}
+use Rattle.timing_base.specs.Targets.{target_of}
 use Rattle.timing_base.specs.declared.capture.FileNote.{FileNote}
+use Rattle.timing_base.specs.declared.capture.FileNote.TheVariants.{Refused}
+use Rattle.timing_base.specs.declared.capture.PcapFault.TheVariants as fault
+use Rattle.timing_base.specs.declared.fail.FailProof.{FailProof}
+use Rattle.timing_base.specs.declared.media.Kind.{Kind}
 use Rattle.timing_base.specs.declared.packet.FlowPacket.{FlowPacket}
 use Rattle.timing_base.specs.declared.row.Unjudged.{Unjudged}
 use Rattle.pcap_reader.specs.Taken.{HasTaken}
 use Rattle.pcap_reader.specs.declared.records.Taken.{Taken}
 use Rattle.pcap_reader.proofs.TakenRecords.{taken-whole}
-use Rattle.timing_base.specs.declared.capture.FileNote.TheVariants.{Refused}
-use Rattle.timing_base.specs.declared.capture.PcapFault.TheVariants as fault
-use Rattle.timing_base.specs.Media.{Media}
-use Rattle.timing_base.specs.Targets.{target_of}
 use Rattle.udp_rtp.specs.Flow.{datagram_packet, flow, flow_packet, is_same_target}
-use Rattle.udp_rtp.specs.Frames.{Datagram}
+use Rattle.udp_rtp.specs.Frames.{Datagram, datagram_of}
+use Rattle.udp_rtp.specs.Reading.{reading}
 use Rattle.udp_rtp.proofs.Flows.{flow-append_none, flow-append_some}
-use Rattle.interval_checker.specs.Checked.{Says}
-use Rattle.interval_checker.specs.Taking.{FeedsOn, RefusesOn, TakesAll}
+use Rattle.interval_checker.specs.Asking.{AsksNoLess}
+use Rattle.interval_checker.specs.Checked.{IsRefused, Says}
+use Rattle.interval_checker.specs.Readings.{HasRead, HasReadBy, HaveRoom, ReadOn, ReadsOn, asked_by, count_taken}
+use Rattle.interval_checker.specs.Taking.{FeedsOn, TakesRecord, TakesUpTo}
+use Rattle.interval_checker.specs.Walks.{StandsFor, asked_of}
+use Rattle.interval_checker.specs.declared.reading.Reading.{Reading}
 use Rattle.interval_checker.specs.declared.records.Checking.{Checking}
-use Rattle.interval_checker.specs.Walks.{StandsFor}
+use Rattle.interval_checker.specs.declared.walk.Walk.{Walk}
+use Rattle.interval_checker.proofs.Asks.{no_less-same}
+use Rattle.interval_checker.proofs.Goings.{TakesAll}
+
+-- the packet of a record
+abbrev pub packet_with : Record → Datagram → FlowPacket
+packet_with r d = record { rec = r.number; at = r.stamp; rtp = reading d.payload }
+
+-- a record with a datagram is a packet of the media's flow, or not, by its target alone
+pub packet_by : (m : Media) (r : Record) (d : Datagram) (b : Bool) → datagram_of r.bytes ≡ Some d → is_same_target d.target (target_of m) ≡ b
+    → flow_packet m r ≡ (if b then Some (packet_with r d) else None)
+packet_by m r d b is same =
+    ap (datagram_packet m r.number r.stamp) is ∙ ap (λ (x : Bool). if x then Some (packet_with r d) else None) same
+
+-- what follows changes nothing where the flow isn't judged
+refused-more : (x : Reading) (items more : List Record) (why : Unjudged) → HasReadBy (Some why) x items → HasReadBy (Some why) x (items ++ more)
+refused-more x items more why h rest =
+    subst (λ l. IsRefused (judged (flow l x.media) x.media.pt x.tai) why) (sym (append_assoc items more rest)) (h (more ++ rest))
+
+has-none : (o : Option Unjudged) (x : Reading) (items : List Record) (r : Record) → flow_packet x.media r ≡ None → HasReadBy o x items
+    → HasReadBy o x (items ++ r ∷ [])
+has-none None x items r e h = subst (StandsFor x.media.pt x.tai x.walk) (sym (flow-append_none x.media items r e)) h
+has-none (Some why) x items r e h = refused-more x items (r ∷ []) why h
 
 -- a record that is no packet of the flow
-pub record-none : (x : Checking) (r : Record) → flow_packet x.claim.now.media r ≡ None → FeedsOn x x (r ∷ [])
-record-none x r e = record {
-  claim = refl;
-  feeds = λ items s. subst (StandsFor x.claim.now x.walk) (sym (flow-append_none x.claim.now.media items r e)) s;
+pub reads-nothing : (x : Reading) (r : Record) → flow_packet x.media r ≡ None → ReadsOn x x (r ∷ [])
+reads-nothing x r e = record {
+  media = refl;
+  tai = refl;
+  asked = no_less-same (asked_by x);
+  reads = λ items h. has-none x.refused x items r e h;
 }
 
--- a record that is one
-pub record-some : {T : Type 0} (old new : Checking) (r : Record) (p : FlowPacket) (result : Result T Unjudged)
-    → flow_packet old.claim.now.media r ≡ Some p → new.claim.now ≡ old.claim.now
-    → ((packets : List FlowPacket) → StandsFor old.claim.now old.walk packets → OnOk result (StandsFor old.claim.now new.walk (packets ++ p ∷ [])))
-    → IfOk result (λ _. FeedsOn old new (r ∷ []))
-record-some old new r p (Ok x) e same h = record {
-  claim = same;
-  feeds = λ items s.
-      subst (StandsFor old.claim.now new.walk) (sym (flow-append_some old.claim.now.media items r p e)) (h (flow items old.claim.now.media) s);
+-- any record where the flow isn't judged
+pub reads-refused : (x : Reading) (r : Record) (why : Unjudged) → x.refused ≡ Some why → ReadsOn x x (r ∷ [])
+reads-refused x r why e = record {
+  media = refl;
+  tai = refl;
+  asked = no_less-same (asked_by x);
+  reads = λ items h.
+      subst (λ o. HasReadBy o x (items ++ r ∷ [])) (sym e) (refused-more x items (r ∷ []) why (subst (λ o. HasReadBy o x items) e h));
 }
-record-some old new r p (Err why) e same h = tt
+
+-- a record that is a packet of the flow
+pub reads-packet : (old new : Reading) (r : Record) (p : FlowPacket) → flow_packet old.media r ≡ Some p → old.refused ≡ None → new.refused ≡ None
+    → new.media ≡ old.media → new.tai ≡ old.tai
+    → AsksNoLess (asked_by old) (asked_by new)
+    → ((packets : List FlowPacket) → StandsFor old.media.pt old.tai old.walk packets → StandsFor old.media.pt old.tai new.walk (packets ++ p ∷ []))
+    → ReadsOn old new (r ∷ [])
+reads-packet old new r p e was now media tai asked goes = record {
+  media = media;
+  tai = tai;
+  asked = asked;
+  reads = λ items h.
+      let stands : StandsFor old.media.pt old.tai old.walk (flow items old.media) = subst (λ o. HasReadBy o old items) was h in
+      let more : StandsFor old.media.pt old.tai new.walk (flow (items ++ r ∷ []) old.media) =
+      subst (StandsFor old.media.pt old.tai new.walk) (sym (flow-append_some old.media items r p e)) (goes (flow items old.media) stands) in
+      let at_media = subst (λ (m : Media). StandsFor m.pt old.tai new.walk (flow (items ++ r ∷ []) m)) (sym media) more in
+      let there : HasReadBy None new (items ++ r ∷ []) =
+      subst (λ t. StandsFor new.media.pt t new.walk (flow (items ++ r ∷ []) new.media)) (sym tai) at_media in
+      subst (λ o. HasReadBy o new (items ++ r ∷ [])) (sym now) there;
+}
 
 -- a record with which the flow isn't judged
-pub record-ends : {T : Type 0} (old new : Checking) (r : Record) (p : FlowPacket) (result : Result T Unjudged)
-    → flow_packet old.claim.now.media r ≡ Some p
-    → ((packets rest : List FlowPacket) → StandsFor old.claim.now old.walk packets
-    → IfErr result (λ why. Says old.claim.now.media old.claim.now.kind old.claim.now.proof old.claim.now.run
-    (judged (packets ++ p ∷ rest) old.claim.now.media.pt old.claim.now.tai) (Err why)))
-    → IfErr result (λ why. RefusesOn old new why (r ∷ []))
-record-ends old new r p (Ok x) e h = tt
-record-ends old new r p (Err why) e h = λ items rest s.
-    let claim = old.claim.now in
-    let all : flow (items ++ (r ∷ rest)) claim.media ≡ flow items claim.media ++ p ∷ flow rest claim.media =
-    filter_map-append (flow_packet claim.media) items (r ∷ rest) ∙ ap (λ o. flow items claim.media ++ cons_option o (flow rest claim.media)) e in
-    subst (λ f. Says claim.media claim.kind claim.proof claim.run (judged f claim.media.pt claim.tai) (Err why)) (sym all)
-    (h (flow items claim.media) (flow rest claim.media) s)
+pub reads-fault : (old new : Reading) (r : Record) (p : FlowPacket) (why : Unjudged) → flow_packet old.media r ≡ Some p → old.refused ≡ None
+    → new.refused ≡ Some why
+    → new.media ≡ old.media → new.tai ≡ old.tai
+    → AsksNoLess (asked_by old) (asked_by new)
+    → ((packets rest : List FlowPacket) → StandsFor old.media.pt old.tai old.walk packets
+    → IsRefused (judged (packets ++ p ∷ rest) old.media.pt old.tai) why)
+    → ReadsOn old new (r ∷ [])
+reads-fault old new r p why e was now media tai asked ends = record {
+  media = media;
+  tai = tai;
+  asked = asked;
+  reads = λ items h.
+      let stands : StandsFor old.media.pt old.tai old.walk (flow items old.media) = subst (λ o. HasReadBy o old items) was h in
+      let refused : (rest : List Record) → IsRefused (judged (flow ((items ++ r ∷ []) ++ rest) old.media) old.media.pt old.tai) why = λ rest.
+      let whole : flow (items ++ (r ∷ rest)) old.media ≡ flow items old.media ++ p ∷ flow rest old.media =
+      filter_map-append (flow_packet old.media) items (r ∷ rest)
+      ∙ ap (λ o. flow items old.media ++ cons_option o (flow rest old.media)) e in
+      subst (λ l. IsRefused (judged (flow l old.media) old.media.pt old.tai) why) (sym (append_assoc items (r ∷ []) rest))
+      (subst (λ f. IsRefused (judged f old.media.pt old.tai) why) (sym whole) (ends (flow items old.media) (flow rest old.media) stands)) in
+      let at_media = subst (λ (m : Media). (rest : List Record) → IsRefused (judged (flow ((items ++ r ∷ []) ++ rest) m) m.pt old.tai) why) (sym media)
+      refused in
+      let there : HasReadBy (Some why) new (items ++ r ∷ []) =
+      subst (λ t. (rest : List Record) → IsRefused (judged (flow ((items ++ r ∷ []) ++ rest) new.media) new.media.pt t) why) (sym tai) at_media in
+      subst (λ o. HasReadBy o new (items ++ r ∷ [])) (sym now) there;
+}
+
+-- a record that is a packet of the flow, by what the walk says of it
+reads-fed : {T : Type 0} (result : Result T Unjudged) (old new : Reading) (r : Record) (p : FlowPacket) → flow_packet old.media r ≡ Some p
+    → old.refused ≡ None → new.refused ≡ result_err result
+    → new.media ≡ old.media → new.tai ≡ old.tai
+    → AsksNoLess (asked_by old) (asked_by new)
+    → ((tai : ℕ) (packets : List FlowPacket) → StandsFor old.media.pt tai old.walk packets
+    → OnOk result (StandsFor old.media.pt tai new.walk (packets ++ p ∷ [])))
+    → ((tai : ℕ) (packets rest : List FlowPacket) → StandsFor old.media.pt tai old.walk packets
+    → IfErr result (IsRefused (judged (packets ++ p ∷ rest) old.media.pt tai)))
+    → ReadsOn old new (r ∷ [])
+reads-fed (Ok x) old new r p e was now media tai asked goes ends =
+    reads-packet old new r p e was now media tai asked (goes old.tai)
+reads-fed (Err why) old new r p e was now media tai asked goes ends =
+    reads-fault old new r p why e was now media tai asked (ends old.tai)
+
+-- the same of a walk and a payload type that are the reading's
+pub reads-inside : {T : Type 0} (result : Result T Unjudged) (old new : Reading) (r : Record) (p : FlowPacket) (walk : Walk) (pt : ℕ)
+    → walk ≡ old.walk → pt ≡ old.media.pt
+    → flow_packet old.media r ≡ Some p
+    → old.refused ≡ None → new.refused ≡ result_err result
+    → new.media ≡ old.media → new.tai ≡ old.tai
+    → AsksNoLess (asked_of walk) (asked_by new)
+    → ((tai : ℕ) (packets : List FlowPacket) → StandsFor pt tai walk packets → OnOk result (StandsFor pt tai new.walk (packets ++ p ∷ [])))
+    → ((tai : ℕ) (packets rest : List FlowPacket) → StandsFor pt tai walk packets → IfErr result (IsRefused (judged (packets ++ p ∷ rest) pt tai)))
+    → ReadsOn old new (r ∷ [])
+reads-inside result old new r p walk pt same_walk same_pt e was now media tai asked goes ends =
+    reads-fed result old new r p e was now media tai
+    (subst (λ (w : Walk). AsksNoLess (asked_of w) (asked_by new)) same_walk asked)
+    (subst (λ (w : Walk). (tai : ℕ) (packets : List FlowPacket) → StandsFor old.media.pt tai w packets
+    → OnOk result (StandsFor old.media.pt tai new.walk (packets ++ p ∷ []))) same_walk
+    (subst (λ (q : ℕ). (tai : ℕ) (packets : List FlowPacket) → StandsFor q tai walk packets
+    → OnOk result (StandsFor q tai new.walk (packets ++ p ∷ []))) same_pt goes))
+    (subst (λ (w : Walk). (tai : ℕ) (packets rest : List FlowPacket) → StandsFor old.media.pt tai w packets
+    → IfErr result (IsRefused (judged (packets ++ p ∷ rest) old.media.pt tai))) same_walk
+    (subst (λ (q : ℕ). (tai : ℕ) (packets rest : List FlowPacket) → StandsFor q tai walk packets
+    → IfErr result (IsRefused (judged (packets ++ p ∷ rest) q tai))) same_pt ends))
+
+-- the answer where the flow isn't judged
+pub says-refused : (x : Reading) (items : List Record) (why : Unjudged) (kind : Kind) (f : FailProof) (run : ℕ) → x.refused ≡ Some why → HasRead x items
+    → Says x.media kind f run (judged (flow items x.media) x.media.pt x.tai) (Err why)
+says-refused x items why kind f run e h =
+    let refused : HasReadBy (Some why) x items = subst (λ o. HasReadBy o x items) e h in
+    let here : IsRefused (judged (flow items x.media) x.media.pt x.tai) why =
+    subst (λ l. IsRefused (judged (flow l x.media) x.media.pt x.tai) why) (append-nil items) (refused []) in
+    here x.media kind f run
+
+-- and where it may be
+pub stands-here : (x : Reading) (items : List Record) → x.refused ≡ None → HasRead x items → StandsFor x.media.pt x.tai x.walk (flow items x.media)
+stands-here x items e h = subst (λ o. HasReadBy o x items) e h
+
+-- a reading that hasn't come yet is as it was
+untouched : (r : Record) (i : ℕ) (olds news : List Reading) (d : Reading) → i < length olds → TakesUpTo r i olds news → get_or news i d ≡ get_or olds i d
+untouched r i [] news d within h = absurd (omega (arith, within))
+untouched r zero (o ∷ os) news d within h = ap (λ (l : List Reading). get_or l 0 d) h
+untouched r (suc i) (o ∷ os) [] d within h = absurd h
+untouched r (suc i) (o ∷ os) (n ∷ ns) d within h = untouched r i os ns d (omega (arith, within)) h.1
+
+-- one reading more takes the record
+pub takes-more : (r : Record) (i : ℕ) (olds news : List Reading) (d new : Reading) → i < length olds → TakesUpTo r i olds news
+    → TakesRecord r (get_or news i d) new
+    → TakesUpTo r (suc i) olds (set news i new)
+takes-more r i [] news d new within h takes = absurd (omega (arith, within))
+takes-more r zero (o ∷ os) [] d new within h takes = cc
+takes-more r zero (o ∷ os) (n ∷ ns) d new within h takes =
+    let same : n ≡ o = cc in
+    let rest : ns ≡ os = cc in
+    (subst (λ (x : Reading). TakesRecord r x new) same takes, rest)
+takes-more r (suc i) (o ∷ os) [] d new within h takes = absurd h
+takes-more r (suc i) (o ∷ os) (n ∷ ns) d new within h takes = (h.0, takes-more r i os ns d new (omega (arith, within)) h.1 takes)
+
+-- all have taken it
+read-all : (r : Record) (i : ℕ) (olds news : List Reading) → length olds ≤ i → TakesUpTo r i olds news → ReadOn olds news (r ∷ [])
+read-all r zero [] news all h = subst (λ (l : List Reading). ReadOn [] l (r ∷ [])) (sym h) tt
+read-all r zero (o ∷ os) news all h = absurd (omega (arith, all))
+read-all r (suc i) [] news all h = subst (λ (l : List Reading). ReadOn [] l (r ∷ [])) (sym h) tt
+read-all r (suc i) (o ∷ os) [] all h = absurd h
+read-all r (suc i) (o ∷ os) (n ∷ ns) all h = (h.0.reads, read-all r i os ns (omega (arith, all)) h.1)
+
+room-all : (r : Record) (i : ℕ) (olds news : List Reading) (count : ℕ) → length olds ≤ i → TakesUpTo r i olds news → HaveRoom (count + 1) olds
+    → HaveRoom count news
+room-all r zero [] news count all h room = subst (HaveRoom count) (sym h) tt
+room-all r zero (o ∷ os) news count all h room = absurd (omega (arith, all))
+room-all r (suc i) [] news count all h room = subst (HaveRoom count) (sym h) tt
+room-all r (suc i) (o ∷ os) [] count all h room = absurd h
+room-all r (suc i) (o ∷ os) (n ∷ ns) count all h room =
+    (omega (arith, h.0.few, room.0), room-all r i os ns count (omega (arith, all)) h.1 room.1)
+
+whole : (news others : List Reading) (long : ℕ) → length news ≡ long → take long (news ++ others) ≡ news
+whole news others long e = ap (λ (n : ℕ). take n (news ++ others)) (sym e) ∙ take-append_seam news others
+
+-- they stand in the place of those before
+pub read-whole : (r : Record) (i : ℕ) (olds news others : List Reading) (long : ℕ) → length news ≡ long → length olds ≤ i → TakesUpTo r i olds news
+    → ReadOn olds (take long (news ++ others)) (r ∷ [])
+read-whole r i olds news others long e all h =
+    subst (λ (l : List Reading). ReadOn olds l (r ∷ [])) (sym (whole news others long e)) (read-all r i olds news all h)
+
+pub room-whole : (r : Record) (i : ℕ) (olds news others : List Reading) (long count : ℕ) → length news ≡ long → length olds ≤ i → TakesUpTo r i olds news
+    → HaveRoom (count + 1) olds → HaveRoom count (take long (news ++ others))
+room-whole r i olds news others long count e all h room =
+    subst (HaveRoom count) (sym (whole news others long e)) (room-all r i olds news count all h room)
+
+-- a reading that comes has room
+room-at : (count i : ℕ) (rs : List Reading) (d : Reading) → i < length rs → HaveRoom count rs → count_taken (get_or rs i d) + count ≤ 2 ^ 41
+room-at count i [] d within room = absurd (omega (arith, within))
+room-at count zero (r ∷ rs) d within room = room.0
+room-at count (suc i) (r ∷ rs) d within room = room-at count i rs d (omega (arith, within)) room.1
+
+pub room-now : (r : Record) (i : ℕ) (olds news : List Reading) (d : Reading) → i < length olds → HaveRoom 1 olds → TakesUpTo r i olds news
+    → count_taken (get_or news i d) < 2 ^ 41
+room-now r i olds news d within room h =
+    let most = room-at 1 i olds d within room in
+    subst (λ (x : Reading). count_taken x < 2 ^ 41) (sym (untouched r i olds news d within h)) (omega (arith, most))
+
+-- a record without a datagram
+pub read-nothing : (r : Record) (rs : List Reading) → datagram_of r.bytes ≡ None → ReadOn rs rs (r ∷ [])
+read-nothing r [] e = tt
+read-nothing r (x ∷ xs) e = (reads-nothing x r (ap (datagram_packet x.media r.number r.stamp) e), read-nothing r xs e)
+
+pub room-same : (count : ℕ) (rs : List Reading) → HaveRoom (count + 1) rs → HaveRoom count rs
+room-same count [] room = tt
+room-same count (r ∷ rs) room = (omega (arith, room.0), room-same count rs room.1)
 
 -- all records of a capture were taken, where no read failed
 pub takes-all : (before : ℕ) (old new : Checking) (taken : Taken) (items : List Record) (end : FileNote)
     → taken.note ≢ Refused fault.ReadFault
     → HasTaken FeedsOn before old new taken.note taken.records items end
-    → TakesAll old.claim.now before old.walk new.walk (Ok (before + taken.records)) items
+    → TakesAll before old.readings.items new.readings.items (Ok (before + taken.records)) items
 takes-all before old new taken items end own h =
-    let whole = taken-whole FeedsOn before old new taken.note taken.records items end own h in
-    (ap (λ n. before + n) whole.1, whole.2.feeds)
-
-packet_if : (b : Bool) (p q : FlowPacket) → (if b then Some q else None) ≡ Some p → p ≡ q
-packet_if true p q e = cc
-packet_if false p q e = cc
-
--- a packet has its record's stamp
-pub packet-at : (media : Media) (number stamp : ℕ) (o : Option Datagram) (p : FlowPacket) → datagram_packet media number stamp o ≡ Some p → p.at ≡ stamp
-packet-at media number stamp None p e = cc
-packet-at media number stamp (Some d) p e = ap (λ (q : FlowPacket). q.at) (packet_if (is_same_target d.target (target_of media)) p _ e)
+    let all = taken-whole FeedsOn before old new taken.note taken.records items end own h in
+    (ap (λ n. before + n) all.1, all.2)

@@ -1,12 +1,13 @@
 -- A walk, one packet on.
 use Rattle.std.proofs.Common.{◌≡◌, ◌≤◌, ◌<◌, ◌+◌, ◌-◌, ℕ, Bool, true, false, List, [], ◌∷◌, ◌++◌, length, map, refl, ap, sym, ◌∙◌}
 use Rattle.std.proofs.Common.{subst, arith, inl, inr, length-append}
-use Rattle.std.specs.Prelude.{Option, Some, None, Ok, nat_lt, ◌&&◌}
+use Rattle.std.specs.Prelude.{Option, Some, None, nat_lt, ◌&&◌, ◌==◌}
 use Rattle.std.specs.Option.{ForSome}
 use Rattle.std.proofs.lemmas.Bool.{cases_lt}
 use Rattle.std.proofs.lemmas.Bool.Decides.{nat_tests}
+use Rattle.std.proofs.lemmas.List.{length-map, map-append}
 use Rattle.timing_base.specs.Flows.{cuts, fault, has_marker, is_cut, last_place, markers, markers_before, packet, rtp, run_start}
-use Rattle.timing_base.specs.Judged.{FlowRun, run_at, runs_between}
+use Rattle.timing_base.specs.Judged.{FlowRun, run_at, run_outcome, runs_between}
 use Rattle.timing_base.specs.declared.packet.FlowPacket.{FlowPacket}
 use Rattle.timing_base.specs.declared.packet.Rtp.{Rtp}
 use Rattle.timing_base.proofs.Between.{runs-cut, start-cut}
@@ -14,15 +15,16 @@ use Rattle.timing_base.proofs.FirstFaults.{no_fault-next}
 use Rattle.timing_base.proofs.Grouped.{none-order}
 use Rattle.timing_base.proofs.Places.{cuts-here, cuts-other, markers-here, markers-other, places-none}
 use Rattle.timing_base.proofs.Sizes.{sized-enter, sized-next, sized-nil}
-use Rattle.interval_checker.specs.Checked.{SaysAt}
+use Rattle.interval_checker.specs.Asking.{AreEnded, AreKept, EndsAs, ending_of, if_asked, stamp_of}
 use Rattle.interval_checker.specs.Markers.{AreMarked}
 use Rattle.interval_checker.specs.Packets.{ComesAfter, IsAfter, IsRead}
-use Rattle.interval_checker.specs.Samples.{IsSample}
 use Rattle.interval_checker.specs.Walks.{Keeps, stamp_behind}
 use Rattle.interval_checker.specs.declared.before.Before.{Before}
-use Rattle.interval_checker.specs.declared.claim.Claim.{Claim}
+use Rattle.interval_checker.specs.declared.asked.Asked.{Asked}
+use Rattle.interval_checker.specs.declared.ending.Ending.{Ending}
 use Rattle.interval_checker.specs.declared.marks.Marks.{Marks}
 use Rattle.interval_checker.specs.declared.walk.Walk.{Walk}
+use Rattle.interval_checker.proofs.Asks.{Came, IsOver, came-ended, came-kept, ended-same, kept-none, over-ended}
 use Rattle.interval_checker.proofs.Faults.{rtp-is}
 
 -- no packet has come
@@ -32,13 +34,12 @@ pub record IsNew (w : Walk) : Type 0 where
   pub cut_count : w.cuts ≡ 0
   pub start : w.start ≡ 0
   pub marks : w.marks ≡ None
-  pub answer : w.answer ≡ Ok false
 
 no_mark : (o : Option Marks) (m : Marks) → o ≡ None → o ≡ Some m → ⊥
 no_mark o m e f = cc
 
-pub new-keeps : (claim : Claim) (packets : List FlowPacket) (w : Walk) → IsNew w → Keeps claim packets 0 (cuts packets 0) w
-new-keeps claim packets w is = record {
+pub new-keeps : (pt tai : ℕ) (packets : List FlowPacket) (w : Walk) → IsNew w → Keeps pt tai packets 0 (cuts packets 0) w
+new-keeps pt tai packets w is = record {
   within = omega arith;
   fed = is.fed;
   sound = refl;
@@ -48,27 +49,42 @@ new-keeps claim packets w is = record {
   marks = subst (AreMarked []) (sym is.marks) refl;
   sized = sized-nil 0;
   rising = λ j k h l. absurd (omega (arith, l));
-  sample = λ m e. absurd (no_mark w.marks m is.marks e);
+  kept = λ m e. absurd (no_mark w.marks m is.marks e);
   done = [];
   runs = λ to. refl;
   count = refl;
-  answer = is.answer;
+  ended = tt;
 }
 
+-- the runs that are over, and the open one
+pub with-open : (pt tai : ℕ) (packets : List FlowPacket) (i : ℕ) (places : List ℕ) (w : Walk) (k : Keeps pt tai packets i places w)
+    → map (λ (r : FlowRun). r.outcome) (runs_between packets tai i 0 places)
+    ≡ map (λ (r : FlowRun). r.outcome) k.done ++ run_outcome packets tai (last_place (0 ∷ places)) i ∷ []
+with-open pt tai packets i places w k =
+    ap (map (λ (r : FlowRun). r.outcome)) (k.runs i) ∙ map-append (λ (r : FlowRun). r.outcome) k.done
+    (run_at packets tai (last_place (0 ∷ places)) i ∷ [])
+
+-- as many are over as there were cuts
+pub done-long : (pt tai : ℕ) (packets : List FlowPacket) (i : ℕ) (places : List ℕ) (w : Walk) (k : Keeps pt tai packets i places w)
+    → length (map (λ (r : FlowRun). r.outcome) k.done) ≡ w.cuts
+done-long pt tai packets i places w k = length-map k.done (λ (r : FlowRun). r.outcome) ∙ (k.count ∙ sym k.cut_count)
+
 -- what a cut does to a walk
-pub record IsCutOf (old new : Walk) : Type 0 where
+pub record IsCutOf (old new : Walk) (e : Ending) : Type 0 where
   pub fed : new.fed ≡ old.fed
   pub before : new.before ≡ old.before
   pub cut_count : new.cuts ≡ old.cuts + 1
   pub start : new.start ≡ old.fed
   pub marks : new.marks ≡ None
+  pub asked : IsOver old.asked new.asked old.cuts e
 
 -- a cut stands at packet i
-pub cut-keeps : (claim : Claim) (packets : List FlowPacket) (i : ℕ) (old new : Walk) → Keeps claim packets i (cuts packets i) old → is_cut packets i ≡ true
-    → IsCutOf old new
-    → SaysAt claim.media claim.kind claim.proof (map (λ (r : FlowRun). r.outcome) (runs_between packets claim.tai i 0 (cuts packets i))) claim.run new.answer
-    → Keeps claim packets i (cuts packets (i + 1)) new
-cut-keeps claim packets i old new k e is says =
+pub cut-keeps : (pt tai : ℕ) (packets : List FlowPacket) (i : ℕ) (old new : Walk) (ending : Ending) → Keeps pt tai packets i (cuts packets i) old
+    → is_cut packets i ≡ true
+    → IsCutOf old new ending
+    → EndsAs old.asked old.cuts tai (run_outcome packets tai (last_place (0 ∷ cuts packets i)) i) ending
+    → Keeps pt tai packets i (cuts packets (i + 1)) new
+cut-keeps pt tai packets i old new ending k e is ends =
     let at : last_place (0 ∷ cuts packets (i + 1)) ≡ i = sym (start-cut packets i e) in
     let more : length (cuts packets (i + 1)) ≡ length (cuts packets i) + 1 = ap length (cuts-here packets i e) ∙ length-append (cuts packets i) (i ∷ []) in
     let from = last_place (0 ∷ cuts packets i) in
@@ -83,19 +99,22 @@ cut-keeps claim packets i old new k e is says =
           (subst (AreMarked (markers packets i i)) (sym is.marks) (places-none (has_marker packets) i i (omega arith)));
       sized = sized-enter packets i from refl k.sized;
       rising = k.rising;
-      sample = λ m f. absurd (no_mark new.marks m is.marks f);
-      done = runs_between packets claim.tai i 0 (cuts packets i);
-      runs = λ to. runs-cut packets claim.tai i from k.done (runs_between packets claim.tai i 0 (cuts packets i))
-          (run_at packets claim.tai from i) e (k.runs i) refl k.runs to
-          ∙ ap (λ s. runs_between packets claim.tai i 0 (cuts packets i) ++ run_at packets claim.tai s to ∷ []) (sym at);
-      count = ap length (k.runs i) ∙ omega (arith, length-append k.done (run_at packets claim.tai from i ∷ []), k.count, more);
-      answer = says;
+      kept = λ m f. absurd (no_mark new.marks m is.marks f);
+      done = runs_between packets tai i 0 (cuts packets i);
+      runs = λ to. runs-cut packets tai i from k.done (runs_between packets tai i 0 (cuts packets i))
+          (run_at packets tai from i) e (k.runs i) refl k.runs to
+          ∙ ap (λ s. runs_between packets tai i 0 (cuts packets i) ++ run_at packets tai s to ∷ []) (sym at);
+      count = ap length (k.runs i) ∙ omega (arith, length-append k.done (run_at packets tai from i ∷ []), k.count, more);
+      ended = subst (AreEnded new.asked tai 0) (sym (with-open pt tai packets i (cuts packets i) old k))
+          (over-ended old.asked new.asked tai old.cuts ending (map (λ (r : FlowRun). r.outcome) k.done)
+          (run_outcome packets tai (last_place (0 ∷ cuts packets i)) i) is.asked
+          (done-long pt tai packets i (cuts packets i) old k) ends k.ended);
     }
 
 -- no cut stands there
-pub other-keeps : (claim : Claim) (packets : List FlowPacket) (i : ℕ) (w : Walk) → Keeps claim packets i (cuts packets i) w → is_cut packets i ≡ false
-    → Keeps claim packets i (cuts packets (i + 1)) w
-other-keeps claim packets i w k e = subst (λ places. Keeps claim packets i places w) (sym (cuts-other packets i e)) k
+pub other-keeps : (pt tai : ℕ) (packets : List FlowPacket) (i : ℕ) (w : Walk) → Keeps pt tai packets i (cuts packets i) w → is_cut packets i ≡ false
+    → Keeps pt tai packets i (cuts packets (i + 1)) w
+other-keeps pt tai packets i w k e = subst (λ places. Keeps pt tai packets i places w) (sym (cuts-other packets i e)) k
 
 not_back : (i a b : ℕ) → (nat_lt 0 i && nat_lt a b) ≡ false → 0 < i → b ≤ a
 not_back i a b e h = grind (arith, nat_tests)
@@ -118,11 +137,10 @@ rising-next packets pt i none rising j k h l = elim (cases_lt k i) as (λ _. (pa
 ]
 
 -- what the next packet does to a walk
-pub record IsPassed (claim : Claim) (packets : List FlowPacket) (i : ℕ) (old new : Walk) : Type 0 where
+pub record IsPassed (packets : List FlowPacket) (i : ℕ) (old new : Walk) : Type 0 where
   pub fed : new.fed ≡ old.fed + 1
   pub cut_count : new.cuts ≡ old.cuts
   pub start : new.start ≡ old.start
-  pub answer : new.answer ≡ old.answer
   pub before : Before
   pub before_is : new.before ≡ Some before
   pub after : IsAfter packets (i + 1) before
@@ -130,67 +148,68 @@ pub record IsPassed (claim : Claim) (packets : List FlowPacket) (i : ℕ) (old n
   pub goes_on : (m o : Marks) → old.marks ≡ Some o → new.marks ≡ Some m → m.first ≡ o.first
   pub here : (marks : List ℕ) → AreMarked marks old.marks → has_marker packets i ≡ true → AreMarked (marks ++ old.fed ∷ []) new.marks
   pub other : has_marker packets i ≡ false → new.marks ≡ old.marks
-  pub sample : (stamps : ℕ → ℕ) (o : Marks) → old.marks ≡ Some o → stamps (old.fed - (o.first + 1)) ≡ (packet packets i).at
-      → IsSample claim.proof stamps (old.fed - (o.first + 1)) old.sample
-      → IsSample claim.proof stamps (old.fed - (o.first + 1) + 1) new.sample
+  pub endings : (r : ℕ) → ending_of new.asked r ≡ ending_of old.asked r
+  pub none : old.marks ≡ None → (r p : ℕ) → stamp_of new.asked r p ≡ stamp_of old.asked r p
+  pub some : (o : Marks) → old.marks ≡ Some o → Came old.asked new.asked old.cuts (old.fed - (o.first + 1)) (packet packets i).at
   pub behind : (o : Marks) → old.marks ≡ Some o → o.first < old.fed
 
-marked-next : (claim : Claim) (packets : List FlowPacket) (i : ℕ) (old new : Walk) (b : Bool) → has_marker packets i ≡ b
-    → Keeps claim packets i (cuts packets (i + 1)) old → IsPassed claim packets i old new
+marked-next : (pt tai : ℕ) (packets : List FlowPacket) (i : ℕ) (old new : Walk) (b : Bool) → has_marker packets i ≡ b
+    → Keeps pt tai packets i (cuts packets (i + 1)) old → IsPassed packets i old new
     → AreMarked (markers packets (run_start packets i) (i + 1)) new.marks
-marked-next claim packets i old new true e k is =
+marked-next pt tai packets i old new true e k is =
     subst (λ xs. AreMarked xs new.marks) (sym (markers-here packets i e))
     (subst (λ x. AreMarked (markers_before packets i ++ x ∷ []) new.marks) k.fed (is.here (markers_before packets i) k.marks e))
-marked-next claim packets i old new false e k is =
+marked-next pt tai packets i old new false e k is =
     subst (λ xs. AreMarked xs new.marks) (sym (markers-other packets i e))
     (subst (AreMarked (markers_before packets i)) (sym (is.other e)) k.marks)
 
--- none is taken yet
-sample-none : (claim : Claim) (stamps : ℕ → ℕ) (count : ℕ) (w : Walk) → count ≡ 0 → IsSample claim.proof stamps count w.sample
-sample-none claim stamps count w e = record {
-  first = λ h. absurd (omega (arith, h, e));
-  from = λ h. absurd (omega (arith, h, e));
-  to = λ h. absurd (omega (arith, h, e));
-  last_counted = λ h l. absurd (omega (arith, h, l, e));
-  behind = λ h. absurd (omega (arith, h, e));
-}
-
-sampled-next : (claim : Claim) (packets : List FlowPacket) (i : ℕ) (old new : Walk) (marks : Option Marks) → old.marks ≡ marks
-    → Keeps claim packets i (cuts packets (i + 1)) old → IsPassed claim packets i old new
-    → (m : Marks) → new.marks ≡ Some m → IsSample claim.proof (stamp_behind packets m.first) ((i + 1) - (m.first + 1)) new.sample
-sampled-next claim packets i old new None e k is m f =
-    sample-none claim (stamp_behind packets m.first) ((i + 1) - (m.first + 1)) new (omega (arith, is.begins m e f, k.fed))
-sampled-next claim packets i old new (Some o) e k is m f =
+kept-next : (pt tai : ℕ) (packets : List FlowPacket) (i : ℕ) (old new : Walk) (marks : Option Marks) → old.marks ≡ marks
+    → Keeps pt tai packets i (cuts packets (i + 1)) old → IsPassed packets i old new
+    → (m : Marks) → new.marks ≡ Some m → AreKept new.asked new.cuts (stamp_behind packets m.first) ((i + 1) - (m.first + 1))
+kept-next pt tai packets i old new None e k is m f =
+    kept-none new.asked new.cuts ((i + 1) - (m.first + 1)) (stamp_behind packets m.first) (omega (arith, is.begins m e f, k.fed))
+kept-next pt tai packets i old new (Some o) e k is m f =
     let same : o.first ≡ m.first = sym (is.goes_on m o e f) in
     let low : o.first < i = omega (arith, is.behind o e, k.fed) in
     let count : old.fed - (o.first + 1) ≡ i - (o.first + 1) = ap (λ x. x - (o.first + 1)) k.fed in
     let place : o.first + 1 + (old.fed - (o.first + 1)) ≡ i = omega (arith, count, low) in
     let there : stamp_behind packets o.first (old.fed - (o.first + 1)) ≡ (packet packets i).at = ap (λ x. (packet packets x).at) place in
-    let was = subst (λ x. IsSample claim.proof (stamp_behind packets o.first) x old.sample) (sym count) (k.sample o e) in
-    let next = is.sample (stamp_behind packets o.first) o e there was in
+    let was = subst (λ x. AreKept old.asked old.cuts (stamp_behind packets o.first) x) (sym count) (k.kept o e) in
+    let next = came-kept old.asked new.asked old.cuts (old.fed - (o.first + 1)) (packet packets i).at (stamp_behind packets o.first) (is.some o e) there was in
     let more : old.fed - (o.first + 1) + 1 ≡ (i + 1) - (o.first + 1) = omega (arith, count, low) in
-    subst (λ x. IsSample claim.proof (stamp_behind packets x) ((i + 1) - (x + 1)) new.sample) same
-    (subst (λ x. IsSample claim.proof (stamp_behind packets o.first) x new.sample) more next)
+    subst (λ x. AreKept new.asked x (stamp_behind packets m.first) ((i + 1) - (m.first + 1))) (sym is.cut_count)
+    (subst (λ x. AreKept new.asked old.cuts (stamp_behind packets x) ((i + 1) - (x + 1))) same
+    (subst (λ x. AreKept new.asked old.cuts (stamp_behind packets o.first) x) more next))
+
+ended-next : (pt tai : ℕ) (packets : List FlowPacket) (i : ℕ) (old new : Walk) (marks : Option Marks) → old.marks ≡ marks
+    → (k : Keeps pt tai packets i (cuts packets (i + 1)) old) → IsPassed packets i old new
+    → AreEnded new.asked tai 0 (map (λ (r : FlowRun). r.outcome) k.done)
+ended-next pt tai packets i old new None e k is =
+    ended-same old.asked new.asked tai 0 (map (λ (r : FlowRun). r.outcome) k.done)
+    (λ n low. record { stamps = λ p. is.none e (0 + n) p; ending = is.endings (0 + n) }) k.ended
+ended-next pt tai packets i old new (Some o) e k is =
+    came-ended old.asked new.asked tai old.cuts (old.fed - (o.first + 1)) (packet packets i).at (map (λ (r : FlowRun). r.outcome) k.done) (is.some o e)
+    (done-long pt tai packets i (cuts packets (i + 1)) old k) k.ended
 
 -- packet i has no fault
-pub pass-keeps : (claim : Claim) (packets : List FlowPacket) (i : ℕ) (old new : Walk) → Keeps claim packets i (cuts packets (i + 1)) old → i < length packets
-    → fault packets claim.media.pt i ≡ None
-    → IsPassed claim packets i old new → Keeps claim packets (i + 1) (cuts packets (i + 1)) new
-pass-keeps claim packets i old new k within none is = record {
+pub pass-keeps : (pt tai : ℕ) (packets : List FlowPacket) (i : ℕ) (old new : Walk) → Keeps pt tai packets i (cuts packets (i + 1)) old → i < length packets
+    → fault packets pt i ≡ None
+    → IsPassed packets i old new → Keeps pt tai packets (i + 1) (cuts packets (i + 1)) new
+pass-keeps pt tai packets i old new k within none is = record {
   within = omega (arith, within);
   fed = is.fed ∙ ap (λ x. x + 1) k.fed;
-  sound = no_fault-next packets claim.media.pt i k.sound none;
+  sound = no_fault-next packets pt i k.sound none;
   before = subst (ComesAfter packets (i + 1)) (sym is.before_is) is.after;
   cut_count = is.cut_count ∙ k.cut_count;
   start = is.start ∙ k.start;
-  marks = marked-next claim packets i old new (has_marker packets i) refl k is;
-  sized = sized-next packets claim.media.pt i none k.sized;
-  rising = rising-next packets claim.media.pt i none k.rising;
-  sample = sampled-next claim packets i old new old.marks refl k is;
+  marks = marked-next pt tai packets i old new (has_marker packets i) refl k is;
+  sized = sized-next packets pt i none k.sized;
+  rising = rising-next packets pt i none k.rising;
+  kept = kept-next pt tai packets i old new old.marks refl k is;
   done = k.done;
   runs = k.runs;
   count = k.count;
-  answer = subst (SaysAt claim.media claim.kind claim.proof (map (λ (r : FlowRun). r.outcome) k.done) claim.run) (sym is.answer) k.answer;
+  ended = ended-next pt tai packets i old new old.marks refl k is;
 }
 
 -- what the packet after packet i is compared with

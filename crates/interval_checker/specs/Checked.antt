@@ -37,16 +37,12 @@ Says m kind f run (gap rec expected got) answer = answer ≡ Err (Gap rec expect
 Says m kind f run (in_one_run outcome) answer = SaysAt m kind f (outcome ∷ []) run answer
 Says m kind f run (in_runs runs) answer = SaysAt m kind f (map (λ r. r.outcome) runs) run answer
 
--- of an answer that is neither a failed read nor want of memory
-abbrev pub IfChecked : Result Bool CheckFault → (Result Bool Unjudged → Type 0) → Type 0
-IfChecked (Ok confirmed) P = P (Ok confirmed)
-IfChecked (Err (check_fault.FlowFault why)) P = P (Err why)
-IfChecked (Err (check_fault.ReadFault source)) P = ⊤
-IfChecked (Err check_fault.OutOfMemory) P = ⊤
+-- the flow isn't judged, for this cause, whatever is claimed of it
+abbrev pub IsRefused : FlowVerdict → Unjudged → Type 0
+IsRefused verdict why = (m : Media) (kind : Kind) (f : FailProof) (run : ℕ) → Says m kind f run verdict (Err why)
 
 -- of a failed read: the number of its source
 abbrev pub IfReadFault : {A : Type 0} → Result A CheckFault → (ℕ → Type 0) → Type 0
 IfReadFault (Ok answer) P = ⊤
 IfReadFault (Err (check_fault.ReadFault source)) P = P source
-IfReadFault (Err (check_fault.FlowFault why)) P = ⊤
 IfReadFault (Err check_fault.OutOfMemory) P = ⊤

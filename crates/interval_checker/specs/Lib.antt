@@ -1,5 +1,7 @@
 -- what is promised
 pub mod Checked
+pub mod Asking
+pub mod Readings
 pub mod Sources
 -- these serve the laws
 pub mod Examples

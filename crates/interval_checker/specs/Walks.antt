@@ -4,11 +4,10 @@ use Rattle.timing_base.specs.Flows.{cuts, first_fault_below, last_place, markers
 use Rattle.timing_base.specs.Grouped.{IsSized}
 use Rattle.timing_base.specs.Judged.{FlowRun, run_at, runs_between}
 use Rattle.timing_base.specs.declared.packet.FlowPacket.{FlowPacket}
-use Rattle.interval_checker.specs.Checked.{SaysAt}
+use Rattle.interval_checker.specs.Asking.{AreEnded, AreKept}
 use Rattle.interval_checker.specs.Markers.{AreMarked}
 use Rattle.interval_checker.specs.Packets.{ComesAfter}
-use Rattle.interval_checker.specs.Samples.{IsSample}
-use Rattle.interval_checker.specs.declared.claim.Claim.{Claim}
+use Rattle.interval_checker.specs.declared.asked.Asked.{Asked}
 use Rattle.interval_checker.specs.declared.marks.Marks.{Marks}
 use Rattle.interval_checker.specs.declared.walk.Walk.{Walk}
 
@@ -16,16 +15,20 @@ use Rattle.interval_checker.specs.declared.walk.Walk.{Walk}
 abbrev pub count_fed : Walk → ℕ
 count_fed w = w.fed
 
+-- what is asked of the flow
+abbrev pub asked_of : Walk → Asked
+asked_of w = w.asked
+
 -- the stamp of packet k behind this one, as the capture has it
 abbrev pub stamp_behind : List FlowPacket → ℕ → ℕ → ℕ
 stamp_behind packets first k = (packet packets (first + 1 + k)).at
 
 -- packets i and later are to come, and cuts stand at these places: those below i, or those up to i. Whatever they are,
 -- the packets before have no fault.
-pub record Keeps (claim : Claim) (packets : List FlowPacket) (i : ℕ) (places : List ℕ) (w : Walk) : Type 0 where
+pub record Keeps (pt tai : ℕ) (packets : List FlowPacket) (i : ℕ) (places : List ℕ) (w : Walk) : Type 0 where
   pub within : i ≤ length packets
   pub fed : w.fed ≡ i
-  pub sound : first_fault_below packets claim.media.pt i ≡ None
+  pub sound : first_fault_below packets pt i ≡ None
   pub before : ComesAfter packets i w.before
   pub cut_count : w.cuts ≡ length places
   pub start : w.start ≡ last_place (0 ∷ places)
@@ -33,16 +36,15 @@ pub record Keeps (claim : Claim) (packets : List FlowPacket) (i : ℕ) (places :
   pub sized : IsSized i (markers packets (last_place (0 ∷ places)) i)
   pub rising : (j k : ℕ) → j ≤ k → k < i → (packet packets j).at ≤ (packet packets k).at
   -- the stamps of the open run
-  pub sample : (m : Marks) → w.marks ≡ Some m → IsSample claim.proof (stamp_behind packets m.first)
-      (i - (m.first + 1)) w.sample
+  pub kept : (m : Marks) → w.marks ≡ Some m → AreKept w.asked w.cuts (stamp_behind packets m.first) (i - (m.first + 1))
   -- the runs that are over
   pub done : List FlowRun
-  pub runs : (to : ℕ) → runs_between packets claim.tai to 0 places
-      ≡ done ++ run_at packets claim.tai (last_place (0 ∷ places)) to ∷ []
+  pub runs : (to : ℕ) → runs_between packets tai to 0 places
+      ≡ done ++ run_at packets tai (last_place (0 ∷ places)) to ∷ []
   pub count : length done ≡ length places
-  pub answer : SaysAt claim.media claim.kind claim.proof (map (λ r. r.outcome) done) claim.run w.answer
+  pub ended : AreEnded w.asked tai 0 (map (λ r. r.outcome) done)
 
 -- the walk was fed these packets and no others, as far as later calls can tell; whatever packets follow
-pub record StandsFor (claim : Claim) (w : Walk) (packets : List FlowPacket) : Type 0 where
-  pub ahead : (rest : List FlowPacket) → Keeps claim (packets ++ rest) (length packets)
+pub record StandsFor (pt tai : ℕ) (w : Walk) (packets : List FlowPacket) : Type 0 where
+  pub ahead : (rest : List FlowPacket) → Keeps pt tai (packets ++ rest) (length packets)
       (cuts (packets ++ rest) (length packets)) w

@@ -1,14 +1,10 @@
-//! Why a claim isn't checked.
+//! Why sources aren't read to their ends.
 
-use timing_base::Unjudged;
-
-/// Why a claimed fail is neither confirmed nor denied.
+/// Why the packets of sources weren't taken.
 #[derive(Clone, Copy, Debug, PartialEq, Eq)]
 pub enum CheckFault {
     /// A read of this source failed. Sources count from 0.
     ReadFault { source: u32 },
-    /// The flow isn't judged, or the run of the claim has no whole frame.
-    FlowFault(Unjudged),
     /// Memory was refused.
     OutOfMemory,
 }

@@ -1,27 +1,25 @@
-//! The records of a capture, taken into a walk.
+//! The records of captures, taken into readings.
 
-use crate::claim::Claim;
-use crate::walk::Walk;
+use crate::reading::Reading;
 use pcap_reader::Taker;
-use timing_base::Unjudged;
-use udp_rtp::packet_of;
+use std::convert::Infallible;
+use udp_rtp::datagram;
 
-/// A claim, and what is kept of the packets for it.
+/// The readings of some flows of the same records.
 #[derive(Drop)]
-pub struct Checking<'a> {
-    pub claim: &'a Claim,
-    pub walk: Walk,
+pub struct Checking {
+    pub readings: Vec<Reading>,
 }
 
-impl Taker for Checking<'_> {
-    ghost use Rattle.interval_checker.specs.Taking.{FeedsOn, HasRoom, RefusesOn, feeds_more, feeds_none, refuses_behind, refuses_more, room_less};
+impl Taker for Checking {
+    ghost use Rattle.interval_checker.specs.Taking.{FeedsOn, HasRoom, NeverStops, feeds_more, feeds_none, room_less};
 
-    /// Why the flow isn't judged, or its claimed run, whatever records follow.
-    type Stop = Unjudged;
+    /// It takes all records.
+    type Stop = Infallible;
 
     ghost takes = { FeedsOn };
 
-    ghost stops = { RefusesOn };
+    ghost stops = { NeverStops };
 
     ghost room = { HasRoom };
 
@@ -29,17 +27,20 @@ impl Taker for Checking<'_> {
 
     ghost more = { feeds_more };
 
-    ghost ends = { refuses_behind };
+    ghost ends = { λ _ _ _ _ _ _ _ h. h };
 
-    ghost halts = { refuses_more };
+    ghost halts = { λ _ _ _ _ _ h. h };
 
     ghost less = { room_less };
 
     #[inline]
-    fn take(&mut self, number: u64, at: u64, frame: &[u8]) -> Result<(), Unjudged> {
-        match packet_of(&self.claim.media, number, at, frame) {
-            None => Ok(()),
-            Some(packet) => self.walk.feed(self.claim, packet),
+    fn take(&mut self, number: u64, at: u64, frame: &[u8]) -> Result<(), Infallible> {
+        let Some(datagram) = datagram(frame) else {
+            return Ok(());
+        };
+        for reading in self.readings.iter_mut() {
+            reading.take(number, at, &datagram);
         }
+        Ok(())
     }
 }

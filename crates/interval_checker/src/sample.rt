@@ -1,12 +1,12 @@
 //! The stamps of the few packets that a claim speaks of.
 
-ghost use Rattle.std.specs.Prelude.{◌≡◌, ◌≤◌, ◌<◌, ◌+◌, ◌-◌, ◌^◌, ℕ};
-ghost use Rattle.timing_base.specs.Captures.{IsStamp};
+ghost use Rattle.std.specs.Prelude.{◌≤◌, ◌<◌, ◌-◌, ◌^◌, ℕ};
 
+use crate::asked::Asked;
 use timing_base::FailProof;
 
 /// The stamps of five packets among those after the first marker of a run, in nanoseconds, as the
-/// capture has them. A packet that hasn't come has the stamp of the first.
+/// capture has them.
 #[derive(Clone, Copy, Debug, PartialEq, Eq)]
 pub struct Sample {
     /// Of packet 0.
@@ -28,58 +28,24 @@ pub struct Sample {
 }
 
 impl Sample {
+    ghost use Rattle.interval_checker.specs.Asking.{AreKept, IsAsked};
     ghost use Rattle.interval_checker.specs.Samples.{IsSample};
 
-    /// Before the first packet.
-    pub fn new() -> Sample
-        ensures { result.first ≡ 0 }
+    /// The stamps that a fail needs which is claimed of a run, of those that are kept. Of a packet that
+    /// didn't come nothing is said.
+    pub fn of(asked: &Asked, run: u64, proof: &FailProof) -> Sample
+        ensures { (stamps : ℕ → ℕ) (count : ℕ) → AreKept asked.now run stamps count
+            → IsAsked asked.now run proof.now
+            → ((k : ℕ) → k < count → stamps 0 ≤ stamps k)
+            → IsSample proof.now stamps count result }
     {
-        Sample::of(0)
-    }
-
-    /// Where packet 0 has come at this instant.
-    fn of(at: u64) -> Sample
-        requires { IsStamp at }
-        ensures first { result.first ≡ at }
-        ensures from { result.from ≡ at }
-        ensures to { result.to ≡ at }
-        ensures last_counted { result.last_counted ≡ at }
-        ensures behind { result.behind ≡ at }
-    {
+        let first = asked.stamp(run, 0);
         Sample {
-            first: at,
-            from: at,
-            to: at,
-            last_counted: at,
-            behind: at,
-        }
-    }
-
-    /// Takes the next packet, which has this place among those after the first marker, counted from 0.
-    pub fn take(&mut self, proof: &FailProof, place: u64, at: u64)
-        requires stamp { IsStamp at }
-        requires order { self.old.first ≤ at }
-        requires few { place < 2 ^ 62 }
-        ensures first { self.new.first ≤ at }
-        ensures sample { (stamps : ℕ → ℕ) → stamps place ≡ at
-            → IsSample proof.now stamps place self.old
-            → IsSample proof.now stamps (place + 1) self.new }
-    {
-        if place == 0 {
-            *self = Sample::of(at);
-            return;
-        }
-        if place == proof.from {
-            self.from = at;
-        }
-        if place == proof.to {
-            self.to = at;
-        }
-        if place + 1 == proof.count {
-            self.last_counted = at;
-        }
-        if place == proof.count {
-            self.behind = at;
+            first,
+            from: asked.stamp(run, proof.from).max(first),
+            to: asked.stamp(run, proof.to).max(first),
+            last_counted: asked.stamp(run, proof.count.saturating_sub(1)),
+            behind: asked.stamp(run, proof.count),
         }
     }
 }

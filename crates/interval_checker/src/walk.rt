@@ -1,22 +1,25 @@
 //! The packets of a flow without a fault, as far as they have come.
 
-ghost use Rattle.std.specs.Prelude.{◌≡◌, ◌≤◌, ◌<◌, ◌+◌, ◌-◌, ◌^◌, ◌++◌, ◌∷◌, [], ℕ, List, None, Some, Err, true, false, length, map, IsSome, OnOk, IfErr};
-ghost use Rattle.std.specs.Option.{ForNone, ForSome};
+ghost use Rattle.std.specs.Prelude.{◌≡◌, ◌≤◌, ◌<◌, ◌+◌, ◌-◌, ◌^◌, ◌++◌, ◌∷◌, ◌==◌, ◌&&◌, [], ℕ, List, None, Some, Err, true, false, length, map, IsSome, OnOk, IfErr, MatchOption};
+ghost use Rattle.std.specs.Option.{ForSome};
 ghost use Rattle.timing_base.specs.Captures.{IsStamp};
 ghost use Rattle.timing_base.specs.Flows.{cuts, fault, first_of, has_marker, is_cut, is_second_source, last_place, order_fault, size_fault};
-ghost use Rattle.timing_base.specs.Judged.{judged, run_outcome, runs_between};
+ghost use Rattle.timing_base.specs.Judged.{RunOutcome as OutcomeValue, judged, run_outcome, runs_between};
+ghost use Rattle.timing_base.specs.declared.fail.FailProof.{FailProof as ProofValue};
 ghost use Rattle.timing_base.specs.declared.packet.FlowPacket.{FlowPacket as PacketValue};
-ghost use Rattle.interval_checker.specs.Checked.{Says, SaysAt, SaysOutcome};
+ghost use Rattle.interval_checker.specs.Checked.{IsRefused, Says, SaysAt, SaysOutcome};
 
+use crate::asked::Asked;
 use crate::before::Before;
 use crate::claim::Claim;
+use crate::ending::{Ending, Frames};
 use crate::interval::is_confirmed;
 use crate::marks::Marks;
 use crate::sample::Sample;
 use timing_base::{FlowPacket, PacketFault, Rtp, Unjudged};
 
-/// What is kept of the packets of a flow between two of them, for one claim.
-#[derive(Clone, Copy, Debug)]
+/// What is kept of the packets of a flow between two of them, for all claims.
+#[derive(Drop)]
 pub struct Walk {
     /// The packets that came.
     fed: u64,
@@ -27,28 +30,25 @@ pub struct Walk {
     start: u64,
     /// The markers of the open run, if it has one.
     marks: Option<Marks>,
-    /// The stamps of the open run, where it has a marker.
-    sample: Sample,
-    /// The answer on the runs that are over.
-    answer: Result<bool, Unjudged>,
+    /// What is asked of the runs, and kept of those so far.
+    asked: Asked,
     ghost few_cuts: { cuts ≤ 1024 },
     ghost marked: { ForSome marks (λ m. m.last < fed) },
-    ghost ordered: { ForSome before (λ b. sample.first ≤ b.at) },
-    ghost fresh: { ForNone before (sample.first ≡ 0) },
 }
 
 impl Walk {
+    ghost use Rattle.interval_checker.specs.Asking.{AsksNoLess, EndsAs, EndsAt, IsAsked, if_asked, ending_of, stamp_of};
     ghost use Rattle.interval_checker.specs.Faulty.{read_fault};
     ghost use Rattle.interval_checker.specs.Markers.{AreMarked};
     ghost use Rattle.interval_checker.specs.Packets.{IsAfter, IsRead};
-    ghost use Rattle.interval_checker.specs.Samples.{IsSample};
     ghost use Rattle.interval_checker.specs.declared.marks.Marks.{Marks as MarksValue};
-    ghost use Rattle.interval_checker.specs.Walks.{Keeps, StandsFor, count_fed};
+    ghost use Rattle.interval_checker.specs.Walks.{Keeps, StandsFor, asked_of, count_fed};
 
     /// Before the first packet.
-    pub fn new() -> Walk
+    pub fn new(asked: Asked) -> Walk
         ensures fed { count_fed result ≡ 0 }
-        ensures stands { (claim : _) → StandsFor claim result [] }
+        ensures asked { asked_of result ≡ asked }
+        ensures stands { (pt tai : ℕ) → StandsFor pt tai result [] }
     {
         Walk {
             fed: 0,
@@ -56,25 +56,24 @@ impl Walk {
             cuts: 0,
             start: 0,
             marks: None,
-            sample: Sample::new(),
-            answer: Ok(false),
+            asked,
         }
     }
 
     /// Takes the next packet. `Err` is the answer on the flow, whatever packets follow; nothing is said
     /// of the walk then.
-    pub fn feed(&mut self, claim: &Claim, packet: FlowPacket) -> Result<(), Unjudged>
+    pub fn feed(&mut self, pt: u8, packet: FlowPacket) -> Result<(), Unjudged>
         requires few { count_fed self.old < 2 ^ 41 }
         requires stamp { IsStamp packet.at }
         ensures fed { count_fed self.new ≤ count_fed self.old + 1 }
-        ensures goes_on { (packets : List PacketValue) → StandsFor claim.now self.old packets
-            → OnOk result (StandsFor claim.now self.new (packets ++ packet ∷ [])) }
-        ensures ends { (packets rest : List PacketValue) → StandsFor claim.now self.old packets
-            → IfErr result (λ why. Says claim.now.media claim.now.kind claim.now.proof claim.now.run
-            (judged (packets ++ packet ∷ rest) claim.now.media.pt claim.now.tai) (Err why)) }
+        ensures asked { AsksNoLess (asked_of self.old) (asked_of self.new) }
+        ensures goes_on { (tai : ℕ) (packets : List PacketValue) → StandsFor pt tai self.old packets
+            → OnOk result (StandsFor pt tai self.new (packets ++ packet ∷ [])) }
+        ensures ends { (tai : ℕ) (packets rest : List PacketValue) → StandsFor pt tai self.old packets
+            → IfErr result (IsRefused (judged (packets ++ packet ∷ rest) pt tai)) }
     {
         let fault = match packet.rtp {
-            Ok(rtp) => self.step(claim, packet.at, rtp),
+            Ok(rtp) => self.step(pt, packet.at, rtp),
             Err(fault) => Some(fault),
         };
         match fault {
@@ -84,35 +83,36 @@ impl Walk {
     }
 
     /// Takes the next packet, which was read, or answers its fault.
-    fn step(&mut self, claim: &Claim, at: u64, rtp: Rtp) -> Option<PacketFault>
+    fn step(&mut self, pt: u8, at: u64, rtp: Rtp) -> Option<PacketFault>
         requires few { count_fed self.old < 2 ^ 41 }
         requires stamp { IsStamp at }
         ensures fed { count_fed self.new ≤ count_fed self.old + 1 }
-        ensures goes_on { (packets : List PacketValue) (i : ℕ)
-            → Keeps claim.now packets i (cuts packets i) self.old
+        ensures asked { AsksNoLess (asked_of self.old) (asked_of self.new) }
+        ensures goes_on { (tai : ℕ) (packets : List PacketValue) (i : ℕ)
+            → Keeps pt tai packets i (cuts packets i) self.old
             → IsRead packets i at rtp → i < length packets → result ≡ None
-            → Keeps claim.now packets (i + 1) (cuts packets (i + 1)) self.new }
-        ensures ends { (packets : List PacketValue) (i : ℕ)
-            → Keeps claim.now packets i (cuts packets i) self.old
+            → Keeps pt tai packets (i + 1) (cuts packets (i + 1)) self.new }
+        ensures ends { (tai : ℕ) (packets : List PacketValue) (i : ℕ)
+            → Keeps pt tai packets i (cuts packets i) self.old
             → IsRead packets i at rtp → i < length packets
-            → result ≡ fault packets claim.now.media.pt i }
+            → result ≡ fault packets pt i }
     {
         let cut = self.is_cut(rtp);
-        if let Some(fault) = self.fault(claim, at, rtp, cut) {
+        if let Some(fault) = self.fault(pt, at, rtp, cut) {
             return Some(fault);
         }
-        self.enter(claim, cut);
+        self.enter(cut);
         if let Some(fault) = self.group_fault(rtp.marker) {
             return Some(fault);
         }
-        self.pass(claim, at, rtp);
+        self.pass(at, rtp);
         None
     }
 
     /// Whether a cut stands at the next packet.
     fn is_cut(&self, rtp: Rtp) -> bool
-        ensures is { (claim : _) (packets : List PacketValue) (i at : ℕ)
-            → Keeps claim packets i (cuts packets i) self.now
+        ensures is { (pt tai : ℕ) (packets : List PacketValue) (i at : ℕ)
+            → Keeps pt tai packets i (cuts packets i) self.now
             → IsRead packets i at rtp → result ≡ is_cut packets i }
         ensures begun { result ≡ true → IsSome self.now.before }
     {
@@ -123,16 +123,16 @@ impl Walk {
     }
 
     /// The fault of the next packet by itself and by the packets before it, but for its group.
-    fn fault(&self, claim: &Claim, at: u64, rtp: Rtp, cut: bool) -> Option<PacketFault>
-        ensures is { (packets : List PacketValue) (i : ℕ)
-            → Keeps claim.now packets i (cuts packets i) self.now
+    fn fault(&self, pt: u8, at: u64, rtp: Rtp, cut: bool) -> Option<PacketFault>
+        ensures is { (tai : ℕ) (packets : List PacketValue) (i : ℕ)
+            → Keeps pt tai packets i (cuts packets i) self.now
             → IsRead packets i at rtp → cut ≡ is_cut packets i
-            → result ≡ first_of (read_fault claim.now.media.pt rtp (is_second_source packets i))
+            → result ≡ first_of (read_fault pt rtp (is_second_source packets i))
             (order_fault 1024 packets i) }
         ensures few { result ≡ None → cut ≡ true → IsSome self.now.before → self.now.cuts < 1024 }
         ensures ordered { result ≡ None → ForSome self.now.before (λ b. b.at ≤ at) }
     {
-        if rtp.pt != claim.media.pt {
+        if rtp.pt != pt {
             return Some(PacketFault::PayloadType);
         }
         match self.before {
@@ -148,8 +148,8 @@ impl Walk {
 
     /// The fault of the next packet by its group, if it stands in one.
     fn group_fault(&self, marker: bool) -> Option<PacketFault>
-        ensures is { (claim : _) (packets : List PacketValue) (i : ℕ)
-            → Keeps claim packets i (cuts packets (i + 1)) self.now
+        ensures is { (pt tai : ℕ) (packets : List PacketValue) (i : ℕ)
+            → Keeps pt tai packets i (cuts packets (i + 1)) self.now
             → has_marker packets i ≡ marker → result ≡ size_fault 262144 packets i }
         ensures fits { result ≡ None → ForSome self.now.marks
             (λ m. m.size ≡ None → self.now.fed ≤ m.last + 262144) }
@@ -163,16 +163,17 @@ impl Walk {
     /// A cut stands at the next packet: a run is over, and another begins.
     #[cold]
     #[inline(never)]
-    fn cut(&mut self, claim: &Claim)
+    fn cut(&mut self)
         requires few { self.old.cuts < 1024 }
         ensures fed { self.new.fed ≡ self.old.fed }
         ensures before { self.new.before ≡ self.old.before }
-        ensures sample { self.new.sample ≡ self.old.sample }
-        ensures keeps { (packets : List PacketValue) (i : ℕ)
-            → Keeps claim.now packets i (cuts packets i) self.old → is_cut packets i ≡ true
-            → Keeps claim.now packets i (cuts packets (i + 1)) self.new }
+        ensures asked { AsksNoLess (asked_of self.old) (asked_of self.new) }
+        ensures keeps { (pt tai : ℕ) (packets : List PacketValue) (i : ℕ)
+            → Keeps pt tai packets i (cuts packets i) self.old → is_cut packets i ≡ true
+            → Keeps pt tai packets i (cuts packets (i + 1)) self.new }
     {
-        self.answer = self.answer_here(claim);
+        let ending = self.ending_here();
+        self.asked.over(self.cuts, ending);
         self.cuts += 1;
         self.start = self.fed;
         self.marks = None;
@@ -180,16 +181,17 @@ impl Walk {
 
     /// The run of the next packet is open: where a cut stands at it, the run before is over.
     #[inline]
-    fn enter(&mut self, claim: &Claim, cut: bool)
+    fn enter(&mut self, cut: bool)
         requires few { cut ≡ true → self.old.cuts < 1024 }
         ensures fed { self.new.fed ≡ self.old.fed }
         ensures before { self.new.before ≡ self.old.before }
-        ensures keeps { (packets : List PacketValue) (i : ℕ)
-            → Keeps claim.now packets i (cuts packets i) self.old → cut ≡ is_cut packets i
-            → Keeps claim.now packets i (cuts packets (i + 1)) self.new }
+        ensures asked { AsksNoLess (asked_of self.old) (asked_of self.new) }
+        ensures keeps { (pt tai : ℕ) (packets : List PacketValue) (i : ℕ)
+            → Keeps pt tai packets i (cuts packets i) self.old → cut ≡ is_cut packets i
+            → Keeps pt tai packets i (cuts packets (i + 1)) self.new }
     {
         if cut {
-            self.cut(claim);
+            self.cut();
         }
     }
 
@@ -197,8 +199,8 @@ impl Walk {
     #[inline]
     fn next_before(&self, at: u64, rtp: Rtp) -> Before
         ensures at { result.at ≡ at }
-        ensures after { (claim : _) (packets : List PacketValue) (i : ℕ) (places : List ℕ)
-            → Keeps claim packets i places self.now
+        ensures after { (pt tai : ℕ) (packets : List PacketValue) (i : ℕ) (places : List ℕ)
+            → Keeps pt tai packets i places self.now
             → IsRead packets i at rtp → IsAfter packets (i + 1) result }
     {
         let source = match self.before {
@@ -232,86 +234,129 @@ impl Walk {
         }
     }
 
-    /// The stamps with the next packet, where a marker stands before it.
+    /// The next packet has come, at this instant: its stamp is kept, where a marker stands before it and
+    /// it is asked for.
     #[inline]
-    fn next_sample(&self, claim: &Claim, at: u64) -> Sample
-        requires few { self.now.fed < 2 ^ 41 }
+    fn keep(&mut self, at: u64)
+        requires few { self.old.fed < 2 ^ 41 }
         requires stamp { IsStamp at }
-        requires order { self.now.sample.first ≤ at }
-        ensures first { result.first ≤ at }
-        ensures sample { (stamps : ℕ → ℕ) (o : MarksValue) → self.now.marks ≡ Some o
-            → stamps (self.now.fed - (o.first + 1)) ≡ at
-            → IsSample claim.now.proof stamps (self.now.fed - (o.first + 1)) self.now.sample
-            → IsSample claim.now.proof stamps (self.now.fed - (o.first + 1) + 1) result }
+        ensures fed { self.new.fed ≡ self.old.fed }
+        ensures before { self.new.before ≡ self.old.before }
+        ensures cuts { self.new.cuts ≡ self.old.cuts }
+        ensures start { self.new.start ≡ self.old.start }
+        ensures marks { self.new.marks ≡ self.old.marks }
+        ensures asked { AsksNoLess (asked_of self.old) (asked_of self.new) }
+        ensures endings { (r : ℕ) → ending_of (asked_of self.new) r ≡ ending_of (asked_of self.old) r }
+        ensures none { self.old.marks ≡ None
+            → (r p : ℕ) → stamp_of (asked_of self.new) r p ≡ stamp_of (asked_of self.old) r p }
+        ensures some { (o : MarksValue) → self.old.marks ≡ Some o
+            → (r p : ℕ) → stamp_of (asked_of self.new) r p
+            ≡ if_asked (self.old.cuts == r && self.old.fed - (o.first + 1) == p) at (stamp_of (asked_of self.old) r p) }
     {
-        let mut sample = self.sample;
         if let Some(marks) = self.marks {
-            sample.take(&claim.proof, self.fed - (marks.first + 1), at);
+            self.asked.came(self.cuts, self.fed - (marks.first + 1), at);
         }
-        sample
     }
 
     /// Takes the next packet, which has no fault, into the open run.
     #[inline]
-    fn pass(&mut self, claim: &Claim, at: u64, rtp: Rtp)
+    fn pass(&mut self, at: u64, rtp: Rtp)
         requires few { count_fed self.old < 2 ^ 41 }
         requires stamp { IsStamp at }
-        requires ordered { ForSome self.old.before (λ b. b.at ≤ at) }
         requires fits { ForSome self.old.marks (λ m. m.size ≡ None → self.old.fed ≤ m.last + 262144) }
         ensures fed { count_fed self.new ≡ count_fed self.old + 1 }
-        ensures keeps { (packets : List PacketValue) (i : ℕ)
-            → Keeps claim.now packets i (cuts packets (i + 1)) self.old
+        ensures asked { AsksNoLess (asked_of self.old) (asked_of self.new) }
+        ensures keeps { (pt tai : ℕ) (packets : List PacketValue) (i : ℕ)
+            → Keeps pt tai packets i (cuts packets (i + 1)) self.old
             → IsRead packets i at rtp → i < length packets
-            → fault packets claim.now.media.pt i ≡ None
-            → Keeps claim.now packets (i + 1) (cuts packets (i + 1)) self.new }
+            → fault packets pt i ≡ None
+            → Keeps pt tai packets (i + 1) (cuts packets (i + 1)) self.new }
     {
         let before = self.next_before(at, rtp);
         let marks = self.next_marks(rtp.marker);
-        let sample = self.next_sample(claim, at);
+        self.keep(at);
         self.fed += 1;
         self.before = Some(before);
         self.marks = marks;
-        self.sample = sample;
     }
 
-    /// The answer on the runs up to the open one, where that ends here.
-    fn answer_here(&self, claim: &Claim) -> Result<bool, Unjudged>
-        ensures { (packets : List PacketValue) (i : ℕ) (places : List ℕ)
-            → Keeps claim.now packets i places self.now
-            → SaysAt claim.now.media claim.now.kind claim.now.proof
-            (map (λ r. r.outcome) (runs_between packets claim.now.tai i 0 places))
-            claim.now.run result }
+    /// How the open run ends, where it ends here.
+    fn ending_here(&self) -> Ending
+        ensures { (pt tai : ℕ) (packets : List PacketValue) (i : ℕ) (places : List ℕ)
+            → Keeps pt tai packets i places self.now
+            → EndsAs (asked_of self.now) self.now.cuts tai
+            (run_outcome packets tai (last_place (0 ∷ places)) i) result }
     {
-        if self.cuts == u64::from(claim.run) {
-            self.outcome(claim)
-        } else {
-            self.answer
-        }
-    }
-
-    /// The answer on the open run, where it ends here.
-    fn outcome(&self, claim: &Claim) -> Result<bool, Unjudged>
-        ensures { (packets : List PacketValue) (i : ℕ) (places : List ℕ)
-            → Keeps claim.now packets i places self.now
-            → SaysOutcome claim.now.media claim.now.kind claim.now.proof
-            (run_outcome packets claim.now.tai (last_place (0 ∷ places)) i) result }
-    {
+        let fed = self.fed;
         match self.marks {
-            None => Err(Unjudged::NoWholeFrame {
-                head: self.fed.saturating_sub(self.start),
-            }),
+            None => Ending::NoWholeFrame {
+                head: fed.saturating_sub(self.start),
+            },
             Some(marks) => match marks.size {
-                None => Err(Unjudged::NoWholeFrame {
+                None => Ending::NoWholeFrame {
                     head: (marks.first + 1).saturating_sub(self.start),
+                },
+                Some(size) => Ending::WholeFrames(Frames {
+                    size,
+                    count: marks.last - marks.first,
                 }),
-                Some(size) => Ok(is_confirmed(claim, size, marks.last - marks.first, &self.sample)),
             },
         }
     }
 
-    /// The answer on the flow, where it ends here.
+    /// How a run that is asked for ends, where the flow ends here and has this run.
+    fn ending(&self, run: u64) -> Option<Ending>
+        ensures { (pt tai : ℕ) (f : ProofValue) (packets : List PacketValue) (i : ℕ) (places : List ℕ)
+            → Keeps pt tai packets i places self.now → IsAsked (asked_of self.now) run f
+            → MatchOption result
+            (length (map (λ r. r.outcome) (runs_between packets tai i 0 places)) ≤ run)
+            (EndsAt (asked_of self.now) run tai
+            (map (λ r. r.outcome) (runs_between packets tai i 0 places)) run) }
+    {
+        if run == self.cuts {
+            return Some(self.ending_here());
+        }
+        if run < self.cuts {
+            return self.asked.ending(run);
+        }
+        None
+    }
+
+    /// The answer on a claim of this run, which ends so.
+    fn answer(&self, claim: &Claim, run: u64, ending: Ending) -> Result<bool, Unjudged>
+        ensures { (o : OutcomeValue) → IsAsked (asked_of self.now) run claim.now.proof
+            → EndsAs (asked_of self.now) run claim.now.tai o ending
+            → SaysOutcome claim.now.media claim.now.kind claim.now.proof o result }
+    {
+        match ending {
+            Ending::NoWholeFrame { head } => Err(Unjudged::NoWholeFrame { head }),
+            Ending::WholeFrames(frames) => {
+                let sample = Sample::of(&self.asked, run, &claim.proof);
+                Ok(is_confirmed(claim, frames.size, frames.count, &sample))
+            }
+        }
+    }
+
+    /// The answer on a claim of a run of the flow, where it ends here.
+    fn answer_here(&self, claim: &Claim) -> Result<bool, Unjudged>
+        ensures { (pt : ℕ) (packets : List PacketValue) (i : ℕ) (places : List ℕ)
+            → Keeps pt claim.now.tai packets i places self.now
+            → IsAsked (asked_of self.now) claim.now.run claim.now.proof
+            → SaysAt claim.now.media claim.now.kind claim.now.proof
+            (map (λ r. r.outcome) (runs_between packets claim.now.tai i 0 places))
+            claim.now.run result }
+    {
+        let run = u64::from(claim.run);
+        match self.ending(run) {
+            None => Ok(false),
+            Some(ending) => self.answer(claim, run, ending),
+        }
+    }
+
+    /// The answer on a claim that was asked for, where the flow ends here.
     pub fn finish(&self, claim: &Claim) -> Result<bool, Unjudged>
-        ensures { (packets : List PacketValue) → StandsFor claim.now self.now packets
+        ensures { (packets : List PacketValue) → StandsFor claim.now.media.pt claim.now.tai self.now packets
+            → IsAsked (asked_of self.now) claim.now.run claim.now.proof
             → Says claim.now.media claim.now.kind claim.now.proof claim.now.run
             (judged packets claim.now.media.pt claim.now.tai) result }
     {
@@ -322,15 +367,11 @@ impl Walk {
     }
 }
 
-ghost use Rattle.timing_base.specs.Media.{Media as MediaValue};
 ghost use Rattle.timing_base.specs.Judged.{refusal as refusal_of};
-ghost use Rattle.timing_base.specs.declared.fail.FailProof.{FailProof as ProofValue};
-ghost use Rattle.timing_base.specs.declared.media.Kind.{Kind as KindValue};
 
 /// One cut too many is told as a gap, each other fault as itself.
 fn refusal(rec: u64, fault: PacketFault) -> Unjudged
-    ensures { (m : MediaValue) (kind : KindValue) (f : ProofValue) (run : ℕ)
-        → Says m kind f run (refusal_of rec fault) (Err result) }
+    ensures { IsRefused (refusal_of rec fault) result }
 {
     match fault {
         PacketFault::Number { expected, got } => Unjudged::Gap { rec, expected, got },

@@ -1,9 +1,10 @@
 //! Claims on captures that were laid out by hand.
 
-ghost use Rattle.std.specs.Prelude.{◌≡◌, ◌+◌, IfOk, length};
+ghost use Rattle.std.specs.Prelude.{◌≡◌, ◌≤◌, ◌+◌, ◌^◌, IfOk, length};
+ghost use Rattle.interval_checker.specs.Readings.{HaveRoom};
 
 use capture_gen::examples::{FRAME, HEAD, source_of};
-use interval_checker::{CheckFault, confirm};
+use interval_checker::{Asked, CheckFault, Reading, read_sources};
 use std::alloc::{AllocError, Global};
 use std::test::Fail;
 use timing_base::worked::{LATE, PLAIN};
@@ -81,29 +82,61 @@ fn add(sources: &mut Vec<MemorySource>, source: MemorySource) -> Result<(), Open
     }
 }
 
-// What a capture says of a claim about this run of a narrow sender.
-fn told(
+/// What is said of a claim, or why its sources weren't read.
+type Said = Result<Result<bool, Unjudged>, CheckFault>;
+
+// One reading, with what this claim asks.
+fn reading(alloc: Global, run: u32, proof: &FailProof) -> Result<Vec<Reading>, AllocError>
+    ensures { IfOk result (λ readings. HaveRoom (2 ^ 40) readings.items) }
+{
+    let mut asked = Asked::new(alloc);
+    asked.ask(u64::from(run), proof)?;
+    let mut readings = Vec::new(alloc);
+    readings.push(Reading::new(&PLAIN, 0, asked))?;
+    Ok(readings)
+}
+
+// What sources that are one capture say of a claim about this run of a narrow sender, and how many of
+// them come back.
+fn said(
     alloc: Global,
-    text: Vec<u8>,
     run: u32,
     proof: FailProof,
-) -> Result<Result<bool, CheckFault>, OpenFault> {
+    sources: Vec<MemorySource>,
+) -> Result<(usize, Said), OpenFault>
+    requires { length sources.items ≤ 16 }
+{
+    let Ok(readings) = reading(alloc, run, &proof) else {
+        return Err(OpenFault::OutOfMemory);
+    };
+    let (back, read) = read_sources(alloc, readings, sources);
+    let said = match read {
+        Ok(readings) => match readings.first() {
+            Some(reading) => Ok(reading.answer(Kind::N, run, &proof)),
+            None => Ok(Ok(false)),
+        },
+        Err(fault) => Err(fault),
+    };
+    Ok((back.len(), said))
+}
+
+// What a capture says of a claim about this run of a narrow sender.
+fn told(alloc: Global, text: Vec<u8>, run: u32, proof: FailProof) -> Result<Said, OpenFault> {
     let mut sources = Vec::new(alloc);
     add(&mut sources, source_of(alloc, &text, 100, &[])?)?;
-    let (_, answer) = confirm(alloc, &PLAIN, Kind::N, run, &proof, 0, sources);
+    let (_, answer) = said(alloc, run, proof, sources)?;
     Ok(answer)
 }
 
 // Of two captures that are one, the reads of these numbers of the second fail: how many sources come
 // back, and what they say of the burst.
-fn joined(alloc: Global, fails: &[u32]) -> Result<(usize, Result<bool, CheckFault>), OpenFault> {
+fn joined(alloc: Global, fails: &[u32]) -> Result<(usize, Said), OpenFault> {
     let first = capture(alloc, Sender::Burst, 0, 4)?;
     let second = capture(alloc, Sender::Burst, 4, 21)?;
     let mut sources = Vec::new(alloc);
     add(&mut sources, source_of(alloc, &first, 100, &[])?)?;
     add(&mut sources, source_of(alloc, &second, 100, fails)?)?;
-    let (back, answer) = confirm(alloc, &PLAIN, Kind::N, 0, &BURST, 0, sources);
-    Ok((back.len(), answer))
+    said(alloc, 0, BURST, sources)
 }
 
 // A claim is confirmed, and with any of its numbers changed by one it isn't.
@@ -135,7 +168,7 @@ fn verify_burst(rt: HostRuntime) -> Result<(), Fail> {
         let answer = told(rt.alloc(), text, 0, proof)?;
         assert_eq!(rt;
             answer,
-            Ok(want),
+            Ok(Ok(want)),
             "{from} to {to} count {count} limit {limit}"
         );
     }
@@ -150,7 +183,7 @@ fn verify_empty(rt: HostRuntime) -> Result<(), Fail> {
         let proof = FailProof { count, ..LATE };
         let text = capture(rt.alloc(), Sender::Linear, 0, 21)?;
         let answer = told(rt.alloc(), text, 0, proof)?;
-        assert_eq!(rt; answer, Ok(want), "count {count}");
+        assert_eq!(rt; answer, Ok(Ok(want)), "count {count}");
     }
     Ok(())
 }
@@ -159,7 +192,7 @@ fn verify_empty(rt: HostRuntime) -> Result<(), Fail> {
 fn no_packets(rt: HostRuntime) -> Result<(), Fail> {
     let text = capture(rt.alloc(), Sender::Burst, 0, 0)?;
     let answer = told(rt.alloc(), text, 0, BURST)?;
-    assert_eq!(rt; answer, Err(CheckFault::FlowFault(Unjudged::Absent)));
+    assert_eq!(rt; answer, Ok(Err(Unjudged::Absent)));
     Ok(())
 }
 
@@ -169,7 +202,7 @@ fn no_marker(rt: HostRuntime) -> Result<(), Fail> {
     let text = capture(rt.alloc(), Sender::Burst, 1, 6)?;
     let answer = told(rt.alloc(), text, 0, BURST)?;
     let want = Unjudged::NoWholeFrame { head: 5 };
-    assert_eq!(rt; answer, Err(CheckFault::FlowFault(want)));
+    assert_eq!(rt; answer, Ok(Err(want)));
     Ok(())
 }
 
@@ -178,7 +211,7 @@ fn no_marker(rt: HostRuntime) -> Result<(), Fail> {
 fn another_run(rt: HostRuntime) -> Result<(), Fail> {
     let text = capture(rt.alloc(), Sender::Burst, 0, 21)?;
     let answer = told(rt.alloc(), text, 1, BURST)?;
-    assert_eq!(rt; answer, Ok(false));
+    assert_eq!(rt; answer, Ok(Ok(false)));
     Ok(())
 }
 
@@ -196,7 +229,7 @@ fn stamp_back(rt: HostRuntime) -> Result<(), Fail> {
             got: 1_599_999_999_998_999_999,
         },
     };
-    assert_eq!(rt; answer, Err(CheckFault::FlowFault(want)));
+    assert_eq!(rt; answer, Ok(Err(want)));
     Ok(())
 }
 
@@ -204,7 +237,7 @@ fn stamp_back(rt: HostRuntime) -> Result<(), Fail> {
 fn two_captures_are_one(rt: HostRuntime) -> Result<(), Fail> {
     let (count, answer) = joined(rt.alloc(), &[])?;
     assert_eq!(rt; count, 2);
-    assert_eq!(rt; answer, Ok(true));
+    assert_eq!(rt; answer, Ok(Ok(true)));
     Ok(())
 }
 

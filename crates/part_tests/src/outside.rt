@@ -127,9 +127,29 @@ fn files_of_the_system(rt: HostRuntime) -> Result<(), Fail> {
     Ok(())
 }
 
+// The null device isn't a regular file: it is fetched once.
+#[test]
+fn fetched_again(rt: HostRuntime) -> Result<(), Fail> {
+    let mut shelf = FileShelf::new(rt);
+    let null = shelf.fetch("/dev/null")?;
+    shelf.give_back(null);
+    assert_eq!(rt; shelf.fetch("/dev/null").err(), Some(OpenFault::Failed));
+    assert_eq!(rt; shelf.fetch("/dev/null").err(), Some(OpenFault::Failed));
+
+    // The program itself is one.
+    for _ in 0..2 {
+        let program = shelf.fetch("/proc/self/exe")?;
+        shelf.give_back(program);
+    }
+    Ok(())
+}
+
 #[test]
 fn standard_streams(rt: HostRuntime) {
-    for mut sink in [StdSink::out(rt.stdout()), StdSink::err(rt.stderr())] {
+    for mut sink in [
+        StdSink::out(&rt, rt.stdout()),
+        StdSink::err(&rt, rt.stderr()),
+    ] {
         assert_eq!(rt; put_all(&mut sink, b"a line\n"), Ok(()));
     }
 }

@@ -1,5 +1,5 @@
 pub mod Extremes
 pub mod Flows
-pub mod Keys
 pub mod Orders
 pub mod Stood
+pub mod Views

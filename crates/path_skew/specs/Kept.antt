@@ -1,50 +1,49 @@
--- What is kept of one flow: the first packet of each number, and two counts.
-use Rattle.std.specs.Prelude.{◌≡◌, ℕ, ◌+◌, ◌==◌, if◌then◌else◌, length, Option, Some, None, IsSome}
-use Rattle.std.specs.Option.{option_or}
-use Rattle.std.specs.Ordering.{nat_cmp}
-use Rattle.std.specs.BTreeMap as tree
-use Rattle.path_skew.specs.Rising.{value_at}
-use Rattle.path_skew.specs.declared.arrival.Arrival.{Arrival}
-use Rattle.path_skew.specs.declared.arrivals.Arrivals.{Arrivals}
+-- What is kept of two flows: the pages of their numbers, and the counts of each flow.
+use Rattle.std.specs.Prelude.{◌≡◌, ℕ, ◌+◌, ◌/◌, ◌%◌, false, nat_eq, slice_get, Option, Some, None}
+use Rattle.indexmap.specs.IndexMap.{get}
+use Rattle.path_skew.specs.View.{View, of_parts}
+use Rattle.path_skew.specs.declared.pages.Page.{Page}
+use Rattle.path_skew.specs.declared.pages.Pages.{Pages}
+use Rattle.path_skew.specs.declared.pages.Side.{Side}
+use Rattle.path_skew.specs.declared.pages.Side.TheVariants.{First, Second}
+use Rattle.path_skew.specs.declared.flow.Flow.{Flow}
 
--- the first packet of a number
-abbrev pub arrival_of : Arrivals → ℕ → Option Arrival
-arrival_of a number = option_or (value_at number a.in_order.items) (tree.get nat_cmp a.late number)
+-- the numbers that a side had of a page
+abbrev pub bits_of : Side → Page → ℕ
+bits_of First page = page.first
+bits_of Second page = page.second
 
--- how many numbers are kept
-abbrev pub count_numbers : Arrivals → ℕ
-count_numbers a = length a.in_order.items + length a.late.entries
+abbrev pub opposite : Side → Side
+opposite First = Second
+opposite Second = First
 
--- how many packets were given
-abbrev pub count_given : Arrivals → ℕ
-count_given a = count_numbers a + a.repeated + a.unread
+-- a page as a side sees it; one that isn't there has nothing
+abbrev pub page_view : Side → Option Page → View
+page_view side None = record { own = λ _. false; other = λ _. false; kept = λ _. None }
+page_view side (Some page) = of_parts (bits_of side page) (bits_of (opposite side) page) page.arrivals
 
--- the same is kept
-pub record IsKept (old new : Arrivals) : Type 0 where
-  pub found : (number : ℕ) → arrival_of new number ≡ arrival_of old number
-  pub numbers : count_numbers new ≡ count_numbers old
-  pub repeated : new.repeated ≡ old.repeated
-  pub unread : new.unread ≡ old.unread
+-- the page of a number
+abbrev pub page_of : Pages → ℕ → Option Page
+page_of pages number = get nat_eq pages.pages (number / 64)
 
--- a packet came whose number stood before
-pub record Repeats (old new : Arrivals) (number : ℕ) : Type 0 where
-  pub stood : IsSome (arrival_of old number)
-  pub found : (other : ℕ) → arrival_of new other ≡ arrival_of old other
-  pub numbers : count_numbers new ≡ count_numbers old
-  pub repeated : new.repeated ≡ old.repeated + 1
-  pub unread : new.unread ≡ old.unread
+-- the pages as a side sees them
+abbrev pub view : Side → Pages → View
+view side pages = record {
+  own = λ n. (page_view side (page_of pages n)).own (n % 64);
+  other = λ n. (page_view side (page_of pages n)).other (n % 64);
+  kept = λ n. (page_view side (page_of pages n)).kept (n % 64);
+}
 
--- a packet came whose number did not
-pub record Opens (old new : Arrivals) (number : ℕ) (arrival : Arrival) : Type 0 where
-  pub absent : arrival_of old number ≡ None
-  pub found : (other : ℕ) → arrival_of new other ≡ (if other == number then Some arrival else arrival_of old other)
-  pub numbers : count_numbers new ≡ count_numbers old + 1
-  pub repeated : new.repeated ≡ old.repeated
-  pub unread : new.unread ≡ old.unread
+-- this page stands at this place
+abbrev pub HasPage : Pages → (page place : ℕ) → Type 0
+HasPage pages page place = (here : Page) × (slice_get pages.pages.entries place ≡ Some (page, here))
 
--- a packet came that was not read
-pub record Skips (old new : Arrivals) : Type 0 where
-  pub found : (number : ℕ) → arrival_of new number ≡ arrival_of old number
-  pub numbers : count_numbers new ≡ count_numbers old
-  pub repeated : new.repeated ≡ old.repeated
-  pub unread : new.unread ≡ old.unread + 1
+-- how many packets of a flow were given
+abbrev pub count_given : Flow → ℕ
+count_given flow = flow.numbers + flow.repeated + flow.unread
+
+-- so many more packets of a flow are counted
+pub record IsCounted (old new : Flow) (opened again faulty : ℕ) : Type 0 where
+  pub numbers : new.numbers ≡ old.numbers + opened
+  pub repeated : new.repeated ≡ old.repeated + again
+  pub unread : new.unread ≡ old.unread + faulty

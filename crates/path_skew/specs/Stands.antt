@@ -1,34 +1,41 @@
 -- What a `Skew` says of the packets that it was given.
-use Rattle.std.specs.Prelude.{◌≡◌, ℕ, ◌+◌, true, false, List, length, count_by, Result, IsErr, OnErr, OnOk}
-use Rattle.std.specs.Option.{option_map}
+use Rattle.std.specs.Prelude.{◌≡◌, ℕ, ◌+◌, true, false, List, length, count_by, Option, Some, None, Result, IsErr}
+use Rattle.std.specs.Prelude.{OnErr, OnOk}
 use Rattle.timing_base.specs.declared.packet.FlowPacket.{FlowPacket}
-use Rattle.path_skew.specs.Pair.{packet_with, opening, repeated, is_unread, skews}
+use Rattle.path_skew.specs.Pair.{packet_with, opening, repeated, is_unread, skews, stands}
 use Rattle.path_skew.specs.Holds.{HoldsSkews}
-use Rattle.path_skew.specs.Kept.{arrival_of, count_numbers, count_given}
+use Rattle.path_skew.specs.Kept.{count_given, view}
+use Rattle.path_skew.specs.View.{View}
 use Rattle.path_skew.specs.declared.arrival.Arrival.{Arrival}
-use Rattle.path_skew.specs.declared.arrivals.Arrivals.{Arrivals}
+use Rattle.path_skew.specs.declared.flow.Flow.{Flow}
+use Rattle.path_skew.specs.declared.pages.Side.TheVariants.{First}
 use Rattle.path_skew.specs.declared.skew.Skew.{Skew}
 
--- what is kept of a packet
-abbrev pub record_and_stamp : Arrival → ℕ × ℕ
-record_and_stamp a = (a.rec, a.at)
+-- what is kept of a packet is its record and its stamp
+abbrev pub Keeps : Option Arrival → FlowPacket → Type 0
+Keeps kept p = (x : Arrival) × (kept ≡ Some x) × (x.rec ≡ p.rec) × (x.at ≡ p.at)
 
-abbrev pub record_and_stamp_of : FlowPacket → ℕ × ℕ
-record_and_stamp_of p = (p.rec, p.at)
+-- the numbers of a flow and of the other are these, and the first packet of each number that one alone had is kept
+pub record HoldsNumbers (v : View) (flow pair : List FlowPacket) : Type 0 where
+  pub own : (n : ℕ) → v.own n ≡ stands n flow
+  pub other : (n : ℕ) → v.other n ≡ stands n pair
+  pub own_waits : (n : ℕ) (p : FlowPacket) → packet_with n flow ≡ Some p → packet_with n pair ≡ None
+      → Keeps (v.kept n) p
+  pub other_waits : (n : ℕ) (p : FlowPacket) → packet_with n pair ≡ Some p → packet_with n flow ≡ None
+      → Keeps (v.kept n) p
 
--- these packets came of a flow
-pub record HoldsFlow (a : Arrivals) (flow : List FlowPacket) : Type 0 where
-  pub found : (number : ℕ) → option_map record_and_stamp (arrival_of a number)
-      ≡ option_map record_and_stamp_of (packet_with number flow)
-  pub numbers : count_numbers a ≡ length (opening flow)
-  pub repeats : a.repeated ≡ length (repeated flow)
-  pub unread : a.unread ≡ count_by is_unread flow
+-- these packets of a flow were counted
+pub record CountsFlow (c : Flow) (flow : List FlowPacket) : Type 0 where
+  pub numbers : c.numbers ≡ length (opening flow)
+  pub repeats : c.repeated ≡ length (repeated flow)
+  pub unread : c.unread ≡ count_by is_unread flow
 
 -- the packets f of the first flow and g of the second were given, whatever order they came in, and each was kept
 pub record StandsFor (s : Skew) (f g : List FlowPacket) : Type 0 where
   pub whole : s.spent ≡ false
-  pub first : HoldsFlow s.first f
-  pub second : HoldsFlow s.second g
+  pub first : CountsFlow s.first f
+  pub second : CountsFlow s.second g
+  pub numbers : HoldsNumbers (view First s.pages) f g
   pub matches : HoldsSkews s.matches (skews f g)
   -- as many numbers are matched the other way round
   pub back : s.matches.matched ≡ length (skews g f)

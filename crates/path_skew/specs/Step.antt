@@ -1,18 +1,24 @@
 -- What one packet changes.
-use Rattle.std.specs.Prelude.{◌≡◌, ◌⊎◌, ℕ, Option, None, Result, Ok, Err}
+use Rattle.std.specs.Prelude.{◌≡◌, ◌⊎◌, ℕ, true, Option, None, Result, Ok, Err}
 use Rattle.timing_base.specs.declared.packet.PacketFault.{PacketFault}
 use Rattle.timing_base.specs.declared.packet.Rtp.{Rtp}
-use Rattle.path_skew.specs.Kept.{Opens, Repeats, Skips, arrival_of}
+use Rattle.path_skew.specs.Kept.{IsCounted, view}
+use Rattle.path_skew.specs.View.{IsOpened, IsSame, View}
 use Rattle.path_skew.specs.declared.arrival.Arrival.{Arrival}
-use Rattle.path_skew.specs.declared.arrivals.Arrivals.{Arrivals}
+use Rattle.path_skew.specs.declared.flow.Flow.{Flow}
+use Rattle.path_skew.specs.declared.pages.Pages.{Pages}
+use Rattle.path_skew.specs.declared.pages.Side.{Side}
 
--- a packet came in a flow: it is the first of its number, and the other flow's first of this number is told, or it is
--- not, and none is told
-abbrev pub Steps : (old new other : Arrivals) → (number : ℕ) → Arrival → Option Arrival → Type 0
-Steps old new other number arrival told =
-    (Opens old new number arrival × (told ≡ arrival_of other number)) ⊎ (Repeats old new number × (told ≡ None))
+-- a packet with this number came of a flow: it is the first of its number, and the other flow's first packet of it is
+-- told where that had it, or it is not, and none is told
+abbrev pub Steps : (v w : View) (old new : Flow) → (number : ℕ) → Arrival → Option Arrival → Type 0
+Steps v w old new number arrival told = (IsOpened v w number arrival told × IsCounted old new 1 0 0)
+    ⊎ ((v.own number ≡ true) × IsSame v w × IsCounted old new 0 1 0 × (told ≡ None))
 
--- the same of a packet that was read, or not: then none is told
-abbrev pub Comes : (old new other : Arrivals) → Arrival → Result Rtp PacketFault → Option Arrival → Type 0
-Comes old new other arrival (Ok rtp) told = Steps old new other rtp.number arrival told
-Comes old new other arrival (Err fault) told = Skips old new × (told ≡ None)
+-- a packet of a side came, read or not; where it was not, none is told
+abbrev pub Comes : Side → (before after : Pages) → (old new : Flow) → Arrival → Result Rtp PacketFault
+    → Option Arrival → Type 0
+Comes side before after old new arrival (Ok rtp) told =
+    Steps (view side before) (view side after) old new rtp.number arrival told
+Comes side before after old new arrival (Err fault) told =
+    (after ≡ before) × IsCounted old new 0 0 1 × (told ≡ None)

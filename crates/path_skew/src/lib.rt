@@ -4,8 +4,10 @@
 
 mod arrival;
 mod arrivals;
+mod flow;
 pub mod laws;
 mod matches;
+mod pages;
 mod row;
 mod skew;
 

@@ -1,7 +1,9 @@
 //! The numbers that stand in both flows.
 
-ghost use Rattle.std.specs.Prelude.{◌≡◌, ◌<◌, ◌+◌, ◌^◌, ◌-ℤ◌, pos, ◌++◌, ◌∷◌, List, None};
-ghost use Rattle.path_skew.specs.Pair.{earlier_of, falling, record_cmp, rising};
+ghost use Rattle.std.specs.Prelude.{◌≡◌, ◌<◌, ◌+◌, ◌^◌, ◌-ℤ◌, pos, ◌++◌, ◌∷◌, List, None, if◌then◌else◌};
+ghost use Rattle.path_skew.specs.Pair as orders;
+ghost use Rattle.path_skew.specs.Pair.{earlier_of, record_cmp};
+ghost use Rattle.std.specs.Ordering.{is_gt};
 ghost use Rattle.path_skew.specs.declared.row.Extreme.{Extreme};
 
 use crate::arrival::Arrival;
@@ -83,32 +85,50 @@ fn by_records(extreme: &Extreme, other: &Extreme) -> Ordering
         .then(extreme.second_rec.cmp(&other.second_rec))
 }
 
-/// The lesser skew, where there is another, and of equal ones that of the lesser record.
+/// The order of skews by which the least comes first.
 #[inline(always)]
-fn least(extreme: Extreme, other: Option<Extreme>) -> Extreme
-    ensures { result ≡ earlier_of rising extreme other }
+fn rising(extreme: &Extreme, other: &Extreme) -> Ordering
+    ensures { result ≡ orders.rising extreme.now other.now }
 {
-    let Some(other) = other else {
-        return extreme;
-    };
-    let order = extreme
-        .skew
-        .cmp(&other.skew)
-        .then(by_records(&extreme, &other));
+    let records = by_records(extreme, other);
+    extreme.skew.cmp(&other.skew).then(records)
+}
+
+/// The order of skews by which the greatest comes first.
+#[inline(always)]
+fn falling(extreme: &Extreme, other: &Extreme) -> Ordering
+    ensures { result ≡ orders.falling extreme.now other.now }
+{
+    let records = by_records(extreme, other);
+    other.skew.cmp(&extreme.skew).then(records)
+}
+
+/// The one of two that comes first, where `order` is theirs.
+#[inline(always)]
+fn earlier(extreme: Extreme, other: Extreme, order: Ordering) -> Extreme
+    ensures { result ≡ (if is_gt order then other else extreme) }
+{
     if order.is_gt() { other } else { extreme }
 }
 
-/// The greater skew, where there is another, and of equal ones that of the lesser record.
+/// The least skew of one more and those before, and of equal ones that of the least record.
 #[inline(always)]
-fn greatest(extreme: Extreme, other: Option<Extreme>) -> Extreme
-    ensures { result ≡ earlier_of falling extreme other }
+fn least(extreme: Extreme, before: Option<Extreme>) -> Extreme
+    ensures { result ≡ earlier_of orders.rising extreme before }
 {
-    let Some(other) = other else {
-        return extreme;
-    };
-    let order = other
-        .skew
-        .cmp(&extreme.skew)
-        .then(by_records(&extreme, &other));
-    if order.is_gt() { other } else { extreme }
+    match before {
+        Some(before) => earlier(extreme, before, rising(&extreme, &before)),
+        None => extreme,
+    }
+}
+
+/// The greatest skew of one more and those before, and of equal ones that of the least record.
+#[inline(always)]
+fn greatest(extreme: Extreme, before: Option<Extreme>) -> Extreme
+    ensures { result ≡ earlier_of orders.falling extreme before }
+{
+    match before {
+        Some(before) => earlier(extreme, before, falling(&extreme, &before)),
+        None => extreme,
+    }
 }

@@ -1,25 +1,28 @@
 //! The skew of two flows.
 
-ghost use Rattle.std.specs.Prelude.{◌≡◌, ◌≤◌, ◌<◌, ◌+◌, ◌^◌, ◌++◌, ◌∷◌, [], false, List, Ok, Err, IsErr, IfOk, OnErr, OnOk};
+ghost use Rattle.std.specs.Prelude.{◌≡◌, ◌≤◌, ◌<◌, ◌+◌, ◌^◌, ◌++◌, ◌∷◌, [], false, true, List, Ok, Err, IsErr, IfOk, OnErr, OnOk};
 ghost use Rattle.timing_base.specs.declared.packet.FlowPacket.{FlowPacket};
 ghost use Rattle.path_skew.specs.Kept.{count_given};
 ghost use Rattle.path_skew.specs.Pair.{skew};
 
 use crate::arrival::Arrival;
-use crate::arrivals::Arrivals;
+use crate::flow::Flow;
 use crate::matches::Matches;
+use crate::pages::{Found, Pages, Side};
 use crate::row::SkewRow;
 use std::alloc::{AllocError as OutOfMemory, Global};
-use timing_base::{PacketFault, Rtp};
+use timing_base::{FlowPacket, PacketFault, Rtp};
 
 /// Two flows that carry the same packets by two paths. It is given the packets of each flow in order,
 /// and those of the two flows in any order among each other.
 #[derive(Drop)]
 pub struct Skew {
-    /// What came of the first flow.
-    first: Arrivals,
-    /// What came of the second flow.
-    second: Arrivals,
+    /// What is counted of the first flow.
+    first: Flow,
+    /// What is counted of the second flow.
+    second: Flow,
+    /// The numbers of both.
+    pages: Pages,
     /// The numbers that came of both.
     matches: Matches,
     /// Memory was refused.
@@ -39,96 +42,71 @@ impl Skew {
         ensures stands { StandsFor result [] [] }
     {
         Skew {
-            first: Arrivals::new(alloc),
-            second: Arrivals::new(alloc),
+            first: Flow::new(),
+            second: Flow::new(),
+            pages: Pages::new(alloc),
             matches: Matches::new(),
             spent: false,
         }
     }
 
-    /// Takes the next packet of the first flow: the number of its record, when it was captured in
-    /// nanoseconds, and what was read of it.
+    /// Takes the next packet of the first flow.
     ///
     /// `Err` is want of memory. It comes from then on for the packets of both flows, and what
     /// [`Skew::finish`] then answers is not of these flows.
     #[inline(always)]
-    pub fn first(
-        &mut self,
-        rec: u64,
-        at: u64,
-        rtp: Result<Rtp, PacketFault>,
-    ) -> Result<(), OutOfMemory>
-        requires in_time { at < 2 ^ 62 }
+    pub fn first(&mut self, packet: FlowPacket) -> Result<(), OutOfMemory>
+        requires in_time { packet.at < 2 ^ 62 }
         requires few { count_first self.old < 2 ^ 41 }
 
         // Whatever flows were given before, the first has this packet more.
         ensures stands { (first second : List FlowPacket) → StandsFor self.old first second
-            → OnOk result (StandsFor self.new
-            (first ++ record { rec = rec; at = at; rtp = rtp } ∷ []) second) }
+            → OnOk result (StandsFor self.new (first ++ packet ∷ []) second) }
 
         ensures gives { Gives self.old self.new count_first count_second result }
     {
-        if self.spent {
-            return Err(OutOfMemory);
-        }
+        let FlowPacket { rec, at, rtp } = packet;
         let arrival = Arrival { rec, at };
-        match take(&mut self.first, &mut self.second, rtp, arrival) {
-            Ok(Some(second)) => {
-                self.matches.put(arrival, second);
-                Ok(())
-            }
-            Ok(None) => Ok(()),
-            Err(refused) => {
-                self.spend();
-                Err(refused)
-            }
+        let told = take(
+            &mut self.pages,
+            &mut self.first,
+            Side::First,
+            &mut self.spent,
+            rtp,
+            arrival,
+        )?;
+        if let Some(second) = told {
+            self.matches.put(arrival, second);
         }
-    }
-
-    /// Memory was refused.
-    #[cold]
-    #[inline(never)]
-    fn spend(&mut self)
-        ensures spends { IsSpent self.new }
-        ensures first { count_first self.new ≡ count_first self.old }
-        ensures second { count_second self.new ≡ count_second self.old }
-    {
-        self.spent = true;
+        Ok(())
     }
 
     /// Takes the next packet of the second flow, as [`Skew::first`] does of the first.
     #[inline(always)]
-    pub fn second(
-        &mut self,
-        rec: u64,
-        at: u64,
-        rtp: Result<Rtp, PacketFault>,
-    ) -> Result<(), OutOfMemory>
-        requires in_time { at < 2 ^ 62 }
+    pub fn second(&mut self, packet: FlowPacket) -> Result<(), OutOfMemory>
+        requires in_time { packet.at < 2 ^ 62 }
         requires few { count_second self.old < 2 ^ 41 }
 
         // Whatever flows were given before, the second has this packet more.
         ensures stands { (first second : List FlowPacket) → StandsFor self.old first second
-            → OnOk result (StandsFor self.new first
-            (second ++ record { rec = rec; at = at; rtp = rtp } ∷ [])) }
+            → OnOk result (StandsFor self.new first (second ++ packet ∷ [])) }
 
         ensures gives { Gives self.old self.new count_second count_first result }
     {
-        if self.spent {
-            return Err(OutOfMemory);
-        }
+        let FlowPacket { rec, at, rtp } = packet;
         let arrival = Arrival { rec, at };
-        match take(&mut self.second, &mut self.first, rtp, arrival) {
-            Ok(Some(first)) => {
-                self.matches.put(first, arrival);
-                Ok(())
-            }
-            Ok(None) => Ok(()),
-            Err(refused) => {
-                self.spend();
-                Err(refused)
-            }
+        let told = take(
+            &mut self.pages,
+            &mut self.second,
+            Side::Second,
+            &mut self.spent,
+            rtp,
+            arrival,
+        )?;
+        if let Some(first) = told {
+            self.matches.put(first, arrival);
         }
+        Ok(())
     }
 
     /// The row of the two flows, where they end here.
@@ -143,8 +121,8 @@ impl Skew {
         } = self.matches;
         SkewRow {
             matched,
-            first_only: self.first.numbers().saturating_sub(matched),
-            second_only: self.second.numbers().saturating_sub(matched),
+            first_only: self.first.numbers.saturating_sub(matched),
+            second_only: self.second.numbers.saturating_sub(matched),
             repeated: self.first.repeated + self.second.repeated,
             unread: self.first.unread + self.second.unread,
             least,
@@ -153,50 +131,72 @@ impl Skew {
     }
 }
 
-ghost use Rattle.path_skew.specs.Kept.{IsKept};
+ghost use Rattle.path_skew.specs.Kept.{view};
 ghost use Rattle.path_skew.specs.Step.{Comes, Steps};
 
-/// Takes a packet of one flow, and answers the other flow's first packet of its number where this was
+/// Takes a packet of one side, and answers the other flow's first packet of its number where this was
 /// read and is the first of its own flow.
 ///
-/// `Err` is want of memory: nothing is kept.
+/// `Err` is want of memory: the packet is not counted, and the two flows are spent from then on.
 #[inline(always)]
 fn take(
-    flow: &mut Arrivals,
-    other: &mut Arrivals,
+    pages: &mut Pages,
+    flow: &mut Flow,
+    side: Side,
+    spent: &mut bool,
     rtp: Result<Rtp, PacketFault>,
     arrival: Arrival,
 ) -> Result<Option<Arrival>, OutOfMemory>
     requires { count_given flow.old < 2 ^ 41 }
-    ensures ok { IfOk result (Comes flow.old flow.new other.old arrival rtp) }
-    ensures err { OnErr result (IsKept flow.old flow.new) }
-    ensures other { IsKept other.old other.new }
+    ensures comes { IfOk result (Comes side pages.old pages.new flow.old flow.new arrival rtp) }
+    ensures given { OnOk result (count_given flow.new ≡ count_given flow.old + 1) }
+    ensures kept { OnErr result (count_given flow.new ≡ count_given flow.old) }
+    ensures whole { OnOk result (spent.new ≡ spent.old) }
+    ensures spends { OnErr result (spent.new ≡ true) }
+    ensures stays { spent.old ≡ true → IsErr result }
 {
-    match rtp {
-        Ok(read) => take_read(flow, other, read.number, arrival),
+    if *spent {
+        return Err(OutOfMemory);
+    }
+    let outcome = match rtp {
+        Ok(read) => take_read(pages, flow, side, read.number, arrival),
         Err(_) => {
             flow.unread += 1;
             Ok(None)
         }
+    };
+    if outcome.is_err() {
+        *spent = true;
     }
+    outcome
 }
 
-/// Puts a packet with this number in its own flow, and finds the first one with it in the other.
+/// Takes a packet with this number of one side, and answers the other flow's first packet of the number
+/// where this is the first of its own flow.
+///
+/// `Err` is want of memory: the packet is not counted.
 #[inline(always)]
 fn take_read(
-    flow: &mut Arrivals,
-    other: &mut Arrivals,
+    pages: &mut Pages,
+    flow: &mut Flow,
+    side: Side,
     number: u32,
     arrival: Arrival,
 ) -> Result<Option<Arrival>, OutOfMemory>
     requires { count_given flow.old < 2 ^ 41 }
-    ensures ok { IfOk result (Steps flow.old flow.new other.old number arrival) }
-    ensures err { OnErr result (IsKept flow.old flow.new) }
-    ensures other { IsKept other.old other.new }
+    ensures steps { IfOk result (Steps (view side pages.old) (view side pages.new) flow.old flow.new
+        number arrival) }
+    ensures given { OnOk result (count_given flow.new ≡ count_given flow.old + 1) }
+    ensures kept { OnErr result (count_given flow.new ≡ count_given flow.old) }
 {
-    if flow.take(number, arrival)? {
-        Ok(other.find(number))
-    } else {
-        Ok(None)
+    match pages.meet(&mut flow.near, side, number, arrival)? {
+        Found::Again => {
+            flow.repeated += 1;
+            Ok(None)
+        }
+        Found::Opens(other) => {
+            flow.numbers += 1;
+            Ok(other)
+        }
     }
 }

@@ -8,7 +8,7 @@ use std::alloc::Global;
 use std::process::Abort;
 use std::test::Fail;
 use timing_base::worked::reading;
-use timing_base::{PacketFault, Rtp};
+use timing_base::{FlowPacket, PacketFault};
 
 // Two flows, and how many packets of each were taken.
 #[derive(Drop)]
@@ -20,8 +20,16 @@ struct Pair {
     ghost counted_second: { count_second skew ≡ seconds },
 }
 
-fn read(number: u32) -> Result<Rtp, PacketFault> {
-    Ok(reading(number, 0, false))
+// A packet by record, stamp and number.
+fn came(rec: u64, at: u64, number: u32) -> FlowPacket {
+    let rtp = Ok(reading(number, 0, false));
+    FlowPacket { rec, at, rtp }
+}
+
+// A packet that was not read.
+fn unread(rec: u64, at: u64, fault: PacketFault) -> FlowPacket {
+    let rtp = Err(fault);
+    FlowPacket { rec, at, rtp }
 }
 
 // A skew, and the records of its packets.
@@ -43,30 +51,18 @@ impl Pair {
     }
 
     // Asserts what `first` requires, since a proof does not follow the packets of a loop.
-    fn first(
-        &mut self,
-        rt: &impl Abort,
-        rec: u64,
-        at: u64,
-        rtp: Result<Rtp, PacketFault>,
-    ) -> Result<(), Fail> {
-        assert!(rt; at < 1 << 62);
+    fn first(&mut self, rt: &impl Abort, packet: FlowPacket) -> Result<(), Fail> {
+        assert!(rt; packet.at < 1 << 62);
         assert!(rt; self.firsts < 1 << 41);
-        self.skew.first(rec, at, rtp)?;
+        self.skew.first(packet)?;
         self.firsts += 1;
         Ok(())
     }
 
-    fn second(
-        &mut self,
-        rt: &impl Abort,
-        rec: u64,
-        at: u64,
-        rtp: Result<Rtp, PacketFault>,
-    ) -> Result<(), Fail> {
-        assert!(rt; at < 1 << 62);
+    fn second(&mut self, rt: &impl Abort, packet: FlowPacket) -> Result<(), Fail> {
+        assert!(rt; packet.at < 1 << 62);
         assert!(rt; self.seconds < 1 << 41);
-        self.skew.second(rec, at, rtp)?;
+        self.skew.second(packet)?;
         self.seconds += 1;
         Ok(())
     }
@@ -99,10 +95,10 @@ fn later(rec: u64) -> u64 {
 fn skew_pair(rt: HostRuntime) -> Result<(), Fail> {
     let mut pair = Pair::new(rt.alloc());
     for rec in 1..42u32 {
-        pair.first(&rt, u64::from(rec), stamp(u64::from(rec)), read(rec - 1))?;
+        pair.first(&rt, came(u64::from(rec), stamp(u64::from(rec)), rec - 1))?;
     }
     for rec in 1..41u32 {
-        pair.second(&rt, u64::from(rec), later(u64::from(rec)), read(rec - 1))?;
+        pair.second(&rt, came(u64::from(rec), later(u64::from(rec)), rec - 1))?;
     }
     let row = SkewRow {
         matched: 40,
@@ -122,10 +118,10 @@ fn skew_pair(rt: HostRuntime) -> Result<(), Fail> {
 fn skew_swapped(rt: HostRuntime) -> Result<(), Fail> {
     let mut pair = Pair::new(rt.alloc());
     for rec in 1..41u32 {
-        pair.second(&rt, u64::from(rec), stamp(u64::from(rec)), read(rec - 1))?;
-        pair.first(&rt, u64::from(rec), later(u64::from(rec)), read(rec - 1))?;
+        pair.second(&rt, came(u64::from(rec), stamp(u64::from(rec)), rec - 1))?;
+        pair.first(&rt, came(u64::from(rec), later(u64::from(rec)), rec - 1))?;
     }
-    pair.second(&rt, 41, stamp(41), read(40))?;
+    pair.second(&rt, came(41, stamp(41), 40))?;
     let row = SkewRow {
         matched: 40,
         first_only: 0,
@@ -142,15 +138,15 @@ fn skew_swapped(rt: HostRuntime) -> Result<(), Fail> {
 #[test]
 fn unread_and_repeated(rt: HostRuntime) -> Result<(), Fail> {
     let mut pair = Pair::new(rt.alloc());
-    pair.first(&rt, 1, 10, Err(PacketFault::Short))?;
-    pair.first(&rt, 2, 20, read(7))?;
-    pair.second(&rt, 4, 40, read(6))?;
-    pair.second(&rt, 5, 50, Err(PacketFault::Version))?;
-    pair.second(&rt, 9, 60, read(7))?;
-    pair.second(&rt, 11, 61, read(7))?;
-    pair.first(&rt, 12, 70, read(6))?;
-    pair.first(&rt, 13, 75, read(6))?;
-    pair.first(&rt, 14, 80, Err(PacketFault::Short))?;
+    pair.first(&rt, unread(1, 10, PacketFault::Short))?;
+    pair.first(&rt, came(2, 20, 7))?;
+    pair.second(&rt, came(4, 40, 6))?;
+    pair.second(&rt, unread(5, 50, PacketFault::Version))?;
+    pair.second(&rt, came(9, 60, 7))?;
+    pair.second(&rt, came(11, 61, 7))?;
+    pair.first(&rt, came(12, 70, 6))?;
+    pair.first(&rt, came(13, 75, 6))?;
+    pair.first(&rt, unread(14, 80, PacketFault::Short))?;
     let row = SkewRow {
         matched: 2,
         first_only: 0,
@@ -196,16 +192,12 @@ fn number(numbers: Numbers, i: u32) -> u32 {
 fn many(rt: &impl Abort, alloc: Global, numbers: Numbers) -> Result<SkewRow, Fail> {
     let mut pair = Pair::new(alloc);
     for i in 0..MANY {
-        pair.first(
-            rt,
-            u64::from(i) + 1,
-            4_444 * u64::from(i),
-            read(number(numbers, i)),
-        )?;
+        let at = 4_444 * u64::from(i);
+        pair.first(rt, came(u64::from(i) + 1, at, number(numbers, i)))?;
     }
     for i in 0..MANY {
         let at = 4_444 * u64::from(i) + if i < 50_000 { 3 } else { 5 };
-        pair.second(rt, u64::from(i) + 1, at, read(number(numbers, i)))?;
+        pair.second(rt, came(u64::from(i) + 1, at, number(numbers, i)))?;
     }
     Ok(pair.finish())
 }

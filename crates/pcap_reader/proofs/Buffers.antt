@@ -79,3 +79,8 @@ ahead-failed a b f s xs ys r zs e i h k p =
     (sym (ap (drop s) (i ∙ ap (λ l. take f l ++ r) e)))
     (subst (λ l. Keeps (prepend_known (take (f - s) (drop s xs)) a) (prepend_known l b)) (sym (held-after_fail f s xs r h k))
     (Keeps-failed a b (take (f - s) (drop s xs)) p))
+
+-- what is ahead, by what was held before
+pub Keeps-held : (a b : Option (List ℕ)) (h k l : List ℕ) → h ≡ k → Keeps (prepend_known h a) (prepend_known l b)
+    → Keeps (prepend_known k a) (prepend_known l b)
+Keeps-held a b h k l e p = subst (λ x. Keeps (prepend_known x a) (prepend_known l b)) e p

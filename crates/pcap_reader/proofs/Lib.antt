@@ -3,6 +3,7 @@ pub mod Captures
 pub mod Lists
 pub mod Notes
 pub mod Reading
+pub mod Runs
 pub mod TakenRecords
 pub mod Taking
 pub mod Texts

@@ -79,11 +79,11 @@ IsNext layout old new text rest head =
     × (rest ≡ Some (drop (16 + captured layout text) text))
 
 -- a record of these parts
-abbrev make : ℕ → ℕ → List ℕ → Record
+abbrev pub make : ℕ → ℕ → List ℕ → Record
 make a b c = record { number = a; stamp = b; bytes = c }
 
 -- equal parts make equal records
-record_is : (n m s t : ℕ) (xs ys : List ℕ) → n ≡ m → s ≡ t → xs ≡ ys
+pub record_is : (n m s t : ℕ) (xs ys : List ℕ) → n ≡ m → s ≡ t → xs ≡ ys
     → make n s xs ≡ make m t ys
 record_is n m s t xs ys e f g =
     ap (λ a. make a s xs) e ∙ ap (λ b. make m b xs) f ∙ ap (λ c. make m t c) g

@@ -7,46 +7,62 @@ use Rattle.timing_base.specs.Captures.{Record, raised}
 use Rattle.timing_base.specs.declared.capture.FileNote.{FileNote}
 use Rattle.timing_base.specs.declared.capture.FileNote.TheVariants.{Refused}
 use Rattle.timing_base.specs.declared.capture.PcapFault.TheVariants as fault
-use Rattle.pcap_reader.specs.declared.reader.PcapReader.{PcapReader}
-use Rattle.pcap_reader.specs.Readers.{GivesNote, WillGive}
+use Rattle.pcap_reader.specs.Readers.{GivesNote}
 use Rattle.pcap_reader.specs.Taken.{HasBegun, HasTaken, TakesFew, TakesNext}
 
 -- no record is taken yet
-pub taken-none : {S T : Type 0} (left : S → Option (List ℕ)) (takes : T → T → List Record → Type 0) (before : ℕ) (x : T) (reader : PcapReader S) (count : ℕ)
+pub taken-none : {T : Type 0} (gives : List Record → FileNote → Type 0) (takes : T → T → List Record → Type 0) (before : ℕ) (x : T) (count : ℕ)
     (items : List Record) (end : FileNote)
-    → takes x x [] → count ≡ 0 → WillGive left reader items end → HasBegun left takes before x x reader count items end
-taken-none left takes before x reader count items end none zero given =
+    → takes x x [] → count ≡ 0 → gives items end → HasBegun gives takes before x x count items end
+taken-none gives takes before x count items end none zero given =
     record { taken = []; rest = items; whole = refl; given = given; count_is = sym zero; fed = none }
 
--- one record more is taken
-pub taken-more : {S T : Type 0} (left : S → Option (List ℕ)) (takes : T → T → List Record → Type 0) (before : ℕ) (old mid new : T) (reader next : PcapReader S)
-    (count counted : ℕ) (o : Option FileNote) (items : List Record) (end : FileNote)
+-- what is still to come, told otherwise
+pub taken-gives : {T : Type 0} (gives next : List Record → FileNote → Type 0) (takes : T → T → List Record → Type 0) (before : ℕ) (old new : T)
+    (count : ℕ) (items : List Record) (end : FileNote)
+    → ((rest : List Record) → gives rest end → next rest end) → HasBegun gives takes before old new count items end
+    → HasBegun next takes before old new count items end
+taken-gives gives next takes before old new count items end same h =
+    record { taken = h.taken; rest = h.rest; whole = h.whole; given = same h.rest h.given; count_is = h.count_is; fed = h.fed }
+
+-- some records more are taken
+pub taken-many : {T : Type 0} (gives next : List Record → FileNote → Type 0) (takes : T → T → List Record → Type 0) (before : ℕ) (old mid new : T)
+    (count many counted : ℕ) (items : List Record) (end : FileNote)
     → ((a b : List Record) → takes old mid a → takes mid new b → takes old new (a ++ b))
-    → o ≡ None → counted ≡ count + 1 → HasBegun left takes before old mid reader count items end
-    → ((rest : List Record) → WillGive left reader rest end → TakesNext left takes before mid new next o rest end)
-    → HasBegun left takes before old new next counted items end
-taken-more left takes before old mid new reader next count counted o items end more e one h step =
-    let t = subst (λ (x : Option FileNote). TakesNext left takes before mid new next x h.rest end) e (step h.rest h.given) in
+    → counted ≡ count + many → HasBegun gives takes before old mid count items end
+    → ((rest : List Record) → gives rest end → HasBegun next takes before mid new many rest end)
+    → HasBegun next takes before old new counted items end
+taken-many gives next takes before old mid new count many counted items end more sum h step =
+    let t = step h.rest h.given in
     record {
-      taken = h.taken ++ t.0 ∷ [];
-      rest = t.1;
-      whole = h.whole ∙ ap (λ l. h.taken ++ l) t.2 ∙ sym (append_assoc h.taken (t.0 ∷ []) t.1);
-      given = t.3;
-      count_is = length-append h.taken (t.0 ∷ []) ∙ omega (arith, h.count_is, one);
-      fed = subst (takes old new) (sym (map-append (raised before) h.taken (t.0 ∷ []))) (more (map (raised before) h.taken) (raised before t.0 ∷ []) h.fed t.4);
+      taken = h.taken ++ t.taken;
+      rest = t.rest;
+      whole = h.whole ∙ ap (λ l. h.taken ++ l) t.whole ∙ sym (append_assoc h.taken t.taken t.rest);
+      given = t.given;
+      count_is = length-append h.taken t.taken ∙ omega (arith, h.count_is, t.count_is, sum);
+      fed = subst (takes old new) (sym (map-append (raised before) h.taken t.taken))
+          (more (map (raised before) h.taken) (map (raised before) t.taken) h.fed t.fed);
     }
 
+-- the next record was taken
+pub taken-one : {T : Type 0} (gives : List Record → FileNote → Type 0) (takes : T → T → List Record → Type 0) (before : ℕ) (old new : T)
+    (o : Option FileNote) (items : List Record) (end : FileNote)
+    → o ≡ None → TakesNext gives takes before old new o items end → HasBegun gives takes before old new 1 items end
+taken-one gives takes before old new o items end e step =
+    let t = subst (λ (x : Option FileNote). TakesNext gives takes before old new x items end) e step in
+    record { taken = t.0 ∷ []; rest = t.1; whole = t.2; given = t.3; count_is = refl; fed = t.4 }
+
 -- there is no record more, so all were taken, or a read failed
-pub taken-all : {S T : Type 0} (left : S → Option (List ℕ)) (takes : T → T → List Record → Type 0) (before : ℕ) (old mid new : T)
-    (reader next : PcapReader S) (count many : ℕ) (o : Option FileNote) (note : FileNote) (items : List Record) (end : FileNote)
-    → new ≡ mid → o ≡ Some note → many ≡ count → HasBegun left takes before old mid reader count items end
-    → ((rest : List Record) → WillGive left reader rest end → TakesNext left takes before mid new next o rest end)
+pub taken-all : {T : Type 0} (gives next : List Record → FileNote → Type 0) (takes : T → T → List Record → Type 0) (before : ℕ) (old mid new : T)
+    (count many : ℕ) (o : Option FileNote) (note : FileNote) (items : List Record) (end : FileNote)
+    → new ≡ mid → o ≡ Some note → many ≡ count → HasBegun gives takes before old mid count items end
+    → ((rest : List Record) → gives rest end → TakesNext next takes before mid new o rest end)
     → HasTaken takes before old new note many items end
-taken-all left takes before old mid new reader next count many o note items end kept e same h step = record {
+taken-all gives next takes before old mid new count many o note items end kept e same h step = record {
   taken = h.taken;
   rest = h.rest;
   whole = h.whole;
-  ends = subst (λ (x : Option FileNote). TakesNext left takes before mid new next x h.rest end) e (step h.rest h.given);
+  ends = subst (λ (x : Option FileNote). TakesNext next takes before mid new x h.rest end) e (step h.rest h.given);
   count_is = h.count_is ∙ sym same;
   fed = subst (λ x. takes old x (map (raised before) h.taken)) (sym kept) h.fed;
 }
@@ -70,14 +86,14 @@ taken-whole takes before old new note count items end own h =
     )
 
 -- it stops at the next record
-pub taken-stops : {S T E : Type 0} (left : S → Option (List ℕ)) (takes : T → T → List Record → Type 0)
-    (stops : T → T → E → List Record → Type 0) (before : ℕ) (old mid new : T) (reader : PcapReader S) (count : ℕ) (stop : E)
+pub taken-stops : {T E : Type 0} (gives : List Record → FileNote → Type 0) (takes : T → T → List Record → Type 0)
+    (stops : T → T → E → List Record → Type 0) (before : ℕ) (old mid new : T) (count : ℕ) (stop : E)
     (items : List Record) (end : FileNote)
     → ((a b : List Record) → takes old mid a → stops mid new stop b → stops old new stop (a ++ b))
-    → HasBegun left takes before old mid reader count items end
-    → ((rest : List Record) → WillGive left reader rest end → stops mid new stop (map (raised before) rest))
+    → HasBegun gives takes before old mid count items end
+    → ((rest : List Record) → gives rest end → stops mid new stop (map (raised before) rest))
     → stops old new stop (map (raised before) items)
-taken-stops left takes stops before old mid new reader count stop items end ends h step =
+taken-stops gives takes stops before old mid new count stop items end ends h step =
     let e : map (raised before) items ≡ map (raised before) h.taken ++ map (raised before) h.rest
     = ap (map (raised before)) h.whole ∙ map-append (raised before) h.taken h.rest in
     subst (stops old new stop) (sym e) (ends (map (raised before) h.taken) (map (raised before) h.rest) h.fed (step h.rest h.given))

@@ -11,3 +11,4 @@ pub mod Examples
 -- these only serve proofs
 pub mod Finding
 pub mod Heads
+pub mod Runs

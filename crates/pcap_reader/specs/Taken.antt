@@ -3,8 +3,7 @@
 use Rattle.std.specs.Prelude.{◌≡◌, ◌≤◌, ℕ, ⊤, List, [], ◌∷◌, ◌++◌, length, map, Option, Some, None}
 use Rattle.timing_base.specs.Captures.{Record, raised}
 use Rattle.timing_base.specs.declared.capture.FileNote.{FileNote}
-use Rattle.pcap_reader.specs.declared.reader.PcapReader.{PcapReader}
-use Rattle.pcap_reader.specs.Readers.{GivesNote, WillGive}
+use Rattle.pcap_reader.specs.Readers.{GivesNote}
 
 -- some records were taken, at most so many
 pub record TakesFew {T : Type 0} (takes : T → T → List Record → Type 0) (most : ℕ) (old new : T) : Type 0 where
@@ -31,20 +30,20 @@ pub record HasTaken {T : Type 0} (takes : T → T → List Record → Type 0) (b
   pub count_is : length taken ≡ count
   pub fed : takes old new (map (raised before) taken)
 
--- a record was taken off what the reader was to give; or there is no record more
-abbrev pub TakesNext : {S T : Type 0} → (left : S → Option (List ℕ)) → (takes : T → T → List Record → Type 0)
-    → (before : ℕ) → (old new : T) → PcapReader S → Option FileNote → List Record → FileNote → Type 0
-TakesNext left takes before old new reader None items end =
+-- a record was taken off what was to be given, and what `gives` says is still to come; or there is no record more
+abbrev pub TakesNext : {T : Type 0} → (gives : List Record → FileNote → Type 0) → (takes : T → T → List Record → Type 0)
+    → (before : ℕ) → (old new : T) → Option FileNote → List Record → FileNote → Type 0
+TakesNext gives takes before old new None items end =
     (item : Record) × (later : List Record) × (items ≡ item ∷ later)
-    × WillGive left reader later end × takes old new (raised before item ∷ [])
-TakesNext left takes before old new reader (Some note) items end = GivesNote note items end
+    × gives later end × takes old new (raised before item ∷ [])
+TakesNext gives takes before old new (Some note) items end = GivesNote note items end
 
--- so many records were taken off what the reader was to give; the others are still to come
-pub record HasBegun {S T : Type 0} (left : S → Option (List ℕ)) (takes : T → T → List Record → Type 0) (before : ℕ)
-    (old new : T) (reader : PcapReader S) (count : ℕ) (items : List Record) (end : FileNote) : Type 0 where
+-- so many records were taken off what was to be given; the others, of which `gives` speaks, are still to come
+pub record HasBegun {T : Type 0} (gives : List Record → FileNote → Type 0) (takes : T → T → List Record → Type 0)
+    (before : ℕ) (old new : T) (count : ℕ) (items : List Record) (end : FileNote) : Type 0 where
   pub taken : List Record
   pub rest : List Record
   pub whole : items ≡ taken ++ rest
-  pub given : WillGive left reader rest end
+  pub given : gives rest end
   pub count_is : length taken ≡ count
   pub fed : takes old new (map (raised before) taken)

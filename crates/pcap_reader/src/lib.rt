@@ -18,6 +18,7 @@ pub mod laws;
 mod layout;
 mod reader;
 mod records;
+mod run;
 mod stage;
 mod taker;
 mod window;

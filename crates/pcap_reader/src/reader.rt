@@ -30,8 +30,8 @@ pub enum Step<'a> {
 /// The records of a source, through a buffer.
 #[derive(Drop)]
 pub struct PcapReader<S: Source> {
-    source: S,
-    window: Window,
+    pub(crate) source: S,
+    pub(crate) window: Window,
 }
 
 impl<S: Source> PcapReader<S> {
@@ -226,23 +226,6 @@ impl<S: Source> PcapReader<S> {
         }
     }
 
-    /// Reads the next record, where it has no fault and is held whole, as most records are. Else nothing
-    /// changes.
-    #[inline(always)]
-    fn read_front(&mut self) -> Option<Head>
-        ensures other { result ≡ None → self.new ≡ self.old }
-        ensures finds { IfSome result (λ head. Finds S.left S.name S.faults self.old self.new (Ok head)) }
-        ensures goes_on { IfSome result (λ _. end_note self.new ≡ None) }
-        ensures begun { IfSome result (λ _. end_note self.old ≡ None) }
-    {
-        let Stage::Records(layout) = self.window.stage else {
-            return None;
-        };
-        let head = self.window.front(layout)?;
-        self.window.pass_record(head.captured);
-        Some(head)
-    }
-
     /// The captured bytes of the record that was found last.
     #[inline(always)]
     pub(crate) fn frame(&self, head: Head) -> &[u8]
@@ -253,23 +236,7 @@ impl<S: Source> PcapReader<S> {
     }
 
     /// Finds the next record, or says how all ended, and keeps that.
-    #[inline(always)]
     pub(crate) fn find(&mut self) -> Result<Head, FileNote>
-        ensures finds { Finds S.left S.name S.faults self.old self.new result }
-        ensures tells { MatchResult result (λ _. end_note self.new ≡ None)
-            (λ note. end_note self.new ≡ Some note) }
-        ensures again { (note : _) → end_note self.old ≡ Some note → self.new ≡ self.old }
-    {
-        match self.read_front() {
-            Some(head) => Ok(head),
-            None => self.find_other(),
-        }
-    }
-
-    /// Finds a record that isn't held whole, or none.
-    #[cold]
-    #[inline(never)]
-    fn find_other(&mut self) -> Result<Head, FileNote>
         ensures finds { Finds S.left S.name S.faults self.old self.new result }
         ensures tells { MatchResult result (λ _. end_note self.new ≡ None)
             (λ note. end_note self.new ≡ Some note) }

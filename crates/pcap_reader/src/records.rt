@@ -1,14 +1,16 @@
 //! The records of a capture, taken one after the other.
 
-ghost use Rattle.std.specs.Prelude.{◌≡◌, ◌≢◌, ◌≤◌, ◌<◌, ◌+◌, ◌*◌, ◌^◌, ℕ, List, None, Some, true, false, IfOk, IfErr, MatchOption, MatchResult, map, length};
+ghost use Rattle.std.specs.Prelude.{◌≡◌, ◌≢◌, ◌≤◌, ◌<◌, ◌+◌, ◌-◌, ◌*◌, ◌^◌, ℕ, List, None, Some, true, false, IfOk, IfErr, MatchOption, MatchResult, map, length};
 ghost use Rattle.timing_base.specs.Captures.{Record, raised};
 ghost use Rattle.timing_base.specs.declared.capture.FileNote.TheVariants as file_note;
 ghost use Rattle.timing_base.specs.declared.capture.PcapFault.TheVariants as fault;
 ghost use Rattle.timing_outside.specs.Causes.{Rose};
 ghost use Rattle.pcap_reader.specs.Readers.{WillGive, end_note, frame_count, most_of, under};
-ghost use Rattle.pcap_reader.specs.Taken.{HasStopped, HasTaken, TakesFew, TakesNext};
+ghost use Rattle.pcap_reader.specs.Taken.{HasBegun, HasStopped, HasTaken, TakesFew, TakesNext};
 
 use crate::reader::PcapReader;
+use crate::run::take_run;
+use crate::stage::Stage;
 use crate::taker::Taker;
 use timing_base::{FileNote, PcapFault};
 use timing_outside::Source;
@@ -53,7 +55,7 @@ fn take_next<S: Source, T: Taker>(
     requires room { number ≤ 2 ^ 36 → T.room (before + number) 1 taker.old }
     ensures told { (items : List Record) (end : _) → WillGive S.left reader.old items end
         → MatchResult result
-        (λ o. TakesNext S.left T.takes before taker.old taker.new reader.new o items end)
+        (λ o. TakesNext (WillGive S.left reader.new) T.takes before taker.old taker.new o items end)
         (λ stop. T.stops taker.old taker.new stop (map (raised before) items)) }
     ensures fed { IfOk result (λ _. TakesFew T.takes 1 taker.old taker.new) }
     ensures stopped { IfErr result (λ stop. HasStopped T.stops taker.old taker.new stop) }
@@ -77,6 +79,45 @@ fn take_next<S: Source, T: Taker>(
         }
         Err(note) => Ok(Some(note)),
     }
+}
+
+/// Takes the records that are held whole and have no fault, up to the first that isn't so, the number of each raised by
+/// `before`. It reads nothing.
+#[inline(always)]
+fn take_held<S: Source, T: Taker>(
+    reader: &mut PcapReader<S>,
+    before: u64,
+    taker: &mut T,
+) -> Result<(), T::Stop>
+    requires most { most_of reader.old ≤ 2 ^ 40 }
+    requires before { before ≤ 2 ^ 41 }
+    requires room { (count : ℕ) → frame_count reader.old + count ≤ 2 ^ 36
+        → T.room (before + (frame_count reader.old + 1)) count taker.old }
+    ensures told { (items : List Record) (end : _) → WillGive S.left reader.old items end
+        → MatchResult result
+        (λ _. HasBegun (WillGive S.left reader.new) T.takes before taker.old taker.new
+        (frame_count reader.new - frame_count reader.old) items end)
+        (λ stop. T.stops taker.old taker.new stop (map (raised before) items)) }
+    ensures fed { IfOk result (λ _. TakesFew T.takes (frame_count reader.new - frame_count reader.old)
+        taker.old taker.new) }
+    ensures stopped { IfErr result (λ stop. HasStopped T.stops taker.old taker.new stop) }
+    ensures room { (count : ℕ) → IfOk result (λ _.
+        T.room (before + (frame_count reader.old + 1))
+        (frame_count reader.new - frame_count reader.old + count) taker.old
+        → T.room (before + (frame_count reader.new + 1)) count taker.new) }
+    ensures counts { frame_count reader.old ≤ frame_count reader.new }
+    ensures within { 16 * frame_count reader.new ≤ most_of reader.new }
+    ensures fresh { end_note reader.new ≡ end_note reader.old }
+    ensures most { most_of reader.new ≡ most_of reader.old }
+    ensures source { under reader.new ≡ under reader.old }
+{
+    let Stage::Records(layout) = reader.window.stage else {
+        return Ok(());
+    };
+    let number = reader.window.count + 1;
+    let run = take_run(layout, reader.window.within(), before, number, taker)?;
+    reader.window.pass_records(run.records, run.size);
+    Ok(())
 }
 
 /// Takes all records of a reader that has answered none, the number of each raised by `before`, the
@@ -110,13 +151,14 @@ pub fn take_records<S: Source, T: Taker>(
     ensures failed { IfOk result (λ taken. taken.note ≡ file_note.Refused fault.ReadFault
         → Rose (S.faults (under reader.old)) (S.faults (under reader.new))) }
 {
-    for number in 1..u64::MAX {
+    loop {
+        let number = reader.window.count + 1;
         if let Some(note) = take_next(reader, before, number, taker)? {
             return Ok(Taken {
                 note,
-                records: number - 1,
+                records: reader.window.count,
             });
         }
+        take_held(reader, before, taker)?;
     }
-    unreachable!()
 }

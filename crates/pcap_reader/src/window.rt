@@ -2,19 +2,19 @@
 
 ghost use Rattle.pcap_reader.specs.Stages.{is_begun, stage_note};
 ghost use Rattle.pcap_reader.specs.declared.stage.Stage.TheVariants as stage;
-ghost use Rattle.std.specs.Prelude.{◌≡◌, ◌≤◌, ◌<◌, ◌+◌, ◌-◌, ◌*◌, ◌^◌, ◌++◌, ℕ, [], IfOk, IfErr, IfSome, Some, None, IsTrue, true, false, vec_len, length, take, drop};
+ghost use Rattle.std.specs.Prelude.{◌≡◌, ◌≤◌, ◌<◌, ◌+◌, ◌-◌, ◌*◌, ◌^◌, ◌++◌, ℕ, [], IfOk, IfErr, IfSome, Some, None, IsTrue, true, false, vec_len, vec_capacity, length, take, drop};
 
-use crate::layout::{Layout, Order};
+use crate::layout::Layout;
 use crate::stage::{Head, Stage};
 use std::alloc::{AllocError, Global};
 use timing_base::{FileNote, PcapFault};
 use timing_outside::{Failed, Source};
 
-/// A whole record of the greatest length, and then a whole read.
+/// The capacity of the buffer: a whole record of the greatest length, and then a whole read.
 const ROOM: usize = 327_696;
 
 /// The most bytes that a record may have.
-const MOST_CAPTURED: u32 = 262_144;
+pub const MOST_CAPTURED: u32 = 262_144;
 
 /// The most bytes that one read asks for.
 const READ: u64 = 65_536;
@@ -35,7 +35,7 @@ pub struct Window {
     pub stage: Stage,
     ghost ordered: { start ≤ filled },
     ghost within: { filled ≤ vec_len buf },
-    ghost roomy: { vec_len buf ≡ 327696 },
+    ghost roomy: { 327696 ≤ vec_capacity buf },
     ghost long: { 24 ≤ most },
     ghost short: { most ≤ 2 ^ 40 },
     ghost begins: { is_begun stage ≡ false → place ≡ 0 },
@@ -63,9 +63,8 @@ impl Window {
         ensures most { IfOk result (λ w. w.most ≡ most) }
         ensures stage { IfOk result (λ w. w.stage ≡ stage.Header) }
     {
-        let buf = vec![in alloc; 0u8; ROOM]?;
         Ok(Window {
-            buf,
+            buf: Vec::with_capacity(alloc, ROOM)?,
             start: 0,
             filled: 0,
             place: 0,
@@ -136,51 +135,13 @@ impl Window {
         self.stage = Stage::Ended(note);
     }
 
-    /// The head of the record at the front, where it has no fault and the whole record is held, as most
-    /// records are.
-    #[inline(always)]
-    pub fn front(&self, layout: Layout) -> Option<Head>
-        ensures held { IfSome result (λ h. 16 + h.captured ≤ length (held_bytes self.now)) }
-        ensures head { IfSome result (IsHead layout self.now) }
+    /// What is held, as far as it stands within the greatest length of a capture.
+    pub fn within(&self) -> &[u8]
+        ensures { result.now ≡ take (self.now.most - self.now.place) (held_bytes self.now) }
     {
-        // Each is compiled for itself.
-        match layout.order {
-            Order::Little => self.front_in(Layout {
-                order: Order::Little,
-                fraction: layout.fraction,
-            }),
-            Order::Big => self.front_in(Layout {
-                order: Order::Big,
-                fraction: layout.fraction,
-            }),
-        }
-    }
-
-    /// The same, for one layout.
-    #[inline(always)]
-    fn front_in(&self, layout: Layout) -> Option<Head>
-        ensures held { IfSome result (λ h. 16 + h.captured ≤ length (held_bytes self.now)) }
-        ensures head { IfSome result (IsHead layout self.now) }
-    {
+        let room = (self.most - self.place) as usize;
         let bytes = self.peek();
-        if bytes.len() < 16 {
-            return None;
-        }
-        let seconds = layout.order.read_u32(bytes, 0);
-        let fraction = layout.order.read_u32(bytes, 4);
-        let captured = layout.order.read_u32(bytes, 8);
-        if fraction >= layout.fraction.per_second()
-            || captured > MOST_CAPTURED
-            || self.place + 16 + u64::from(captured) > self.most
-            || bytes.len() < 16 + captured as usize
-        {
-            return None;
-        }
-        let nanos = layout.fraction.to_nanos(fraction);
-        Some(Head {
-            at: u64::from(seconds) * 1_000_000_000 + u64::from(nanos),
-            captured: captured as usize,
-        })
+        &bytes[..bytes.len().min(room)]
     }
 
     /// Looks at the head of the record at the front of what is held. The first fault wins: the
@@ -234,6 +195,24 @@ impl Window {
         self.count += 1;
     }
 
+    /// Lets so many records go, which have so many bytes with their heads.
+    pub fn pass_records(&mut self, records: u64, size: usize)
+        requires held { size ≤ length (held_bytes self.old) }
+        requires most { self.old.place + size ≤ self.old.most }
+        requires few { 16 * records ≤ size }
+        requires begun { is_begun self.old.stage ≡ true }
+        ensures held { held_bytes self.new ≡ drop size (held_bytes self.old) }
+        ensures taken { taken_length self.new ≡ taken_length self.old }
+        ensures place { self.new.place ≡ self.old.place + size }
+        ensures count { self.new.count ≡ self.old.count + records }
+        ensures most { self.new.most ≡ self.old.most }
+        ensures stage { self.new.stage ≡ self.old.stage }
+    {
+        self.start += size;
+        self.place += size as u64;
+        self.count += records;
+    }
+
     /// Moves what is held to the front of the buffer.
     fn compact(&mut self)
         ensures bytes { held_bytes self.new ≡ held_bytes self.old }
@@ -259,6 +238,22 @@ impl Window {
         READ.min(self.most + 16 - taken) as usize
     }
 
+    /// Lets the buffer reach to `end`, within its capacity. What was never read into is not written before.
+    fn reach(&mut self, end: usize)
+        requires { end ≤ 327696 }
+        ensures bytes { held_bytes self.new ≡ held_bytes self.old }
+        ensures room { end ≤ vec_len self.new.buf }
+        ensures start { self.new.start ≡ self.old.start }
+        ensures filled { self.new.filled ≡ self.old.filled }
+        ensures same { SameRecord self.old self.new }
+    {
+        if self.buf.len() < end {
+            let Ok(()) = self.buf.resize(end, 0) else {
+                unreachable!()
+            };
+        }
+    }
+
     /// Reads once behind what is held.
     fn read_more<S: Source>(&mut self, source: &mut S) -> Result<usize, Failed>
         requires room { self.old.filled + 65536 ≤ 327696 }
@@ -273,6 +268,7 @@ impl Window {
         ensures end { IfOk result (λ n. n ≡ 0 → IsAtEnd (S.left source.new)) }
     {
         let end = self.filled + self.want();
+        self.reach(end);
         let got = source.read(&mut self.buf[self.filled..end])?;
         self.filled += got;
         Ok(got)

@@ -196,11 +196,14 @@ after-passes b n a x m l =
     let sum : n + (left + 4) ≡ b.left + 4 = omega arith in
     let place : n + left ≡ b.left = omega arith in
     let short : nat_lt (length a) (b.left + 4) ≡ nat_lt (length rest) (left + 4) = short_by n (left + 4) a (b.left + 4) sum l in
-    let number_is : number b.order 4 b.left a ≡ number b.order 4 left rest = ap (λ p. number b.order 4 p a) (sym place) ∙ sym (number-drop b.order 4 left n a) in
+    let number_is : number b.order 4 b.left a ≡ number b.order 4 left rest = ap (λ p. number b.order 4 p a) (sym place) ∙ sym (number-drop b.order 4 left n a)
+    in
     let tail : drop (b.left + 4) a ≡ drop (left + 4) rest = ap (λ p. drop p a) (sym sum) ∙ sym (drop-drop (left + 4) n a) in
     ap (λ c. go_on (λ next. blocks next (drop (b.left + 4) a)) (if c then cut else if not (number b.order 4 b.left a == b.total) then broken else x)) short
-    ∙ ap (λ y. go_on (λ next. blocks next (drop (b.left + 4) a)) (if nat_lt (length rest) (left + 4) then cut else if not (y == b.total) then broken else x)) number_is
-    ∙ ap (λ y. go_on (λ next. blocks next y) (if nat_lt (length rest) (left + 4) then cut else if not (number b.order 4 left rest == b.total) then broken else x)) tail
+    ∙ ap (λ y. go_on (λ next. blocks next (drop (b.left + 4) a)) (if nat_lt (length rest) (left + 4) then cut else if not (y == b.total) then broken else x))
+    number_is
+    ∙ ap (λ y. go_on (λ next. blocks next y) (if nat_lt (length rest) (left + 4) then cut else if not (number b.order 4 left rest == b.total) then broken
+    else x)) tail
 
 -- a block that is cut
 pub after-short : (b : Body) (a : List ℕ) (x : Given) → length a < b.left + 4 → after b a x ≡ 0 ∷ []
@@ -210,7 +213,8 @@ after-short b a x h =
     ap (λ c. go_on (λ next. blocks next (drop (b.left + 4) a)) (if c then cut else if not (number b.order 4 b.left a == b.total) then broken else x)) short
 
 -- the second total length
-pub after-end : (b : Body) (a : List ℕ) (x : Given) → b.left ≡ 0 → 4 ≤ length a → number b.order 4 0 a ≡ b.total → after b a x ≡ go_on (λ next. blocks next (drop 4 a)) x
+pub after-end : (b : Body) (a : List ℕ) (x : Given) → b.left ≡ 0 → 4 ≤ length a → number b.order 4 0 a ≡ b.total → after b a x
+    ≡ go_on (λ next. blocks next (drop 4 a)) x
 unfolding after
 after-end b a x z h e =
     let long : nat_lt (length a) (b.left + 4) ≡ false = grind (arith, nat_tests) in
@@ -220,7 +224,8 @@ after-end b a x z h e =
     ∙ ap (λ p. go_on (λ next. blocks next (drop (p + 4) a)) x) z
 
 -- another number in its place
-pub after-broken : (b : Body) (a : List ℕ) (x : Given) → b.left ≡ 0 → 4 ≤ length a → (number b.order 4 0 a == b.total) ≡ false → after b a x ≡ bare_head 0 (2 ^ 32 - 1)
+pub after-broken : (b : Body) (a : List ℕ) (x : Given) → b.left ≡ 0 → 4 ≤ length a → (number b.order 4 0 a == b.total) ≡ false → after b a x
+    ≡ bare_head 0 (2 ^ 32 - 1)
 unfolding after
 after-broken b a x z h e =
     let long : nat_lt (length a) (b.left + 4) ≡ false = grind (arith, nat_tests) in

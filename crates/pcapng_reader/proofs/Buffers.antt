@@ -12,7 +12,8 @@ pub range-put : (p to : ℕ) (xs bs r : List ℕ) → p ≤ length xs → to ≡
 range-put p to xs bs r h e = same_lists _ _ (search (rules, places)) (λ k d m. grind (arith, places))
 
 -- what stands behind them
-pub range-put_after : (p from to : ℕ) (xs bs : List ℕ) → p + length bs ≤ from → p + length bs ≤ length xs → range from to (take p xs ++ (bs ++ drop (p + length bs) xs)) ≡ range from to xs
+pub range-put_after : (p from to : ℕ) (xs bs : List ℕ) → p + length bs ≤ from → p + length bs ≤ length xs
+    → range from to (take p xs ++ (bs ++ drop (p + length bs) xs)) ≡ range from to xs
 range-put_after p from to xs bs h m = same_lists _ _ (search (rules, places)) (λ k d l. grind (arith, places))
 
 -- what stands before them
@@ -53,7 +54,8 @@ range-front f a b xs ys e h = sym (range-take f a b ys h) ∙ ap (range a b) e �
 pub held-read : (s f n : ℕ) (xs ys : List ℕ) → take f ys ≡ take f xs → s ≤ f → f + n ≤ length ys → range s (f + n) ys ≡ range s f xs ++ take n (drop f ys)
 held-read s f n xs ys e h m =
     let d : (f + n) - f ≡ n = omega arith in
-    range-join s f (f + n) ys h (omega arith) m ∙ ap (λ l. l ++ range f (f + n) ys) (range-front f s f xs ys e (omega arith)) ∙ ap (λ k. range s f xs ++ take k (drop f ys)) d
+    range-join s f (f + n) ys h (omega arith) m ∙ ap (λ l. l ++ range f (f + n) ys) (range-front f s f xs ys e (omega arith)) ∙ ap
+    (λ k. range s f xs ++ take k (drop f ys)) d
 
 -- what is held after both parts were moved down
 pub held-moved : (k e s f : ℕ) (xs ys zs : List ℕ) → k ≤ e → e ≤ s → s ≤ f → f ≤ length xs
@@ -62,7 +64,8 @@ pub held-moved : (k e s f : ℕ) (xs ys zs : List ℕ) → k ≤ e → e ≤ s �
     → range (e - k) ((e - k) + (f - s)) zs ≡ range s f xs
 held-moved k e s f xs ys zs a b c d first second =
     let long : length (range k e xs) ≡ e - k = search (rules, places) in
-    let first_is : ys ≡ take 0 xs ++ (range k e xs ++ drop (0 + length (range k e xs)) xs) = first ∙ ap (λ n. take 0 xs ++ (range k e xs ++ drop (0 + n) xs)) (sym long) in
+    let first_is : ys ≡ take 0 xs ++ (range k e xs ++ drop (0 + length (range k e xs)) xs) = first ∙ ap (λ n. take 0 xs ++ (range k e xs ++ drop (0 + n) xs))
+    (sym long) in
     let same : range s f ys ≡ range s f xs = ap (range s f) first_is ∙ range-put_after 0 s f xs (range k e xs) (omega (arith, long)) (omega (arith, long)) in
     let total : length ys ≡ length xs = ap length first ∙ moved_length k e xs a (omega arith) in
     let part : length (range s f ys) ≡ f - s = ap length same ∙ search (rules, places) in
@@ -81,7 +84,8 @@ kept-record s f c xs ys head h m long e =
     let back : range (s + 28) ((s + 28) + c) ys ≡ take c (drop 28 (range s f xs)) =
     ap (range (s + 28) ((s + 28) + c)) e ∙ range-put_after p (s + 28) ((s + 28) + c) xs head (omega arith) (omega arith)
     ∙ sym (take-range c (s + 28) f xs (omega arith)) ∙ ap (take c) (range-skip f s 28 xs (omega arith)) in
-    range-join p (s + 28) ((s + 28) + c) ys (omega arith) (omega arith) (omega (arith, total)) ∙ ap (λ l. l ++ range (s + 28) ((s + 28) + c) ys) front ∙ ap (λ l. head ++ l) back
+    range-join p (s + 28) ((s + 28) + c) ys (omega arith) (omega arith) (omega (arith, total)) ∙ ap (λ l. l ++ range (s + 28) ((s + 28) + c) ys) front ∙ ap
+    (λ l. head ++ l) back
 
 -- and what is held behind it
 pub held-record : (s f c : ℕ) (xs ys head : List ℕ) → s + (28 + c) ≤ f → f ≤ length xs → length head ≡ 16

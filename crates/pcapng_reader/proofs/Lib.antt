@@ -1,5 +1,6 @@
 pub mod Blocks
 pub mod Buffers
+pub mod Bytes
 pub mod Numbers
 pub mod Options
 pub mod Packets

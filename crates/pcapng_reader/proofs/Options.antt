@@ -125,7 +125,8 @@ found_step o f v os false false uf of h = refl
 apart : (n : ℕ) → (n == 9) ≡ true → (n == 14) ≡ false
 apart n h = grind (arith, nat_tests)
 
-found_by-next : (o : Order) (f : Found) (x : BlockOption) (os : Option (List BlockOption)) → found_by o f (option_map (λ later. x ∷ later) os) ≡ then_found o (found_with o x f) os
+found_by-next : (o : Order) (f : Found) (x : BlockOption) (os : Option (List BlockOption)) → found_by o f (option_map (λ later. x ∷ later) os)
+    ≡ then_found o (found_with o x f) os
 found_by-next o f x None = sym (then_found-none o (found_with o x f))
 found_by-next o f x (Some os) =
     found_step o f x.value os (x.code == 9) (x.code == 14) (length x.value == 1) (length x.value == 8) (apart x.code)

@@ -37,7 +37,8 @@ within : (c size : ℕ) → nat_lt (size - 4) (28 + c) ≡ false → c ≤ size 
 within c size h = grind (arith, nat_tests)
 
 -- what a block gives, by what its head tells
-pub packet-fate : (found : Option Interface) (o : Order) (s : Section) (block : List ℕ) → packet_by found o s block ≡ fate_given (fate_by found o (length block) block) s block
+pub packet-fate : (found : Option Interface) (o : Order) (s : Section) (block : List ℕ) → packet_by found o s block
+    ≡ fate_given (fate_by found o (length block) block) s block
 packet-fate None o s block = refl
 packet-fate (Some i) o s block =
     let stamp = number o 4 12 block * 2 ^ 32 + number o 4 16 block in
@@ -50,7 +51,8 @@ packet-fate (Some i) o s block =
     (length-take-le c (drop 28 block) (omega (arith, length-drop 28 block))))
 
 -- the head of a block is in what is held of it
-fate-front : (found : Option Interface) (o : Order) (total : ℕ) (b h : List ℕ) → number o 4 12 b ≡ number o 4 12 h → number o 4 16 b ≡ number o 4 16 h → number o 4 20 b ≡ number o 4 20 h
+fate-front : (found : Option Interface) (o : Order) (total : ℕ) (b h : List ℕ) → number o 4 12 b ≡ number o 4 12 h → number o 4 16 b ≡ number o 4 16 h
+    → number o 4 20 b ≡ number o 4 20 h
     → fate_by found o total b ≡ fate_by found o total h
 fate-front None o total b h p q r = refl
 fate-front (Some i) o total b h p q r =
@@ -63,7 +65,8 @@ fate-front (Some i) o total b h p q r =
     ∙ ap (λ x. next (number o 4 12 h * 2 ^ 32 + number o 4 16 h) x) r
 
 -- a number of a block's head
-number-held : (o : Order) (p total : ℕ) (h r : List ℕ) → p + 4 ≤ length h → p + 4 ≤ total → total ≤ length (h ++ r) → number o 4 p (take total (h ++ r)) ≡ number o 4 p h
+number-held : (o : Order) (p total : ℕ) (h r : List ℕ) → p + 4 ≤ length h → p + 4 ≤ total → total ≤ length (h ++ r) → number o 4 p (take total (h ++ r))
+    ≡ number o 4 p h
 number-held o p total h r m l t = number-take o 4 p total (h ++ r) l t ∙ number-front o 4 p h r m
 
 -- what a packet's block gives, by what is held of it
@@ -76,7 +79,8 @@ packet-content o s total h r m l t =
     ∙ ap (λ n. fate_given (fate_by (slice_get s.interfaces (number o 4 8 h)) o n block) s block) (length-take-le total (h ++ r) t)
     ∙ ap (λ f. fate_given f s block)
     (fate-front (slice_get s.interfaces (number o 4 8 h)) o total block h
-    (number-held o 12 total h r (omega arith) (omega arith) t) (number-held o 16 total h r (omega arith) (omega arith) t) (number-held o 20 total h r (omega arith) (omega arith) t))
+    (number-held o 12 total h r (omega arith) (omega arith) t) (number-held o 16 total h r (omega arith) (omega arith) t)
+    (number-held o 20 total h r (omega arith) (omega arith) t))
 
 -- the data of a packet that is held
 pub block-data : (total n : ℕ) (h r : List ℕ) → 28 + n ≤ length h → 32 + n ≤ total → take n (drop 28 (take total (h ++ r))) ≡ take n (drop 28 h)

@@ -59,13 +59,15 @@ steps-waits old new step.Over w room more cut = absurd w
 pub head-cut : (c : Converter) (o : Order) (k : Kind) (total : ℕ) → IsHead o k total c → is_length k total ≡ true → length (held_bytes c.window) < total
     → (left : List ℕ) → c.budget ≡ 0 → text_of c left ≡ 0 ∷ []
 head-cut c o k total is e m left z =
-    is left ∙ ap (head_text o k total (section_of c)) (ahead_end (held_bytes c.window) c.budget left z) ∙ head-short o k total (section_of c) (held_bytes c.window) e m
+    is left ∙ ap (head_text o k total (section_of c)) (ahead_end (held_bytes c.window) c.budget left z) ∙ head-short o k total (section_of c)
+    (held_bytes c.window) e m
 
 -- a block of which more is wanted than is held
 pub block-waits : (old new : Converter) (answer : Step) (o : Order) (k : Kind) (total : ℕ) → Waits old new answer → AtBlock o k total old
     → length (held_bytes old.window) ≤ 262172 → length (held_bytes old.window) < total → Steps old new answer
 block-waits old new answer o k total waits at few short =
-    steps-waits old new answer waits (omega (arith, few, ap length at.given)) (omega (arith, ap rank at.stage_is)) (head-cut old o k total at.head at.total_is short)
+    steps-waits old new answer waits (omega (arith, few, ap length at.given)) (omega (arith, ap rank at.stage_is))
+    (head-cut old o k total at.head at.total_is short)
 
 -- the first bytes of a block are let go
 pub steps-entered : (old new : Converter) (o : Order) (k : Kind) (total n rest : ℕ) (x : List ℕ → Given) → IsHead o k total old → is_length k total ≡ true
@@ -76,7 +78,8 @@ pub steps-entered : (old new : Converter) (o : Order) (k : Kind) (total n rest :
 steps-entered old new o k total n rest x is e m l left_is same text fewer budget = record {
   text = λ left.
       text left ∙ ap (λ b. after (record { order = o; total = total; left = b }) (drop n (ahead old left)) (x left)) left_is
-      ∙ sym (is left ∙ head-passes o k total n (section_of old) (ahead old left) (x left) e m (omega (arith, length-append (held_bytes old.window) (take old.budget left))) (same left));
+      ∙ sym (is left ∙ head-passes o k total n (section_of old) (ahead old left) (x left) e m
+      (omega (arith, length-append (held_bytes old.window) (take old.budget left))) (same left));
   tells = fewer;
   budget = budget;
 }
@@ -86,14 +89,16 @@ pub ahead_pass : (n : ℕ) (h g r : List ℕ) → g ≡ drop n h → n ≤ lengt
 ahead_pass n h g r e l = ap (λ x. x ++ r) e ∙ sym (drop-append-le n h r l)
 
 -- in a block of which no byte is read any more
-pub text-passed : (st : Stage) (s : Section) (kept k h g r far : List ℕ) (n : ℕ) (b : Body) (x : Content) → st ≡ stage.Passing b x → k ≡ kept → g ≡ drop n h → n ≤ length h
+pub text-passed : (st : Stage) (s : Section) (kept k h g r far : List ℕ) (n : ℕ) (b : Body) (x : Content) → st ≡ stage.Passing b x → k ≡ kept → g ≡ drop n h → n
+    ≤ length h
     → text_by st s k (g ++ r) far ≡ after b (drop n (h ++ r)) (content_given x b.order kept s)
 text-passed st s kept k h g r far n b x e same i l =
     ap (λ y. text_by y s k (g ++ r) far) e ∙ text-passing s k (g ++ r) far b x ∙ ap (λ a. after b a (content_given x b.order k s)) (ahead_pass n h g r i l)
     ∙ ap (λ y. after b (drop n (h ++ r)) (content_given x b.order y s)) same
 
 -- a number of a block's head
-pub number-held : (o : Order) (n p total : ℕ) (h r : List ℕ) → p + n ≤ length h → p + n ≤ total → total ≤ length (h ++ r) → number o n p (take total (h ++ r)) ≡ number o n p h
+pub number-held : (o : Order) (n p total : ℕ) (h r : List ℕ) → p + n ≤ length h → p + n ≤ total → total ≤ length (h ++ r) → number o n p (take total (h ++ r))
+    ≡ number o n p h
 number-held o n p total h r m l t = number-take o n p total (h ++ r) l t ∙ number-front o n p h r m
 
 section_by : (o : Order) (s : Section) (kept : List ℕ) (b : Bool)
@@ -154,13 +159,15 @@ unfolding options_text
 text-at_option st s kept near far b f e = ap (λ y. text_by y s kept near far) e ∙ text-options s kept near far b f
 
 -- the text at an option, after another was let go
-pub text-option_passed : (st : Stage) (s : Section) (kept h g r far : List ℕ) (n : ℕ) (b : Body) (f : Found) → st ≡ stage.Options b f → g ≡ drop n h → n ≤ length h
+pub text-option_passed : (st : Stage) (s : Section) (kept h g r far : List ℕ) (n : ℕ) (b : Body) (f : Found) → st ≡ stage.Options b f → g ≡ drop n h → n
+    ≤ length h
     → text_by st s kept (g ++ r) far ≡ options_text b f s (drop n (h ++ r))
 text-option_passed st s kept h g r far n b f e i l =
     ap (λ y. text_by y s kept (g ++ r) far) e ∙ text-options s kept (g ++ r) far b f ∙ ap (options_text b f s) (ahead_pass n h g r i l)
 
 -- the text at the first option
-pub text-option_entered : (st : Stage) (s : Section) (kept h g r far : List ℕ) (n : ℕ) (b : Body) (f : Found) → st ≡ stage.Options b f → g ≡ drop n h → n ≤ length h
+pub text-option_entered : (st : Stage) (s : Section) (kept h g r far : List ℕ) (n : ℕ) (b : Body) (f : Found) → st ≡ stage.Options b f → g ≡ drop n h → n
+    ≤ length h
     → text_by st s kept (g ++ r) far ≡ after b (drop n (h ++ r)) (add_interface s (found_by b.order f (options b.order (take b.left (drop n (h ++ r))))))
 unfolding options_text
 text-option_entered st s kept h g r far n b f e i l = text-option_passed st s kept h g r far n b f e i l
@@ -174,7 +181,8 @@ option-cut st s kept h left far n b f e m z =
     ∙ after-short b h _ m
 
 -- an option of which more is wanted than is held
-pub option-waits : (old new : Converter) (answer : Step) (b : Body) (f : Found) → Waits old new answer → old.stage ≡ stage.Options b f → kept_bytes old.window ≡ []
+pub option-waits : (old new : Converter) (answer : Step) (b : Body) (f : Found) → Waits old new answer → old.stage ≡ stage.Options b f → kept_bytes old.window
+    ≡ []
     → length (held_bytes old.window) ≤ 262172 → length (held_bytes old.window) < b.left + 4 → Steps old new answer
 option-waits old new answer b f waits at given few short =
     steps-waits old new answer waits (omega (arith, few, ap length given)) (omega (arith, ap rank at))
@@ -195,7 +203,8 @@ pub fate-is : (items : List Interface) (o : Order) (total place : ℕ) (found : 
     → found ≡ slice_get items place → place ≡ number o 4 8 seen → seen ≡ h → f ≡ fate_by found o total again → again ≡ h → f ≡ g
     → fate_by (slice_get items (number o 4 8 h)) o total h ≡ g
 fate-is items o total place found f g seen again h found_is place_is seen_is f_is again_is is =
-    sym (f_is ∙ ap (λ x. fate_by x o total again) (found_is ∙ ap (slice_get items) (place_is ∙ ap (number o 4 8) seen_is)) ∙ ap (fate_by (slice_get items (number o 4 8 h)) o total) again_is) ∙ is
+    sym (f_is ∙ ap (λ x. fate_by x o total again) (found_is ∙ ap (slice_get items) (place_is ∙ ap (number o 4 8) seen_is)) ∙ ap
+    (fate_by (slice_get items (number o 4 8 h)) o total) again_is) ∙ is
 
 -- numbers in the options that are left
 number-left : (o : Order) (n p left : ℕ) (h r : List ℕ) → p + n ≤ left → p + n ≤ length h → number o n p (take left (h ++ r)) ≡ number o n p h
@@ -219,14 +228,16 @@ options-last s h r b f m l e =
     (options-end b.order (take b.left (h ++ r)) (number-left b.order 2 0 b.left h r (omega arith) (omega arith) ∙ e))
 
 -- an option that passes the end
-pub options-broken : (s : Section) (h r : List ℕ) (b : Body) (f : Found) → 4 ≤ length h → 4 ≤ b.left → 0 < number b.order 2 0 h → b.left < 4 + number b.order 2 2 h
+pub options-broken : (s : Section) (h r : List ℕ) (b : Body) (f : Found) → 4 ≤ length h → 4 ≤ b.left → 0 < number b.order 2 0 h → b.left < 4
+    + number b.order 2 2 h
     → add_interface s (found_by b.order f (options b.order (take b.left (h ++ r)))) ≡ broken
 options-broken s h r b f m l p q =
     let opts = take b.left (h ++ r) in
     let code : number b.order 2 0 opts ≡ number b.order 2 0 h = number-left b.order 2 0 b.left h r (omega arith) (omega arith) in
     let size : number b.order 2 2 opts ≡ number b.order 2 2 h = number-left b.order 2 2 b.left h r (omega arith) (omega arith) in
     ap (λ os. add_interface s (found_by b.order f os))
-    (options-past b.order opts (omega (arith, length-take b.left (h ++ r), length-append h r)) (omega (arith, code)) (omega (arith, size, length-take b.left (h ++ r))))
+    (options-past b.order opts (omega (arith, length-take b.left (h ++ r), length-append h r)) (omega (arith, code))
+    (omega (arith, size, length-take b.left (h ++ r))))
 
 -- what is left of the options behind one
 left-behind : (left n count : ℕ) (a : List ℕ) → count ≡ min left n → drop n (take left a) ≡ take (left - count) (drop count a)
@@ -250,7 +261,8 @@ option-held o left h r value l m e =
     let size = number o 2 2 h in
     let sum : 4 + (left - 4) ≡ left = omega arith in
     let value_is : take size (drop 4 opts) ≡ value =
-    ap (λ k. take size (drop 4 (take k (h ++ r)))) (sym sum) ∙ ap (take size) (drop-take 4 (left - 4) (h ++ r)) ∙ take-take size (left - 4) (drop 4 (h ++ r)) (omega arith)
+    ap (λ k. take size (drop 4 (take k (h ++ r)))) (sym sum) ∙ ap (take size) (drop-take 4 (left - 4) (h ++ r)) ∙ take-take size (left - 4) (drop 4 (h ++ r))
+    (omega arith)
     ∙ ap (take size) (drop-append-le 4 h r (omega arith)) ∙ take-append-le size (drop 4 h) r (omega (arith, length-drop 4 h)) ∙ sym e in
     ap (λ k. record { code = number o 2 0 opts; value = take k (drop 4 opts) }) (number-left o 2 2 left h r (omega arith) (omega arith))
     ∙ ap (λ k. record { code = k; value = take size (drop 4 opts) }) (number-left o 2 0 left h r (omega arith) (omega arith))
@@ -260,20 +272,24 @@ option-held o left h r value l m e =
 pub options-next : (h r value : List ℕ) (b : Body) (f : Found) (count : ℕ) → 4 ≤ length h → 0 < number b.order 2 0 h → 4 + number b.order 2 2 h ≤ b.left
     → count ≡ min b.left (4 + padded (number b.order 2 2 h)) → count ≤ length h → value ≡ take (number b.order 2 2 h) (drop 4 h)
     → found_by b.order f (options b.order (take b.left (h ++ r)))
-    ≡ then_found b.order (found_with b.order (record { code = number b.order 2 0 h; value = value }) f) (options b.order (take (b.left - count) (drop count (h ++ r))))
+    ≡ then_found b.order (found_with b.order (record { code = number b.order 2 0 h; value = value }) f)
+    (options b.order (take (b.left - count) (drop count (h ++ r))))
 options-next h r value b f count m p l e k v =
     let o = b.order in
     let opts = take b.left (h ++ r) in
     let held : 4 + number o 2 2 h ≤ length h = omega (arith, e) in
     let code : number o 2 0 opts ≡ number o 2 0 h = number-left o 2 0 b.left h r (omega arith) (omega arith) in
     let size : number o 2 2 opts ≡ number o 2 2 h = number-left o 2 2 b.left h r (omega arith) (omega arith) in
-    found-more o f opts (omega (arith, length-take b.left (h ++ r), length-append h r)) (omega (arith, code)) (omega (arith, size, length-take b.left (h ++ r), length-append h r))
+    found-more o f opts (omega (arith, length-take b.left (h ++ r), length-append h r)) (omega (arith, code))
+    (omega (arith, size, length-take b.left (h ++ r), length-append h r))
     ∙ ap (λ x. then_found o (found_with o x f) (options o (behind o opts))) (option-held o b.left h r value l held v)
     ∙ ap (λ n. then_found o (found_with o (record { code = number o 2 0 h; value = value }) f) (options o (drop (4 + padded n) opts))) size
-    ∙ ap (λ x. then_found o (found_with o (record { code = number o 2 0 h; value = value }) f) (options o x)) (left-behind b.left (4 + padded (number o 2 2 h)) count (h ++ r) e)
+    ∙ ap (λ x. then_found o (found_with o (record { code = number o 2 0 h; value = value }) f) (options o x))
+    (left-behind b.left (4 + padded (number o 2 2 h)) count (h ++ r) e)
 
 -- the interface behind an option that is formed
-pub option-passed : (s : Section) (h r value : List ℕ) (b : Body) (f g : Found) (count : ℕ) → 4 ≤ length h → 0 < number b.order 2 0 h → 4 + number b.order 2 2 h ≤ b.left
+pub option-passed : (s : Section) (h r value : List ℕ) (b : Body) (f g : Found) (count : ℕ) → 4 ≤ length h → 0 < number b.order 2 0 h → 4 + number b.order 2 2 h
+    ≤ b.left
     → count ≡ min b.left (4 + padded (number b.order 2 2 h)) → count ≤ length h → value ≡ take (number b.order 2 2 h) (drop 4 h)
     → found_with b.order (record { code = number b.order 2 0 h; value = value }) f ≡ Some g
     → options_text (record { order = b.order; total = b.total; left = b.left - count }) g s (drop count (h ++ r))
@@ -285,10 +301,12 @@ option-passed s h r value b f g count m p l e k v w =
     let found : found_by b.order f (options b.order (take b.left a)) ≡ found_by b.order g (options b.order (take (b.left - count) (drop count a))) =
     options-next h r value b f count m p l e k v ∙ ap (λ x. then_found b.order x (options b.order (take (b.left - count) (drop count a)))) w in
     ap (λ x. after c (drop count a) (add_interface s x)) (sym found)
-    ∙ sym (after-passes b count a (add_interface s (found_by b.order f (options b.order (take b.left a)))) (omega (arith, e)) (omega (arith, length-append h r)))
+    ∙ sym (after-passes b count a (add_interface s (found_by b.order f (options b.order (take b.left a)))) (omega (arith, e))
+    (omega (arith, length-append h r)))
 
 -- an option that isn't formed
-pub option-unformed : (s : Section) (h r value : List ℕ) (b : Body) (f : Found) (count : ℕ) → 4 ≤ length h → 0 < number b.order 2 0 h → 4 + number b.order 2 2 h ≤ b.left
+pub option-unformed : (s : Section) (h r value : List ℕ) (b : Body) (f : Found) (count : ℕ) → 4 ≤ length h → 0 < number b.order 2 0 h → 4 + number b.order 2 2 h
+    ≤ b.left
     → count ≡ min b.left (4 + padded (number b.order 2 2 h)) → count ≤ length h → value ≡ take (number b.order 2 2 h) (drop 4 h)
     → found_with b.order (record { code = number b.order 2 0 h; value = value }) f ≡ None
     → add_interface s (found_by b.order f (options b.order (take b.left (h ++ r)))) ≡ broken
@@ -297,14 +315,16 @@ option-unformed s h r value b f count m p l e k v w =
     (options-next h r value b f count m p l e k v ∙ ap (λ x. then_found b.order x (options b.order (take (b.left - count) (drop count (h ++ r))))) w)
 
 -- a step after what was kept is forgotten
-pub steps-after : (old mid new : Converter) (answer : Step) → Steps mid new answer → ((left : List ℕ) → text_of mid left ≡ text_of old left) → work mid ≤ work old → mid.budget ≡ old.budget → Steps old new answer
+pub steps-after : (old mid new : Converter) (answer : Step) → Steps mid new answer → ((left : List ℕ) → text_of mid left ≡ text_of old left) → work mid
+    ≤ work old → mid.budget ≡ old.budget → Steps old new answer
 steps-after old mid new step.Moved t same l e = record { text = λ left. t.text left ∙ same left; tells = omega (arith, t.tells); budget = t.budget ∙ e }
 steps-after old mid new step.Hungry t same l e = record { text = λ left. t.text left ∙ same left; tells = t.tells; budget = t.budget ∙ e }
 steps-after old mid new step.Through t same l e = record { text = λ left. t.text left ∙ same left; tells = t.tells; budget = t.budget ∙ e }
 steps-after old mid new step.Over t same l e = record { text = λ left. t.text left ∙ same left; tells = t.tells; budget = t.budget ∙ e }
 
 -- at the options nothing that is kept counts
-pub text-forgot : (st : Stage) (s : Section) (kept k h g r far far' : List ℕ) (b : Body) (f : Found) → st ≡ stage.Options b f → g ≡ h → text_by st s k (g ++ r) far ≡ text_by st s kept (h ++ r) far'
+pub text-forgot : (st : Stage) (s : Section) (kept k h g r far far' : List ℕ) (b : Body) (f : Found) → st ≡ stage.Options b f → g ≡ h
+    → text_by st s k (g ++ r) far ≡ text_by st s kept (h ++ r) far'
 text-forgot st s kept k h g r far far' b f e i =
     ap (λ x. text_by st s k (x ++ r) far) i ∙ text-at_option st s k (h ++ r) far b f e ∙ sym (text-at_option st s kept (h ++ r) far' b f e)
 
@@ -322,7 +342,8 @@ pub ahead_read : (h bs left : List ℕ) (n : ℕ) → length bs ≤ n → (h ++ 
 ahead_read h bs left n l = append_assoc h bs (take (n - length bs) left) ∙ ap (λ x. h ++ x) (sym (take_front bs left n l))
 
 -- a read leaves the text
-pub texts-read : (a b : Option (List ℕ)) (st : Stage) (s : Section) (kept k h g bs : List ℕ) (n m : ℕ) → Consumes a b bs → length bs ≤ n → k ≡ kept → g ≡ h ++ bs → m ≡ n - length bs
+pub texts-read : (a b : Option (List ℕ)) (st : Stage) (s : Section) (kept k h g bs : List ℕ) (n m : ℕ) → Consumes a b bs → length bs ≤ n → k ≡ kept → g ≡ h
+    ++ bs → m ≡ n - length bs
     → Keeps (option_map (λ left. text_by st s kept (h ++ take n left) (h ++ left)) a) (option_map (λ left. text_by st s k (g ++ take m left) (g ++ left)) b)
 texts-read None b st s kept k h g bs n m c l e i j = tt
 texts-read (Some x) None st s kept k h g bs n m c l e i j = absurd c
@@ -335,17 +356,20 @@ texts-read (Some x) (Some y) st s kept k h g bs n m c l e i j =
     ∙ ap (λ z. text_by st s kept (h ++ take n z) (h ++ z)) (sym c)
 
 -- bytes that are kept are poured
-pub text-poured : (st : Stage) (s : Section) (kept k o out now near near' far far' : List ℕ) (at n : ℕ) → is_due st ≡ true → kept ≡ take n o ++ k → near' ≡ near → far' ≡ far
+pub text-poured : (st : Stage) (s : Section) (kept k o out now near near' far far' : List ℕ) (at n : ℕ) → is_due st ≡ true → kept ≡ take n o ++ k → near' ≡ near
+    → far' ≡ far
     → take (at + n) now ≡ take at out ++ take n o
     → take (at + n) now ++ text_by st s k near' far' ≡ take at out ++ text_by st s kept near far
 text-poured st s kept k o out now near near' far far' at n due split e f front =
     ap (λ x. x ++ text_by st s k near' far') front
     ∙ append_assoc (take at out) (take n o) (text_by st s k near' far')
     ∙ ap (λ x. take at out ++ (take n o ++ x)) (ap (λ x. text_by st s k x far') e ∙ ap (λ x. text_by st s k near x) f ∙ text-due st s k near far due)
-    ∙ ap (λ x. take at out ++ x) (sym (append_assoc (take n o) k (text_by st s [] near far)) ∙ ap (λ x. x ++ text_by st s [] near far) (sym split) ∙ sym (text-due st s kept near far due))
+    ∙ ap (λ x. take at out ++ x) (sym (append_assoc (take n o) k (text_by st s [] near far)) ∙ ap (λ x. x ++ text_by st s [] near far) (sym split) ∙ sym
+    (text-due st s kept near far due))
 
 -- the front of a slice, after its rest was written
 pub front-written : (at n : ℕ) (out o post : List ℕ) → at ≤ length out → n ≤ length o → take (at + n) (take at out ++ (o ++ post)) ≡ take at out ++ take n o
 front-written at n out o post l m =
     let e : length (take at out) ≡ at = length-take-le at out l in
-    ap (λ k. take (k + n) (take at out ++ (o ++ post))) (sym e) ∙ take-append-add (take at out) (o ++ post) n ∙ ap (λ x. take at out ++ x) (take-append-le n o post m)
+    ap (λ k. take (k + n) (take at out ++ (o ++ post))) (sym e) ∙ take-append-add (take at out) (o ++ post) n ∙ ap (λ x. take at out ++ x)
+    (take-append-le n o post m)

@@ -77,19 +77,23 @@ text-new s kept h left e =
     ∙ ap (λ b. if b then file_head ++ blocks no_section (take (2 ^ 41) left) else left) (begins-take (2 ^ 41) left (lit≤ tt))
 
 -- a section begins the file
-pub text-begun : (st : Stage) (s : Section) (kept h r far : List ℕ) (is : List Interface) → st ≡ stage.Start → begins_section h ≡ true → kept ≡ file_head → is ≡ []
+pub text-begun : (st : Stage) (s : Section) (kept h r far : List ℕ) (is : List Interface) → st ≡ stage.Start → begins_section h ≡ true → kept ≡ file_head → is
+    ≡ []
     → text_by stage.Block (record { order = Little; interfaces = is }) kept (h ++ r) far ≡ text_by st s kept (h ++ r) far
 text-begun st s kept h r far is a e k n =
     ap (λ x. text_by stage.Block (record { order = Little; interfaces = x }) kept (h ++ r) far) n
     ∙ text-block no_section kept (h ++ r) far ∙ ap (λ l. l ++ blocks no_section (h ++ r)) k
-    ∙ sym (ap (λ x. text_by x s kept (h ++ r) far) a ∙ text-start s kept (h ++ r) far ∙ ap (λ b. if b then file_head ++ blocks no_section (h ++ r) else far) (begins-true h r e))
+    ∙ sym (ap (λ x. text_by x s kept (h ++ r) far) a ∙ text-start s kept (h ++ r) far ∙ ap (λ b. if b then file_head ++ blocks no_section (h ++ r) else far)
+    (begins-true h r e))
 
 -- no section begins it
-pub text-handed : (st : Stage) (s : Section) (kept h k g r left near : List ℕ) → st ≡ stage.Start → begins_section h ≡ false → (4 ≤ length h) ⊎ (r ≡ []) → h ≡ k ++ g
+pub text-handed : (st : Stage) (s : Section) (kept h k g r left near : List ℕ) → st ≡ stage.Start → begins_section h ≡ false → (4 ≤ length h) ⊎ (r ≡ []) → h ≡ k
+    ++ g
     → text_by stage.Through s k near (g ++ left) ≡ text_by st s kept (h ++ r) (h ++ left)
 text-handed st s kept h k g r left near a e w split =
     text-through s k near (g ++ left) ∙ sym (append_assoc k g left) ∙ ap (λ l. l ++ left) (sym split)
-    ∙ sym (ap (λ x. text_by x s kept (h ++ r) (h ++ left)) a ∙ text-start s kept (h ++ r) (h ++ left) ∙ ap (λ b. if b then file_head ++ blocks no_section (h ++ r) else (h ++ left)) (begins-false h r e w))
+    ∙ sym (ap (λ x. text_by x s kept (h ++ r) (h ++ left)) a ∙ text-start s kept (h ++ r) (h ++ left) ∙ ap
+    (λ b. if b then file_head ++ blocks no_section (h ++ r) else (h ++ left)) (begins-false h r e w))
 
 -- what a file of another layout has left
 pub text-at_through : (st : Stage) (s : Section) (kept near far : List ℕ) → st ≡ stage.Through → text_by st s kept near far ≡ kept ++ far

@@ -1,4 +1,5 @@
 -- what is promised
+pub mod Bytes
 pub mod Classic
 pub mod Sources
 -- these serve the reader alone

@@ -1,6 +1,6 @@
 //! The interfaces that a section describes.
 
-ghost use Rattle.std.specs.Prelude.{◌≡◌, ◌≤◌, ◌<◌, ◌++◌, [], ◌∷◌, IfOk, vec_len, length, nat_lt, slice_get};
+ghost use Rattle.std.specs.Prelude.{◌≡◌, ◌≤◌, ◌<◌, ◌++◌, [], ◌∷◌, IfOk, vec_len, vec_capacity, length, nat_lt, slice_get};
 
 use crate::block::Interface;
 use std::alloc::{AllocError, Global};
@@ -12,21 +12,8 @@ pub const MOST_INTERFACES: usize = 1024;
 #[derive(Drop)]
 pub struct Interfaces {
     items: Vec<Interface>,
-    count: usize,
-    ghost within: { count ≤ vec_len items },
-    ghost roomy: { vec_len items ≡ 1024 },
-}
-
-/// So many interfaces, none of which is described.
-fn blank(alloc: Global, size: usize) -> Result<Vec<Interface>, AllocError>
-    ensures { IfOk result (λ v. vec_len v ≡ size) }
-{
-    let none = Interface {
-        offset: 0,
-        link: 0,
-        resolution: 0,
-    };
-    vec![in alloc; none; size]
+    ghost few: { vec_len items ≤ 1024 },
+    ghost roomy: { 1024 ≤ vec_capacity items },
 }
 
 impl Interfaces {
@@ -36,15 +23,15 @@ impl Interfaces {
     pub fn new(alloc: Global) -> Result<Interfaces, AllocError>
         ensures { IfOk result (λ s. list_of s ≡ []) }
     {
-        let items = blank(alloc, MOST_INTERFACES)?;
-        Ok(Interfaces { items, count: 0 })
+        let items = Vec::with_capacity(alloc, MOST_INTERFACES)?;
+        Ok(Interfaces { items })
     }
 
     /// Whether there is room for one more.
     pub fn has_room(&self) -> bool
         ensures { result ≡ nat_lt (length (list_of self.now)) 1024 }
     {
-        self.count < MOST_INTERFACES
+        self.items.len() < MOST_INTERFACES
     }
 
     /// The interface with this number, from 0.
@@ -52,7 +39,7 @@ impl Interfaces {
         ensures { result ≡ slice_get (list_of self.now) number }
     {
         let place = number as usize;
-        if place < self.count {
+        if place < self.items.len() {
             Some(self.items[place])
         } else {
             None
@@ -63,7 +50,7 @@ impl Interfaces {
     pub fn clear(&mut self)
         ensures { list_of self.new ≡ [] }
     {
-        self.count = 0;
+        self.items.clear();
     }
 
     /// Adds an interface at the end.
@@ -71,7 +58,8 @@ impl Interfaces {
         requires { length (list_of self.old) < 1024 }
         ensures { list_of self.new ≡ list_of self.old ++ interface ∷ [] }
     {
-        self.items[self.count] = interface;
-        self.count += 1;
+        let Ok(()) = self.items.push(interface) else {
+            unreachable!()
+        };
     }
 }

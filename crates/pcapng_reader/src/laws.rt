@@ -1,11 +1,12 @@
-//! The definition of a classic text, tried on numbers worked by hand. Each function is a theorem: it
-//! does nothing, and its clauses are proved.
+//! What holds of the definition of a classic text, and the definition tried on numbers worked by hand.
+//! Each function is a theorem: it does nothing, and its clauses are proved.
 #![tactic(auto, unfolding(crate::specs::Classic::classic, crate::specs::Classic::blocks, crate::specs::Classic::options))]
 
-ghost use Rattle.std.specs.Prelude.{◌≡◌, ◌^◌, ℕ, List, [], ◌∷◌, ◌++◌, length, take, drop, true, Option, Some, None};
+ghost use Rattle.std.specs.Prelude.{◌≡◌, ◌^◌, ℕ, List, [], ◌∷◌, ◌++◌, length, take, drop, map, All, true, Option, Some, None};
 ghost use Rattle.pcap_reader.specs.WrittenHeads.{file_head};
 ghost use Rattle.pcapng_reader.specs.declared.block.Interface.{Interface};
 ghost use Rattle.pcapng_reader.specs.declared.block.Order.TheVariants.{Little};
+ghost use Rattle.pcapng_reader.specs.Bytes.{AreBytes};
 ghost use Rattle.pcapng_reader.specs.Classic.{Section, begins_section, number, broken, gives, add_interface, packet_by, classic, classic_texts};
 ghost use Rattle.pcapng_reader.specs.Examples.{little_section, big_section, little_interface, big_interface, interface_with, resolution, offset, comment, last_option, nano_interface, packet_at, little_packet, big_packet, other_block, nano_record, micro_record, bad, untold, changed, Gives};
 
@@ -156,4 +157,10 @@ pub fn limits()
         ≡ gives (0 ∷ 0 ∷ 0 ∷ 0 ∷ 5 ∷ 0 ∷ 0 ∷ 0 ∷ 0 ∷ 0 ∷ 4 ∷ 0 ∷ 0 ∷ 0 ∷ 4 ∷ 0 ∷ take 262144 (drop 28 block)) s }
     ensures text { (text more : List ℕ) → length text ≡ 2 ^ 41 → begins_section text ≡ true
         → classic (text ++ more) ≡ classic text }
+{}
+
+/// Bytes stay bytes: of a file whose numbers are all below 256, those of the classic text are too.
+pub fn bytes_stay_bytes()
+    ensures one { (text : List ℕ) → AreBytes text → AreBytes (classic text) }
+    ensures each { (texts : List (List ℕ)) → All AreBytes texts → All AreBytes (map classic texts) }
 {}

@@ -1,6 +1,6 @@
 //! The bytes of a file that are held in the buffer.
 
-ghost use Rattle.std.specs.Prelude.{◌≡◌, ◌≤◌, ◌<◌, ◌+◌, ◌-◌, ◌++◌, ℕ, List, [], IfOk, IfErr, vec_len, length, min, take, drop};
+ghost use Rattle.std.specs.Prelude.{◌≡◌, ◌≤◌, ◌<◌, ◌+◌, ◌-◌, ◌++◌, ℕ, List, [], IfOk, IfErr, vec_len, vec_capacity, length, min, take, drop};
 ghost use Rattle.std.specs.Io.KnownBytes.{Keeps, Consumes, IsAtEnd};
 ghost use Rattle.pcap_reader.specs.WrittenHeads.{file_head};
 ghost use Rattle.timing_outside.specs.Causes.{HasCause};
@@ -10,7 +10,7 @@ use pcap_reader::file_head;
 use std::alloc::{AllocError, Global};
 use timing_outside::Failed;
 
-/// The head of a packet's block and its data, and then a whole read.
+/// The capacity of the buffer: the head of a packet's block and its data, and then a whole read.
 const ROOM: usize = 327_708;
 
 /// The bytes of the head of a packet's block, up to its data.
@@ -24,13 +24,6 @@ const FILE_HEAD: usize = 24;
 
 /// The bytes of the head of a record.
 const RECORD_HEAD: usize = 16;
-
-/// So many bytes, all 0.
-fn blank(alloc: Global, size: usize) -> Result<Vec<u8>, AllocError>
-    ensures { IfOk result (λ v. vec_len v ≡ size) }
-{
-    vec![in alloc; 0u8; size]
-}
 
 /// Writes these bytes at a place.
 fn put_at(buf: &mut [u8], place: usize, bytes: &[u8])
@@ -86,7 +79,9 @@ pub struct Window {
     ghost apart: { kept_end ≤ start },
     ghost ordered: { start ≤ filled },
     ghost within: { filled ≤ vec_len buf },
-    ghost roomy: { vec_len buf ≡ 327708 },
+    ghost begun: { 24 ≤ vec_len buf },
+    ghost roomy: { 327708 ≤ vec_capacity buf },
+    ghost bounded: { filled ≤ 327708 },
     ghost few: { kept_end - kept ≤ 262160 },
 }
 
@@ -98,8 +93,8 @@ impl Window {
         ensures kept { IfOk result (λ w. kept_bytes w ≡ file_head) }
         ensures held { IfOk result (λ w. held_bytes w ≡ []) }
     {
-        let mut buf = blank(alloc, ROOM)?;
-        put_at(&mut buf, 0, &file_head());
+        let mut buf = Vec::with_capacity(alloc, ROOM)?;
+        buf.extend_from_slice(&file_head())?;
         Ok(Window {
             buf,
             kept: 0,
@@ -207,18 +202,35 @@ impl Window {
         self.filled = kept + held;
     }
 
+    /// Lets the buffer reach to `end`, within its capacity. What was never read into is not written before.
+    fn reach(&mut self, end: usize)
+        requires { end ≤ 327708 }
+        ensures kept { kept_bytes self.new ≡ kept_bytes self.old }
+        ensures held { held_bytes self.new ≡ held_bytes self.old }
+        ensures filled { self.new.filled ≡ self.old.filled }
+        ensures room { end ≤ vec_len self.new.buf }
+    {
+        if self.buf.len() < end {
+            let Ok(()) = self.buf.resize(end, 0) else {
+                unreachable!()
+            };
+        }
+    }
+
     /// Makes room for so many bytes behind what is held: moves what is kept and held to the front
     /// where that is no more than what was let go, or where there is no room.
     fn make_room(&mut self, most: usize)
         requires { length (kept_bytes self.old) + length (held_bytes self.old) + most ≤ 327708 }
         ensures kept { kept_bytes self.new ≡ kept_bytes self.old }
         ensures held { held_bytes self.new ≡ held_bytes self.old }
-        ensures room { self.new.filled + most ≤ 327708 }
+        ensures room { self.new.filled + most ≤ vec_len self.new.buf }
+        ensures within { self.new.filled + most ≤ 327708 }
     {
         let used = (self.kept_end - self.kept) + (self.filled - self.start);
         if used <= self.filled - used || ROOM - self.filled < most {
             self.compact();
         }
+        self.reach(self.filled + most);
     }
 
     /// Reads once behind what is held, so many bytes at most.

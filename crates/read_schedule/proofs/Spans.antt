@@ -45,29 +45,30 @@ from-due m n anchor gapped g b early left long part is step split small fits due
 }
 
 -- the later read and those after it aren't
-pub up_to-ahead : (m : Media) (n : ℕ) (anchor : ℤ) (gapped : Bool) (g : Grid) (b : Between) (late left long part to : ℕ)
+pub up_to-ahead : (m : Media) (n : ℕ) (anchor : ℤ) (gapped : Bool) (g : Grid) (b : Between) (late left long part to lasts : ℕ)
     → IsGridOf m n anchor gapped g
     → b.step ≡ long + 1
     → long * g.den + part ≡ g.step
     → left ≤ g.n - late % g.n
-    → b.wide ≡ to - b.from
+    → left ≤ lasts
+    → b.wide ≡ (to - b.from) - lasts
     → (1 ≤ to → (to + 2 ^ 49) * g.den < parts_at g late + g.den)
     → IsUpTo m n anchor gapped late left b
-up_to-ahead m n anchor gapped g b late left long part to is step split fits wide ahead = record {
+up_to-ahead m n anchor gapped g b late left long part to lasts is step split fits long_enough wide ahead = record {
   ahead = λ j at low h.
       let first = ahead (omega (arith, h.from, h.up_to, wide)) in
       let each : long * g.den ≤ g.step = omega (arith, split) in
       let steps : j * (long * g.den) ≤ j * g.step = mul-le-mul_left j each in
       let long_is : j * b.step ≡ j * long + j = ap (λ s. j * s) step ∙ omega arith in
       let all : (at + 2 ^ 49 + 1) * g.den ≤ (to + 2 ^ 49 + j * long) * g.den =
-      mul-le-mul_right g.den (omega (arith, h.from, h.up_to, wide, long_is)) in
+      mul-le-mul_right g.den (omega (arith, h.from, h.up_to, wide, long_is, low, long_enough)) in
       let here = parts_at-steps g late j (omega (arith, low, fits)) in
       ahead_of m n anchor gapped g (late + j) at is
       (omega (arith, here, first, steps, all, add-mul (to + 2 ^ 49) (j * long) g.den, add-mul (at + 2 ^ 49) 1 g.den, mul_assoc j long g.den));
 }
 
 -- a read more
-next : (b c : Between) (j at : ℕ) → c.from ≡ b.from + b.step → c.wide + 1 ≡ b.wide → c.step ≡ b.step → HoldsAfter c j at → HoldsAfter b (j + 1) at
+next : (b c : Between) (j at : ℕ) → c.from ≡ b.from + b.step → c.wide ≡ b.wide → c.step ≡ b.step → HoldsAfter c j at → HoldsAfter b (j + 1) at
 next b c j at from wide step h =
     let here : j * c.step ≡ j * b.step = ap (λ s. j * s) step in
     record {
@@ -77,7 +78,7 @@ next b c j at from wide step h =
     }
 
 pub from-next : (m : Media) (n : ℕ) (anchor : ℤ) (gapped : Bool) (b c : Between) (early left : ℕ)
-    → c.from ≡ b.from + b.step → c.wide + 1 ≡ b.wide → c.step ≡ b.step
+    → c.from ≡ b.from + b.step → c.wide ≡ b.wide → c.step ≡ b.step
     → IsFrom m n anchor gapped early (left + 1) b
     → IsFrom m n anchor gapped (early + 1) left c
 from-next m n anchor gapped b c early left from wide step is = record {
@@ -87,7 +88,7 @@ from-next m n anchor gapped b c early left from wide step is = record {
 }
 
 pub up_to-next : (m : Media) (n : ℕ) (anchor : ℤ) (gapped : Bool) (b c : Between) (late left : ℕ)
-    → c.from ≡ b.from + b.step → c.wide + 1 ≡ b.wide → c.step ≡ b.step
+    → c.from ≡ b.from + b.step → c.wide ≡ b.wide → c.step ≡ b.step
     → IsUpTo m n anchor gapped late (left + 1) b
     → IsUpTo m n anchor gapped (late + 1) left c
 up_to-next m n anchor gapped b c late left from wide step is = record {

@@ -14,7 +14,7 @@ Holds b at = (b.from ≤ at) × (at < b.from + b.wide)
 pub record HoldsAfter (b : Between) (j at : ℕ) : Type 0 where
   pub in_time : at < 2 ^ 62
   pub from : b.from + j * b.step ≤ at
-  pub up_to : at + j < b.from + j * b.step + b.wide
+  pub up_to : at < b.from + j * b.step + b.wide
 
 -- read `early` is due at each of them; for `left` packets, of which each goes on by a read
 pub record IsFrom (m : Media) (n : ℕ) (anchor : ℤ) (gapped : Bool) (early left : ℕ) (b : Between) : Type 0 where

@@ -4,7 +4,7 @@ use Rattle.std.specs.Prelude.{◌≡◌, ◌≤◌, ◌<◌, ◌+◌, ◌-◌, �
 use Rattle.fraction128.specs.Fractions.{AtMost, at_most, whole}
 use Rattle.timing_base.specs.Media.{Media}
 use Rattle.sender_params.specs.Reads.{AreDue, read_of}
-use Rattle.read_schedule.specs.Parts.{IsGridOf}
+use Rattle.read_schedule.specs.Parts.{AreAhead, ArePast, IsGridOf}
 use Rattle.read_schedule.specs.declared.schedule.Due.{Due}
 use Rattle.read_schedule.specs.declared.schedule.NextRead.{NextRead}
 use Rattle.read_schedule.specs.declared.schedule.Schedule.{Schedule}
@@ -35,6 +35,12 @@ pub record IsNextAfter (m : Media) (n : ℕ) (anchor : ℤ) (gapped : Bool) (at 
 pub record StandsBy (m : Media) (n : ℕ) (anchor : ℤ) (gapped : Bool) (s : Schedule) (at : ℕ) : Type 0 where
   pub grid : IsGridOf m n anchor gapped s.grid
   pub passed : (x : ℕ) → x < s.passed → AtMost (read_of m n anchor gapped x) (whole at)
+
+-- all reads up to t passed, and no others, where no later one had
+pub record CatchesUp (old new : Schedule) (t : ℕ) : Type 0 where
+  pub grid : new.grid ≡ old.grid
+  pub due : ArePast old.grid old.passed t → ArePast old.grid new.passed t
+  pub ahead : AreAhead old.grid new.passed t
 
 -- whatever reads a schedule was of, and whatever stamp no later it stood by, it now stands by this one
 abbrev pub MovesTo : (old new : Schedule) → (at : ℕ) → Type 0

@@ -2,10 +2,11 @@
 
 ghost use Rattle.std.specs.Prelude.{◌≡◌, ◌≤◌, ◌<◌, ◌+◌, ◌^◌, ◌↔◌, ℕ, ℤ, Bool, IsTrue};
 
-/// The whole nanoseconds of TAI from one read of a schedule on and up to another one. With each packet
-/// both go on to the next read, as long as that is of the same group.
+/// The whole nanoseconds of TAI from one read of a schedule on and up to another one, for so many
+/// packets: with each of them both go on to the next read.
 ///
-/// It may lack some of these instants, and has no others: from read to read one more is lacking.
+/// It may lack some of these instants, and has no others. Since it goes on by whole nanoseconds, the last
+/// ones are lacking from the first packet on, one for each packet.
 #[derive(Clone, Copy, Debug, PartialEq, Eq)]
 pub struct Between {
     /// The first of them.
@@ -14,6 +15,8 @@ pub struct Between {
     wide: u64,
     /// So much later the first one is with each read: a nanosecond or less above T_RS.
     step: u64,
+    /// The packets for which it was made.
+    pub lasts: u64,
     ghost from_small: { from < 2 ^ 63 },
     ghost step_small: { step ≤ 2 ^ 51 },
 }
@@ -30,18 +33,26 @@ impl Between {
             from: 0,
             wide: 0,
             step: 0,
+            lasts: 0,
         }
     }
 
-    /// So many instants from one on, of which the first is so much later with each read.
-    pub(crate) fn of(from: u64, wide: u64, step: u64) -> Between
+    /// So many instants from one on, of which the first is so much later with each read, for so many
+    /// packets.
+    pub(crate) fn of(from: u64, wide: u64, step: u64, lasts: u64) -> Between
         requires from { from < 2 ^ 63 }
         requires step { step ≤ 2 ^ 51 }
         ensures from { result.from ≡ from }
         ensures wide { result.wide ≡ wide }
         ensures step { result.step ≡ step }
+        ensures lasts { result.lasts ≡ lasts }
     {
-        Between { from, wide, step }
+        Between {
+            from,
+            wide,
+            step,
+            lasts,
+        }
     }
 
     /// Whether `at` is one of them.
@@ -65,6 +76,5 @@ impl Between {
             → IsUpTo m n anchor gapped (late + 1) left self.new }
     {
         self.from += self.step;
-        self.wide -= 1;
     }
 }

@@ -1,7 +1,7 @@
 //! The reads that are due, carried along stamps that never fall.
 
 ghost use Rattle.std.specs.Prelude.{◌≡◌, ◌≤◌, ◌<◌, ◌+◌, ◌-◌, ◌*◌, ◌/◌, ◌%◌, ◌^◌, ◌↔◌, ℕ, IsTrue, false};
-ghost use Rattle.read_schedule.specs.Parts.{AreAhead, ArePast, parts_at};
+ghost use Rattle.read_schedule.specs.Parts.{ArePast, parts_at};
 
 use crate::between::Between;
 use crate::grid::{BEFORE, Grid};
@@ -88,7 +88,7 @@ impl Schedule {
     ghost use Rattle.std.specs.Prelude.{ℤ, pos, negsuc, ◌≤ℤ◌, Bool};
     ghost use Rattle.timing_base.specs.Media.{Media};
     ghost use Rattle.read_schedule.specs.Between.{IsFrom, IsUpTo};
-    ghost use Rattle.read_schedule.specs.Stands.{IsDueAt, IsNextAfter, MovesTo, StandsBy, left_of};
+    ghost use Rattle.read_schedule.specs.Stands.{CatchesUp, IsDueAt, IsNextAfter, MovesTo, StandsBy, left_of};
 
     /// The reads of a sender, gapped or linear, where read 0 is of group `n0`. None is due yet.
     pub fn new(params: &Params, gapped: bool, n0: i128) -> Schedule
@@ -141,34 +141,51 @@ impl Schedule {
         }
     }
 
-    /// The reads of a group from this one on.
-    pub fn reads_left(&self, read: u64) -> u64
-        ensures { result ≡ left_of self.now read }
-    {
-        self.grid.n - read % self.grid.n
-    }
-
-    /// The instants from one read on and up to another one.
-    pub fn between(&self, early: u64, late: u64) -> Between
+    /// The instants from one read on and up to another one, for packets of which the last came at `last`.
+    ///
+    /// It lasts as long as no read leaves its group, and no longer than it holds packets that come T_RS
+    /// after one another: of the time that they have left, a quarter is for those that come later.
+    pub fn between(&self, early: u64, late: u64, last: u64) -> Between
+        ensures lasts { result.lasts ≤ left_of self.now early }
         ensures from { (m : Media) (n : ℕ) (anchor : ℤ) (gapped : Bool) (at left : ℕ)
             → StandsBy m n anchor gapped self.now at → left ≤ left_of self.now early
             → IsFrom m n anchor gapped early left result }
         ensures up_to { (m : Media) (n : ℕ) (anchor : ℤ) (gapped : Bool) (at left : ℕ)
-            → StandsBy m n anchor gapped self.now at → left ≤ left_of self.now late
+            → StandsBy m n anchor gapped self.now at → left ≤ result.lasts
             → IsUpTo m n anchor gapped late left result }
     {
         let from = self.first_due(early);
         let to = self.first_due(late);
-        Between::of(from, to.saturating_sub(from), self.step.whole + 1)
+        let step = self.step.whole + 1;
+        let slack = to.saturating_sub(last.saturating_add(step));
+        let lasts = self
+            .reads_left(early)
+            .min(self.reads_left(late))
+            .min(slack - slack.div_ceil(4));
+        Between::of(
+            from,
+            to.saturating_sub(from).saturating_sub(lasts),
+            step,
+            lasts,
+        )
     }
 
-    /// The instants from one read on.
+    /// The instants from one read on, as long as that doesn't leave its group.
     pub fn after(&self, early: u64) -> Between
-        ensures { (m : Media) (n : ℕ) (anchor : ℤ) (gapped : Bool) (at left : ℕ)
+        ensures lasts { result.lasts ≤ left_of self.now early }
+        ensures from { (m : Media) (n : ℕ) (anchor : ℤ) (gapped : Bool) (at left : ℕ)
             → StandsBy m n anchor gapped self.now at → left ≤ left_of self.now early
             → IsFrom m n anchor gapped early left result }
     {
-        Between::of(self.first_due(early), NEVER, self.step.whole + 1)
+        let step = self.step.whole + 1;
+        Between::of(self.first_due(early), NEVER, step, self.reads_left(early))
+    }
+
+    /// The reads of a group from this one on.
+    fn reads_left(&self, read: u64) -> u64
+        ensures { result ≡ left_of self.now read }
+    {
+        self.grid.n - read % self.grid.n
     }
 
     /// The first whole nanosecond of TAI at which a read is due, and 0 where that is one before; one
@@ -315,10 +332,7 @@ impl Schedule {
     #[inline(never)]
     fn race(&mut self, t: u64)
         requires in_time { t < 2 ^ 63 }
-        ensures grid { self.new.grid ≡ self.old.grid }
-        ensures due { ArePast self.old.grid self.old.passed t
-            → ArePast self.old.grid self.new.passed t }
-        ensures ahead { AreAhead self.old.grid self.new.passed t }
+        ensures { CatchesUp self.old self.new t }
     {
         self.hurry(t);
         while t >= self.next.at {
@@ -330,10 +344,7 @@ impl Schedule {
     #[inline(always)]
     fn catch_up(&mut self, t: u64)
         requires in_time { t < 2 ^ 63 }
-        ensures grid { self.new.grid ≡ self.old.grid }
-        ensures due { ArePast self.old.grid self.old.passed t
-            → ArePast self.old.grid self.new.passed t }
-        ensures ahead { AreAhead self.old.grid self.new.passed t }
+        ensures { CatchesUp self.old self.new t }
     {
         if t < self.next.at {
             return;

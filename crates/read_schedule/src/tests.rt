@@ -66,6 +66,34 @@ fn next_reads(rt: HostRuntime) {
     }
 }
 
+// Gapped reads 0 and 1 are 444 4/9 and 960,444 4/9 ns after the first packet, and 20 reads are a group. Read 1 leaves
+// 444 ns to a packet that comes 960,001 ns after the first one, and 5 ns to one that comes 439 ns later: of those a
+// quarter, rounded up, is left out.
+#[test]
+fn spans(rt: HostRuntime) {
+    let params = Params::of(&video(1080, false, 50, 1), 20);
+    let schedule = Schedule::new(&params, true, FRAME);
+    let rows = [
+        // the last packet, the packets of the span and its last instant, in nanoseconds after the first packet
+        (0, 19, 960_425),
+        (439, 3, 960_441),
+    ];
+    for (last, lasts, end) in rows {
+        assert!(rt; last < 1 << 40 && end < 1 << 40);
+        let mut span = schedule.between(0, 1, FIRST + last);
+        assert_eq!(rt; span.lasts, lasts);
+        assert!(rt; !span.holds(FIRST + 444));
+        assert!(rt; span.holds(FIRST + 445));
+        assert!(rt; !span.holds(FIRST + end + 1));
+        assert!(rt; span.holds(FIRST + end));
+        span.go_on(FIRST + end);
+        assert!(rt; !span.holds(FIRST + 960_445));
+        assert!(rt; span.holds(FIRST + 960_446));
+        assert!(rt; span.holds(FIRST + end + 960_001));
+        assert!(rt; !span.holds(FIRST + end + 960_002));
+    }
+}
+
 // TROFF=700: each packet stands on its gapped read, and so does each a nanosecond later no more.
 #[test]
 fn on_its_read(rt: HostRuntime) {

@@ -28,7 +28,8 @@ of-there f e es is =
     ap (λ b. messages (cond b (e ∷ filter (λ (x : Entry). x.from == f) es) (filter (λ (x : Entry). x.from == f) es))) (ne_eqb e.from f is)
 
 pub of-append : (f : ℕ) (xs ys : List Entry) → of f (xs ++ ys) ≡ of f xs ++ of f ys
-of-append f xs ys = ap messages (filter-append (λ e. e.from == f) xs ys) ∙ map-append (λ (e : Entry). e.message) (filter (λ (e : Entry). e.from == f) xs) (filter (λ (e : Entry). e.from == f) ys)
+of-append f xs ys = ap messages (filter-append (λ e. e.from == f) xs ys) ∙ map-append (λ (e : Entry). e.message) (filter (λ (e : Entry). e.from == f) xs)
+    (filter (λ (e : Entry). e.from == f) ys)
 
 -- the values of a function below n, added up
 abbrev pub below : ℕ → (ℕ → ℕ) → ℕ
@@ -89,8 +90,10 @@ length-messages (e ∷ es) = omega (arith, length-messages es)
 weight-first : (h : Message → ℕ) (n most : ℕ) (sent : ℕ → List Message) (got items : List Entry) → ((f : ℕ) → of f (got ++ items) ≡ sent f)
     → ((f : ℕ) → n ≤ f → sent f ≡ []) → ((f : ℕ) → sum_by h (sent f) ≤ most) → sum_by h (messages got) ≤ n * most
 weight-first h n most sent got items tells none few =
-    let all : sum_by h (messages (got ++ items)) ≡ below n (λ f. sum_by h (of f (got ++ items))) = weight-spread h n (got ++ items) (λ f m. tells f ∙ none f m) in
-    let parts : sum_by h (messages (got ++ items)) ≡ sum_by h (messages got) + sum_by h (messages items) = ap (sum_by h) (map-append (λ (e : Entry). e.message) got items) ∙ sum_by-append h (messages got) (messages items) in
+    let all : sum_by h (messages (got ++ items)) ≡ below n (λ f. sum_by h (of f (got ++ items))) = weight-spread h n (got ++ items) (λ f m. tells f ∙ none f m)
+    in
+    let parts : sum_by h (messages (got ++ items)) ≡ sum_by h (messages got) + sum_by h (messages items) =
+    ap (sum_by h) (map-append (λ (e : Entry). e.message) got items) ∙ sum_by-append h (messages got) (messages items) in
     omega (arith, all, parts, below-le n most (λ f. sum_by h (of f (got ++ items))) (λ f. subst (λ l. sum_by h l ≤ most) (sym (tells f)) (few f)))
 
 -- what was taken keeps the limits of 16 senders together

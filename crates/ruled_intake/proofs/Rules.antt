@@ -14,7 +14,7 @@ use Rattle.ruled_intake.specs.declared.rule.Entry.{Entry}
 use Rattle.ruled_intake.specs.declared.rule.View.{View}
 use Rattle.ruled_intake.specs.declared.rule.View.TheVariants.{Sends, Takes, Spent}
 use Rattle.ruled_intake.specs.Lanes.{IsWithin, messages, of}
-use Rattle.ruled_intake.specs.Rule.{Delivers, Fits, FitsTaker, HasCompared, HasFew, HasGot, HasPut, HasSeen, Stands, new_taker}
+use Rattle.ruled_intake.specs.Rule.{Delivers, Fits, FitsTaker, HasCompared, HasFew, HasGot, HasPut, new_taker}
 use Rattle.ruled_intake.proofs.Counts.{equal_test, of-append, of-here, of-there, within-first}
 
 -- g with x at k
@@ -78,7 +78,8 @@ puts n pass from put e mine within items views room h at =
           | inr apart ↦ subst (IsWithin (2 ^ 37)) (sym (other f apart.1)) (h.within f)
         ];
         fits = λ j u is. elim (at_set views pass j w u is) as (λ _. Fits h.reader h.seat sent' h.got j u) [
-          | inl here ↦ subst (Fits h.reader h.seat sent' h.got j) here.1 (me.0 ∙ ap some (sym here.0), sym (upd-same h.sent from from (put ++ e.message ∷ []) refl))
+          | inl here ↦ subst (Fits h.reader h.seat sent' h.got j) here.1
+              (me.0 ∙ ap some (sym here.0), sym (upd-same h.sent from from (put ++ e.message ∷ []) refl))
           | inr there ↦ Fits-sent h.reader h.seat h.sent sent' h.got j u
               (λ f seated. other f (λ same. there.0 (some-injective j pass (sym seated ∙ ap h.seat same ∙ me.0))))
               (λ f empty. other f (λ same. some-ne-none pass (sym me.0 ∙ ap h.seat (sym same) ∙ empty)))
@@ -113,16 +114,20 @@ gets pass made got known e items views h at =
       (refl, subst (λ l. IsWithin (2 ^ 41) (messages l)) same (within-first made h.sent got' items me.few_made tells (λ f m. (me.later f m).1) h.within)),
     )
 
--- what the taker sees
-pub sees : (pass made : ℕ) (got : List Entry) (known : List (List Message)) → Learns Delivers pass (Takes got made known) (HasSeen (Takes got made known))
-sees pass made got known items views h at =
+-- the taker learns a lesson, and that it has taken few
+pub sees : (pass made : ℕ) (got : List Entry) (known : List (List Message)) (fact : View → List Entry → Type 0)
+    → Learns Delivers pass (Takes got made known) (fact (Takes got made known))
+    → Learns Delivers pass (Takes got made known) (λ items. HasFew (Takes got made known) × fact (Takes got made known) items)
+sees pass made got known fact learns items views h at =
     let me : FitsTaker h.reader h.seat h.sent h.got pass got made known = h.fits pass (Takes got made known) at in (
-      (views, pass, h, at),
-      subst (λ l. IsWithin (2 ^ 41) (messages l)) (sym me.mine_is) (within-first made h.sent h.got items me.few_made h.tells (λ f m. (me.later f m).1) h.within),
+      subst (λ l. IsWithin (2 ^ 41) (messages l)) (sym me.mine_is)
+          (within-first made h.sent h.got items me.few_made h.tells (λ f m. (me.later f m).1) h.within),
+      learns items views h at,
     )
 
 -- of each sender that was taken in, what was taken and what the lane holds is what it sent
-pub compares : (pass made : ℕ) (got : List Entry) (known : List (List Message)) → Learns Delivers pass (Takes got made known) (HasCompared (Takes got made known))
+pub compares : (pass made : ℕ) (got : List Entry) (known : List (List Message))
+    → Learns Delivers pass (Takes got made known) (HasCompared (Takes got made known))
 compares pass made got known items views h at full f =
     let me : FitsTaker h.reader h.seat h.sent h.got pass got made known = h.fits pass (Takes got made known) at in
     let is : of f (got ++ items) ≡ h.sent f = ap (λ l. of f (l ++ items)) me.mine_is ∙ h.tells f in
@@ -153,7 +158,15 @@ begins = record {
   fits = λ j u e. elim (last_place [] new_taker u j e) as (λ _. Fits 0 (λ _. none) (λ _. []) [] j u) [
     | inl before ↦ absurd (some-ne-none u (sym before))
     | inr last ↦ subst (Fits 0 (λ _. none) (λ _. []) [] j) last.0
-        (record { here = last.1; mine_is = refl; few_made = omega arith; later = λ f _. (refl, refl); ended = λ f m. absurd (omega (arith, m)); few_known = omega arith })
+        (record {
+          here = last.1;
+          mine_is = refl;
+          few_made = omega arith;
+          later = λ f _. (refl, refl);
+          ended = λ f m. absurd (omega (arith, m));
+          few_known =
+              omega arith;
+        })
   ];
 }
 
@@ -168,7 +181,8 @@ makes pass made got known room items views h at =
     let seat' : ℕ → Option ℕ = upd h.seat made (some (length vs)) in
     let new = me.later made (omega arith) in
     let other : (f : ℕ) → f ≢ made → seat' f ≡ h.seat f = λ f apart. upd-other h.seat made f (some (length vs)) apart in
-    let old : (j : ℕ) (u : View) → get_elem? vs j ≡ some u → Fits h.reader seat' h.sent h.got j u = λ j u e. elim (at_set views pass j l u e) as (λ _. Fits h.reader seat' h.sent h.got j u) [
+    let old : (j : ℕ) (u : View) → get_elem? vs j ≡ some u → Fits h.reader seat' h.sent h.got j u = λ j u e. elim (at_set views pass j l u e) as
+    (λ _. Fits h.reader seat' h.sent h.got j u) [
       | inl here ↦ subst (Fits h.reader seat' h.sent h.got j) here.1 (record {
         here = here.0 ∙ me.here;
         mine_is = me.mine_is;
@@ -200,10 +214,12 @@ takes_in pass made got known other from put turn items views h at two at' =
     let both : View = Takes got made (known ++ put ∷ []) in
     let me : FitsTaker h.reader h.seat h.sent h.got pass got made known = h.fits pass (Takes got made known) at in
     let vs : List View = set views pass both in
-    let was : get_elem? views other ≡ some (Sends from put) = elim (at_set views pass other both (Sends from put) at') as (λ _. get_elem? views other ≡ some (Sends from put)) [ inl x ↦ absurd (two x.0) | inr x ↦ x.1 ] in
+    let was : get_elem? views other ≡ some (Sends from put) = elim (at_set views pass other both (Sends from put) at') as
+    (λ _. get_elem? views other ≡ some (Sends from put)) [ inl x ↦ absurd (two x.0) | inr x ↦ x.1 ] in
     let theirs : Fits h.reader h.seat h.sent h.got other (Sends from put) = h.fits other (Sends from put) was in
     let seat' : ℕ → Option ℕ = upd h.seat from none in
-    let early : from < made = elim (cases_lt from made) as (λ _. from < made) [ inl m ↦ m | inr late ↦ absurd (some-ne-none other (sym theirs.0 ∙ (me.later from late).0)) ] in
+    let early : from < made = elim (cases_lt from made) as (λ _. from < made)
+    [ inl m ↦ m | inr late ↦ absurd (some-ne-none other (sym theirs.0 ∙ (me.later from late).0)) ] in
     let empty : (f : ℕ) → h.seat f ≡ none → seat' f ≡ none = λ f e. elim (eqb_tells f from) as (λ _. seat' f ≡ none) [
       | inl same ↦ upd-same h.seat from f none same.1
       | inr apart ↦ upd-other h.seat from f none apart.1 ∙ e
@@ -219,8 +235,11 @@ takes_in pass made got known other from put turn items views h at two at' =
           | inl before ↦ (empty f (me.ended f before).0, get_or_append_left known (put ∷ []) [] f before ∙ (me.ended f before).1)
           | inr after ↦
               let last : f ≡ length known = omega (arith, after, m, length-append known (put ∷ [])) in
-              let is : f ≡ from = last ∙ sym turn in
-              (upd-same h.seat from f none is, ap (λ i. slice_index_or (known ++ put ∷ []) i []) last ∙ get_or-append_seam known put [] [] ∙ theirs.1 ∙ ap h.sent (sym is))
+              let is : f ≡ from = last ∙ sym turn in (
+                upd-same h.seat from f none is,
+                ap (λ i. slice_index_or (known ++ put ∷ []) i []) last ∙ get_or-append_seam known put [] [] ∙ theirs.1 ∙ ap
+                    h.sent (sym is),
+              )
         ];
         few_known = omega (arith, me.few_known, early, turn, length-append known (put ∷ []));
       })

@@ -33,7 +33,8 @@ with_sent s message = record { lane = s.lane; from = s.from; sent = s.sent ++ me
 
 -- the taker has taken this message, of some sender, and nothing else changed
 abbrev pub HasTaken : (old new : Taker) → Message → Type 0
-HasTaken old new message = (from : ℕ) × (new ≡ record { lane = old.lane; senders = old.senders; taken = old.taken ++ entry from message ∷ [] })
+HasTaken old new message = (from : ℕ)
+    × (new ≡ record { lane = old.lane; senders = old.senders; taken = old.taken ++ entry from message ∷ [] })
 
 -- the messages of entries
 abbrev pub messages : List Entry → List Message

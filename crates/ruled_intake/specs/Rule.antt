@@ -3,6 +3,7 @@
 use Rattle.std.specs.Prelude.{◌≡◌, ◌≤◌, ◌<◌, ◌+◌, ◌^◌, ◌++◌, ◌∷◌, ℕ, ⊤, List, [], length, slice_index_or}
 use mathlib.Core.Option.{Option, some, none}
 use lib.ListN.{get_elem?}
+use Rattle.crossbeam_queue.specs.Fifo.{Learns}
 use Rattle.ruled_intake.specs.declared.message.Message.{Message}
 use Rattle.ruled_intake.specs.declared.rule.Entry.{Entry}
 use Rattle.ruled_intake.specs.declared.rule.View.{View}
@@ -62,27 +63,29 @@ HasPut v e w = ⊤
 
 -- the taker has taken one message more, and few in all
 abbrev pub HasGot : View → Entry → View → Type 0
-HasGot (Takes got made known) e w = (w ≡ Takes (got ++ e ∷ []) made known) × IsWithin (2 ^ 41) (messages (got ++ e ∷ []))
+HasGot (Takes got made known) e w = (w ≡ Takes (got ++ e ∷ []) made known)
+    × IsWithin (2 ^ 41) (messages (got ++ e ∷ []))
 HasGot v e w = ⊤
-
--- the rule holds of what the lane holds, and of passes among which is one with this view
-abbrev pub Stands : View → List Entry → Type 0
-Stands v items = (views : List View) × (pass : ℕ) × Delivers items views × (get_elem? views pass ≡ some v)
 
 -- the taker has taken few
 abbrev pub HasFew : View → Type 0
 HasFew (Takes got made known) = IsWithin (2 ^ 41) (messages got)
 HasFew v = ⊤
 
--- what the taker learns of what the lane holds
-abbrev pub HasSeen : View → List Entry → Type 0
-HasSeen v items = Stands v items × HasFew v
-
 -- of each sender, what was taken and what the lane holds is what was told of it: all, once each was taken in
 abbrev pub HasCompared : View → List Entry → Type 0
-HasCompared (Takes got made known) items = length known ≡ made → (f : ℕ) → of f (got ++ items) ≡ slice_index_or known f []
+HasCompared (Takes got made known) items = length known ≡ made → (f : ℕ) → of f (got ++ items)
+    ≡ slice_index_or known f []
 HasCompared v items = ⊤
 
--- at one step the lane held nothing: the rule held of no message, and of passes among which is this taker's
-abbrev pub HeldNothing : Taker → Type 0
-HeldNothing taker = Stands (Takes taker.taken taker.senders []) []
+-- what a taker knows
+abbrev pub view_of : Taker → View
+view_of taker = Takes taker.taken taker.senders []
+
+-- a lesson that the taker may learn: by the rule it holds of what the lane holds, at each moment
+abbrev pub MayLearn : (fact : View → List Entry → Type 0) → Taker → Type 0
+MayLearn fact taker = (pass : ℕ) → Learns Delivers pass (view_of taker) (fact (view_of taker))
+
+-- at one step of a call the lane held nothing, and the lesson was learned of that
+abbrev pub HeldNothing : (fact : View → List Entry → Type 0) → Taker → Type 0
+HeldNothing fact taker = fact (view_of taker) []

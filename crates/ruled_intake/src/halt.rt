@@ -21,18 +21,20 @@ impl Model for Halt {
     ghost view = { λ halt. halt.raised.id };
 }
 
-/// That a halt was raised: only who raised it, or saw it raised, has one. It takes no bytes.
+/// That a halt was raised: only who raised it, or saw it raised, has one. It shows the lanes whose
+/// workers were woken for it: none, where it was only seen.
 #[derive(Drop)]
 pub struct Raised<'a> {
     token: OnceToken<'a, ()>,
+    woken: &'a [Lane],
 }
 
 impl<'a> Model for Raised<'a> {
-    ghost use Rattle.ruled_intake.specs.Halts.{HaltId};
+    ghost use Rattle.ruled_intake.specs.Halts.{Raised as Seen};
 
-    ghost Value = { HaltId };
+    ghost Value = { Seen };
 
-    ghost view = { λ raised. raised.token.of };
+    ghost view = { λ raised. record { halt = raised.token.of; woken = raised.woken.now } };
 }
 
 impl Halt {
@@ -45,21 +47,25 @@ impl Halt {
 
     /// Raises the flag, for good, and wakes the workers that sleep at these lanes. The call may wait for
     /// another thread that is raising it.
-    pub fn raise<R: Wait>(&self, rt: &R, lanes: &[Lane]) -> Raised<'_>
-        ensures { result ≡ self.now }
+    pub fn raise<'a, R: Wait>(&'a self, rt: &R, lanes: &'a [Lane]) -> Raised<'a>
+        ensures halt { result.halt ≡ self.now }
+        ensures woken { result.woken ≡ lanes.now }
     {
         let token = self.raised.init(rt, || ());
         for lane in lanes {
             lane.wake();
         }
-        Raised { token }
+        Raised {
+            token,
+            woken: lanes,
+        }
     }
 
     /// Whether the flag was seen raised.
     pub fn raised(&self) -> Option<Raised<'_>>
-        ensures { IfSome result (λ raised. raised ≡ self.now) }
+        ensures { IfSome result (λ raised. raised.halt ≡ self.now) }
     {
         let token = self.raised.witness()?;
-        Some(Raised { token })
+        Some(Raised { token, woken: &[] })
     }
 }

@@ -10,20 +10,25 @@ ghost use Rattle.ruled_intake.specs.declared.rule.View.TheVariants.{Takes};
 use crate::halt::Halt;
 use crate::message::Message;
 use crate::passes::{SendPass, TakePass};
-use crate::rule::{Compares, LanePass, LaneQueue, OneMore, TakeIn};
+use crate::rule::{Compares, Entry, Gets, LanePass, LaneQueue, OneMore, Puts, TakeIn, View};
+use crossbeam_queue::protocol::Lesson;
 use crossbeam_utils::CachePadded;
 use crossbeam_utils::sync::EventCount;
 use std::alloc::{AllocError as OutOfMemory, Global};
 use std::marker::Model;
 use std::sync::Wait;
-use std::sync::atomic::{AtomicU64, Ordering};
+use std::sync::atomic::{AtomicBool, AtomicU64, Ordering};
 use std::thread;
 
-// How often a sender's thread yields the processor at most, for one message.
+/// How often a sender's thread yields the processor at most, for one message, where the worker hasn't begun.
 const PATIENCE: u32 = 100;
 
-// A lane of so many messages is long.
-const FAR_AHEAD: u64 = 64;
+/// A lane of so many messages is long.
+pub(crate) const LONG: u64 = 64;
+
+/// A lane of fewer messages is short: senders that sleep are woken. It is less than [`LONG`], so that a
+/// sender that was woken sends many before it sleeps again.
+const SHORT: u64 = 32;
 
 /// A lane from 1 to 16 senders to one worker.
 pub struct Lane {
@@ -34,6 +39,23 @@ pub struct Lane {
     taken: CachePadded<AtomicU64>,
     /// Wakes the worker.
     news: EventCount,
+    /// Whether the worker takes messages: it has begun, and hasn't ended.
+    working: AtomicBool,
+    /// Wakes the senders.
+    room: EventCount,
+}
+
+/// The worker of a lane takes messages, until this is dropped.
+pub struct Working<'a> {
+    lane: &'a Lane,
+}
+
+impl Drop for Working<'_> {
+    fn drop(self) {
+        let Self { lane } = self;
+        lane.working.store(false, Ordering::SeqCst);
+        lane.room.notify_all();
+    }
 }
 
 impl Model for Lane {
@@ -51,6 +73,8 @@ impl Drop for Lane {
             sent: _,
             taken: _,
             news: _,
+            working: _,
+            room: _,
         } = self;
         queue.destroy();
     }
@@ -66,7 +90,7 @@ pub struct Closed {
 
 impl Lane {
     ghost use Rattle.ruled_intake.specs.Lanes.{HasTaken, IsPrefix, IsWithin, messages, of, with_sent};
-    ghost use Rattle.ruled_intake.specs.Rule.{HeldNothing};
+    ghost use Rattle.ruled_intake.specs.Rule.{HeldNothing, MayLearn};
 
     /// Puts a message at the back, and wakes the worker. `Err` is want of memory, and hands the message back.
     ///
@@ -83,12 +107,23 @@ impl Lane {
         ensures err { IfErr result (λ back. (back ≡ message) × (pass.new ≡ pass.old)) }
     {
         self.sent.fetch_add(1, Ordering::SeqCst);
-        let put = pass.put(rt, &self.queue, message);
-        if put.is_err() {
-            self.sent.fetch_sub(1, Ordering::SeqCst);
+        let packets = message.packets();
+        let entry = Entry {
+            from: pass.from,
+            message,
+        };
+        match self.queue.push_as::<Puts, R>(rt, &mut pass.pass, entry) {
+            Ok(()) => {
+                pass.sent += 1;
+                pass.packets += packets;
+                self.news.notify_one();
+                Ok(())
+            }
+            Err(Entry { from: _, message }) => {
+                self.sent.fetch_sub(1, Ordering::SeqCst);
+                Err(message)
+            }
         }
-        self.news.notify_one();
-        put
     }
 
     /// Wakes the worker, so that it sees a halt that was raised.
@@ -99,8 +134,8 @@ impl Lane {
         self.news.notify_one();
     }
 
-    /// Lets the worker's thread sleep while the lane holds nothing and the halt isn't raised. Nothing is
-    /// promised of how long that is. One thread at a time sleeps at a lane.
+    /// Lets the worker's thread sleep while the lane holds nothing and the halt isn't raised, and else
+    /// yields the processor. Nothing is promised of how long that is. One thread at a time sleeps at a lane.
     pub fn wait_for_message<R: Wait>(&self, rt: &R, pass: &mut TakePass, halt: &Halt)
         requires lane { pass.old.lane ≡ self.now }
         ensures same { pass.new ≡ pass.old }
@@ -109,13 +144,56 @@ impl Lane {
         // The lane is looked at first, and then the halt: `wake` counts on it.
         if self.ahead() == 0 && halt.raised().is_none() {
             sleep.wait(rt);
+        } else {
+            // A sender that stands between its count and its push may need this processor.
+            drop(sleep);
+            thread::yield_now();
         }
     }
 
-    /// Lets the worker run first, where it is far behind: yields the processor while the lane is
-    /// long, a bounded number of times. Each call in vain, in which the worker took nothing, halves
-    /// that number for the next one. Nothing is promised of how long the lane is.
-    pub fn wait_for_room(&self, pass: &mut SendPass)
+    /// The worker takes messages from now on: senders may wait for it.
+    pub fn begin(&self) -> Working<'_> {
+        self.working.store(true, Ordering::SeqCst);
+        Working { lane: self }
+    }
+
+    /// Lets the worker's thread take messages, where the lane is long. The sender sleeps until the lane is
+    /// short or the worker has ended. For a worker that hasn't begun it doesn't sleep, since that may be
+    /// waiting for the sender's thread: it only yields the processor a while. Nothing is promised of how
+    /// long the lane is.
+    pub fn wait_for_room<R: Wait>(&self, rt: &R, pass: &mut SendPass)
+        ensures same { pass.new ≡ pass.old }
+    {
+        if self.working.load(Ordering::SeqCst) {
+            self.sleep_while_long(rt);
+        } else {
+            self.yield_while_long(pass);
+        }
+    }
+
+    /// Whether a sender has to wait: the lane is long, and the worker takes.
+    fn is_held_up(&self) -> bool {
+        self.working.load(Ordering::SeqCst) && self.ahead() >= LONG
+    }
+
+    /// Sleeps while the lane is long and the worker takes.
+    fn sleep_while_long<R: Wait>(&self, rt: &R) {
+        for _ in rt.forever() {
+            if !self.is_held_up() {
+                break;
+            }
+            let sleep = self.room.prepare_wait();
+            // There may be room since before the word that this thread will sleep: then nothing wakes it.
+            if !self.is_held_up() {
+                break;
+            }
+            sleep.wait(rt);
+        }
+    }
+
+    /// Yields the processor while the lane is long, a bounded number of times. Each call in vain, in which
+    /// the worker took nothing, halves that number for the next one.
+    fn yield_while_long(&self, pass: &mut SendPass)
         ensures same { pass.new ≡ pass.old }
     {
         let before = self.taken.load(Ordering::SeqCst);
@@ -127,10 +205,10 @@ impl Lane {
         };
     }
 
-    // Yields the processor at most so many times, until the lane isn't long.
+    /// Yields the processor at most so many times, until the lane isn't long.
     fn gets_short(&self, turns: u32) -> bool {
         for _ in 0..turns {
-            if self.ahead() < FAR_AHEAD {
+            if self.ahead() < LONG {
                 return true;
             }
             thread::yield_now();
@@ -138,27 +216,41 @@ impl Lane {
         false
     }
 
-    // About how many messages the lane holds.
-    fn ahead(&self) -> u64 {
+    /// Counts a message that was taken, and wakes the senders where the lane is short.
+    fn count_taken(&self) {
+        self.taken.fetch_add(1, Ordering::SeqCst);
+        if self.ahead() < SHORT {
+            self.room.notify_all();
+        }
+    }
+
+    /// About how many messages the lane holds.
+    pub(crate) fn ahead(&self) -> u64 {
         let sent = self.sent.load(Ordering::SeqCst);
         sent.saturating_sub(self.taken.load(Ordering::SeqCst))
     }
 
-    /// Takes the message at the front. `None` comes where the queue held nothing at one step of this
-    /// call; the clause says so of some lane that fits what was taken. It does not say that no message
-    /// will come.
+    /// Takes the message at the front. `None` comes where the lane held nothing at one step of this
+    /// call: of what it held then, nothing, the caller learns what its lesson says. It does not say that
+    /// no message will come.
     ///
     /// The call may wait for another thread's step in flight, and promises if it returns. It takes
     /// no memory.
-    pub fn take<R: Wait>(&self, rt: &R, pass: &mut TakePass) -> Option<Message>
+    pub fn take<L: Lesson<Entry, View>, R: Wait>(
+        &self,
+        rt: &R,
+        pass: &mut TakePass,
+    ) -> Option<Message>
         requires lane { pass.old.lane ≡ self.now }
+        requires lesson { MayLearn L.fact pass.old }
         ensures some { IfSome result (λ message. HasTaken pass.old pass.new message) }
-        ensures none { IfNone result ((pass.new ≡ pass.old) × HeldNothing pass.old) }
+        ensures none { IfNone result ((pass.new ≡ pass.old) × HeldNothing L.fact pass.old) }
         ensures few { IsWithin (2 ^ 41) (messages pass.new.taken) }
     {
-        let message = pass.get(rt, &self.queue)?;
-        self.taken.fetch_add(1, Ordering::SeqCst);
-        Some(message)
+        let entry = self.queue.pop_as::<Gets<L>, R>(rt, &mut pass.pass)?;
+        pass.taken += 1;
+        self.count_taken();
+        Some(entry.message)
     }
 
     /// A lane with so many senders, and its passes: sender f has the f-th. `Err` is want of memory.
@@ -179,6 +271,8 @@ impl Lane {
                     sent: CachePadded::new(AtomicU64::new(0)),
                     taken: CachePadded::new(AtomicU64::new(0)),
                     news: EventCount::new(),
+                    working: AtomicBool::new(false),
+                    room: EventCount::new(),
                 },
                 passes,
                 TakePass { pass, taken: 0 },
@@ -208,6 +302,8 @@ impl Lane {
             sent: _,
             taken: _,
             news: _,
+            working: _,
+            room: _,
         } = self;
         let sent = take_in(&queue, &mut pass, senders);
         let _left = queue.len_as::<Compares, R>(rt, &mut pass);
@@ -216,7 +312,7 @@ impl Lane {
     }
 }
 
-// Makes the senders' passes of a new lane.
+/// Makes the senders' passes of a new lane.
 fn make_senders(
     alloc: Global,
     queue: &LaneQueue,
@@ -246,7 +342,7 @@ fn make_senders(
     Ok(passes)
 }
 
-// Takes in all senders, which have ended, and returns how many messages they have sent.
+/// Takes in all senders, which have ended, and returns how many messages they have sent.
 fn take_in(queue: &LaneQueue, taker: &mut LanePass, senders: Vec<SendPass>) -> u64
     requires pass { IsSegPassOf queue.now taker.old }
     requires view { taker.old.me.view.client

@@ -16,13 +16,15 @@ mod message;
 mod packet;
 mod passes;
 mod rule;
+mod turn;
 
 pub use halt::{Halt, Raised};
-pub use lane::{Closed, Lane};
+pub use lane::{Closed, Lane, Working};
 pub use message::{Batch, FileEnd, Message};
 pub use packet::Packet;
 pub use passes::{SendPass, TakePass};
-pub use rule::{Entry, View};
+pub use rule::{Entry, NoLesson, View};
+pub use turn::{Reading, Turn};
 
 #[cfg(test)]
 mod tests;

@@ -1,13 +1,12 @@
 //! The passes by which threads use a lane.
 
-ghost use Rattle.std.specs.Prelude.{◌≡◌, ◌^◌, ◌++◌, ◌∷◌, [], IfErr, IfNone, IfSome, IsTrue, OnOk};
+ghost use Rattle.std.specs.Prelude.{◌^◌, ◌++◌, ◌∷◌, [], IsTrue};
 
 use crate::message::Message;
-use crate::rule::{Entry, Gets, LanePass, LaneQueue, Puts};
+use crate::rule::LanePass;
 use std::marker::Model;
-use std::sync::Wait;
 
-// The most messages of one sender, and the most packets in them: 2^37.
+/// The most messages of one sender, and the most packets in them: 2^37.
 const MOST: u64 = 137_438_953_472;
 
 /// The pass of one sender. Contracts see its lane, the sender's number, and what it has sent.
@@ -18,7 +17,7 @@ pub struct SendPass {
     /// The messages that it has sent, and the packets in them.
     pub(crate) sent: u64,
     pub(crate) packets: u64,
-    /// How often its thread lets the worker run, where the lane is long.
+    /// How often its thread yields the processor, where the lane is long and the worker hasn't begun.
     pub(crate) patience: u32,
 }
 
@@ -41,7 +40,7 @@ impl Model for SendPass {
 }
 
 impl SendPass {
-    ghost use Rattle.ruled_intake.specs.Lanes.{IsWithin, with_sent};
+    ghost use Rattle.ruled_intake.specs.Lanes.{IsWithin};
 
     /// Whether this message keeps the limits of one sender: at most 2^37 messages, and as many
     /// packets.
@@ -49,31 +48,6 @@ impl SendPass {
         ensures { IsTrue result → IsWithin (2 ^ 37) (self.now.sent ++ message.now ∷ []) }
     {
         self.sent < MOST && self.packets + message.packets() <= MOST
-    }
-
-    // Puts a message at the back of the lane's queue.
-    pub(crate) fn put<R: Wait>(
-        &mut self,
-        rt: &R,
-        queue: &LaneQueue,
-        message: Message,
-    ) -> Result<(), Message>
-        requires lane { self.old.lane ≡ queue.now }
-        requires few { IsWithin (2 ^ 37) (self.old.sent ++ message ∷ []) }
-        ensures ok { OnOk result (self.new ≡ with_sent self.old message) }
-        ensures err { IfErr result (λ back. (back ≡ message) × (self.new ≡ self.old)) }
-    {
-        let from = self.from;
-        let packets = message.packets();
-        let entry = Entry { from, message };
-        match queue.push_as::<Puts, R>(rt, &mut self.pass, entry) {
-            Ok(()) => {
-                self.sent += 1;
-                self.packets += packets;
-                Ok(())
-            }
-            Err(Entry { from: _, message }) => Err(message),
-        }
     }
 }
 
@@ -101,21 +75,4 @@ impl Model for TakePass {
 
     ghost invariant = { λ t. (t.pass.me.hand ≡ None) × (t.pass.me.spare ≡ None)
         × KnowsTaken t.taken t.pass.me.view.client };
-}
-
-impl TakePass {
-    ghost use Rattle.ruled_intake.specs.Lanes.{HasTaken, IsWithin, messages};
-    ghost use Rattle.ruled_intake.specs.Rule.{HeldNothing};
-
-    // Takes the message at the front of the lane's queue.
-    pub(crate) fn get<R: Wait>(&mut self, rt: &R, queue: &LaneQueue) -> Option<Message>
-        requires lane { self.old.lane ≡ queue.now }
-        ensures some { IfSome result (λ message. HasTaken self.old self.new message) }
-        ensures none { IfNone result ((self.new ≡ self.old) × HeldNothing self.old) }
-        ensures few { IsWithin (2 ^ 41) (messages self.new.taken) }
-    {
-        let Entry { from: _, message } = queue.pop_as::<Gets, R>(rt, &mut self.pass)?;
-        self.taken += 1;
-        Some(message)
-    }
 }

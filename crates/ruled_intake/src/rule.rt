@@ -4,6 +4,7 @@ use crate::message::Message;
 use crossbeam_queue::protocol::{Join, Lesson, Outcome, Protocol, Split};
 use crossbeam_queue::{RuledSegQueue, SegPass};
 use std::collections::LinkedList;
+use std::marker::PhantomData;
 
 /// A message, with the number of its sender.
 #[derive(Debug, Drop)]
@@ -73,19 +74,30 @@ impl Outcome<Entry, View> for Puts {
     ghost then = { HasPut };
 }
 
-/// A message is taken, or the lane held none.
-pub struct Gets;
+/// A message is taken, or the lane held none, and of that moment the taker learns what the caller's lesson says.
+pub struct Gets<L> {
+    _lesson: PhantomData<L>,
+}
 
-impl Outcome<Entry, View> for Gets {
+impl<L: Lesson<Entry, View>> Outcome<Entry, View> for Gets<L> {
     ghost use Rattle.ruled_intake.specs.Rule.{HasGot};
 
     ghost then = { HasGot };
 }
 
-impl Lesson<Entry, View> for Gets {
-    ghost use Rattle.ruled_intake.specs.Rule.{HasSeen};
+impl<L: Lesson<Entry, View>> Lesson<Entry, View> for Gets<L> {
+    ghost use Rattle.ruled_intake.specs.Rule.{HasFew};
 
-    ghost fact = { HasSeen };
+    ghost fact = { λ v items. HasFew v × L.fact v items };
+}
+
+/// The lesson of a caller that asks nothing of a lane that held nothing.
+pub struct NoLesson;
+
+impl Lesson<Entry, View> for NoLesson {
+    ghost use Rattle.std.specs.Prelude.{⊤};
+
+    ghost fact = { λ v items. ⊤ };
 }
 
 /// What was taken is compared with what was sent.

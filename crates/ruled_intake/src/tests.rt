@@ -4,6 +4,7 @@ ghost use Rattle.std.specs.Prelude.{◌≡◌, length};
 ghost use Rattle.ruled_intake.specs.Lanes.{AreSenders};
 
 use super::*;
+use crate::lane::LONG;
 use std::alloc::Global;
 use std::process::Abort;
 use std::sync::Wait;
@@ -12,7 +13,7 @@ use std::thread::Threads;
 use std::{mem, slice, thread};
 use timing_base::{FileNote, FlowPacket, Items, PacketFault, Rtp};
 
-// The end of a file that is cut at this byte.
+/// The end of a file that is cut at this byte.
 fn cut_at(file: u32, at: u64) -> Message {
     Message::End(FileEnd {
         file,
@@ -21,7 +22,7 @@ fn cut_at(file: u32, at: u64) -> Message {
     })
 }
 
-// Asserts that a message is the end of a file that is cut at this byte.
+/// Asserts that a message is the end of a file that is cut at this byte.
 fn is_cut_at(rt: &impl Abort, message: Option<Message>, file: u32, at: u64) {
     match &message {
         Some(Message::End(end)) => {
@@ -32,7 +33,7 @@ fn is_cut_at(rt: &impl Abort, message: Option<Message>, file: u32, at: u64) {
     }
 }
 
-// Sends a message by pass f of the lane, and asserts that there is room and memory.
+/// Sends a message by pass f of the lane, and asserts that there is room and memory.
 fn send_by<R: Wait + Abort>(
     rt: &R,
     lane: &Lane,
@@ -59,15 +60,15 @@ fn lane_order(rt: HostRuntime) {
     send_by(&rt, &lane, &mut passes, 0, cut_at(0, 1));
     send_by(&rt, &lane, &mut passes, 0, cut_at(0, 2));
     send_by(&rt, &lane, &mut passes, 1, cut_at(1, 9));
-    is_cut_at(&rt, lane.take(&rt, &mut taker), 0, 1);
-    is_cut_at(&rt, lane.take(&rt, &mut taker), 0, 2);
-    is_cut_at(&rt, lane.take(&rt, &mut taker), 1, 9);
-    assert!(&rt; lane.take(&rt, &mut taker).is_none());
+    is_cut_at(&rt, lane.take::<NoLesson, _>(&rt, &mut taker), 0, 1);
+    is_cut_at(&rt, lane.take::<NoLesson, _>(&rt, &mut taker), 0, 2);
+    is_cut_at(&rt, lane.take::<NoLesson, _>(&rt, &mut taker), 1, 9);
+    assert!(&rt; lane.take::<NoLesson, _>(&rt, &mut taker).is_none());
     let closed = lane.close(&rt, passes, taker);
     assert_eq!(rt; closed, Closed { sent: 3, taken: 3 });
 }
 
-// Sends 1,000 ends of the file that has the sender's number.
+/// Sends 1,000 ends of the file that has the sender's number.
 fn send_ends<R: Wait + Abort>(rt: &R, lane: &Lane, pass: SendPass)
     requires { pass.lane ≡ lane.now }
 {
@@ -80,7 +81,7 @@ fn send_ends<R: Wait + Abort>(rt: &R, lane: &Lane, pass: SendPass)
     }
 }
 
-// Takes so many ends of two files, and asserts that those of each file come in order.
+/// Takes so many ends of two files, and asserts that those of each file come in order.
 fn take_ends<R: Wait + Abort>(rt: &R, lane: &Lane, taker: TakePass, count: u64)
     requires { taker.lane ≡ lane.now }
 {
@@ -92,7 +93,7 @@ fn take_ends<R: Wait + Abort>(rt: &R, lane: &Lane, taker: TakePass, count: u64)
         if taken >= count {
             break;
         }
-        let Some(message) = lane.take(rt, &mut taker) else {
+        let Some(message) = lane.take::<NoLesson, _>(rt, &mut taker) else {
             lane.wait_for_message(rt, &mut taker, &halt);
             continue;
         };
@@ -110,7 +111,7 @@ fn take_ends<R: Wait + Abort>(rt: &R, lane: &Lane, taker: TakePass, count: u64)
     assert_eq!(rt; last, [1000, 1000]);
 }
 
-// Sends from a thread for each pass.
+/// Sends from a thread for each pass.
 fn send_in_threads<R: Threads + Wait + Abort + Sync>(rt: &R, lane: &Lane, passes: Vec<SendPass>)
     requires { AreSenders lane.now passes.items }
 {
@@ -118,7 +119,7 @@ fn send_in_threads<R: Threads + Wait + Abort + Sync>(rt: &R, lane: &Lane, passes
     assert!(rt; sent.is_ok());
 }
 
-// Two threads send, and the caller takes.
+/// Two threads send, and the caller takes.
 fn two_senders<R: Threads + Wait + Abort + Sync>(rt: &R, alloc: Global) {
     let Ok((lane, passes, taker)) = Lane::new(alloc, 2) else {
         assert!(rt; false, "there is memory");
@@ -141,7 +142,7 @@ fn two_senders_1000(rt: HostRuntime) {
     two_senders(&rt, rt.alloc());
 }
 
-// A packet that its file and its number tell, of media 0 to 6.
+/// A packet that its file and its number tell, of media 0 to 6.
 fn packet(file: u32, number: u32) -> Packet {
     let rtp = if number % 64 == 0 {
         Err(PacketFault::Short)
@@ -164,7 +165,7 @@ fn packet(file: u32, number: u32) -> Packet {
     )
 }
 
-// A batch of 256 packets of a file, from this number on.
+/// A batch of 256 packets of a file, from this number on.
 fn batch(alloc: Global, file: u32, first: u32) -> Option<Message> {
     let mut packets = Vec::with_capacity(alloc, 256).ok()?;
     for place in 0..256 {
@@ -178,10 +179,10 @@ fn batch(alloc: Global, file: u32, first: u32) -> Option<Message> {
 
 const SENDERS: u32 = 16;
 
-// The batches of one sender.
+/// The batches of one sender.
 const BATCHES: u32 = 256;
 
-// Sends the batches of the file that has the sender's number, and then its end.
+/// Sends the batches of the file that has the sender's number, and then its end.
 fn send_file<R: Wait + Abort>(rt: &R, alloc: Global, lane: &Lane, pass: SendPass)
     requires { pass.lane ≡ lane.now }
 {
@@ -192,7 +193,7 @@ fn send_file<R: Wait + Abort>(rt: &R, alloc: Global, lane: &Lane, pass: SendPass
             assert!(rt; false, "there is memory");
             return;
         };
-        lane.wait_for_room(&mut pass);
+        lane.wait_for_room(rt, &mut pass);
         assert!(rt; pass.has_room(&message));
         assert!(rt; lane.send(rt, &mut pass, message).is_ok());
     }
@@ -201,7 +202,7 @@ fn send_file<R: Wait + Abort>(rt: &R, alloc: Global, lane: &Lane, pass: SendPass
     assert!(rt; lane.send(rt, &mut pass, message).is_ok());
 }
 
-// Asserts that the packets of a file go on at this number, and returns the one after them.
+/// Asserts that the packets of a file go on at this number, and returns the one after them.
 fn goes_on(rt: &impl Abort, batch: &Batch, first: u32) -> u32 {
     let mut number = first;
     for found in batch.packets.as_slice() {
@@ -213,7 +214,8 @@ fn goes_on(rt: &impl Abort, batch: &Batch, first: u32) -> u32 {
     number
 }
 
-// Takes the files of all senders, and asserts that each has its packets in order. Where there is none it sleeps.
+/// Takes the files of all senders, and asserts that each has its packets in order, and that the lane is never
+/// longer than one message of each sender makes it. Where there is none it sleeps.
 fn take_files<R: Wait + Abort>(rt: &R, lane: &Lane, taker: TakePass)
     requires { taker.lane ≡ lane.now }
 {
@@ -225,10 +227,11 @@ fn take_files<R: Wait + Abort>(rt: &R, lane: &Lane, taker: TakePass)
         if ended >= SENDERS {
             break;
         }
-        let Some(message) = lane.take(rt, &mut taker) else {
+        let Some(message) = lane.take::<NoLesson, _>(rt, &mut taker) else {
             lane.wait_for_message(rt, &mut taker, &halt);
             continue;
         };
+        assert!(rt; lane.ahead() <= LONG.wrapping_add(u64::from(SENDERS)));
         match &message {
             Message::Batch(batch) => {
                 let file = batch.file as usize;
@@ -243,10 +246,10 @@ fn take_files<R: Wait + Abort>(rt: &R, lane: &Lane, taker: TakePass)
             }
         }
     }
-    assert!(rt; lane.take(rt, &mut taker).is_none());
+    assert!(rt; lane.take::<NoLesson, _>(rt, &mut taker).is_none());
 }
 
-// Sends the files from a thread for each pass.
+/// Sends the files from a thread for each pass.
 fn send_files<R: Threads + Wait + Abort + Sync>(
     rt: &R,
     alloc: Global,
@@ -259,13 +262,14 @@ fn send_files<R: Threads + Wait + Abort + Sync>(
     assert!(rt; sent.is_ok());
 }
 
-// Sixteen threads send a file each, and another one takes them.
+/// Sixteen threads send a file each, and another one takes them.
 fn sixteen_senders<R: Threads + Wait + Abort + Sync>(rt: &R, alloc: Global) {
     let Ok((lane, passes, taker)) = Lane::new(alloc, SENDERS) else {
         assert!(rt; false, "there is memory");
         return;
     };
     let shared = &lane;
+    let working = lane.begin();
     thread::join(
         rt,
         ||
@@ -275,6 +279,7 @@ fn sixteen_senders<R: Threads + Wait + Abort + Sync>(rt: &R, alloc: Global) {
             requires { AreSenders shared.now passes.items }
         { send_files(rt, alloc, shared, passes) },
     );
+    drop(working);
 }
 
 #[test]
@@ -295,7 +300,7 @@ fn halt_is_seen_once_raised(rt: HostRuntime) {
     assert!(rt; halt.raised().is_some());
 }
 
-// Sleeps until the halt is seen raised, and tells before that it begins.
+/// Sleeps until the halt is seen raised, and tells before that it begins.
 fn sleep_until_raised<R: Wait>(
     rt: &R,
     lane: &Lane,
@@ -315,7 +320,7 @@ fn sleep_until_raised<R: Wait>(
     }
 }
 
-// Lets the other thread begin, and then gives it time to fall asleep.
+/// Lets the other thread begin, and then gives it time to fall asleep.
 fn let_sleep(begun: &AtomicBool) {
     for _ in 0..1_000_000 {
         if begun.load(Ordering::SeqCst) {
@@ -328,7 +333,7 @@ fn let_sleep(begun: &AtomicBool) {
     }
 }
 
-// One thread sleeps, and another raises the halt.
+/// One thread sleeps, and another raises the halt.
 fn sleeper_and_halt<R: Threads + Wait + Abort + Sync>(rt: &R, alloc: Global) {
     let Ok((lane, _passes, taker)) = Lane::new(alloc, 1) else {
         assert!(rt; false, "there is memory");
@@ -353,4 +358,89 @@ fn sleeper_and_halt<R: Threads + Wait + Abort + Sync>(rt: &R, alloc: Global) {
 #[test]
 fn sleeper_sees_the_halt(rt: HostRuntime) {
     sleeper_and_halt(&rt, rt.alloc());
+}
+
+/// Sends so many ends, and waits for room after each.
+fn send_and_wait<R: Wait + Abort>(rt: &R, lane: &Lane, pass: SendPass, count: u64)
+    requires { pass.lane ≡ lane.now }
+{
+    let mut pass = pass;
+    for at in 0..count {
+        let message = cut_at(0, at);
+        assert!(rt; pass.has_room(&message));
+        assert!(rt; lane.send(rt, &mut pass, message).is_ok());
+        lane.wait_for_room(rt, &mut pass);
+    }
+}
+
+/// Lets the lane get long, gives the sender time to fall asleep, and ends without a take.
+fn end_at_once(lane: &Lane, working: Working<'_>) {
+    for _ in 0..1_000_000 {
+        if lane.ahead() >= LONG {
+            break;
+        }
+        thread::yield_now();
+    }
+    for _ in 0..10_000 {
+        thread::yield_now();
+    }
+    drop(working);
+}
+
+/// One thread sends more than a lane may hold, and another ends without a take.
+fn sender_and_end<R: Threads + Wait + Abort + Sync>(rt: &R, alloc: Global) {
+    let Ok((lane, mut passes, _taker)) = Lane::new(alloc, 1) else {
+        assert!(rt; false, "there is memory");
+        return;
+    };
+    let Some(pass) = passes.pop() else {
+        assert!(rt; false, "there is a pass");
+        return;
+    };
+    let shared = &lane;
+    let working = lane.begin();
+    thread::join(
+        rt,
+        || end_at_once(shared, working),
+        ||
+            requires { pass.lane ≡ shared.now }
+        { send_and_wait(rt, shared, pass, 1000) },
+    );
+    assert_eq!(rt; lane.ahead(), 1000);
+}
+
+#[test]
+fn sleeping_sender_sees_the_end(rt: HostRuntime) {
+    sender_and_end(&rt, rt.alloc());
+}
+
+/// Gives the other thread time to fall asleep, tells that the file is about to end, and ends it.
+fn end_file(reading: Reading<'_>, ending: &AtomicBool) {
+    for _ in 0..10_000 {
+        thread::yield_now();
+    }
+    ending.store(true, Ordering::SeqCst);
+    drop(reading);
+}
+
+/// One thread reads a file, and another waits for its end.
+fn file_and_next<R: Threads + Wait + Abort + Sync>(rt: &R) {
+    let turn = Turn::new();
+    turn.wait_for_end(rt);
+    let ending = AtomicBool::new(false);
+    let (shared, flag) = (&turn, &ending);
+    let reading = turn.begin();
+    thread::join(
+        rt,
+        || end_file(reading, flag),
+        || {
+            shared.wait_for_end(rt);
+            assert!(rt; flag.load(Ordering::SeqCst));
+        },
+    );
+}
+
+#[test]
+fn next_file_waits_for_the_end(rt: HostRuntime) {
+    file_and_next(&rt);
 }

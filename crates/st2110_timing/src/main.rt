@@ -5,10 +5,10 @@
 #![tactic(auto)]
 
 use std::alloc::{AllocError as OutOfMemory, Global};
-use std::env;
 use std::io::ErrorKind;
 use std::process::ExitCode;
-use std::rt::Env;
+use std::rt::{Env, Files};
+use std::{env, fs, io};
 use timing_outside::{FileShelf, NoGate, StdSink};
 use timing_report::Status;
 use timing_top::run;
@@ -22,13 +22,26 @@ fn words<R: Env + AllocGlobal>(rt: &R) -> Result<Vec<String>, OutOfMemory> {
     }
 }
 
+/// The null device, opened so often that no standard stream stays closed: a file gets the least free number.
+/// Else a capture would get that of a closed stream, and be taken for it. Where there is no null device, all
+/// goes on without.
+fn null_devices<R: Files>(rt: &R) -> [io::Result<R::File>; 3] {
+    [open_null(rt), open_null(rt), open_null(rt)]
+}
+
+/// The null device, to be read: what is written to it fails.
+fn open_null<R: Files>(rt: &R) -> io::Result<R::File> {
+    fs::open(rt, "/dev/null")
+}
+
 fn main(rt: HostRuntime) -> ExitCode {
+    let _streams = null_devices(&rt);
     let Ok(words) = words(&rt) else {
         return ExitCode::from(Status::OutOfMemory.code());
     };
     let mut shelf = FileShelf::new(&rt);
-    let mut out = StdSink::out(rt.stdout());
-    let mut err = StdSink::err(rt.stderr());
+    let mut out = StdSink::out(&rt, rt.stdout());
+    let mut err = StdSink::err(&rt, rt.stderr());
     let status = run(
         &rt,
         rt.alloc(),

@@ -1,12 +1,28 @@
--- How often the system has answered an error.
-use Rattle.std.specs.Prelude.{ℕ, List, string_bytes}
+-- How often the system has answered an error, and which names were fetched from it.
+use Rattle.std.specs.Prelude.{ℕ, List, Bool, ◌&&◌, ◌||◌, not, is_some, string_bytes}
+use Rattle.std.specs.Option.{option_map_or}
+use Rattle.std.specs.BTreeMap.{get_by_text}
+use Rattle.std.specs.Str.{bytes_eq}
+use Rattle.timing_outside.specs.Counts.{raised_if}
 use Rattle.timing_outside.specs.declared.files.FileShelf.{FileShelf}
 use Rattle.timing_outside.specs.declared.files.FileSource.{FileSource}
 use Rattle.timing_outside.specs.declared.files.StdSink.{StdSink}
 
--- the count of every name of a shelf
-abbrev pub shelf_faults : {R : Type 0} → FileShelf R → ℕ
-shelf_faults shelf = shelf.faults
+-- this name was fetched before
+abbrev pub is_known : {R : Type 0} → FileShelf R → List ℕ → Bool
+is_known shelf name = is_some (get_by_text shelf.names name)
+
+-- how often this name has failed; the names that weren't fetched have one count
+abbrev pub count_of : {R : Type 0} → FileShelf R → List ℕ → ℕ
+count_of shelf name = option_map_or (λ c. c.faults) (get_by_text shelf.names name) shelf.others
+
+-- these are one name, or neither was fetched
+abbrev pub share_count : {R : Type 0} → FileShelf R → List ℕ → List ℕ → Bool
+share_count shelf m n = bytes_eq m n || (not (is_known shelf m) && not (is_known shelf n))
+
+-- the count of the name n after a call for the name m, which failed or not
+abbrev pub count_after : {R : Type 0} → Bool → FileShelf R → List ℕ → List ℕ → ℕ
+count_after failed shelf m n = raised_if (failed && share_count shelf m n) (count_of shelf n)
 
 -- the name of an open file
 abbrev pub name_of : {F : Type 0} → FileSource F → List ℕ
@@ -17,5 +33,5 @@ abbrev pub source_faults : {F : Type 0} → FileSource F → ℕ
 source_faults s = s.faults
 
 -- how many writes to a stream failed
-abbrev pub sink_faults : StdSink → ℕ
+abbrev pub sink_faults : {C : Type 0} → StdSink C → ℕ
 sink_faults s = s.faults

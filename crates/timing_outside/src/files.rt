@@ -1,24 +1,41 @@
 //! Files, standard output and standard error: the edge of the program, which tells no bytes.
-ghost use Rattle.std.specs.Prelude.{◌≡◌, ◌≤◌, ◌<◌, length, None, IfSome, IfOk, OnOk, IsErrOf, is_err, nat_lt};
+ghost use Rattle.std.specs.Prelude.{◌≡◌, ◌≤◌, ◌<◌, ◌^◌, ◌&&◌, ℕ, List, true, length, None, IfSome, IfOk, IsErrOf, is_err, nat_lt, string_bytes};
+ghost use Rattle.std.specs.Str.{bytes_eq};
 ghost use Rattle.std.specs.Io.{ReadsAtMost};
-ghost use Rattle.timing_outside.specs.Counts.{raised, raised_if};
+ghost use Rattle.timing_outside.specs.Causes.{Rose};
+ghost use Rattle.timing_outside.specs.Counts.{has_failed, raised_if};
 
 use crate::shelf::{OpenFault, Shelf};
 use crate::sink::Sink;
 use crate::source::{Failed, Source};
-use std::fs;
+use std::alloc::AllocError as OutOfMemory;
+use std::collections::BTreeMap;
 use std::io::{ErrorKind, Print, Read, Stderr, Stdout, Write};
-use std::rt::Files;
+use std::rt::{Clock, Files};
+use std::time::Duration;
+use std::{fs, io, thread};
 
 /// How often a call that a signal interrupts is tried again before it counts as failed.
 const TRIES: u32 = 1000;
 
-/// The files of the system. Their names have one count of faults, which rises at each error of the
-/// system and where a source comes back of which a read has failed.
+/// Milliseconds after which a stream that had no room is written to again.
+const REST: u64 = 1;
+
+/// How often a name has failed.
+#[derive(Drop)]
+pub(crate) struct NameCount {
+    faults: u64,
+    ghost within: { faults < 2 ^ 64 },
+}
+
+/// The files of the system.
+///
+/// A name that was fetched has a count of faults of its own. The names that weren't share one.
 #[derive(Drop)]
 pub struct FileShelf<R: Drop> {
     rt: R,
-    faults: u64,
+    names: BTreeMap<String, NameCount>,
+    others: u64,
 }
 
 /// An open file under its name. It counts each read that fails.
@@ -37,21 +54,93 @@ enum Stream {
 }
 
 /// Standard output or standard error. A write that fails, or that takes no byte of a piece that
-/// isn't empty, is counted as a fault.
+/// isn't empty, is counted as a fault. Where the stream doesn't wait and has no room, the sink waits.
 #[derive(Drop)]
-pub struct StdSink {
+pub struct StdSink<C: Drop> {
+    clock: C,
     stream: Stream,
     faults: u64,
 }
 
 impl<R: Files + AllocGlobal + Drop> FileShelf<R> {
-    ghost use Rattle.timing_outside.specs.Files.{shelf_faults};
+    ghost use Rattle.timing_outside.specs.Files.{count_of, count_after, is_known, name_of, source_faults};
 
-    /// The files that this runtime reaches.
+    /// The files that this runtime reaches, of which none was fetched.
     pub fn new(rt: R) -> FileShelf<R>
-        ensures { shelf_faults result ≡ 0 }
+        ensures { (n : List ℕ) → count_of result n ≡ 0 }
     {
-        FileShelf { rt, faults: 0 }
+        let names = BTreeMap::new(rt.alloc());
+        FileShelf {
+            rt,
+            names,
+            others: 0,
+        }
+    }
+
+    /// Gives this name a count of its own, where it has none. Answers whether it had one: it was
+    /// fetched before.
+    #[tactic(auto, using(std::proofs::lemmas::Map::Text::text_keys))]
+    fn admit(&mut self, name: &str) -> Result<bool, OutOfMemory>
+        ensures again { IfOk result (λ again. again ≡ is_known self.old name.now) }
+        ensures known { IfOk result (λ _. is_known self.new name.now ≡ true) }
+        ensures counts { (n : List ℕ) → count_of self.new n ≡ count_of self.old n }
+    {
+        if self.names.contains_key(name) {
+            return Ok(true);
+        }
+        let key = String::from_str(self.rt.alloc(), name)?;
+        let faults = self.faults_of(name);
+        self.names.insert(key, NameCount { faults })?;
+        Ok(false)
+    }
+
+    /// How often this name has failed.
+    fn faults_of(&self, name: &str) -> u64
+        ensures { result ≡ count_of self.now name.now }
+    {
+        match self.names.get(name) {
+            Some(count) => count.faults,
+            None => self.others,
+        }
+    }
+
+    /// Counts a fault of this name.
+    #[tactic(auto, using(std::proofs::lemmas::Map::Text::text_keys))]
+    fn raise(&mut self, name: &str)
+        ensures { (n : List ℕ) → count_of self.new n ≡ count_after true self.old name.now n }
+    {
+        match self.names.get_mut(name) {
+            Some(count) => count.faults = count.faults.saturating_add(1),
+            None => self.others = self.others.saturating_add(1),
+        }
+    }
+
+    /// Whether this name is that of a regular file, which may be read more than once. A pipe isn't.
+    fn is_regular(&self, name: &str) -> bool {
+        match fs::metadata(&self.rt, name) {
+            Ok(metadata) => metadata.is_file(),
+            Err(_) => false,
+        }
+    }
+
+    /// Opens the file of this name. Where it was fetched before, it is looked at first, and isn't
+    /// opened where it isn't a regular file.
+    fn open(&self, name: String, again: bool) -> Result<FileSource<R::File>, OpenFault>
+        ensures named { IfOk result (λ s. name_of s ≡ string_bytes name) }
+        ensures fresh { IfOk result (λ s. source_faults s ≡ 0) }
+    {
+        if again && !self.is_regular(name.as_str()) {
+            return Err(OpenFault::Failed);
+        }
+        match fs::open(&self.rt, name.as_str()) {
+            Ok(file) => Ok(FileSource {
+                name,
+                file,
+                faults: 0,
+            }),
+            Err(error) if error.kind() == ErrorKind::OutOfMemory => Err(OpenFault::OutOfMemory),
+            Err(_) => Err(OpenFault::Failed),
+        }
     }
 }
 
@@ -59,7 +148,7 @@ impl<R: Files + AllocGlobal + Drop> Shelf for FileShelf<R>
 where
     R::File: Send,
 {
-    ghost use Rattle.timing_outside.specs.Files.{shelf_faults, source_faults, name_of};
+    ghost use Rattle.timing_outside.specs.Files.{count_of, count_after, source_faults, name_of};
 
     type Source = FileSource<R::File>;
 
@@ -67,43 +156,56 @@ where
 
     ghost lacks = { λ _ _. ⊥ };
 
-    ghost faults = { λ s _. shelf_faults s };
+    ghost faults = { λ s n. count_of s n };
 
-    /// Opens the file of this name. Each error of the system is counted, and answered as `Failed`,
-    /// or as `OutOfMemory` where the system says so. Where there is no memory to keep the name,
-    /// nothing is opened or counted.
+    /// Opens the file of this name. Each error of the system is answered as `Failed`, which is counted, or as
+    /// `OutOfMemory` where the system says so. Where there is no memory to keep the name, nothing is
+    /// opened.
+    ///
+    /// A name that was fetched before is opened only where it is that of a regular file, and else
+    /// the answer is `Failed`: what another one gave is gone.
     fn fetch(&mut self, name: &str) -> Result<FileSource<R::File>, OpenFault>
         ensures named { IfOk result (λ s. name_of s ≡ name.now) }
         ensures fresh { IfOk result (λ s. source_faults s ≡ 0) }
-        ensures kept { OnOk result (shelf_faults self.new ≡ shelf_faults self.old) }
-        ensures later { shelf_faults self.old ≤ shelf_faults self.new }
+        ensures later { (n : List ℕ) → count_of self.old n ≤ count_of self.new n }
         ensures failed { IsErrOf result OpenFault.Failed
-            → shelf_faults self.new ≡ raised (shelf_faults self.old) }
+            → Rose (count_of self.old name.now) (count_of self.new name.now) }
+
+        // No other name's count changes.
+        ensures counts { (n : List ℕ) → count_of self.new n
+            ≡ raised_if (has_failed result && bytes_eq name.now n) (count_of self.old n) }
     {
         let held = String::from_str(self.rt.alloc(), name)?;
-        match fs::open(&self.rt, name) {
-            Ok(file) => Ok(FileSource {
-                name: held,
-                file,
-                faults: 0,
-            }),
-            Err(error) => {
-                self.faults = self.faults.saturating_add(1);
-                if error.kind() == ErrorKind::OutOfMemory {
-                    return Err(OpenFault::OutOfMemory);
-                }
-                Err(OpenFault::Failed)
-            }
+        let again = self.admit(name)?;
+        let opened = self.open(held, again);
+        if let Err(OpenFault::Failed) = opened {
+            self.raise(name);
+        }
+        opened
+    }
+
+    /// Counts a fault of the source's name where a read of the source has failed.
+    fn give_back(&mut self, source: FileSource<R::File>)
+        ensures raised { 0 < source_faults source
+            → Rose (count_of self.old (name_of source)) (count_of self.new (name_of source)) }
+        ensures later { (n : List ℕ) → count_of self.old n ≤ count_of self.new n }
+
+        ensures counts { (n : List ℕ) → count_of self.new n
+            ≡ count_after (nat_lt 0 (source_faults source)) self.old (name_of source) n }
+    {
+        if source.faults > 0 {
+            self.raise(source.name.as_str());
         }
     }
 
-    fn give_back(&mut self, source: FileSource<R::File>)
-        ensures { shelf_faults self.new
-            ≡ raised_if (nat_lt 0 (source_faults source)) (shelf_faults self.old) }
+    /// Counts a fault of this name.
+    fn note_change(&mut self, name: &str)
+        ensures raised { Rose (count_of self.old name.now) (count_of self.new name.now) }
+        ensures later { (n : List ℕ) → count_of self.old n ≤ count_of self.new n }
+
+        ensures counts { (n : List ℕ) → count_of self.new n ≡ count_after true self.old name.now n }
     {
-        if source.faults > 0 {
-            self.faults = self.faults.saturating_add(1);
-        }
+        self.raise(name);
     }
 }
 
@@ -148,9 +250,9 @@ fn read_some<F: Read>(file: &mut F, buf: &mut [u8]) -> Option<usize>
 }
 
 impl Stream {
-    /// Writes some of the bytes, and tries again where a signal came first. `None` is an error.
-    fn write_some(&self, bytes: &[u8]) -> Option<usize>
-        ensures { IfSome result (λ k. k ≤ length bytes.now) }
+    /// Writes some of the bytes, and tries again where a signal came first.
+    fn write(&self, bytes: &[u8]) -> io::Result<usize>
+        ensures { IfOk result (λ k. k ≤ length bytes.now) }
     {
         for _ in 0..TRIES {
             let written = match self {
@@ -158,8 +260,23 @@ impl Stream {
                 Stream::Err(stderr) => stderr.write_some(bytes),
             };
             match written {
-                Ok(count) => return Some(count),
                 Err(error) if error.kind() == ErrorKind::Interrupted => {}
+                written => return written,
+            }
+        }
+        Err(io::Error::from(ErrorKind::Interrupted))
+    }
+
+    /// Writes some of the bytes, and waits where the stream has no room for any. `None` is an error.
+    fn write_some<C: Clock>(&self, clock: &C, bytes: &[u8]) -> Option<usize>
+        ensures { IfSome result (λ k. k ≤ length bytes.now) }
+    {
+        for _ in 0..u64::MAX {
+            match self.write(bytes) {
+                Ok(count) => return Some(count),
+                Err(error) if error.kind() == ErrorKind::WouldBlock => {
+                    thread::sleep(clock, Duration::from_millis(REST));
+                }
                 Err(_) => break,
             }
         }
@@ -167,31 +284,33 @@ impl Stream {
     }
 }
 
-impl StdSink {
+impl<C: Clock + Drop> StdSink<C> {
     ghost use Rattle.timing_outside.specs.Files.{sink_faults};
 
     /// Standard output.
-    pub fn out(stdout: Stdout) -> StdSink
+    pub fn out(clock: C, stdout: Stdout) -> StdSink<C>
         ensures { sink_faults result ≡ 0 }
     {
         StdSink {
+            clock,
             stream: Stream::Out(stdout),
             faults: 0,
         }
     }
 
     /// Standard error.
-    pub fn err(stderr: Stderr) -> StdSink
+    pub fn err(clock: C, stderr: Stderr) -> StdSink<C>
         ensures { sink_faults result ≡ 0 }
     {
         StdSink {
+            clock,
             stream: Stream::Err(stderr),
             faults: 0,
         }
     }
 }
 
-impl Sink for StdSink {
+impl<C: Clock + Drop> Sink for StdSink<C> {
     ghost use Rattle.timing_outside.specs.Files.{sink_faults};
 
     ghost written = { λ _. None };
@@ -199,13 +318,13 @@ impl Sink for StdSink {
     ghost faults = { λ s. sink_faults s };
 
     /// Writes some of the bytes. A write that a signal interrupts is tried again, up to 1,000
-    /// tries.
+    /// tries; one for which the stream has no room is tried until it has.
     fn write(&mut self, bytes: &[u8]) -> Result<usize, Failed>
         ensures bound { IfOk result (λ k. k ≤ length bytes.now) }
         ensures some { IfOk result (λ k. 0 < length bytes.now → 0 < k) }
         ensures counts { sink_faults self.new ≡ raised_if (is_err result) (sink_faults self.old) }
     {
-        match self.stream.write_some(bytes) {
+        match self.stream.write_some(&self.clock, bytes) {
             Some(count) if count > 0 || bytes.is_empty() => Ok(count),
             _ => {
                 self.faults = self.faults.saturating_add(1);

@@ -1,11 +1,13 @@
 //! The words of the counts, plans and shelves, tried on numbers worked by hand. Each function is a
 //! theorem: it does nothing, and its clauses are proved.
 
-ghost use Rattle.std.specs.Prelude.{ℕ, ◌≡◌, ◌^◌, ◌-◌, List, [], ◌∷◌, true, false, Bool, Some, None, codes};
+ghost use Rattle.std.specs.Prelude.{ℕ, ◌≡◌, ◌^◌, ◌-◌, List, [], ◌∷◌, true, false, Bool, Some, None, ⊤, codes};
 ghost use Rattle.timing_outside.specs.Causes.{Rose};
 ghost use Rattle.timing_outside.specs.Counts.{raised, raised_if, is_planned};
 ghost use Rattle.timing_outside.specs.MemoryShelves.{plan_of, count_of, count_after, FetchFails};
+ghost use Rattle.timing_outside.specs.Files as files;
 ghost use Rattle.timing_outside.specs.Written.{AppendsFront};
+ghost use Rattle.timing_outside.specs.declared.files.FileShelf.{FileShelf};
 ghost use Rattle.timing_outside.specs.declared.memory_shelf.MemoryShelf.{MemoryShelf};
 ghost use Rattle.timing_outside.specs.declared.plan.ReadPlan.{ReadPlan};
 
@@ -60,4 +62,17 @@ pub fn counts_by_hand()
         → count_after true shelf (codes "a") (codes "b") ≡ 4 }
     ensures apart { (shelf : MemoryShelf) (plan : ReadPlan) → plan_of shelf (codes "b") ≡ Some plan
         → count_of shelf (codes "b") ≡ 3 → count_after true shelf (codes "a") (codes "b") ≡ 3 }
+{}
+
+/// Files of which `b` has failed three times, and then a call for the name `a` that fails.
+pub fn files_by_hand()
+    ensures failed { (shelf : FileShelf ⊤) → files.count_of shelf (codes "a") ≡ 3
+        → files.count_after true shelf (codes "a") (codes "a") ≡ 4 }
+
+    // A name that was fetched has a count of its own; the others share one.
+    ensures apart { (shelf : FileShelf ⊤) → files.is_known shelf (codes "b") ≡ true
+        → files.count_of shelf (codes "b") ≡ 3 → files.count_after true shelf (codes "a") (codes "b") ≡ 3 }
+    ensures shared { (shelf : FileShelf ⊤) → files.is_known shelf (codes "a") ≡ false
+        → files.is_known shelf (codes "b") ≡ false → files.count_of shelf (codes "b") ≡ 3
+        → files.count_after true shelf (codes "a") (codes "b") ≡ 4 }
 {}

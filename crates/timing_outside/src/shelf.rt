@@ -1,5 +1,5 @@
 //! What texts are fetched from by their names.
-ghost use Rattle.std.specs.Prelude.{◌≡◌, ◌≤◌, ◌<◌, List, ℕ, Option, IfOk, IsErrOf};
+ghost use Rattle.std.specs.Prelude.{◌≡◌, ◌≤◌, ◌<◌, List, ℕ, Option, None, IfOk, IsErrOf};
 ghost use Rattle.timing_outside.specs.Causes.{Rose};
 ghost use Rattle.timing_outside.specs.Shelves.{StaysAs};
 
@@ -41,7 +41,7 @@ pub trait Shelf {
     ghost faults: { Self → List ℕ → ℕ };
 
     /// A source at the start of the text of this name, of which no read has failed. Fetching a name
-    /// again gives the same text.
+    /// again gives the same text where it is told; where it isn't, the text may have changed.
     ///
     /// `Failed` comes only where the count of this name rose, and of a name that the shelf says it
     /// lacks it is the answer; no count is tied to `OutOfMemory`. After either the texts are as they
@@ -61,5 +61,13 @@ pub trait Shelf {
         ensures raised { 0 < Self.Source.faults source
             → Rose (faults self.old (Self.Source.name source))
             (faults self.new (Self.Source.name source)) }
+        ensures stays { StaysAs text lacks faults self.old self.new };
+
+    /// Takes note that a second reading of this name gave another text than the first. Its count
+    /// rises where the shelf doesn't tell its text; a text that is told is the same at each fetch. The
+    /// texts stay as they were.
+    fn note_change(&mut self, name: &str)
+        ensures raised { text self.old name.now ≡ None
+            → Rose (faults self.old name.now) (faults self.new name.now) }
         ensures stays { StaysAs text lacks faults self.old self.new };
 }

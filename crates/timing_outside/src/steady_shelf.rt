@@ -90,6 +90,11 @@ impl Shelf for SteadyShelf {
     fn give_back(&mut self, _source: SteadySource)
         ensures { (n : List ℕ) → bytes_of self.new n ≡ bytes_of self.old n }
     {}
+
+    /// Counts nothing: each fetch of a name gives the same text.
+    fn note_change(&mut self, _name: &str)
+        ensures { (n : List ℕ) → bytes_of self.new n ≡ bytes_of self.old n }
+    {}
 }
 
 impl Source for SteadySource {

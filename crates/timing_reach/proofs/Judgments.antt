@@ -1,7 +1,8 @@
 -- What a first reading finds, from what its judge and its opening say, and what a second one measures.
-use Rattle.std.specs.Prelude.{IfOk, OnOk, Result, Ok, Err, slice_index}
+use Rattle.std.specs.Prelude.{IfOk, OnOk, Result, Ok, Err, if◌then◌else◌, slice_index}
 use Rattle.std.proofs.Common.{◌≡◌, ◌≤◌, ◌+◌, ◌*◌, ◌-◌, ◌^◌, ℕ, List, [], ◌∷◌, ◌++◌, length, Some, refl, arith, ap, ◌∙◌, sym, subst}
 use Rattle.timing_base.specs.Captures.{Record}
+use Rattle.timing_base.specs.Flows.{read_or_zeros}
 use Rattle.timing_base.specs.Judged.{FlowVerdict, JudgedRun, absent, gap, in_one_run, in_runs, judged, no_whole_frame, refused, whole_frames}
 use Rattle.timing_base.specs.Media.{Media}
 use Rattle.timing_base.specs.Verdicts.{Judged}
@@ -23,6 +24,7 @@ use Rattle.timing_reach.specs.Asked.{OnFlow, OnRun, not_judged}
 use Rattle.timing_reach.specs.judged.Runs.{IsRunOf, gauged}
 use Rattle.timing_reach.specs.window.Gauging.{GaugesOn, IsGauged}
 use Rattle.timing_reach.specs.judged.Opening.{IsOpening}
+use Rattle.timing_reach.specs.judged.Marks.{last_marked}
 use Rattle.timing_reach.specs.judged.Readings.{IsJudging, IsJudgment, IsJudgmentIn, JudgesOn}
 use Rattle.timing_reach.specs.Windows.{AreWindowsOf}
 use Rattle.timing_reach.specs.declared.window.gauge.Gauge.{Gauge}
@@ -34,17 +36,29 @@ use Rattle.timing_reach.proofs.Judgings.{judged-few, judged-of, one-run, within-
 use Rattle.timing_reach.proofs.Packets.{flow-few}
 use Rattle.timing_reach.proofs.Takings.{fed-alone}
 
+-- the last marked packet, and one more
+last-more : (before : ℕ) (packets : List FlowPacket) (p : FlowPacket) → last_marked before (packets ++ p ∷ [])
+    ≡ last_marked (last_marked before packets) (p ∷ [])
+last-more before [] p = refl
+last-more before (q ∷ packets) p = last-more (if (read_or_zeros q.rtp).marker then q.at else before) packets p
+
 -- a packet of the flow was passed to the judge
 pub judges-packet : {T E : Type 0} (result : Result T E) (old new : Judging) (r : Record) (p : FlowPacket) → flow_packet old.media r ≡ Some p
     → new.media ≡ old.media
     → ((packets : List FlowPacket) → IsOpening packets old.opening → IsOpening (packets ++ p ∷ []) new.opening)
+    → new.last ≡ last_marked old.last (p ∷ [])
     → ((m : Media) (key : FlowKey) (tai : ℕ) (packets : List FlowPacket) → StandsFor m key tai old.judge packets
     → OnOk result (StandsFor m key tai new.judge (packets ++ p ∷ [])))
     → IfOk result (λ _. JudgesOn old new (r ∷ []))
-judges-packet (Ok x) old new r p e media opens feeds = λ m key tai packets h.
+judges-packet (Ok x) old new r p e media opens ends feeds = λ m key tai packets h.
     one-packet (IsJudging m key tai new) packets (Some p) (flow_packet m r) (ap (λ (x : Media). flow_packet x r) (sym h.media) ∙ e)
-    (record { media = media ∙ h.media; judge = feeds m key tai packets h.judge; opening = opens packets h.opening })
-judges-packet (Err e) old new r p is media opens feeds = tt
+    (record {
+      media = media ∙ h.media;
+      judge = feeds m key tai packets h.judge;
+      opening = opens packets h.opening;
+      last = ends ∙ ap (λ n. last_marked n (p ∷ [])) h.last ∙ sym (last-more 0 packets p);
+    })
+judges-packet (Err e) old new r p is media opens ends feeds = tt
 
 -- the records of a text were passed
 pub judgment-in : (text : List ℕ) (m : Media) (key : FlowKey) (tai : ℕ) (old new : Judging) (read : Taken) (judgment : Judgment) → IsJudging m key tai old []
@@ -79,8 +93,10 @@ measured m tai first j run old new items w start on found finish =
     let packets = flow items m in
     let within = within-run packets tai run (one-run packets m.pt tai run found.judged_is) in
     let at_start : IsGauged m run.n tai (anchor_of m (slice_index run.stamps 0)) run.head (length run.stamps) old [] =
-    subst (λ (x : Judged). IsGauged m x.n tai (anchor_of m (slice_index run.stamps 0)) x.head x.packets old []) found.values
-    (subst (λ (a : ℕ). IsGauged m j.n tai (anchor_of m a) j.head j.packets old []) (sym found.opens) start) in
+    subst (λ (x : ℕ). IsGauged m x tai (anchor_of m (slice_index run.stamps 0)) run.head (length run.stamps) old []) found.group
+    (subst (λ (x : ℕ). IsGauged m j.n tai (anchor_of m (slice_index run.stamps 0)) x (length run.stamps) old []) found.head
+    (subst (λ (x : ℕ). IsGauged m j.n tai (anchor_of m (slice_index run.stamps 0)) j.head x old []) found.count
+    (subst (λ (a : ℕ). IsGauged m j.n tai (anchor_of m a) j.head j.packets old []) (sym found.opens) start))) in
     finish m run.n tai run.head (length run.stamps) packets run.stamps
     (on m run.n tai (anchor_of m (slice_index run.stamps 0)) run.head (length run.stamps) [] at_start) within.few within.gauged_is
 
@@ -93,7 +109,14 @@ pub run-on : (text : List ℕ) (m : Media) (tai : ℕ) (next : List Record → J
 run-on text m tai next judgment j answer is s looked =
     let run = judged-of m j (judged (flow s.items m) m.pt tai) judgment.verdict s.judgment_is.verdict_is is in
     let found : IsRunOf m tai judgment.first j s.items run.0 =
-    record { judged_is = run.1; values = sym run.2; opens = s.judgment_is.first run.0 run.1; ordered = s.judgment_is.ordered run.0 run.1 } in
+    record {
+      judged_is = run.1;
+      group = ap (λ (x : Judged). x.n) (sym run.2);
+      head = ap (λ (x : Judged). x.head) (sym run.2);
+      count = ap (λ (x : Judged). x.packets) (sym run.2);
+      opens = s.judgment_is.first run.0 run.1;
+      ordered = s.judgment_is.ordered run.0 run.1;
+    } in
     record {
       items = s.items;
       note = s.note;

@@ -6,6 +6,7 @@ mod Judgings
 mod RunSizes
 pub mod SomeShape
 mod Judgments
+mod SecondReadings
 mod Following
 pub mod Unique
 mod Listings

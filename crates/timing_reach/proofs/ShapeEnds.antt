@@ -137,9 +137,9 @@ part-found : (m : Media) (kind : Kind) (tai first : ℕ) (j : Judged) (items : L
     → IsPartOf (part_of m kind tai first j) items run
 part-found m kind tai first j items run found = record {
   judged_is = found.judged_is;
-  group = ap (λ (x : Judged). x.n) found.values;
-  head = ap (λ (x : Judged). x.head) found.values;
-  count = ap (λ (x : Judged). x.packets) found.values;
+  group = found.group;
+  head = found.head;
+  count = found.count;
   origin = sym found.opens;
   ordered = found.ordered;
 }

@@ -1,3 +1,5 @@
+pub mod Marks
 pub mod Opening
 pub mod Readings
 pub mod Runs
+pub mod SecondReadings

@@ -1,4 +1,5 @@
-//! A flow is judged first, and where that comes to one run of whole frames, its capture is read again.
+//! A flow is judged first, and where that comes to one run of whole frames, its capture is read again. What the
+//! second reading comes to is held against the first.
 
 mod answers;
 pub mod captures;
@@ -6,6 +7,7 @@ mod judging;
 mod judgment;
 pub mod look;
 mod opening;
+mod second;
 pub mod words;
 
 pub use answers::answer_flow;

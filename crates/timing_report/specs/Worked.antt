@@ -4,6 +4,7 @@ use Rattle.std.specs.Prelude.{ℕ, ◌+◌, false, List, [], ◌∷◌, Some, No
 use Rattle.timing_base.specs.Jobs.{CheckJob}
 use Rattle.timing_base.specs.Verdicts.{Judged}
 use Rattle.timing_base.specs.declared.fail.Broken.{Broken}
+use Rattle.timing_base.specs.declared.fail.Broken.TheVariants.{Bucket}
 use Rattle.timing_base.specs.declared.row.KindVerdict.{KindVerdict}
 use Rattle.timing_base.specs.declared.row.KindVerdict.TheVariants.{Pass, Fail}
 use Rattle.timing_base.specs.declared.row.Row.{Row}
@@ -39,9 +40,16 @@ two_runs judged rec = Runs (
     record { rec = 1; number = 2; expected = None; verdict = run_verdict.Judged judged }
     ∷ record { rec = rec; number = rec + 2; expected = Some (rec + 1); verdict = run_verdict.NoWholeFrame 9 } ∷ [])
 
--- the flow of the first media of the first capture
+-- five at once in the second frame, which only W allows
+abbrev pub wide : Judged
+wide = two_frames 5 5 5 (fail Bucket 20 24 5 4) (fail Bucket 20 24 5 4) Pass
+
+-- the flow of the first media of the first capture, and that of the second media
 abbrev pub first_flow : Verdict → Row
 first_flow verdict = record { key = record { file = 0; media = 0 }; verdict = verdict }
+
+abbrev pub second_flow : Verdict → Row
+second_flow verdict = record { key = record { file = 0; media = 1 }; verdict = verdict }
 
 -- the check of one capture
 abbrev pub check_of : List ℕ → CheckJob

@@ -16,7 +16,7 @@ ghost use Rattle.timing_base.specs.declared.row.Row.{Row};
 ghost use Rattle.timing_report.specs.Outcomes.{AreOfSession, AreRowsOf, status_of};
 ghost use Rattle.timing_report.specs.Text.{file_text, report_text, text_of_lines};
 ghost use Rattle.timing_report.specs.Verdict.{judged_text, lines_below, type_text, unjudged_text};
-ghost use Rattle.timing_report.specs.Worked.{check_of, fail, first_flow, narrow, two_frames, two_runs};
+ghost use Rattle.timing_report.specs.Worked.{check_of, fail, first_flow, narrow, second_flow, two_frames, two_runs, wide};
 ghost use Rattle.timing_base.specs.Examples.{plain_media as plain, video};
 ghost use Rattle.timing_report.specs.Status.{code_of, error_line};
 ghost use Rattle.timing_report.specs.declared.status.Input.TheVariants.{Sdp, Report, Capture};
@@ -213,6 +213,17 @@ pub fn statuses_by_hand()
         (first_flow (verdict.Unjudged unjudged.Absent) ∷ []) ≡ NotAllJudged }
     ensures in_runs { status_of (plain ∷ []) (note.End ∷ [])
         (first_flow (verdict.Runs []) ∷ []) ≡ NotAllJudged }
+
+    // Each flow counts by the type that its own media declares: the second passes W alone, which is declared; told
+    // of the first it fails.
+    ensures each_by_its_own { status_of (plain ∷ video false 50 (Some kind.W) None ∷ []) (note.End ∷ [])
+        (first_flow (verdict.Judged narrow) ∷ second_flow (verdict.Judged wide) ∷ []) ≡ Pass }
+    ensures not_by_the_others { status_of (plain ∷ video false 50 (Some kind.W) None ∷ []) (note.End ∷ [])
+        (first_flow (verdict.Judged wide) ∷ second_flow (verdict.Judged narrow) ∷ []) ≡ Fail }
+
+    // The first capture ends well, and the second is refused.
+    ensures second_refused { status_of (plain ∷ []) (note.End ∷ note.Refused (pcap.BadStamp 42) ∷ [])
+        (first_flow (verdict.Judged narrow) ∷ []) ≡ NotAllJudged }
 
     // A flow that is not judged counts before one that fails.
     ensures both { status_of (plain ∷ []) (note.End ∷ []) (first_flow (verdict.Judged (two_frames

@@ -5,7 +5,8 @@ use Rattle.std.specs.Option.{option_map}
 use Rattle.pcapng_reader.specs.Classic.{classic, classic_texts}
 use Rattle.timing_steps.specs.Answers.{AreTold}
 
-pub told-classic : (texts : List ℕ → Option (List ℕ)) (names read : List (List ℕ)) → AreTold texts names read → AreTold (classic_texts texts) names (map classic read)
+pub told-classic : (texts : List ℕ → Option (List ℕ)) (names read : List (List ℕ)) → AreTold texts names read
+    → AreTold (classic_texts texts) names (map classic read)
 told-classic texts [] [] h = tt
 told-classic texts [] (t ∷ ts) h = absurd h
 told-classic texts (n ∷ ns) [] h = absurd h

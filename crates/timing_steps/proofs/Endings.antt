@@ -24,7 +24,8 @@ abbrev named : Status → Input
 named (status.ReadFault i) = i
 named s = input.Sdp
 
-pub read-is : (o : Output) (outcome : Result Answer Failure) (ends : Status) (i : Input) → Leaves o outcome ends → HasCause outcome (λ x. ⊤) → ends ≡ status.ReadFault i → outcome ≡ Err (failure.ReadFault i)
+pub read-is : (o : Output) (outcome : Result Answer Failure) (ends : Status) (i : Input) → Leaves o outcome ends → HasCause outcome (λ x. ⊤) → ends
+    ≡ status.ReadFault i → outcome ≡ Err (failure.ReadFault i)
 read-is o (Ok answer) ends i (inl h) cause e = absurd (subst IsAnswered (sym h.0 ∙ e) cause)
 read-is o (Ok answer) ends i (inr h) cause e = absurd (subst NoRead (sym h.0 ∙ e) tt)
 read-is o (Err (failure.ReadFault x)) ends i h cause e = ap (λ y. Err (failure.ReadFault y)) (ap named (sym h.0 ∙ e))

@@ -13,8 +13,10 @@ use Rattle.timing_steps.specs.declared.failure.Failure.{Failure}
 use Rattle.timing_steps.specs.Fetched.{AreFetched, Returning, unread}
 
 -- one name and its source more
-pub fetched-push : {S : Type 0} (name : S → List ℕ) (left : S → Option (List ℕ)) (faults : S → ℕ) (texts : List ℕ → Option (List ℕ)) (names : List (List ℕ)) (n : List ℕ) (sources : List S) (s : S)
-    → AreFetched name left faults texts names sources → name s ≡ n → left s ≡ texts n → faults s ≡ 0 → AreFetched name left faults texts (names ++ n ∷ []) (sources ++ s ∷ [])
+pub fetched-push : {S : Type 0} (name : S → List ℕ) (left : S → Option (List ℕ)) (faults : S → ℕ) (texts : List ℕ → Option (List ℕ)) (names : List (List ℕ))
+    (n : List ℕ) (sources : List S) (s : S)
+    → AreFetched name left faults texts names sources → name s ≡ n → left s ≡ texts n → faults s ≡ 0 → AreFetched name left faults texts (names ++ n ∷ [])
+    (sources ++ s ∷ [])
 fetched-push name left faults texts [] n [] s before named whole fresh = (named, whole, fresh, tt)
 fetched-push name left faults texts [] n (x ∷ xs) s before named whole fresh = absurd before
 fetched-push name left faults texts (m ∷ ms) n [] s before named whole fresh = absurd before
@@ -22,7 +24,8 @@ fetched-push name left faults texts (m ∷ ms) n (x ∷ xs) s before named whole
     (before.0, before.1, before.2, fetched-push name left faults texts ms n xs s before.3 named whole fresh)
 
 -- one name more that the shelf doesn't lack, by what it said then and before
-pub there-push : (before now : List ℕ → Type 0) (names : List (List ℕ)) (n : List ℕ) → AreThere before names → ((m : List ℕ) → before m → now m) → ¬ now n → AreThere before (names ++ n ∷ [])
+pub there-push : (before now : List ℕ → Type 0) (names : List (List ℕ)) (n : List ℕ) → AreThere before names → ((m : List ℕ) → before m → now m) → ¬ now n
+    → AreThere before (names ++ n ∷ [])
 there-push before now names n h kept there =
     All-append (λ m. ¬ before m) names (n ∷ []) h (All-cons (λ m. ¬ before m) n [] (λ lacks. there (kept n lacks)) (All-nil (λ m. ¬ before m)))
 
@@ -43,7 +46,8 @@ unread-cause OutOfMemory i P h = tt
 
 -- the capture that couldn't be fetched is the one whose count rose
 pub fetch-cause : (before mid now : List ℕ → ℕ) (names : List (List ℕ)) (number : ℕ) (name asked : List ℕ) (fault : OpenFault) (e : Failure)
-    → number < length names → slice_index_or names number [] ≡ name → asked ≡ name → ((n : List ℕ) → before n ≤ mid n) → (fault ≡ Failed → Rose (mid asked) (now asked)) → e ≡ unread fault (Capture number)
+    → number < length names → slice_index_or names number [] ≡ name → asked ≡ name → ((n : List ℕ) → before n ≤ mid n)
+    → (fault ≡ Failed → Rose (mid asked) (now asked)) → e ≡ unread fault (Capture number)
     → OnReadFault e (λ i. (x : ℕ) × (i ≡ Capture x) × CaptureRose before now names x)
 fetch-cause before mid now names number name asked fault e within is same later rose told =
     subst (λ failure. OnReadFault failure (λ i. (x : ℕ) × (i ≡ Capture x) × CaptureRose before now names x)) (sym told)
@@ -70,7 +74,8 @@ pub not-err : {S : Type 0} (r : Result S OpenFault) (s : S) → r ≡ Ok s → I
 not-err r s e failed = subst Fetched (sym e ∙ failed) tt
 
 -- no source went back yet
-pub returning-start : {S : Type 0} (name : S → List ℕ) (faults : S → ℕ) (before : List ℕ → ℕ) (all rest : List S) → rest ≡ all → Returning name faults before before all rest
+pub returning-start : {S : Type 0} (name : S → List ℕ) (faults : S → ℕ) (before : List ℕ → ℕ) (all rest : List S) → rest ≡ all
+    → Returning name faults before before all rest
 returning-start name faults before all rest e = record {
   done = [];
   whole = sym e;
@@ -95,7 +100,8 @@ returning-next name faults before mid now all some rest s e earlier later rose h
     rose-later a b c h r = omega (arith, h, r)
 
 -- all went back
-pub returning-all : {S : Type 0} (name : S → List ℕ) (faults : S → ℕ) (before now : List ℕ → ℕ) (all rest : List S) → length rest ≡ 0 → Returning name faults before now all rest
+pub returning-all : {S : Type 0} (name : S → List ℕ) (faults : S → ℕ) (before now : List ℕ → ℕ) (all rest : List S) → length rest ≡ 0
+    → Returning name faults before now all rest
     → All (λ s. 0 < faults s → Rose (before (name s)) (now (name s))) all
 returning-all name faults before now all [] none h =
     subst (All (λ s. 0 < faults s → Rose (before (name s)) (now (name s)))) (sym (h.whole ∙ append-nil h.done)) h.raised

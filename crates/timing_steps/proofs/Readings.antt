@@ -33,7 +33,8 @@ rose-from : (a b c : ℕ) → a ≤ b → Rose b c → Rose a c
 rose-from a b c h r = omega (arith, h, r)
 
 -- a count that rose has risen since
-capture-later : (before mid now : List ℕ → ℕ) (names : List (List ℕ)) → ((n : List ℕ) → mid n ≤ now n) → (i : Input) → (number : ℕ) × (i ≡ Capture number) × CaptureRose before mid names number
+capture-later : (before mid now : List ℕ → ℕ) (names : List (List ℕ)) → ((n : List ℕ) → mid n ≤ now n) → (i : Input) → (number : ℕ) × (i ≡ Capture number)
+    × CaptureRose before mid names number
     → (number : ℕ) × (i ≡ Capture number) × CaptureRose before now names number
 capture-later before mid now names later i h = (h.0, h.1, record { within = h.2.within; rose = rose-later _ _ _ (later _) h.2.rose })
 
@@ -49,7 +50,8 @@ record ToldLast (texts : List ℕ → Option (List ℕ)) (names : List (List ℕ
   told : AreTold texts names first
   last : texts n ≡ Some text
 
-told-last : (texts : List ℕ → Option (List ℕ)) (names : List (List ℕ)) (n : List ℕ) (read : List (List ℕ)) → AreTold texts (names ++ n ∷ []) read → ToldLast texts names n read
+told-last : (texts : List ℕ → Option (List ℕ)) (names : List (List ℕ)) (n : List ℕ) (read : List (List ℕ)) → AreTold texts (names ++ n ∷ []) read
+    → ToldLast texts names n read
 told-last texts [] n [] h = absurd h
 told-last texts [] n (t ∷ []) h = record { first = []; text = t; whole = refl; told = tt; last = h.0 }
 told-last texts [] n (t ∷ u ∷ us) h = absurd h.1
@@ -59,8 +61,10 @@ told-last texts (m ∷ ms) n (t ∷ ts) h =
     record { first = t ∷ r.first; text = r.text; whole = ap (λ l. t ∷ l) r.whole; told = (h.0, r.told); last = r.last }
 
 -- no capture was read yet
-pub reading-none : {S : Type 0} (name : S → List ℕ) (left : S → Option (List ℕ)) (faults : S → ℕ) (texts : List ℕ → Option (List ℕ)) (before : List ℕ → ℕ) (names : List (List ℕ))
-    (sources : List S) (Found : List (List ℕ) → Type 0) → AreFetched name left faults texts names sources → Found [] → Reading name left faults texts before before names sources (Ok tt) 0 Found
+pub reading-none : {S : Type 0} (name : S → List ℕ) (left : S → Option (List ℕ)) (faults : S → ℕ) (texts : List ℕ → Option (List ℕ)) (before : List ℕ → ℕ)
+    (names : List (List ℕ))
+    (sources : List S) (Found : List (List ℕ) → Type 0) → AreFetched name left faults texts names sources → Found []
+    → Reading name left faults texts before before names sources (Ok tt) 0 Found
 reading-none name left faults texts before names sources Found h none = record {
   done = [];
   ahead = names;
@@ -76,7 +80,8 @@ reading-none name left faults texts before names sources Found h none = record {
     none-told texts (t ∷ ts) h Found none = absurd h
 
 -- the name of the next source, and the others
-record Next {S : Type 0} (name : S → List ℕ) (left : S → Option (List ℕ)) (faults : S → ℕ) (texts : List ℕ → Option (List ℕ)) (ahead : List (List ℕ)) (s : S) (rest : List S) : Type 0 where
+record Next {S : Type 0} (name : S → List ℕ) (left : S → Option (List ℕ)) (faults : S → ℕ) (texts : List ℕ → Option (List ℕ)) (ahead : List (List ℕ)) (s : S)
+    (rest : List S) : Type 0 where
   first : List ℕ
   others : List (List ℕ)
   whole : ahead ≡ first ∷ others
@@ -84,13 +89,15 @@ record Next {S : Type 0} (name : S → List ℕ) (left : S → Option (List ℕ)
   told : left s ≡ texts first
   fetched : AreFetched name left faults texts others rest
 
-next-of : {S : Type 0} (name : S → List ℕ) (left : S → Option (List ℕ)) (faults : S → ℕ) (texts : List ℕ → Option (List ℕ)) (ahead : List (List ℕ)) (s : S) (rest : List S)
+next-of : {S : Type 0} (name : S → List ℕ) (left : S → Option (List ℕ)) (faults : S → ℕ) (texts : List ℕ → Option (List ℕ)) (ahead : List (List ℕ)) (s : S)
+    (rest : List S)
     → AreFetched name left faults texts ahead (s ∷ rest) → Next name left faults texts ahead s rest
 next-of name left faults texts [] s rest h = absurd h
 next-of name left faults texts (n ∷ ns) s rest h = record { first = n; others = ns; whole = refl; named = h.0; told = h.1; fetched = h.3 }
 
 -- the next capture is read, where those before it were
-pub reading-next : {S : Type 0} (name : S → List ℕ) (left : S → Option (List ℕ)) (faults : S → ℕ) (texts : List ℕ → Option (List ℕ)) (before mid now : List ℕ → ℕ) (names : List (List ℕ))
+pub reading-next : {S : Type 0} (name : S → List ℕ) (left : S → Option (List ℕ)) (faults : S → ℕ) (texts : List ℕ → Option (List ℕ))
+    (before mid now : List ℕ → ℕ) (names : List (List ℕ))
     (s : S) (rest : List S) (outcome : Result (Unit {0}) Failure) (number next_number : ℕ) (Found Next : List (List ℕ) → Type 0)
     → Reading name left faults texts before mid names (s ∷ rest) (Ok tt) number Found
     → ((n : List ℕ) → before n ≤ mid n)
@@ -115,7 +122,8 @@ reading-next name left faults texts before mid now names s rest (Err e) number n
     let next = next-of name left faults texts h.ahead s rest h.fetched in
     let all : names ≡ h.done ++ next.first ∷ next.others = h.whole ∙ ap (λ l. h.done ++ l) next.whole in
     let place : slice_index_or names number [] ≡ next.first =
-    ap (λ l. slice_index_or l number []) all ∙ ap (λ k. slice_index_or (h.done ++ next.first ∷ next.others) k []) h.count ∙ place-of h.done next.first next.others in
+    ap (λ l. slice_index_or l number []) all ∙ ap (λ k. slice_index_or (h.done ++ next.first ∷ next.others) k []) h.count ∙ place-of h.done next.first
+    next.others in
     record {
       done = h.done ++ next.first ∷ [];
       ahead = next.others;
@@ -127,14 +135,16 @@ reading-next name left faults texts before mid now names s rest (Err e) number n
         number,
         c.0,
         record {
-          within = let long : length names ≡ length h.done + length (next.first ∷ next.others) = ap length all ∙ length-append h.done (next.first ∷ next.others) in omega (arith, long, h.count);
+          within = let long : length names ≡ length h.done + length (next.first ∷ next.others) = ap length all ∙ length-append h.done (next.first ∷ next.others)
+              in omega (arith, long, h.count);
           rose = subst (λ n. Rose (before n) (now n)) (next.named ∙ sym place) (rose-from (before (name s)) (mid (name s)) (now (name s)) (later (name s)) c.1);
         },
       )) cause;
     }
 
 -- the next capture is passed over, where one before it couldn't be read
-pub reading-stopped : {S : Type 0} (name : S → List ℕ) (left : S → Option (List ℕ)) (faults : S → ℕ) (texts : List ℕ → Option (List ℕ)) (before mid now : List ℕ → ℕ) (names : List (List ℕ))
+pub reading-stopped : {S : Type 0} (name : S → List ℕ) (left : S → Option (List ℕ)) (faults : S → ℕ) (texts : List ℕ → Option (List ℕ))
+    (before mid now : List ℕ → ℕ) (names : List (List ℕ))
     (s : S) (rest : List S) (number : ℕ) (Found : List (List ℕ) → Type 0) (e : Failure)
     → Reading name left faults texts before mid names (s ∷ rest) (Err e) number Found → ((n : List ℕ) → mid n ≤ now n)
     → Reading name left faults texts before now names rest (Err e) number Found
@@ -151,8 +161,10 @@ reading-stopped name left faults texts before mid now names s rest number Found 
     }
 
 -- all were read
-pub reading-all : {S : Type 0} (name : S → List ℕ) (left : S → Option (List ℕ)) (faults : S → ℕ) (texts : List ℕ → Option (List ℕ)) (before now : List ℕ → ℕ) (names read : List (List ℕ))
-    (rest : List S) (number : ℕ) (Found : List (List ℕ) → Type 0) → Reading name left faults texts before now names rest (Ok tt) number Found → rest ≡ [] → AreTold texts names read → Found read
+pub reading-all : {S : Type 0} (name : S → List ℕ) (left : S → Option (List ℕ)) (faults : S → ℕ) (texts : List ℕ → Option (List ℕ)) (before now : List ℕ → ℕ)
+    (names read : List (List ℕ))
+    (rest : List S) (number : ℕ) (Found : List (List ℕ) → Type 0) → Reading name left faults texts before now names rest (Ok tt) number Found → rest ≡ []
+    → AreTold texts names read → Found read
 reading-all name left faults texts before now names read rest number Found h none told =
     let empty : h.ahead ≡ [] = none-ahead h.ahead (subst (AreFetched name left faults texts h.ahead) none h.fetched) in
     h.told read (subst (λ l. AreTold texts l read) (h.whole ∙ ap (λ l. h.done ++ l) empty ∙ append-nil h.done) told)
@@ -163,14 +175,18 @@ reading-all name left faults texts before now names read rest number Found h non
 
 -- the same at the code's values
 
-pub reading-start : {S : Type 0} (name : S → List ℕ) (left : S → Option (List ℕ)) (faults : S → ℕ) (texts : List ℕ → Option (List ℕ)) (before : List ℕ → ℕ) (names : List (List ℕ))
-    (sources rest : List S) (number : ℕ) (Found : List (List ℕ) → Type 0) → rest ≡ sources → number ≡ 0 → Found [] → AreFetched name left faults texts names sources
+pub reading-start : {S : Type 0} (name : S → List ℕ) (left : S → Option (List ℕ)) (faults : S → ℕ) (texts : List ℕ → Option (List ℕ)) (before : List ℕ → ℕ)
+    (names : List (List ℕ))
+    (sources rest : List S) (number : ℕ) (Found : List (List ℕ) → Type 0) → rest ≡ sources → number ≡ 0 → Found []
+    → AreFetched name left faults texts names sources
     → Reading name left faults texts before before names rest (Ok tt) number Found
 reading-start name left faults texts before names sources rest number Found same first none h =
     subst (λ l. Reading name left faults texts before before names l (Ok tt) number Found) (sym same)
-    (subst (λ k. Reading name left faults texts before before names sources (Ok tt) k Found) (sym first) (reading-none name left faults texts before names sources Found h none))
+    (subst (λ k. Reading name left faults texts before before names sources (Ok tt) k Found) (sym first)
+    (reading-none name left faults texts before names sources Found h none))
 
-pub reading-at : {S : Type 0} (name : S → List ℕ) (left : S → Option (List ℕ)) (faults : S → ℕ) (texts : List ℕ → Option (List ℕ)) (before now : List ℕ → ℕ) (names : List (List ℕ))
+pub reading-at : {S : Type 0} (name : S → List ℕ) (left : S → Option (List ℕ)) (faults : S → ℕ) (texts : List ℕ → Option (List ℕ)) (before now : List ℕ → ℕ)
+    (names : List (List ℕ))
     (all some : List S) (outcome is : Result (Unit {0}) Failure) (number : ℕ) (Found : List (List ℕ) → Type 0) → all ≡ some → outcome ≡ is
     → Reading name left faults texts before now names all outcome number Found → Reading name left faults texts before now names some is number Found
 reading-at name left faults texts before now names all some outcome is number Found same known h =
@@ -186,7 +202,8 @@ none-left [] e = refl
 none-left (x ∷ xs) e = absurd (omega (arith, e))
 
 -- fetched sources have had no fault
-pub fetched-fresh : {S : Type 0} (name : S → List ℕ) (left : S → Option (List ℕ)) (faults : S → ℕ) (texts : List ℕ → Option (List ℕ)) (names : List (List ℕ)) (sources : List S)
+pub fetched-fresh : {S : Type 0} (name : S → List ℕ) (left : S → Option (List ℕ)) (faults : S → ℕ) (texts : List ℕ → Option (List ℕ)) (names : List (List ℕ))
+    (sources : List S)
     → AreFetched name left faults texts names sources → All (λ s. faults s ≡ 0) sources
 fetched-fresh name left faults texts [] [] h = All-nil (λ s. faults s ≡ 0)
 fetched-fresh name left faults texts [] (s ∷ ss) h = absurd h
@@ -194,7 +211,8 @@ fetched-fresh name left faults texts (n ∷ ns) [] h = absurd h
 fetched-fresh name left faults texts (n ∷ ns) (s ∷ ss) h = All-cons (λ s. faults s ≡ 0) s ss h.2 (fetched-fresh name left faults texts ns ss h.3)
 
 -- and are as many as their names
-pub fetched-length : {S : Type 0} (name : S → List ℕ) (left : S → Option (List ℕ)) (faults : S → ℕ) (texts : List ℕ → Option (List ℕ)) (names : List (List ℕ)) (sources : List S)
+pub fetched-length : {S : Type 0} (name : S → List ℕ) (left : S → Option (List ℕ)) (faults : S → ℕ) (texts : List ℕ → Option (List ℕ)) (names : List (List ℕ))
+    (sources : List S)
     → AreFetched name left faults texts names sources → length sources ≡ length names
 fetched-length name left faults texts [] [] h = refl
 fetched-length name left faults texts [] (s ∷ ss) h = absurd h

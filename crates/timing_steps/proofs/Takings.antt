@@ -14,7 +14,8 @@ use Rattle.pcap_reader.specs.Taken.{HasTaken}
 use Rattle.timing_steps.specs.Taken.{TakesText}
 
 -- what was told of the records of a text is told of the text, as each text has its records
-pub takes-text : {T : Type 0} (takes : T → T → List Record → Type 0) (text : List ℕ) (before : ℕ) (old new : T) (taken : Taken) → taken.note ≢ Refused fault.ReadFault
+pub takes-text : {T : Type 0} (takes : T → T → List Record → Type 0) (text : List ℕ) (before : ℕ) (old new : T) (taken : Taken)
+    → taken.note ≢ Refused fault.ReadFault
     → ((items : List Record) (end : FileNote) → Records text (2 ^ 40) items end → HasTaken takes before old new taken.note taken.records items end)
     → TakesText takes text before old new taken
 takes-text takes text before old new taken own told =

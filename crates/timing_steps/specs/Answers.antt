@@ -34,7 +34,8 @@ pub record Inputs : Type 1 where
 
 -- of a shelf before and after a run, by what it tells of its names
 abbrev pub seen_of : {H S : Type 0} → shelf.Ghosts H S → (old new : H) → Inputs
-seen_of tells old new = record { texts = tells.text old; lacks = tells.lacks old; before = tells.faults old; now = tells.faults new }
+seen_of tells old new =
+    record { texts = tells.text old; lacks = tells.lacks old; before = tells.faults old; now = tells.faults new }
 
 -- the count of a name rose
 abbrev pub HasRisen : Inputs → List ℕ → Type 0
@@ -76,11 +77,13 @@ ReadsSdp i outcome name next =
     ((outcome ≡ Err (failure.ReadFault input.Sdp)) × HasRisen i name)
     ⊎ (¬ i.lacks name × ((text : List ℕ) → i.texts name ≡ Some text → next text))
 
--- the captures are read: that failed for one of them, as it does where the shelf lacks one, or what their texts as classic
+-- the captures are read: that failed for one of them, as it does where the shelf lacks one, or what their texts as
+-- classic
 -- captures lead to
 abbrev pub ReadsCaptures : Inputs → Result Answer Failure → List (List ℕ) → (List (List ℕ) → Type 0) → Type 0
 ReadsCaptures i outcome names next =
-    ((number : ℕ) × (outcome ≡ Err (failure.ReadFault (input.Capture number))) × CaptureRose i.before i.now names number)
+    ((number : ℕ) × (outcome ≡ Err (failure.ReadFault (input.Capture number)))
+    × CaptureRose i.before i.now names number)
     ⊎ (AreThere i.lacks names × ((texts : List (List ℕ)) → AreTold i.texts names texts → next (map classic texts)))
 
 -- a description that is refused is the answer; else its media lead on

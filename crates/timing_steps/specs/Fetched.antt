@@ -24,7 +24,8 @@ unread why.Failed i = failure.ReadFault i
 unread why.OutOfMemory i = failure.OutOfMemory
 
 -- of these sources those ahead are still to go back; where a read of another had failed, the count of its name rose
-pub record Returning {S : Type 0} (name : S → List ℕ) (faults : S → ℕ) (before now : List ℕ → ℕ) (all ahead : List S) : Type 0 where
+pub record Returning {S : Type 0} (name : S → List ℕ) (faults : S → ℕ) (before now : List ℕ → ℕ) (all ahead : List S) :
+    Type 0 where
   pub done : List S
   pub whole : all ≡ done ++ ahead
   pub raised : All (λ s. 0 < faults s → Rose (before (name s)) (now (name s))) done
@@ -40,4 +41,5 @@ pub record Reading {S : Type 0} (name : S → List ℕ) (left : S → Option (Li
   pub fetched : AreFetched name left faults texts ahead rest
   pub count : IfOk outcome (λ _. number ≡ length done)
   pub told : IfOk outcome (λ _. (read : List (List ℕ)) → AreTold texts done read → Found read)
-  pub cause : IfErr outcome (λ e. OnReadFault e (λ i. (number : ℕ) × (i ≡ Capture number) × CaptureRose before now names number))
+  pub cause : IfErr outcome
+      (λ e. OnReadFault e (λ i. (number : ℕ) × (i ≡ Capture number) × CaptureRose before now names number))

@@ -21,7 +21,8 @@ pub record Output : Type 0 where
 
 -- of a sink before and after a run, by what it tells of its bytes and its faults
 abbrev pub output_of : {K : Type 0} → sink.Ghosts K → (old new : K) → Output
-output_of tells old new = record { old = tells.written old; new = tells.written new; before = tells.faults old; now = tells.faults new }
+output_of tells old new =
+    record { old = tells.written old; new = tells.written new; before = tells.faults old; now = tells.faults new }
 
 -- the status of a run that has no answer
 abbrev pub status_of : Failure → Status
@@ -58,9 +59,12 @@ abbrev pub HasCause : Result Answer Failure → (Input → Type 0) → Type 0
 HasCause (Ok answer) InputRose = IsAnswered answer.status
 HasCause (Err failure) InputRose = OnReadFault failure InputRose
 
--- a run: an answer or why there is none, what follows for it, its cause, and how it ends. `Follows` says which answers the
--- request and its texts define, in the order in which its inputs are read, and `InputRose` of which inputs the count rose.
-pub record Ran (Follows : Result Answer Failure → Type 0) (InputRose : Input → Type 0) (o e : Output) (ends : Status) : Type 0 where
+-- a run: an answer or why there is none, what follows for it, its cause, and how it ends. `Follows` says which answers
+-- the
+-- request and its texts define, in the order in which its inputs are read, and `InputRose` of which inputs the count
+-- rose.
+pub record Ran (Follows : Result Answer Failure → Type 0) (InputRose : Input → Type 0) (o e : Output) (ends : Status) :
+    Type 0 where
   pub outcome : Result Answer Failure
   pub follows : Follows outcome
   pub cause : HasCause outcome InputRose

@@ -6,7 +6,8 @@ use Rattle.pcap_reader.specs.Records.{Records}
 use Rattle.pcap_reader.specs.declared.records.Taken.{Taken}
 
 -- the records of the capture of this text were taken, each number raised by `before`; they end so, and are so many
-pub record TakesText {T : Type 0} (takes : T → T → List Record → Type 0) (text : List ℕ) (before : ℕ) (old new : T) (taken : Taken) : Type 0 where
+pub record TakesText {T : Type 0} (takes : T → T → List Record → Type 0) (text : List ℕ) (before : ℕ) (old new : T)
+    (taken : Taken) : Type 0 where
   pub items : List Record
   pub records : Records text (2 ^ 40) items taken.note
   pub count : taken.records ≡ length items

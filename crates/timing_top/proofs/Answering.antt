@@ -33,7 +33,8 @@ same-some s t o h k = cc
 pub are-there : (lacking : List ℕ → Bool) (names : List (List ℕ)) → All (λ name. lacking name ≡ false) names → AreThere (λ name. IsTrue (lacking name)) names
 are-there lacking [] h = All-nil (λ name. ¬ IsTrue (lacking name))
 are-there lacking (n ∷ ns) h =
-    All-cons (λ name. ¬ IsTrue (lacking name)) n ns (λ lacks. not-true (lacking n) (All-head (λ name. lacking name ≡ false) n ns h) lacks) (are-there lacking ns (All-tail (λ name. lacking name ≡ false) n ns h))
+    All-cons (λ name. ¬ IsTrue (lacking name)) n ns (λ lacks. not-true (lacking n) (All-head (λ name. lacking name ≡ false) n ns h) lacks)
+    (are-there lacking ns (All-tail (λ name. lacking name ≡ false) n ns h))
   where
     not-true : (b : Bool) → b ≡ false → IsTrue b → ⊥
     not-true b e h = let t : b ≡ true = h in cc
@@ -51,7 +52,8 @@ told-once texts (n ∷ ns) (t ∷ ts) (u ∷ us) h k = ap (λ x. x ∷ ts) (same
 pub some-given : (Defined : Answer → Type 0) → (answer : Answer) × Defined answer → (answer : Answer) × Gives (Ok answer) Defined
 some-given Defined h = (h.0, (h.0, refl, h.1))
 
-pub only-given : (Defined : Answer → Type 0) (a b : Answer) → ((x y : Answer) → Defined x → Defined y → x ≡ y) → Gives (Ok a) Defined → Gives (Ok b) Defined → a ≡ b
+pub only-given : (Defined : Answer → Type 0) (a b : Answer) → ((x y : Answer) → Defined x → Defined y → x ≡ y) → Gives (Ok a) Defined → Gives (Ok b) Defined → a
+    ≡ b
 only-given Defined a b once h k = same-ok a h.0 (Ok a) refl h.1 ∙ once h.0 k.0 h.2 k.2 ∙ sym (same-ok b k.0 (Ok b) refl k.1)
 
 pub not-given : (Defined : Answer → Type 0) (e : Failure) → Gives (Err e) Defined → ⊥
@@ -74,49 +76,59 @@ yielded-failed P e Rises caused (inl h) = inl (same-err e _ (Err e) refl h)
 yielded-failed P e Rises caused (inr h) = caused h
 
 -- captures that are read
-pub some-captured : (i : Inputs) (names told : List (List ℕ)) (Defined : List (List ℕ) → Answer → Type 0) → AreThere i.lacks names → AreTold i.texts names told → (answer : Answer) × Defined (map classic told) answer
+pub some-captured : (i : Inputs) (names told : List (List ℕ)) (Defined : List (List ℕ) → Answer → Type 0) → AreThere i.lacks names → AreTold i.texts names told
+    → (answer : Answer) × Defined (map classic told) answer
     → (answer : Answer) × ReadsCaptures i (Ok answer) names (λ texts. Gives (Ok answer) (Defined texts))
 some-captured i names told Defined there are h =
     (h.0, inr (there, λ texts t. (h.0, refl, subst (λ l. Defined (map classic l) h.0) (told-once i.texts names told texts are t) h.1)))
 
-pub only-captured : (i : Inputs) (names told : List (List ℕ)) (Defined : List (List ℕ) → Answer → Type 0) (a b : Answer) → AreTold i.texts names told → ((x y : Answer) → Defined (map classic told) x → Defined (map classic told) y → x ≡ y)
+pub only-captured : (i : Inputs) (names told : List (List ℕ)) (Defined : List (List ℕ) → Answer → Type 0) (a b : Answer) → AreTold i.texts names told
+    → ((x y : Answer) → Defined (map classic told) x → Defined (map classic told) y → x ≡ y)
     → ReadsCaptures i (Ok a) names (λ texts. Gives (Ok a) (Defined texts)) → ReadsCaptures i (Ok b) names (λ texts. Gives (Ok b) (Defined texts)) → a ≡ b
 only-captured i names told Defined a b are once (inl h) k = absurd (ok-not-err a _ (Ok a) refl h.1)
 only-captured i names told Defined a b are once (inr h) (inl k) = absurd (ok-not-err b _ (Ok b) refl k.1)
 only-captured i names told Defined a b are once (inr h) (inr k) = only-given (Defined (map classic told)) a b once (h.1 told are) (k.1 told are)
 
-pub captured-failed : (i : Inputs) (names told : List (List ℕ)) (Defined : List (List ℕ) → Answer → Type 0) (e : Failure) (Rises : Input → Type 0) → AreTold i.texts names told
-    → ((number : ℕ) → CaptureRose i.before i.now names number → Rises (input.Capture number)) → ReadsCaptures i (Err e) names (λ texts. Gives (Err e) (Defined texts)) → Caused e Rises
+pub captured-failed : (i : Inputs) (names told : List (List ℕ)) (Defined : List (List ℕ) → Answer → Type 0) (e : Failure) (Rises : Input → Type 0)
+    → AreTold i.texts names told
+    → ((number : ℕ) → CaptureRose i.before i.now names number → Rises (input.Capture number))
+    → ReadsCaptures i (Err e) names (λ texts. Gives (Err e) (Defined texts)) → Caused e Rises
 captured-failed i names told Defined e Rises are rises (inl h) = inr (input.Capture h.0, same-err e _ (Err e) refl h.1, rises h.0 h.2)
 captured-failed i names told Defined e Rises are rises (inr h) = absurd (not-given (Defined (map classic told)) e (h.1 told are))
 
 -- what a session leads to
-some-session : (s : Result (List Media) SdpFault) (Next : Answer → List Media → Type 0) → ((media : List Media) → s ≡ Ok media → (answer : Answer) × Next answer media) → (answer : Answer) × OnSession s (Ok answer) (Next answer)
+some-session : (s : Result (List Media) SdpFault) (Next : Answer → List Media → Type 0)
+    → ((media : List Media) → s ≡ Ok media → (answer : Answer) × Next answer media) → (answer : Answer) × OnSession s (Ok answer) (Next answer)
 some-session (Err fault) Next h = some-given (λ answer. answer ≡ silent (status.SdpRefused fault)) (silent (status.SdpRefused fault), refl)
 some-session (Ok media) Next h = h media refl
 
-only-session : (s : Result (List Media) SdpFault) (Next : Answer → List Media → Type 0) (a b : Answer) → ((media : List Media) → Next a media → Next b media → a ≡ b) → OnSession s (Ok a) (Next a) → OnSession s (Ok b) (Next b) → a ≡ b
+only-session : (s : Result (List Media) SdpFault) (Next : Answer → List Media → Type 0) (a b : Answer)
+    → ((media : List Media) → Next a media → Next b media → a ≡ b) → OnSession s (Ok a) (Next a) → OnSession s (Ok b) (Next b) → a ≡ b
 only-session (Err fault) Next a b once h k = only-given (λ answer. answer ≡ silent (status.SdpRefused fault)) a b (λ x y p q. only-silent x y _ p q) h k
 only-session (Ok media) Next a b once h k = once media h k
 
-session-failed : (s : Result (List Media) SdpFault) (Next : List Media → Type 0) (e : Failure) (Rises : Input → Type 0) → ((media : List Media) → Next media → Caused e Rises) → OnSession s (Err e) Next → Caused e Rises
+session-failed : (s : Result (List Media) SdpFault) (Next : List Media → Type 0) (e : Failure) (Rises : Input → Type 0)
+    → ((media : List Media) → Next media → Caused e Rises) → OnSession s (Err e) Next → Caused e Rises
 session-failed (Err fault) Next e Rises caused h = absurd (not-given (λ answer. answer ≡ silent (status.SdpRefused fault)) e h)
 session-failed (Ok media) Next e Rises caused h = caused media h
 
 -- a description that is read
-pub some-described : (i : Inputs) (name sdp : List ℕ) (Next : Answer → List Media → Type 0) → ¬ i.lacks name → i.texts name ≡ Some sdp → ((media : List Media) → session sdp ≡ Ok media → (answer : Answer) × Next answer media)
+pub some-described : (i : Inputs) (name sdp : List ℕ) (Next : Answer → List Media → Type 0) → ¬ i.lacks name → i.texts name ≡ Some sdp
+    → ((media : List Media) → session sdp ≡ Ok media → (answer : Answer) × Next answer media)
     → (answer : Answer) × ReadsSession i (Ok answer) name (Next answer)
 some-described i name sdp Next there told h =
     let all = some-session (session sdp) Next h in
     (all.0, inr (there, λ text t. subst (λ s. OnSession (session s) (Ok all.0) (Next all.0)) (same-some sdp text (i.texts name) told t) all.1))
 
-pub only-described : (i : Inputs) (name sdp : List ℕ) (Next : Answer → List Media → Type 0) (a b : Answer) → i.texts name ≡ Some sdp → ((media : List Media) → Next a media → Next b media → a ≡ b)
+pub only-described : (i : Inputs) (name sdp : List ℕ) (Next : Answer → List Media → Type 0) (a b : Answer) → i.texts name ≡ Some sdp
+    → ((media : List Media) → Next a media → Next b media → a ≡ b)
     → ReadsSession i (Ok a) name (Next a) → ReadsSession i (Ok b) name (Next b) → a ≡ b
 only-described i name sdp Next a b told once (inl h) k = absurd (ok-not-err a _ (Ok a) refl h.0)
 only-described i name sdp Next a b told once (inr h) (inl k) = absurd (ok-not-err b _ (Ok b) refl k.0)
 only-described i name sdp Next a b told once (inr h) (inr k) = only-session (session sdp) Next a b once (h.1 sdp told) (k.1 sdp told)
 
-pub described-failed : (i : Inputs) (name sdp : List ℕ) (Next : List Media → Type 0) (e : Failure) (Rises : Input → Type 0) → i.texts name ≡ Some sdp → (HasRisen i name → Rises input.Sdp)
+pub described-failed : (i : Inputs) (name sdp : List ℕ) (Next : List Media → Type 0) (e : Failure) (Rises : Input → Type 0) → i.texts name ≡ Some sdp
+    → (HasRisen i name → Rises input.Sdp)
     → ((media : List Media) → Next media → Caused e Rises) → ReadsSession i (Err e) name Next → Caused e Rises
 described-failed i name sdp Next e Rises told rises caused (inl h) = inr (input.Sdp, same-err e _ (Err e) refl h.0, rises h.1)
 described-failed i name sdp Next e Rises told rises caused (inr h) = session-failed (session sdp) Next e Rises caused (h.1 sdp told)

@@ -33,21 +33,25 @@ use Rattle.timing_top.proofs.Verifying.{only-verify, some-verify, verify-failed}
 abbrev AfterSession : CheckJob → Inputs → Result Answer Failure → List Media → Type 0
 AfterSession job i outcome media = ReadsCaptures i outcome job.captures (λ texts. Gives outcome (HasReport job media texts))
 
-some-check : (job : CheckJob) (i : Inputs) (texts : List (List ℕ)) → AreThere i.lacks (job.sdp ∷ job.captures) → AreTold i.texts (job.sdp ∷ job.captures) texts → (answer : Answer) × FollowsCheck job i (Ok answer)
+some-check : (job : CheckJob) (i : Inputs) (texts : List (List ℕ)) → AreThere i.lacks (job.sdp ∷ job.captures) → AreTold i.texts (job.sdp ∷ job.captures) texts
+    → (answer : Answer) × FollowsCheck job i (Ok answer)
 some-check job i [] there told = absurd told
 some-check job i (sdp ∷ texts) there told =
     some-yielded (λ answer. ReadsSession i (Ok answer) job.sdp (AfterSession job i (Ok answer)))
     (some-described i job.sdp sdp (λ answer media. AfterSession job i (Ok answer) media) (All-head (λ n. ¬ i.lacks n) job.sdp job.captures there) told.0
-    (λ media e. some-captured i job.captures texts (HasReport job media) (All-tail (λ n. ¬ i.lacks n) job.sdp job.captures there) told.1 (some-report job media (map classic texts))))
+    (λ media e. some-captured i job.captures texts (HasReport job media) (All-tail (λ n. ¬ i.lacks n) job.sdp job.captures there) told.1
+    (some-report job media (map classic texts))))
 
-only-check : (job : CheckJob) (i : Inputs) (texts : List (List ℕ)) (a b : Answer) → AreTold i.texts (job.sdp ∷ job.captures) texts → FollowsCheck job i (Ok a) → FollowsCheck job i (Ok b) → a ≡ b
+only-check : (job : CheckJob) (i : Inputs) (texts : List (List ℕ)) (a b : Answer) → AreTold i.texts (job.sdp ∷ job.captures) texts → FollowsCheck job i (Ok a)
+    → FollowsCheck job i (Ok b) → a ≡ b
 only-check job i [] a b told h k = absurd told
 only-check job i (sdp ∷ texts) a b told h k =
     only-yielded (λ answer. ReadsSession i (Ok answer) job.sdp (AfterSession job i (Ok answer))) a b
     (λ p q. only-described i job.sdp sdp (λ answer media. AfterSession job i (Ok answer) media) a b told.0
     (λ media x y. only-captured i job.captures texts (HasReport job media) a b told.1 (only-report job media (map classic texts)) x y) p q) h k
 
-check-failed : (job : CheckJob) (i : Inputs) (texts : List (List ℕ)) (e : Failure) → AreTold i.texts (job.sdp ∷ job.captures) texts → FollowsCheck job i (Err e) → Caused e (CheckInputRose job i)
+check-failed : (job : CheckJob) (i : Inputs) (texts : List (List ℕ)) (e : Failure) → AreTold i.texts (job.sdp ∷ job.captures) texts → FollowsCheck job i (Err e)
+    → Caused e (CheckInputRose job i)
 check-failed job i [] e told h = absurd told
 check-failed job i (sdp ∷ texts) e told h =
     yielded-failed (ReadsSession i (Err e) job.sdp (AfterSession job i (Err e))) e (CheckInputRose job i)
@@ -59,7 +63,8 @@ some-self : (frames : ℕ) → (answer : Answer) × FollowsSelfTest frames (Ok a
 some-self frames = some-yielded (λ answer. Gives (Ok answer) (HasSelfTest frames)) (some-given (HasSelfTest frames) (some-self_test frames))
 
 only-self : (frames : ℕ) (a b : Answer) → FollowsSelfTest frames (Ok a) → FollowsSelfTest frames (Ok b) → a ≡ b
-only-self frames a b h k = only-yielded (λ answer. Gives (Ok answer) (HasSelfTest frames)) a b (λ p q. only-given (HasSelfTest frames) a b (only-self_test frames) p q) h k
+only-self frames a b h k = only-yielded (λ answer. Gives (Ok answer) (HasSelfTest frames)) a b
+    (λ p q. only-given (HasSelfTest frames) a b (only-self_test frames) p q) h k
 
 self-failed : (frames : ℕ) (e : Failure) (Rises : Input → Type 0) → FollowsSelfTest frames (Err e) → Caused e Rises
 self-failed frames e Rises h = yielded-failed (Gives (Err e) (HasSelfTest frames)) e Rises (λ p. absurd (not-given (HasSelfTest frames) e p)) h
@@ -69,13 +74,15 @@ some-at_once ends = some-yielded (λ answer. Gives (Ok answer) (λ x. x ≡ sile
 
 only-at_once : (ends : Status) (a b : Answer) → FollowsAtOnce ends (Ok a) → FollowsAtOnce ends (Ok b) → a ≡ b
 only-at_once ends a b h k =
-    only-yielded (λ answer. Gives (Ok answer) (λ x. x ≡ silent ends)) a b (λ p q. only-given (λ x. x ≡ silent ends) a b (λ x y s t. only-silent x y _ s t) p q) h k
+    only-yielded (λ answer. Gives (Ok answer) (λ x. x ≡ silent ends)) a b (λ p q. only-given (λ x. x ≡ silent ends) a b (λ x y s t. only-silent x y _ s t) p q)
+    h k
 
 at_once-failed : (ends : Status) (e : Failure) (Rises : Input → Type 0) → FollowsAtOnce ends (Err e) → Caused e Rises
 at_once-failed ends e Rises h = yielded-failed (Gives (Err e) (λ x. x ≡ silent ends)) e Rises (λ p. absurd (not-given (λ x. x ≡ silent ends) e p)) h
 
 -- there is one answer
-pub some-answer : (asked : Option Request) (i : Inputs) (texts : List (List ℕ)) → AreThere i.lacks (names_of asked) → AreTold i.texts (names_of asked) texts → (answer : Answer) × Follows asked i (Ok answer)
+pub some-answer : (asked : Option Request) (i : Inputs) (texts : List (List ℕ)) → AreThere i.lacks (names_of asked) → AreTold i.texts (names_of asked) texts
+    → (answer : Answer) × Follows asked i (Ok answer)
 some-answer None i texts there told = some-at_once status.Usage
 some-answer (Some (request.Check job)) i texts there told = some-check job i texts there told
 some-answer (Some (request.Verify job)) i texts there told = some-verify job i texts there told
@@ -86,7 +93,8 @@ some-answer (Some (request.Shape job)) i texts there told = some-reach job.flow 
 some-answer (Some (request.Skew job)) i texts there told = some-skewed job i texts there told
 
 -- there are not two
-pub only-answer : (asked : Option Request) (i : Inputs) (texts : List (List ℕ)) (a b : Answer) → AreTold i.texts (names_of asked) texts → Follows asked i (Ok a) → Follows asked i (Ok b) → a ≡ b
+pub only-answer : (asked : Option Request) (i : Inputs) (texts : List (List ℕ)) (a b : Answer) → AreTold i.texts (names_of asked) texts → Follows asked i (Ok a)
+    → Follows asked i (Ok b) → a ≡ b
 only-answer None i texts a b told h k = only-at_once status.Usage a b h k
 only-answer (Some (request.Check job)) i texts a b told h k = only-check job i texts a b told h k
 only-answer (Some (request.Verify job)) i texts a b told h k = only-verify job i texts a b told h k
@@ -97,7 +105,8 @@ only-answer (Some (request.Shape job)) i texts a b told h k = only-reach job.flo
 only-answer (Some (request.Skew job)) i texts a b told h k = only-skewed job i texts a b told h k
 
 -- what has none has a cause
-pub answer-failed : (asked : Option Request) (i : Inputs) (texts : List (List ℕ)) (e : Failure) → AreTold i.texts (names_of asked) texts → Follows asked i (Err e)
+pub answer-failed : (asked : Option Request) (i : Inputs) (texts : List (List ℕ)) (e : Failure) → AreTold i.texts (names_of asked) texts
+    → Follows asked i (Err e)
     → (e ≡ failure.OutOfMemory) ⊎ ((input : Input) × (e ≡ failure.ReadFault input) × InputRose asked i input)
 answer-failed None i texts e told h = at_once-failed status.Usage e (InputRose None i) h
 answer-failed (Some (request.Check job)) i texts e told h = check-failed job i texts e told h

@@ -44,7 +44,8 @@ module _ {H S : Type 0} (text : H → List ℕ → Option (List ℕ)) (Lacks : H
       → IsOpened name left faults job (seen-by text Lacks count old new) media sources
   is-opened job old mid new media sources sdp captures stays named listed there told targets are_there fetched =
       let whole : AreFetched name left faults (classic_texts (text old)) job.captures sources =
-      fetched-same name left faults (classic_texts (text mid)) (classic_texts (text old)) job.captures sources (λ n. ap (option_map classic) (sym (stays.texts n)))
+      fetched-same name left faults (classic_texts (text mid)) (classic_texts (text old)) job.captures sources
+      (λ n. ap (option_map classic) (sym (stays.texts n)))
       (subst (λ names. AreFetched name left faults (classic_texts (text mid)) names sources) listed fetched) in
       record {
         there = subst (λ n. ¬ Lacks old n) named there;
@@ -57,17 +58,21 @@ module _ {H S : Type 0} (text : H → List ℕ → Option (List ℕ)) (Lacks : H
       }
 
   -- a job that was opened on the shelf `old`, and whose captures were judged on it as `mid`
-  module _ (job : CheckJob) (old mid new : H) (media : List Media) (sources : List S) (table : List (List Record) → List Row) (listed : List Media) (found : Result Found Failure)
+  module _ (job : CheckJob) (old mid new : H) (media : List Media) (sources : List S) (table : List (List Record) → List Row) (listed : List Media)
+      (found : Result Found Failure)
       (opened : IsOpened name left faults job (seen-by text Lacks count old mid) media sources) (stays : StaysAs text Lacks count old mid)
       (judged : IsJudged name left faults (seen-by text Lacks count mid new) sources table listed found) where
     fetched-later : AreFetched name left faults (classic_texts (text mid)) job.captures sources
-    fetched-later = fetched-same name left faults (classic_texts (text old)) (classic_texts (text mid)) job.captures sources (λ n. ap (option_map classic) (stays.texts n)) opened.fetched
+    fetched-later = fetched-same name left faults (classic_texts (text old)) (classic_texts (text mid)) job.captures sources
+        (λ n. ap (option_map classic) (stays.texts n)) opened.fetched
 
     -- where a capture's read fails while they are judged, its count has risen
-    rose : (e : Failure) → found ≡ Err e → OnReadFault e (λ x. (number : ℕ) × (x ≡ input.Capture number) × CaptureRose (count old) (count new) job.captures number)
+    rose : (e : Failure) → found ≡ Err e
+        → OnReadFault e (λ x. (number : ℕ) × (x ≡ input.Capture number) × CaptureRose (count old) (count new) job.captures number)
     rose e is =
         capture-earlier (count old) (count mid) (count new) job.captures e stays.later
-        (subst (λ r. IfErr r (λ e. OnReadFault e (λ x. (number : ℕ) × (x ≡ input.Capture number) × CaptureRose (count mid) (count new) job.captures number))) is (judged.cause job.captures fetched-later))
+        (subst (λ r. IfErr r (λ e. OnReadFault e (λ x. (number : ℕ) × (x ≡ input.Capture number) × CaptureRose (count mid) (count new) job.captures number))) is
+        (judged.cause job.captures fetched-later))
 
     pub failed-follows : (e : Failure) → found ≡ Err e → FollowsCheck job (seen-by text Lacks count old new) (Err e)
     failed-follows e is = follows-failed job (seen-by text Lacks count old new) media e opened.there opened.told (rose e is)
@@ -84,9 +89,12 @@ module _ {H S : Type 0} (text : H → List ℕ → Option (List ℕ)) (Lacks : H
         → IfErr outcome (λ e. e ≡ failure.OutOfMemory)
         → FollowsCheck job (seen-by text Lacks count old new) outcome
     report-follows outcome f is same printed status memory =
-        let told : (names texts : List (List ℕ)) → AreFetched name left faults (classic_texts (text mid)) names sources → AreTold (classic_texts (text mid)) names texts → AreFound texts table f.notes.items f.rows.items =
-        subst (λ r. IfOk r (λ x. (names texts : List (List ℕ)) → AreFetched name left faults (classic_texts (text mid)) names sources → AreTold (classic_texts (text mid)) names texts → AreFound texts table x.notes.items x.rows.items)) is judged.told in
+        let told : (names texts : List (List ℕ)) → AreFetched name left faults (classic_texts (text mid)) names sources
+        → AreTold (classic_texts (text mid)) names texts → AreFound texts table f.notes.items f.rows.items =
+        subst (λ r. IfOk r (λ x. (names texts : List (List ℕ)) → AreFetched name left faults (classic_texts (text mid)) names sources
+        → AreTold (classic_texts (text mid)) names texts → AreFound texts table x.notes.items x.rows.items)) is judged.told in
         follows-report job (seen-by text Lacks count old new) media outcome f.notes.items f.rows.items opened.there opened.told opened.captures
         (λ raw t. subst (λ (g : List (List Record) → List Row). AreFound (map classic raw) g f.notes.items f.rows.items) same
-        (told job.captures (map classic raw) fetched-later (told-classic (text mid) job.captures raw (told-same (text old) (text mid) job.captures raw stays.texts t))))
+        (told job.captures (map classic raw) fetched-later
+        (told-classic (text mid) job.captures raw (told-same (text old) (text mid) job.captures raw stays.texts t))))
         printed status memory

@@ -35,7 +35,8 @@ told-of m n stamps key run kind (Fail f) is some falls e =
     (record { key_is = refl; run_is = refl; confirms = fail-confirms m n stamps kind f is some falls e }) (All-nil (IsOf m n stamps key run))
 
 -- what a judged run tells
-judged-of : (m : Media) (j : JudgedRun) (key : FlowKey) (run : ℕ) → IsMedia m → IsGrouped j → All (IsOf m j.n j.stamps key run) (judged_fails key run (judged_values m j))
+judged-of : (m : Media) (j : JudgedRun) (key : FlowKey) (run : ℕ) → IsMedia m → IsGrouped j
+    → All (IsOf m j.n j.stamps key run) (judged_fails key run (judged_values m j))
 judged-of m j key run is g =
     let P = IsOf m j.n j.stamps key run in
     let falls : NeverFall j.stamps = λ a b order below. g.rising a b 0 order below in

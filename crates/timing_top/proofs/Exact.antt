@@ -21,7 +21,7 @@ use Rattle.fail_interval.specs.Row.{judged_values, row, run_of, run_verdict_of, 
 use Rattle.fail_interval.proofs.Confirmed.{fail-confirms, keeps-pass, pass-keeps}
 use Rattle.fail_interval.specs.Rows.{rows_from, rows_of, rows_of_files, rows_over}
 use Rattle.timing_top.specs.Exact.{AreExact, IsExact, IsExactRow, TellRuns, TellsFlow, TellsRun}
-use Rattle.timing_top.specs.ReadBack.{AreBytes}
+use Rattle.pcapng_reader.specs.Bytes.{AreBytes}
 use Rattle.timing_top.proofs.Small.{flow-grouped, joined-small, one-small}
 
 -- the verdicts on a judged run
@@ -49,8 +49,10 @@ run-exact m (whole_frames run) is g = (judged_values m run, refl, kinds-exact m 
 
 runs-exact : (m : Media) (runs : List FlowRun) → IsMedia m → All (λ run. IsGroupedOutcome run.outcome) runs → TellRuns m runs (map (run_of m) runs)
 runs-exact m [] is g = refl
-runs-exact m (r ∷ rs) is g =
-    (run-exact m r.outcome is (All-head (λ (run : FlowRun). IsGroupedOutcome run.outcome) r rs g), runs-exact m rs is (All-tail (λ (run : FlowRun). IsGroupedOutcome run.outcome) r rs g))
+runs-exact m (r ∷ rs) is g = (
+  run-exact m r.outcome is (All-head (λ (run : FlowRun). IsGroupedOutcome run.outcome) r rs g),
+  runs-exact m rs is (All-tail (λ (run : FlowRun). IsGroupedOutcome run.outcome) r rs g),
+)
 
 flow-exact : (m : Media) (v : FlowVerdict) → IsMedia m → IsGroupedVerdict v → TellsFlow m v (verdict_of m v)
 flow-exact m absent is g = (unjudged.Absent, refl)
@@ -99,7 +101,8 @@ record IsInFiles (media : List Media) (tai first : ℕ) (files : List (List Reco
   there : slice_get media r.key.media ≡ Some m
   tells : TellsFlow m (judged (flow items m) m.pt tai) r.verdict
 
-files-rows : (media : List Media) (tai first : ℕ) (texts : List (List ℕ)) (files : List (List Record)) (notes : List FileNote) → tai ≤ 1000 → All IsMedia media → All AreBytes texts
+files-rows : (media : List Media) (tai first : ℕ) (texts : List (List ℕ)) (files : List (List Record)) (notes : List FileNote) → tai ≤ 1000 → All IsMedia media
+    → All AreBytes texts
     → AreRecords texts files notes → All (IsInFiles media tai first files) (rows_of_files tai first media files)
 files-rows media tai first [] [] [] seconds are bytes h = All-nil (IsInFiles media tai first [])
 files-rows media tai first (t ∷ ts) (items ∷ files) (n ∷ ns) seconds are bytes h =
@@ -120,13 +123,15 @@ files-rows media tai first (t ∷ ts) [] notes seconds are bytes h = absurd h
 files-rows media tai first (t ∷ ts) (f ∷ fs) [] seconds are bytes h = absurd h
 
 -- what the rows of captures tell
-pub rows-exact : (b : Bool) (tai : ℕ) (media : List Media) (texts : List (List ℕ)) (files : List (List Record)) (notes : List FileNote) → tai ≤ 1000 → length texts ≤ 16 → All IsMedia media
+pub rows-exact : (b : Bool) (tai : ℕ) (media : List Media) (texts : List (List ℕ)) (files : List (List Record)) (notes : List FileNote) → tai ≤ 1000
+    → length texts ≤ 16 → All IsMedia media
     → All AreBytes texts → AreRecords texts files notes → All (IsExactRow b tai media files) (rows_over b tai media files)
 rows-exact true tai media texts files notes seconds few are bytes h =
     All-weaker (IsInFile media tai 0 (joined files)) (IsExactRow true tai media files)
     (λ r k. record { m = k.m; media_is = k.there; items = joined files; items_are = refl; tells = k.tells })
     (rows_of tai 0 media (joined files))
-    (all-rows media tai 0 (joined files) are (λ m. flow-grouped m tai 0 (2 ^ 36 * length texts) (joined files) seconds (omega (arith, few)) (joined-small 0 texts files notes bytes h)))
+    (all-rows media tai 0 (joined files) are
+    (λ m. flow-grouped m tai 0 (2 ^ 36 * length texts) (joined files) seconds (omega (arith, few)) (joined-small 0 texts files notes bytes h)))
 rows-exact false tai media texts files notes seconds few are bytes h =
     All-weaker (IsInFiles media tai 0 files) (IsExactRow false tai media files)
     (λ r k. let e : k.place ≡ r.key.file = omega (arith, k.file_is) in

@@ -24,7 +24,7 @@ use Rattle.timing_json.specs.Fails.{fails_of, verdict_fails}
 use Rattle.timing_json.specs.declared.reading.ReportProof.{ReportProof}
 use Rattle.timing_verify.specs.Asked.{FindsOf, media_for}
 use Rattle.timing_verify.specs.Findings.{Finds}
-use Rattle.timing_top.specs.ReadBack.{AreBytes}
+use Rattle.pcapng_reader.specs.Bytes.{AreBytes}
 use Rattle.timing_top.proofs.Confirming.{IsOfFlow, flow-of}
 use Rattle.timing_top.proofs.Small.{flow-grouped, joined-small, one-small}
 
@@ -58,7 +58,8 @@ file-rows : (media : List Media) (tai file number : ℕ) (ms : List Media) (item
 file-rows media tai file number [] items are at g = All-nil (IsInFile media tai file items)
 file-rows media tai file number (m ∷ ms) items are at g =
     let z : number ≡ number + 0 = omega arith in
-    All-append (IsInFile media tai file items) (verdict_fails (key_of file number) (verdict_of m (judged (flow items m) m.pt tai))) (fails_of (rows_from tai file (number + 1) ms items))
+    All-append (IsInFile media tai file items) (verdict_fails (key_of file number) (verdict_of m (judged (flow items m) m.pt tai)))
+    (fails_of (rows_from tai file (number + 1) ms items))
     (one-row media tai file number m items (All-head IsMedia m ms are) (ap (slice_get media) z ∙ at 0) (g m))
     (file-rows media tai file (number + 1) ms items (All-tail IsMedia m ms are)
     (λ k. let s : number + 1 + k ≡ number + suc k = omega arith in ap (slice_get media) s ∙ at (suc k)) g)
@@ -81,7 +82,8 @@ record IsInFiles (media : List Media) (tai first : ℕ) (names : List (List ℕ)
   there : slice_get media c.key.media ≡ Some m
   finds : Finds m c tai (text (slice_index_or names place []) ∷ []) (Ok true)
 
-here-finds : (media : List Media) (tai first : ℕ) (name : List ℕ) (names : List (List ℕ)) (text : List ℕ → List ℕ) (items : List Record) (end : FileNote) → Records (text name) (2 ^ 40) items end
+here-finds : (media : List Media) (tai first : ℕ) (name : List ℕ) (names : List (List ℕ)) (text : List ℕ → List ℕ) (items : List Record) (end : FileNote)
+    → Records (text name) (2 ^ 40) items end
     → (c : ReportProof) → IsInFile media tai first items c → IsInFiles media tai first (name ∷ names) text c
 here-finds media tai first name names text items end records c h = record {
   place = zero;
@@ -98,13 +100,16 @@ here-finds media tai first name names text items end records c h = record {
 }
 
 -- the fails of the rows of files
-files-rows : (media : List Media) (tai first : ℕ) (names : List (List ℕ)) (text : List ℕ → List ℕ) (files : List (List Record)) (notes : List FileNote) → tai ≤ 1000 → All IsMedia media
-    → All AreBytes (map text names) → AreRecords (map text names) files notes → All (IsInFiles media tai first names text) (fails_of (rows_of_files tai first media files))
+files-rows : (media : List Media) (tai first : ℕ) (names : List (List ℕ)) (text : List ℕ → List ℕ) (files : List (List Record)) (notes : List FileNote) → tai
+    ≤ 1000 → All IsMedia media
+    → All AreBytes (map text names) → AreRecords (map text names) files notes
+    → All (IsInFiles media tai first names text) (fails_of (rows_of_files tai first media files))
 files-rows media tai first [] text [] [] seconds are bytes h = All-nil (IsInFiles media tai first [] text)
 files-rows media tai first (name ∷ names) text (items ∷ files) (end ∷ notes) seconds are bytes h =
     let P = IsInFiles media tai first (name ∷ names) text in
     let small = one-small (text name) items end (All-head AreBytes (text name) (map text names) bytes) h.0 in
-    subst (All P) (sym (flat_map-append (λ (r : Row). verdict_fails r.key r.verdict) (rows_of tai first media items) (rows_of_files tai (first + 1) media files)))
+    subst (All P) (sym (flat_map-append (λ (r : Row). verdict_fails r.key r.verdict) (rows_of tai first media items)
+    (rows_of_files tai (first + 1) media files)))
     (All-append P (fails_of (rows_of tai first media items)) (fails_of (rows_of_files tai (first + 1) media files))
     (All-weaker (IsInFile media tai first items) P (here-finds media tai first name names text items end h.0) (fails_of (rows_of tai first media items))
     (all-rows media tai first items are (λ m. flow-grouped m tai 0 (2 ^ 36) items seconds (omega arith) small)))
@@ -130,7 +135,8 @@ abbrev job_with : (sdp name : List ℕ) (tai : ℕ) (captures : List (List ℕ))
 job_with sdp name tai captures joined = record { sdp = sdp; report = name; tai = tai; captures = captures; joined = joined }
 
 -- the captures confirm each fail of the rows, joined or each for itself
-pub confirmed-rows : (sdp name : List ℕ) (tai : ℕ) (captures : List (List ℕ)) (b : Bool) (media : List Media) (text : List ℕ → List ℕ) (files : List (List Record)) (notes : List FileNote)
+pub confirmed-rows : (sdp name : List ℕ) (tai : ℕ) (captures : List (List ℕ)) (b : Bool) (media : List Media) (text : List ℕ → List ℕ)
+    (files : List (List Record)) (notes : List FileNote)
     → tai ≤ 1000 → length captures ≤ 16 → All IsMedia media → All AreBytes (map text captures) → AreRecords (map text captures) files notes
     → All (IsConfirmed (job_with sdp name tai captures b) media text) (fails_of (rows_over b tai media files))
 confirmed-rows sdp name tai captures true media text files notes seconds few are bytes h =

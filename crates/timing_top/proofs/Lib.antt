@@ -6,6 +6,7 @@ mod Crewing
 mod Exact
 mod Finding
 mod Following
+mod Headlines
 mod ReadBack
 mod Reaching
 mod Reported

@@ -17,12 +17,14 @@ use Rattle.timing_top.proofs.Answering.{Caused, captured-failed, described-faile
 use Rattle.timing_top.proofs.Answering.{only-silent, only-yielded, same-err, same-some, some-captured, some-described, some-given, some-yielded, yielded-failed}
 
 -- one capture that is read
-some-capture : (i : Inputs) (name text : List ℕ) (Defined : List ℕ → Answer → Type 0) → ¬ i.lacks name → i.texts name ≡ Some text → (answer : Answer) × Defined (classic text) answer
+some-capture : (i : Inputs) (name text : List ℕ) (Defined : List ℕ → Answer → Type 0) → ¬ i.lacks name → i.texts name ≡ Some text → (answer : Answer)
+    × Defined (classic text) answer
     → (answer : Answer) × ReadsCapture i (Ok answer) name (λ t. Gives (Ok answer) (Defined t))
 some-capture i name text Defined there told h =
     (h.0, inr (there, λ t e. (h.0, refl, subst (λ x. Defined (classic x) h.0) (same-some text t (i.texts name) told e) h.1)))
 
-only-capture : (i : Inputs) (name text : List ℕ) (Defined : List ℕ → Answer → Type 0) (a b : Answer) → i.texts name ≡ Some text → ((x y : Answer) → Defined (classic text) x → Defined (classic text) y → x ≡ y)
+only-capture : (i : Inputs) (name text : List ℕ) (Defined : List ℕ → Answer → Type 0) (a b : Answer) → i.texts name ≡ Some text
+    → ((x y : Answer) → Defined (classic text) x → Defined (classic text) y → x ≡ y)
     → ReadsCapture i (Ok a) name (λ t. Gives (Ok a) (Defined t)) → ReadsCapture i (Ok b) name (λ t. Gives (Ok b) (Defined t)) → a ≡ b
 only-capture i name text Defined a b told once (inl h) k = absurd (ok-not-err a _ (Ok a) refl h.0)
 only-capture i name text Defined a b told once (inr h) (inl k) = absurd (ok-not-err b _ (Ok b) refl k.0)
@@ -34,17 +36,22 @@ capture-failed i job text Defined e told (inl h) = inr (input.Capture 0, same-er
 capture-failed i job text Defined e told (inr h) = absurd (not-given (Defined (classic text)) e (h.1 text told))
 
 -- the flow of a media
-some-flow : (job : FlowJob) (i : Inputs) (text : List ℕ) (Defined : Media → List ℕ → Answer → Type 0) (m : Option Media) → ¬ i.lacks job.capture → i.texts job.capture ≡ Some text
-    → ((media : Media) → m ≡ Some media → IsMedia media) → ((media : Media) → IsMedia media → (answer : Answer) × Defined media (classic text) answer) → (answer : Answer) × ReadsFlow i (Ok answer) job Defined m
+some-flow : (job : FlowJob) (i : Inputs) (text : List ℕ) (Defined : Media → List ℕ → Answer → Type 0) (m : Option Media) → ¬ i.lacks job.capture
+    → i.texts job.capture ≡ Some text
+    → ((media : Media) → m ≡ Some media → IsMedia media) → ((media : Media) → IsMedia media → (answer : Answer) × Defined media (classic text) answer)
+    → (answer : Answer) × ReadsFlow i (Ok answer) job Defined m
 some-flow job i text Defined None there told is h = some-given (λ answer. answer ≡ no_such_media) (no_such_media, refl)
 some-flow job i text Defined (Some media) there told is h = some-capture i job.capture text (Defined media) there told (h media (is media refl))
 
-only-flow : (job : FlowJob) (i : Inputs) (text : List ℕ) (Defined : Media → List ℕ → Answer → Type 0) (m : Option Media) (a b : Answer) → i.texts job.capture ≡ Some text
-    → ((media : Media) (x y : Answer) → Defined media (classic text) x → Defined media (classic text) y → x ≡ y) → ReadsFlow i (Ok a) job Defined m → ReadsFlow i (Ok b) job Defined m → a ≡ b
+only-flow : (job : FlowJob) (i : Inputs) (text : List ℕ) (Defined : Media → List ℕ → Answer → Type 0) (m : Option Media) (a b : Answer) → i.texts job.capture
+    ≡ Some text
+    → ((media : Media) (x y : Answer) → Defined media (classic text) x → Defined media (classic text) y → x ≡ y) → ReadsFlow i (Ok a) job Defined m
+    → ReadsFlow i (Ok b) job Defined m → a ≡ b
 only-flow job i text Defined None a b told once h k = only-given (λ answer. answer ≡ no_such_media) a b (λ x y p q. only-silent x y _ p q) h k
 only-flow job i text Defined (Some media) a b told once h k = only-capture i job.capture text (Defined media) a b told (once media) h k
 
-flow-failed : (job : FlowJob) (i : Inputs) (text : List ℕ) (Defined : Media → List ℕ → Answer → Type 0) (m : Option Media) (e : Failure) → i.texts job.capture ≡ Some text
+flow-failed : (job : FlowJob) (i : Inputs) (text : List ℕ) (Defined : Media → List ℕ → Answer → Type 0) (m : Option Media) (e : Failure) → i.texts job.capture
+    ≡ Some text
     → ReadsFlow i (Err e) job Defined m → Caused e (FlowInputRose job i)
 flow-failed job i text Defined None e told h = absurd (not-given (λ answer. answer ≡ no_such_media) e h)
 flow-failed job i text Defined (Some media) e told h = capture-failed i job text (Defined media) e told h
@@ -69,19 +76,24 @@ all-there P (y ∷ ys) zero x h e = subst P (same-media y x e) (All-head P y ys 
     same-media y x e = let o : Some y ≡ Some x = e in cc
 all-there P (y ∷ ys) (suc n) x h e = all-there P ys n x (All-tail P y ys h) e
 
-pub some-reach : (job : FlowJob) (i : Inputs) (texts : List (List ℕ)) (Defined : Media → List ℕ → Answer → Type 0) → AreThere i.lacks (job.sdp ∷ job.capture ∷ []) → AreTold i.texts (job.sdp ∷ job.capture ∷ []) texts
-    → ((media : Media) → IsMedia media → (text : List ℕ) → (answer : Answer) × Defined media text answer) → (answer : Answer) × FollowsFlow job Defined i (Ok answer)
+pub some-reach : (job : FlowJob) (i : Inputs) (texts : List (List ℕ)) (Defined : Media → List ℕ → Answer → Type 0)
+    → AreThere i.lacks (job.sdp ∷ job.capture ∷ []) → AreTold i.texts (job.sdp ∷ job.capture ∷ []) texts
+    → ((media : Media) → IsMedia media → (text : List ℕ) → (answer : Answer) × Defined media text answer) → (answer : Answer)
+    × FollowsFlow job Defined i (Ok answer)
 some-reach job i [] Defined there told h = absurd told
 some-reach job i (sdp ∷ []) Defined there told h = absurd told.1
 some-reach job i (sdp ∷ text ∷ texts) Defined there told h =
     some-yielded (λ answer. ReadsSession i (Ok answer) job.sdp (λ media. ReadsFlow i (Ok answer) job Defined (slice_get media job.media)))
-    (some-described i job.sdp sdp (λ answer media. ReadsFlow i (Ok answer) job Defined (slice_get media job.media)) (All-head (λ n. ¬ i.lacks n) job.sdp (job.capture ∷ []) there) told.0
+    (some-described i job.sdp sdp (λ answer media. ReadsFlow i (Ok answer) job Defined (slice_get media job.media))
+    (All-head (λ n. ¬ i.lacks n) job.sdp (job.capture ∷ []) there) told.0
     (λ media e. some-flow job i text Defined (slice_get media job.media)
     (All-head (λ n. ¬ i.lacks n) job.capture [] (All-tail (λ n. ¬ i.lacks n) job.sdp (job.capture ∷ []) there)) told.1.0
     (λ m at. all-there IsMedia media job.media m (session-within sdp media e) at) (λ m is. h m is (classic text))))
 
-pub only-reach : (job : FlowJob) (i : Inputs) (texts : List (List ℕ)) (Defined : Media → List ℕ → Answer → Type 0) (a b : Answer) → AreTold i.texts (job.sdp ∷ job.capture ∷ []) texts
-    → ((media : Media) (text : List ℕ) (x y : Answer) → Defined media text x → Defined media text y → x ≡ y) → FollowsFlow job Defined i (Ok a) → FollowsFlow job Defined i (Ok b) → a ≡ b
+pub only-reach : (job : FlowJob) (i : Inputs) (texts : List (List ℕ)) (Defined : Media → List ℕ → Answer → Type 0) (a b : Answer)
+    → AreTold i.texts (job.sdp ∷ job.capture ∷ []) texts
+    → ((media : Media) (text : List ℕ) (x y : Answer) → Defined media text x → Defined media text y → x ≡ y) → FollowsFlow job Defined i (Ok a)
+    → FollowsFlow job Defined i (Ok b) → a ≡ b
 only-reach job i [] Defined a b told once h k = absurd told
 only-reach job i (sdp ∷ []) Defined a b told once h k = absurd told.1
 only-reach job i (sdp ∷ text ∷ texts) Defined a b told once h k =
@@ -89,7 +101,8 @@ only-reach job i (sdp ∷ text ∷ texts) Defined a b told once h k =
     (λ p q. only-described i job.sdp sdp (λ answer media. ReadsFlow i (Ok answer) job Defined (slice_get media job.media)) a b told.0
     (λ media x y. only-flow job i text Defined (slice_get media job.media) a b told.1.0 (λ m. once m (classic text)) x y) p q) h k
 
-pub reach-failed : (job : FlowJob) (i : Inputs) (texts : List (List ℕ)) (Defined : Media → List ℕ → Answer → Type 0) (e : Failure) → AreTold i.texts (job.sdp ∷ job.capture ∷ []) texts
+pub reach-failed : (job : FlowJob) (i : Inputs) (texts : List (List ℕ)) (Defined : Media → List ℕ → Answer → Type 0) (e : Failure)
+    → AreTold i.texts (job.sdp ∷ job.capture ∷ []) texts
     → FollowsFlow job Defined i (Err e) → Caused e (FlowInputRose job i)
 reach-failed job i [] Defined e told h = absurd told
 reach-failed job i (sdp ∷ []) Defined e told h = absurd told.1
@@ -99,38 +112,48 @@ reach-failed job i (sdp ∷ text ∷ texts) Defined e told h =
     (λ media x. flow-failed job i text Defined (slice_get media job.media) e told.1.0 x) p) h
 
 -- two flows
-some-pair : (job : SkewJob) (i : Inputs) (texts : List (List ℕ)) (m n : Option Media) → AreThere i.lacks job.captures → AreTold i.texts job.captures texts → (answer : Answer) × ReadsPair i (Ok answer) job m n
+some-pair : (job : SkewJob) (i : Inputs) (texts : List (List ℕ)) (m n : Option Media) → AreThere i.lacks job.captures → AreTold i.texts job.captures texts
+    → (answer : Answer) × ReadsPair i (Ok answer) job m n
 some-pair job i texts None n there told = some-given (λ answer. answer ≡ no_such_media) (no_such_media, refl)
 some-pair job i texts (Some m) None there told = some-given (λ answer. answer ≡ no_such_media) (no_such_media, refl)
 some-pair job i texts (Some m) (Some n) there told = some-captured i job.captures texts (HasSkew job m n) there told (some-skew job m n (map classic texts))
 
-only-pair : (job : SkewJob) (i : Inputs) (texts : List (List ℕ)) (m n : Option Media) (a b : Answer) → AreTold i.texts job.captures texts → ReadsPair i (Ok a) job m n → ReadsPair i (Ok b) job m n → a ≡ b
+only-pair : (job : SkewJob) (i : Inputs) (texts : List (List ℕ)) (m n : Option Media) (a b : Answer) → AreTold i.texts job.captures texts
+    → ReadsPair i (Ok a) job m n → ReadsPair i (Ok b) job m n → a ≡ b
 only-pair job i texts None n a b told h k = only-given (λ answer. answer ≡ no_such_media) a b (λ x y p q. only-silent x y _ p q) h k
 only-pair job i texts (Some m) None a b told h k = only-given (λ answer. answer ≡ no_such_media) a b (λ x y p q. only-silent x y _ p q) h k
 only-pair job i texts (Some m) (Some n) a b told h k = only-captured i job.captures texts (HasSkew job m n) a b told (once-skew job m n (map classic texts)) h k
 
-pair-failed : (job : SkewJob) (i : Inputs) (texts : List (List ℕ)) (m n : Option Media) (e : Failure) → AreTold i.texts job.captures texts → ReadsPair i (Err e) job m n → Caused e (SkewInputRose job i)
+pair-failed : (job : SkewJob) (i : Inputs) (texts : List (List ℕ)) (m n : Option Media) (e : Failure) → AreTold i.texts job.captures texts
+    → ReadsPair i (Err e) job m n → Caused e (SkewInputRose job i)
 pair-failed job i texts None n e told h = absurd (not-given (λ answer. answer ≡ no_such_media) e h)
 pair-failed job i texts (Some m) None e told h = absurd (not-given (λ answer. answer ≡ no_such_media) e h)
 pair-failed job i texts (Some m) (Some n) e told h = captured-failed i job.captures texts (HasSkew job m n) e (SkewInputRose job i) told (λ number r. r) h
 
-pub some-skewed : (job : SkewJob) (i : Inputs) (texts : List (List ℕ)) → AreThere i.lacks (job.sdp ∷ job.captures) → AreTold i.texts (job.sdp ∷ job.captures) texts → (answer : Answer) × FollowsSkew job i (Ok answer)
+pub some-skewed : (job : SkewJob) (i : Inputs) (texts : List (List ℕ)) → AreThere i.lacks (job.sdp ∷ job.captures)
+    → AreTold i.texts (job.sdp ∷ job.captures) texts → (answer : Answer) × FollowsSkew job i (Ok answer)
 some-skewed job i [] there told = absurd told
 some-skewed job i (sdp ∷ texts) there told =
     some-yielded (λ answer. ReadsSession i (Ok answer) job.sdp (λ media. ReadsPair i (Ok answer) job (slice_get media job.media) (slice_get media job.pair)))
-    (some-described i job.sdp sdp (λ answer media. ReadsPair i (Ok answer) job (slice_get media job.media) (slice_get media job.pair)) (All-head (λ n. ¬ i.lacks n) job.sdp job.captures there) told.0
+    (some-described i job.sdp sdp (λ answer media. ReadsPair i (Ok answer) job (slice_get media job.media) (slice_get media job.pair))
+    (All-head (λ n. ¬ i.lacks n) job.sdp job.captures there) told.0
     (λ media e. some-pair job i texts (slice_get media job.media) (slice_get media job.pair) (All-tail (λ n. ¬ i.lacks n) job.sdp job.captures there) told.1))
 
-pub only-skewed : (job : SkewJob) (i : Inputs) (texts : List (List ℕ)) (a b : Answer) → AreTold i.texts (job.sdp ∷ job.captures) texts → FollowsSkew job i (Ok a) → FollowsSkew job i (Ok b) → a ≡ b
+pub only-skewed : (job : SkewJob) (i : Inputs) (texts : List (List ℕ)) (a b : Answer) → AreTold i.texts (job.sdp ∷ job.captures) texts
+    → FollowsSkew job i (Ok a) → FollowsSkew job i (Ok b) → a ≡ b
 only-skewed job i [] a b told h k = absurd told
 only-skewed job i (sdp ∷ texts) a b told h k =
-    only-yielded (λ answer. ReadsSession i (Ok answer) job.sdp (λ media. ReadsPair i (Ok answer) job (slice_get media job.media) (slice_get media job.pair))) a b
+    only-yielded (λ answer. ReadsSession i (Ok answer) job.sdp (λ media. ReadsPair i (Ok answer) job (slice_get media job.media) (slice_get media job.pair))) a
+    b
     (λ p q. only-described i job.sdp sdp (λ answer media. ReadsPair i (Ok answer) job (slice_get media job.media) (slice_get media job.pair)) a b told.0
     (λ media x y. only-pair job i texts (slice_get media job.media) (slice_get media job.pair) a b told.1 x y) p q) h k
 
-pub skewed-failed : (job : SkewJob) (i : Inputs) (texts : List (List ℕ)) (e : Failure) → AreTold i.texts (job.sdp ∷ job.captures) texts → FollowsSkew job i (Err e) → Caused e (SkewInputRose job i)
+pub skewed-failed : (job : SkewJob) (i : Inputs) (texts : List (List ℕ)) (e : Failure) → AreTold i.texts (job.sdp ∷ job.captures) texts
+    → FollowsSkew job i (Err e) → Caused e (SkewInputRose job i)
 skewed-failed job i [] e told h = absurd told
 skewed-failed job i (sdp ∷ texts) e told h =
-    yielded-failed (ReadsSession i (Err e) job.sdp (λ media. ReadsPair i (Err e) job (slice_get media job.media) (slice_get media job.pair))) e (SkewInputRose job i)
-    (λ p. described-failed i job.sdp sdp (λ media. ReadsPair i (Err e) job (slice_get media job.media) (slice_get media job.pair)) e (SkewInputRose job i) told.0 (λ r. r)
+    yielded-failed (ReadsSession i (Err e) job.sdp (λ media. ReadsPair i (Err e) job (slice_get media job.media) (slice_get media job.pair))) e
+    (SkewInputRose job i)
+    (λ p. described-failed i job.sdp sdp (λ media. ReadsPair i (Err e) job (slice_get media job.media) (slice_get media job.pair)) e (SkewInputRose job i)
+    told.0 (λ r. r)
     (λ media x. pair-failed job i texts (slice_get media job.media) (slice_get media job.pair) e told.1 x) p) h

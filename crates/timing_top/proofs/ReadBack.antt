@@ -25,7 +25,8 @@ use Rattle.timing_top.proofs.Finding.{IsConfirmed, confirmed-rows}
 use Rattle.timing_top.proofs.Rows.{keys-over, records-length, rows-fit}
 
 -- what is read back of the report of a job is its fails
-pub report-told : (job : CheckJob) (media : List Media) (text : List ℕ → List ℕ) (files : List (List Record)) (notes : List FileNote) → IsReadable job media text
+pub report-told : (job : CheckJob) (media : List Media) (text : List ℕ → List ℕ) (files : List (List Record)) (notes : List FileNote)
+    → IsReadable job media text
     → AreRecords (map text job.captures) files notes
     → length (json_text job media notes (rows_over job.joined job.tai media files)) ≤ 16777216
     → IsReport (json_text job media notes (rows_over job.joined job.tai media files)) (fails_of (rows_over job.joined job.tai media files))
@@ -40,10 +41,13 @@ report-told job media text files notes is h few =
     (rows-fit job.joined job.tai media texts files notes is.job_is.tai_most most is.media_are is.bytes h) is.names few
 
 -- and the captures confirm each
-pub report-confirmed : (job : CheckJob) (media : List Media) (text : List ℕ → List ℕ) (name : List ℕ) (files : List (List Record)) (notes : List FileNote) → IsReadable job media text
-    → AreRecords (map text job.captures) files notes → All (IsConfirmed (reading_back job name) media text) (fails_of (rows_over job.joined job.tai media files))
+pub report-confirmed : (job : CheckJob) (media : List Media) (text : List ℕ → List ℕ) (name : List ℕ) (files : List (List Record)) (notes : List FileNote)
+    → IsReadable job media text
+    → AreRecords (map text job.captures) files notes → All (IsConfirmed (reading_back job name) media text)
+    (fails_of (rows_over job.joined job.tai media files))
 report-confirmed job media text name files notes is records =
-    confirmed-rows job.sdp name job.tai job.captures job.joined media text files notes is.job_is.tai_most is.job_is.captures_are.few is.media_are is.bytes records
+    confirmed-rows job.sdp name job.tai job.captures job.joined media text files notes is.job_is.tai_most is.job_is.captures_are.few is.media_are is.bytes
+    records
 
 same-some : (a b : List ReportProof) (o : Option (List ReportProof)) → o ≡ Some a → o ≡ Some b → a ≡ b
 same-some a b o e f = cc
@@ -53,7 +57,8 @@ only-told : (bytes : List ℕ) (a b : List ReportProof) → IsReport bytes a →
 only-told bytes a b h k = same-some a b _ h.tells k.tells
 
 -- so the status is 0
-pub report-status : (job : CheckJob) (media : List Media) (text : List ℕ → List ℕ) (name : List ℕ) (files : List (List Record)) (notes : List FileNote) (claims : List ReportProof) (verified : Answer)
+pub report-status : (job : CheckJob) (media : List Media) (text : List ℕ → List ℕ) (name : List ℕ) (files : List (List Record)) (notes : List FileNote)
+    (claims : List ReportProof) (verified : Answer)
     → IsReadable job media text → AreRecords (map text job.captures) files notes
     → IsReport (json_text job media notes (rows_over job.joined job.tai media files)) claims
     → HasReported (reading_back job name) media claims text verified → verified.status ≡ status.Pass

@@ -20,38 +20,45 @@ use Rattle.timing_top.proofs.Answering.{Caused, described-failed, not-given, ok-
 use Rattle.timing_top.proofs.Answering.{same-some, some-described, some-yielded, yielded-failed}
 
 -- what a text that may be a report leads to
-some-on_report : (text : List ℕ) (Next : Answer → List ReportProof → Type 0) → ((claims : List ReportProof) → (answer : Answer) × Next answer claims) → (answer : Answer) × OnReport text (Ok answer) (Next answer)
+some-on_report : (text : List ℕ) (Next : Answer → List ReportProof → Type 0) → ((claims : List ReportProof) → (answer : Answer) × Next answer claims)
+    → (answer : Answer) × OnReport text (Ok answer) (Next answer)
 some-on_report text Next h = decided (report-decided text)
   where
-    decided : ((claims : List ReportProof) × IsReport text claims) ⊎ ((claims : List ReportProof) → ¬ IsReport text claims) → (answer : Answer) × OnReport text (Ok answer) (Next answer)
+    decided : ((claims : List ReportProof) × IsReport text claims) ⊎ ((claims : List ReportProof) → ¬ IsReport text claims) → (answer : Answer)
+        × OnReport text (Ok answer) (Next answer)
     decided (inl some) = let next = h some.0 in (next.0, inr (some.0, some.1, next.1))
     decided (inr none) = (silent status.ReportRefused, inl (none, (silent status.ReportRefused, refl, refl)))
 
-only-on_report : (text : List ℕ) (Next : Answer → List ReportProof → Type 0) (a b : Answer) → ((claims : List ReportProof) → Next a claims → Next b claims → a ≡ b)
+only-on_report : (text : List ℕ) (Next : Answer → List ReportProof → Type 0) (a b : Answer)
+    → ((claims : List ReportProof) → Next a claims → Next b claims → a ≡ b)
     → OnReport text (Ok a) (Next a) → OnReport text (Ok b) (Next b) → a ≡ b
 only-on_report text Next a b once (inl h) (inl k) = only-given (λ answer. answer ≡ silent status.ReportRefused) a b (λ x y p q. only-silent x y _ p q) h.1 k.1
 only-on_report text Next a b once (inl h) (inr k) = absurd (h.0 k.0 k.1)
 only-on_report text Next a b once (inr h) (inl k) = absurd (k.0 h.0 h.1)
 only-on_report text Next a b once (inr h) (inr k) = once h.0 h.2 (subst (Next b) (only-claims text k.0 h.0 k.1 h.1) k.2)
 
-on_report-failed : (text : List ℕ) (Next : List ReportProof → Type 0) (e : Failure) (Rises : Input → Type 0) → ((claims : List ReportProof) → Next claims → Caused e Rises) → OnReport text (Err e) Next → Caused e Rises
+on_report-failed : (text : List ℕ) (Next : List ReportProof → Type 0) (e : Failure) (Rises : Input → Type 0)
+    → ((claims : List ReportProof) → Next claims → Caused e Rises) → OnReport text (Err e) Next → Caused e Rises
 on_report-failed text Next e Rises caused (inl h) = absurd (not-given (λ answer. answer ≡ silent status.ReportRefused) e h.1)
 on_report-failed text Next e Rises caused (inr h) = caused h.0 h.2
 
 -- a report that is read
-some-read : (i : Inputs) (name report : List ℕ) (Next : Answer → List ReportProof → Type 0) → ¬ i.lacks name → i.texts name ≡ Some report → ((claims : List ReportProof) → (answer : Answer) × Next answer claims)
+some-read : (i : Inputs) (name report : List ℕ) (Next : Answer → List ReportProof → Type 0) → ¬ i.lacks name → i.texts name ≡ Some report
+    → ((claims : List ReportProof) → (answer : Answer) × Next answer claims)
     → (answer : Answer) × ReadsReport i (Ok answer) name (Next answer)
 some-read i name report Next there told h =
     let all = some-on_report report Next h in
     (all.0, inr (there, λ text t. subst (λ s. OnReport s (Ok all.0) (Next all.0)) (same-some report text (i.texts name) told t) all.1))
 
-only-read : (i : Inputs) (name report : List ℕ) (Next : Answer → List ReportProof → Type 0) (a b : Answer) → i.texts name ≡ Some report → ((claims : List ReportProof) → Next a claims → Next b claims → a ≡ b)
+only-read : (i : Inputs) (name report : List ℕ) (Next : Answer → List ReportProof → Type 0) (a b : Answer) → i.texts name ≡ Some report
+    → ((claims : List ReportProof) → Next a claims → Next b claims → a ≡ b)
     → ReadsReport i (Ok a) name (Next a) → ReadsReport i (Ok b) name (Next b) → a ≡ b
 only-read i name report Next a b told once (inl h) k = absurd (ok-not-err a _ (Ok a) refl h.0)
 only-read i name report Next a b told once (inr h) (inl k) = absurd (ok-not-err b _ (Ok b) refl k.0)
 only-read i name report Next a b told once (inr h) (inr k) = only-on_report report Next a b once (h.1 report told) (k.1 report told)
 
-read-failed : (i : Inputs) (name report : List ℕ) (Next : List ReportProof → Type 0) (e : Failure) (Rises : Input → Type 0) → i.texts name ≡ Some report → (HasRisen i name → Rises input.Report)
+read-failed : (i : Inputs) (name report : List ℕ) (Next : List ReportProof → Type 0) (e : Failure) (Rises : Input → Type 0) → i.texts name ≡ Some report
+    → (HasRisen i name → Rises input.Report)
     → ((claims : List ReportProof) → Next claims → Caused e Rises) → ReadsReport i (Err e) name Next → Caused e Rises
 read-failed i name report Next e Rises told rises caused (inl h) = inr (input.Report, same-err e _ (Err e) refl h.0, rises h.1)
 read-failed i name report Next e Rises told rises caused (inr h) = on_report-failed report Next e Rises caused (h.1 report told)
@@ -64,7 +71,8 @@ AfterReport job i outcome media claims = ReadsNeeded i outcome job media claims 
 abbrev classic_in : Inputs → List ℕ → List ℕ
 classic_in i name = classic (text_in i.texts name)
 
-some-needed : (job : ReportJob) (i : Inputs) (media : List Media) (claims : List ReportProof) → AreThere i.lacks job.captures → (answer : Answer) × AfterReport job i (Ok answer) media claims
+some-needed : (job : ReportJob) (i : Inputs) (media : List Media) (claims : List ReportProof) → AreThere i.lacks job.captures → (answer : Answer)
+    × AfterReport job i (Ok answer) media claims
 some-needed job i media claims there =
     let found = some-reported job media claims (classic_in i) in (
       found.0,
@@ -78,15 +86,18 @@ some-needed job i media claims there =
         → All (λ claim. All (λ name. classic_in i name ≡ classic (text name)) (needed job media claim)) claims
     classics text told = λ k d within. λ l c among. ap classic (same-needed i.texts text job media claims told k d within l c among)
 
-only-needed : (job : ReportJob) (i : Inputs) (media : List Media) (claims : List ReportProof) (told : List (List ℕ)) (a b : Answer) → AreTold i.texts job.captures told
+only-needed : (job : ReportJob) (i : Inputs) (media : List Media) (claims : List ReportProof) (told : List (List ℕ)) (a b : Answer)
+    → AreTold i.texts job.captures told
     → AfterReport job i (Ok a) media claims → AfterReport job i (Ok b) media claims → a ≡ b
 only-needed job i media claims told a b are (inl h) k = absurd (ok-not-err a _ (Ok a) refl h.1)
 only-needed job i media claims told a b are (inr h) (inl k) = absurd (ok-not-err b _ (Ok b) refl k.1)
 only-needed job i media claims told a b are (inr h) (inr k) =
     let texts = told-needed i.texts job media claims told are in
-    only-given (HasReported job media claims (classic_in i)) a b (only-reported job media claims (classic_in i)) (h.1 (text_in i.texts) texts) (k.1 (text_in i.texts) texts)
+    only-given (HasReported job media claims (classic_in i)) a b (only-reported job media claims (classic_in i)) (h.1 (text_in i.texts) texts)
+    (k.1 (text_in i.texts) texts)
 
-needed-failed : (job : ReportJob) (i : Inputs) (media : List Media) (claims : List ReportProof) (told : List (List ℕ)) (e : Failure) → AreTold i.texts job.captures told
+needed-failed : (job : ReportJob) (i : Inputs) (media : List Media) (claims : List ReportProof) (told : List (List ℕ)) (e : Failure)
+    → AreTold i.texts job.captures told
     → AfterReport job i (Err e) media claims → Caused e (ReportInputRose job i)
 needed-failed job i media claims told e are (inl h) = inr (input.Capture h.0, same-err e _ (Err e) refl h.1, h.2.rose)
 needed-failed job i media claims told e are (inr h) =
@@ -96,18 +107,22 @@ needed-failed job i media claims told e are (inr h) =
 abbrev AfterSession : ReportJob → Inputs → Result Answer Failure → List Media → Type 0
 AfterSession job i outcome media = ReadsReport i outcome job.report (AfterReport job i outcome media)
 
-pub some-reread : (job : ReportJob) (i : Inputs) (texts : List (List ℕ)) → AreThere i.lacks (job.sdp ∷ job.report ∷ job.captures) → AreTold i.texts (job.sdp ∷ job.report ∷ job.captures) texts
+pub some-reread : (job : ReportJob) (i : Inputs) (texts : List (List ℕ)) → AreThere i.lacks (job.sdp ∷ job.report ∷ job.captures)
+    → AreTold i.texts (job.sdp ∷ job.report ∷ job.captures) texts
     → (answer : Answer) × FollowsReport job i (Ok answer)
 some-reread job i [] there told = absurd told
 some-reread job i (sdp ∷ []) there told = absurd told.1
 some-reread job i (sdp ∷ report ∷ texts) there told =
     let later = All-tail (λ n. ¬ i.lacks n) job.sdp (job.report ∷ job.captures) there in
     some-yielded (λ answer. ReadsSession i (Ok answer) job.sdp (AfterSession job i (Ok answer)))
-    (some-described i job.sdp sdp (λ answer media. AfterSession job i (Ok answer) media) (All-head (λ n. ¬ i.lacks n) job.sdp (job.report ∷ job.captures) there) told.0
-    (λ media e. some-read i job.report report (λ answer claims. AfterReport job i (Ok answer) media claims) (All-head (λ n. ¬ i.lacks n) job.report job.captures later) told.1.0
+    (some-described i job.sdp sdp (λ answer media. AfterSession job i (Ok answer) media) (All-head (λ n. ¬ i.lacks n) job.sdp (job.report ∷ job.captures) there)
+    told.0
+    (λ media e. some-read i job.report report (λ answer claims. AfterReport job i (Ok answer) media claims)
+    (All-head (λ n. ¬ i.lacks n) job.report job.captures later) told.1.0
     (λ claims. some-needed job i media claims (All-tail (λ n. ¬ i.lacks n) job.report job.captures later))))
 
-pub only-reread : (job : ReportJob) (i : Inputs) (texts : List (List ℕ)) (a b : Answer) → AreTold i.texts (job.sdp ∷ job.report ∷ job.captures) texts → FollowsReport job i (Ok a) → FollowsReport job i (Ok b) → a ≡ b
+pub only-reread : (job : ReportJob) (i : Inputs) (texts : List (List ℕ)) (a b : Answer) → AreTold i.texts (job.sdp ∷ job.report ∷ job.captures) texts
+    → FollowsReport job i (Ok a) → FollowsReport job i (Ok b) → a ≡ b
 only-reread job i [] a b told h k = absurd told
 only-reread job i (sdp ∷ []) a b told h k = absurd told.1
 only-reread job i (sdp ∷ report ∷ texts) a b told h k =
@@ -116,7 +131,8 @@ only-reread job i (sdp ∷ report ∷ texts) a b told h k =
     (λ media x y. only-read i job.report report (λ answer claims. AfterReport job i (Ok answer) media claims) a b told.1.0
     (λ claims s t. only-needed job i media claims texts a b told.1.1 s t) x y) p q) h k
 
-pub reread-failed : (job : ReportJob) (i : Inputs) (texts : List (List ℕ)) (e : Failure) → AreTold i.texts (job.sdp ∷ job.report ∷ job.captures) texts → FollowsReport job i (Err e) → Caused e (ReportInputRose job i)
+pub reread-failed : (job : ReportJob) (i : Inputs) (texts : List (List ℕ)) (e : Failure) → AreTold i.texts (job.sdp ∷ job.report ∷ job.captures) texts
+    → FollowsReport job i (Err e) → Caused e (ReportInputRose job i)
 reread-failed job i [] e told h = absurd told
 reread-failed job i (sdp ∷ []) e told h = absurd told.1
 reread-failed job i (sdp ∷ report ∷ texts) e told h =

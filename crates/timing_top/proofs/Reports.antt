@@ -19,7 +19,8 @@ same-answer : (a b : Answer) → a.text ≡ b.text → a.status ≡ b.status →
 same-answer a b text status = ap (λ t. record { text = t; status = a.status }) text ∙ ap (λ s. record { text = b.text; status = s }) status
 
 -- there are not two
-pub only-report : (job : CheckJob) (media : List Media) (texts : List (List ℕ)) (a b : Answer) → HasReport job media texts a → HasReport job media texts b → a ≡ b
+pub only-report : (job : CheckJob) (media : List Media) (texts : List (List ℕ)) (a b : Answer) → HasReport job media texts a → HasReport job media texts b → a
+    ≡ b
 only-report job media texts a b h k =
     let same = only-records texts h.files k.files h.notes k.notes h.records k.records in
     let found : rows job media h.files ≡ rows job media k.files = ap (rows job media) same.0 in

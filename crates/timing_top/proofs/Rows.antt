@@ -14,7 +14,7 @@ use Rattle.udp_rtp.specs.Flow.{flow}
 use Rattle.fail_interval.specs.Row.{row}
 use Rattle.fail_interval.specs.Rows.{rows_from, rows_of, rows_of_files, rows_over}
 use Rattle.timing_json.specs.Fails.{FitsVerdict}
-use Rattle.timing_top.specs.ReadBack.{AreBytes}
+use Rattle.pcapng_reader.specs.Bytes.{AreBytes}
 use Rattle.timing_top.proofs.Small.{AreSmall, joined-small, one-small}
 use Rattle.timing_top.proofs.Words.{flow-fits}
 
@@ -28,14 +28,16 @@ keys-from : (tai file number : ℕ) (ms : List Media) (items : List Record) → 
 keys-from tai file number [] items = refl
 keys-from tai file number (m ∷ ms) items = ap (λ l. key_of file number ∷ l) (keys-from tai file (number + 1) ms items)
 
-keys-files : (tai first : ℕ) (media : List Media) (files : List (List Record)) → map key (rows_of_files tai first media files) ≡ keys_of_files first (length files) (length media)
+keys-files : (tai first : ℕ) (media : List Media) (files : List (List Record)) → map key (rows_of_files tai first media files)
+    ≡ keys_of_files first (length files) (length media)
 keys-files tai first media [] = refl
 keys-files tai first media (items ∷ files) =
     map-append key (rows_of tai first media items) (rows_of_files tai (first + 1) media files)
     ∙ ap₂ (λ (k l : List FlowKey). k ++ l) (keys-from tai first 0 media items) (keys-files tai (first + 1) media files)
 
 -- the flows of the rows
-pub keys-over : (b : Bool) (tai : ℕ) (media : List Media) (files : List (List Record)) → map key (rows_over b tai media files) ≡ keys_of b (length files) (length media)
+pub keys-over : (b : Bool) (tai : ℕ) (media : List Media) (files : List (List Record)) → map key (rows_over b tai media files)
+    ≡ keys_of b (length files) (length media)
 keys-over true tai media files = keys-from tai 0 0 media (joined files) ∙ sym (append-nil (keys_of_file 0 0 (length media)))
 keys-over false tai media files = keys-files tai 0 media files
 
@@ -48,7 +50,8 @@ records-length [] (f ∷ fs) notes h = absurd h
 records-length (t ∷ ts) [] notes h = absurd h
 records-length (t ∷ ts) (f ∷ fs) [] h = absurd h
 
-fits-from : (tai file number before most : ℕ) (ms : List Media) (items : List Record) → tai ≤ 1000 → before + most ≤ 2 ^ 40 → All IsMedia ms → AreSmall before most items
+fits-from : (tai file number before most : ℕ) (ms : List Media) (items : List Record) → tai ≤ 1000 → before + most ≤ 2 ^ 40 → All IsMedia ms
+    → AreSmall before most items
     → All Fitting (rows_from tai file number ms items)
 fits-from tai file number before most [] items seconds few are h = All-nil Fitting
 fits-from tai file number before most (m ∷ ms) items seconds few are h =
@@ -56,7 +59,8 @@ fits-from tai file number before most (m ∷ ms) items seconds few are h =
     (flow-fits m tai before most items (All-head IsMedia m ms are) seconds few h)
     (fits-from tai file (number + 1) before most ms items seconds few (All-tail IsMedia m ms are) h)
 
-fits-files : (tai first : ℕ) (media : List Media) (texts : List (List ℕ)) (files : List (List Record)) (notes : List FileNote) → tai ≤ 1000 → All IsMedia media → All AreBytes texts
+fits-files : (tai first : ℕ) (media : List Media) (texts : List (List ℕ)) (files : List (List Record)) (notes : List FileNote) → tai ≤ 1000 → All IsMedia media
+    → All AreBytes texts
     → AreRecords texts files notes → All Fitting (rows_of_files tai first media files)
 fits-files tai first media [] [] [] seconds are bytes h = All-nil Fitting
 fits-files tai first media (t ∷ ts) (f ∷ fs) (n ∷ ns) seconds are bytes h =
@@ -69,7 +73,8 @@ fits-files tai first media (t ∷ ts) [] notes seconds are bytes h = absurd h
 fits-files tai first media (t ∷ ts) (f ∷ fs) [] seconds are bytes h = absurd h
 
 -- the numbers of the rows
-pub rows-fit : (b : Bool) (tai : ℕ) (media : List Media) (texts : List (List ℕ)) (files : List (List Record)) (notes : List FileNote) → tai ≤ 1000 → length texts ≤ 16 → All IsMedia media
+pub rows-fit : (b : Bool) (tai : ℕ) (media : List Media) (texts : List (List ℕ)) (files : List (List Record)) (notes : List FileNote) → tai ≤ 1000
+    → length texts ≤ 16 → All IsMedia media
     → All AreBytes texts → AreRecords texts files notes → All Fitting (rows_over b tai media files)
 rows-fit true tai media texts files notes seconds few are bytes h =
     fits-from tai 0 0 0 (2 ^ 36 * length texts) media (joined files) seconds (omega (arith, few)) are (joined-small 0 texts files notes bytes h)

@@ -42,7 +42,8 @@ not-section number frames flaw = and-false (nat_le 4 (length (capture number fra
 pub classic-capture : (number frames flaw : ℕ) → classic (capture number frames flaw) ≡ capture number frames flaw
 unfolding classic
 classic-capture number frames flaw =
-    ap (λ b. if b then file_head ++ blocks no_section (take (2 ^ 41) (capture number frames flaw)) else capture number frames flaw) (not-section number frames flaw)
+    ap (λ b. if b then file_head ++ blocks no_section (take (2 ^ 41) (capture number frames flaw)) else capture number frames flaw)
+    (not-section number frames flaw)
 
 -- the description is that of the plain media
 pub session-plain : session sdp_text ≡ Ok (plain_media ∷ [])
@@ -111,11 +112,13 @@ pub record OneFound (text : List ℕ) (media : Media) (notes : List FileNote) (f
   pub found_is : found ≡ row ∷ []
   pub row_is : rows_of 0 0 (media ∷ []) items ≡ row ∷ []
 
-pub one-found : (text : List ℕ) (media : Media) (notes : List FileNote) (found : List Row) → AreFound (text ∷ []) (rows_of_files 0 0 (media ∷ [])) notes found → OneFound text media notes found
+pub one-found : (text : List ℕ) (media : Media) (notes : List FileNote) (found : List Row) → AreFound (text ∷ []) (rows_of_files 0 0 (media ∷ [])) notes found
+    → OneFound text media notes found
 unfolding one-row
 one-found text media notes found h = by-files h.files notes h.records h.rows_are
   where
-    by-files : (files : List (List Record)) (notes : List FileNote) → AreRecords (text ∷ []) files notes → found ≡ rows_of_files 0 0 (media ∷ []) files → OneFound text media notes found
+    by-files : (files : List (List Record)) (notes : List FileNote) → AreRecords (text ∷ []) files notes → found ≡ rows_of_files 0 0 (media ∷ []) files
+        → OneFound text media notes found
     by-files [] notes r e = absurd r
     by-files (f ∷ fs) [] r e = absurd r
     by-files (f ∷ []) (n ∷ []) r e =
@@ -136,7 +139,8 @@ pub never-rose : ¬ Rose 0 0
 never-rose h = omega (arith, h)
 
 -- one line more
-pub lines-push : (frames flaw : ℕ) (before line text : List ℕ) → HasLines frames flaw before → HasLine frames flaw line → text ≡ before ++ line → HasLines frames (suc flaw) text
+pub lines-push : (frames flaw : ℕ) (before line text : List ℕ) → HasLines frames flaw before → HasLine frames flaw line → text ≡ before ++ line
+    → HasLines frames (suc flaw) text
 lines-push frames flaw before line text h l e = (before, line, e, h, l)
 
 -- the plain description has no fault
@@ -148,7 +152,8 @@ pub session-is : (media : List Media) → session sdp_text ≡ Ok media → medi
 session-is media h = let plain : session sdp_text ≡ Ok (plain_media ∷ []) = session-plain in cc
 
 -- what was found in a made capture, by what a shelf told before and after each of two steps
-pub found-made : {S : Type 0} (name : S → List ℕ) (left : S → Option (List ℕ)) (faults : S → ℕ) (frames flaw : ℕ) (bytes mid last : List ℕ → List ℕ) (asked : List ℕ) (sources : List S)
+pub found-made : {S : Type 0} (name : S → List ℕ) (left : S → Option (List ℕ)) (faults : S → ℕ) (frames flaw : ℕ) (bytes mid last : List ℕ → List ℕ)
+    (asked : List ℕ) (sources : List S)
     (media listed : List Media) (notes : List FileNote) (found : List Row)
     → bytes (codes "made.pcap") ≡ capture frames frames flaw
     → asked ≡ codes "made.pcap"
@@ -157,15 +162,18 @@ pub found-made : {S : Type 0} (name : S → List ℕ) (left : S → Option (List
     → AreFetched name left faults (classic_texts (λ n. Some (mid n))) (asked ∷ []) sources
     → session sdp_text ≡ Ok media
     → listed ≡ media
-    → ((names texts : List (List ℕ)) → AreFetched name left faults (classic_texts (λ n. Some (last n))) names sources → AreTold (classic_texts (λ n. Some (last n))) names texts
+    → ((names texts : List (List ℕ)) → AreFetched name left faults (classic_texts (λ n. Some (last n))) names sources
+    → AreTold (classic_texts (λ n. Some (last n))) names texts
     → AreFound texts (rows_over false 0 listed) notes found)
     → AreFound (capture frames frames flaw ∷ []) (rows_of_files 0 0 (plain_media ∷ [])) notes found
 found-made name left faults frames flaw bytes mid last asked sources media listed notes found made named early late fetched plain same told =
     let whole : Some (last asked) ≡ Some (capture frames frames flaw) = late asked ∙ early asked ∙ ap (λ n. Some (bytes n)) named ∙ ap Some made in
-    let text : classic_texts (λ n. Some (last n)) asked ≡ Some (capture frames frames flaw) = ap (option_map classic) whole ∙ ap Some (classic-capture frames frames flaw) in
+    let text : classic_texts (λ n. Some (last n)) asked ≡ Some (capture frames frames flaw) = ap (option_map classic) whole ∙ ap Some
+    (classic-capture frames frames flaw) in
     subst (λ (m : List Media). AreFound (capture frames frames flaw ∷ []) (rows_over false 0 m) notes found) (same ∙ session-is media plain)
     (told (asked ∷ []) (capture frames frames flaw ∷ [])
-    (fetched-same name left faults (classic_texts (λ n. Some (mid n))) (classic_texts (λ n. Some (last n))) (asked ∷ []) sources (λ n. ap (option_map classic) (late n)) fetched)
+    (fetched-same name left faults (classic_texts (λ n. Some (mid n))) (classic_texts (λ n. Some (last n))) (asked ∷ []) sources
+    (λ n. ap (option_map classic) (late n)) fetched)
     (text, tt))
 
 -- the line of what was found

@@ -44,27 +44,33 @@ RanFor i o e ends asked = Ran (Follows (Some asked) i) (InputRose (Some asked) i
 
 pub serves-check : (asked : Request) (job : CheckJob) (i : Inputs) (o e : Output) (ends : Status) → asked ≡ request.Check job
     → Ran (FollowsCheck job i) (CheckInputRose job i) o e ends → Ran (Follows (Some asked) i) (InputRose (Some asked) i) o e ends
-serves-check asked job i o e ends is ran = subst (RanFor i o e ends) (sym is) (ran-as (FollowsCheck job i) _ (CheckInputRose job i) _ o e ends (λ r h. h) (λ x h. h) ran)
+serves-check asked job i o e ends is ran =
+    subst (RanFor i o e ends) (sym is) (ran-as (FollowsCheck job i) _ (CheckInputRose job i) _ o e ends (λ r h. h) (λ x h. h) ran)
 
 pub serves-verify : (asked : Request) (job : VerifyJob) (i : Inputs) (o e : Output) (ends : Status) → asked ≡ request.Verify job
     → Ran (FollowsVerify job i) (VerifyInputRose job i) o e ends → Ran (Follows (Some asked) i) (InputRose (Some asked) i) o e ends
-serves-verify asked job i o e ends is ran = subst (RanFor i o e ends) (sym is) (ran-as (FollowsVerify job i) _ (VerifyInputRose job i) _ o e ends (λ r h. h) (λ x h. h) ran)
+serves-verify asked job i o e ends is ran =
+    subst (RanFor i o e ends) (sym is) (ran-as (FollowsVerify job i) _ (VerifyInputRose job i) _ o e ends (λ r h. h) (λ x h. h) ran)
 
 pub serves-report : (asked : Request) (job : ReportJob) (i : Inputs) (o e : Output) (ends : Status) → asked ≡ request.VerifyReport job
     → Ran (FollowsReport job i) (ReportInputRose job i) o e ends → Ran (Follows (Some asked) i) (InputRose (Some asked) i) o e ends
-serves-report asked job i o e ends is ran = subst (RanFor i o e ends) (sym is) (ran-as (FollowsReport job i) _ (ReportInputRose job i) _ o e ends (λ r h. h) (λ x h. h) ran)
+serves-report asked job i o e ends is ran =
+    subst (RanFor i o e ends) (sym is) (ran-as (FollowsReport job i) _ (ReportInputRose job i) _ o e ends (λ r h. h) (λ x h. h) ran)
 
 pub serves-window : (asked : Request) (job : FlowJob) (i : Inputs) (o e : Output) (ends : Status) → asked ≡ request.Window job
     → Ran (FollowsWindow job i) (FlowInputRose job i) o e ends → Ran (Follows (Some asked) i) (InputRose (Some asked) i) o e ends
-serves-window asked job i o e ends is ran = subst (RanFor i o e ends) (sym is) (ran-as (FollowsWindow job i) _ (FlowInputRose job i) _ o e ends (λ r h. h) (λ x h. h) ran)
+serves-window asked job i o e ends is ran =
+    subst (RanFor i o e ends) (sym is) (ran-as (FollowsWindow job i) _ (FlowInputRose job i) _ o e ends (λ r h. h) (λ x h. h) ran)
 
 pub serves-shape : (asked : Request) (job : ShapeJob) (i : Inputs) (o e : Output) (ends : Status) → asked ≡ request.Shape job
     → Ran (FollowsShape job i) (FlowInputRose job.flow i) o e ends → Ran (Follows (Some asked) i) (InputRose (Some asked) i) o e ends
-serves-shape asked job i o e ends is ran = subst (RanFor i o e ends) (sym is) (ran-as (FollowsShape job i) _ (FlowInputRose job.flow i) _ o e ends (λ r h. h) (λ x h. h) ran)
+serves-shape asked job i o e ends is ran =
+    subst (RanFor i o e ends) (sym is) (ran-as (FollowsShape job i) _ (FlowInputRose job.flow i) _ o e ends (λ r h. h) (λ x h. h) ran)
 
 pub serves-skew : (asked : Request) (job : SkewJob) (i : Inputs) (o e : Output) (ends : Status) → asked ≡ request.Skew job
     → Ran (FollowsSkew job i) (SkewInputRose job i) o e ends → Ran (Follows (Some asked) i) (InputRose (Some asked) i) o e ends
-serves-skew asked job i o e ends is ran = subst (RanFor i o e ends) (sym is) (ran-as (FollowsSkew job i) _ (SkewInputRose job i) _ o e ends (λ r h. h) (λ x h. h) ran)
+serves-skew asked job i o e ends is ran =
+    subst (RanFor i o e ends) (sym is) (ran-as (FollowsSkew job i) _ (SkewInputRose job i) _ o e ends (λ r h. h) (λ x h. h) ran)
 
 -- words that are no request
 pub refuses-words : (asked : Option Request) (i : Inputs) (o e : Output) (ends : Status) (answer : Answer) → asked ≡ None → answer ≡ silent status.Usage

@@ -25,7 +25,7 @@ use Rattle.pcap_reader.specs.declared.layout.Order.{Order}
 use Rattle.pcap_reader.specs.declared.layout.Order.TheVariants.{Big, Little}
 use Rattle.udp_rtp.specs.Flow.{datagram_packet, flow, flow_packet}
 use Rattle.udp_rtp.specs.Frames.{Datagram, datagram_of}
-use Rattle.timing_top.specs.ReadBack.{AreBytes}
+use Rattle.pcapng_reader.specs.Bytes.{AreBytes}
 
 -- a place of a text has a byte, or reads 0 past the end
 pub byte-at : (text : List ℕ) (i : ℕ) → AreBytes text → slice_index text i < 256
@@ -48,7 +48,8 @@ more-small : (most more : ℕ) (items : List Record) → most ≤ more → All (
 more-small most more items order h =
     All-weaker (IsSmall most) (IsSmall more) (λ r s. record { number = omega (arith, s.number, order); stamp = s.stamp; bytes = s.bytes }) items h
 
-by-tests : (a b c d : Bool) (x y z w : FileNote) → (if a then (if b then Some x else if c then Some y else if d then Some z else None) else Some w) ≡ None → (a ≡ true) × (c ≡ false)
+by-tests : (a b c d : Bool) (x y z w : FileNote) → (if a then (if b then Some x else if c then Some y else if d then Some z else None) else Some w) ≡ None
+    → (a ≡ true) × (c ≡ false)
 by-tests true true c d x y z w e = cc
 by-tests true false true d x y z w e = cc
 by-tests true false false d x y z w e = (refl, refl)
@@ -80,10 +81,12 @@ record AreFrom (n most place : ℕ) (items : List Record) : Type 0 where
   few : 16 * length items ≤ most - place
   each : All (IsSmall (n + length items)) items
 
-from-small : (l : Layout) (most n place : ℕ) (rest : List ℕ) (items : List Record) (end : FileNote) → AreBytes rest → RecordsFrom l most n place rest items end → AreFrom n most place items
+from-small : (l : Layout) (most n place : ℕ) (rest : List ℕ) (items : List Record) (end : FileNote) → AreBytes rest → RecordsFrom l most n place rest items end
+    → AreFrom n most place items
 from-small l most n place rest [] end bytes h = record { few = omega arith; each = All-nil (IsSmall (n + 0)) }
 from-small l most n place rest (item ∷ items) end bytes h =
-    let later = from-small l most (n + 1) (place + 16 + captured l rest) (drop (16 + captured l rest) rest) items end (All-drop (λ byte. byte < 256) (16 + captured l rest) rest bytes) h.2 in
+    let later = from-small l most (n + 1) (place + 16 + captured l rest) (drop (16 + captured l rest) rest) items end
+    (All-drop (λ byte. byte < 256) (16 + captured l rest) rest bytes) h.2 in
     let here = stands l most n place rest h.0 in
     let at : stamp l rest < 2 ^ 32 * 10 ^ 9 =
     stamp-by l.fraction (seconds l rest) (fraction l rest) (number-small l.order (drop 0 rest) (All-drop (λ byte. byte < 256) 0 rest bytes)) here.fraction in
@@ -103,7 +106,8 @@ pub record AreSmall (before most : ℕ) (items : List Record) : Type 0 where
   pub few : length items ≤ most
   pub each : All (IsSmall (before + most)) items
 
-by-small : (h : Result Layout PcapFault) (text : List ℕ) (items : List Record) (end : FileNote) → AreBytes text → RecordsBy h (2 ^ 40) text items end → AreSmall 0 (2 ^ 36) items
+by-small : (h : Result Layout PcapFault) (text : List ℕ) (items : List Record) (end : FileNote) → AreBytes text → RecordsBy h (2 ^ 40) text items end
+    → AreSmall 0 (2 ^ 36) items
 by-small (Ok l) text items end bytes h =
     let all = from-small l (2 ^ 40) 1 24 (drop 24 text) items end (All-drop (λ byte. byte < 256) 24 text bytes) h in
     record { few = omega (arith, all.few); each = more-small (1 + length items) (0 + 2 ^ 36) items (omega (arith, all.few)) all.each }
@@ -127,7 +131,8 @@ joined-small before (t ∷ ts) (f ∷ fs) (n ∷ ns) bytes h =
       few = omega (arith, length-append (map (raised before) f) (joined_after (before + length f) fs), few, first.few, others.few);
       each = All-append (IsSmall most) (map (raised before) f) (joined_after (before + length f) fs)
           (All-map (IsSmall most) (raised before) f
-          (All-weaker (IsSmall (0 + 2 ^ 36)) (λ r. IsSmall most (raised before r)) (λ r s. record { number = omega (arith, s.number); stamp = s.stamp; bytes = s.bytes }) f first.each))
+          (All-weaker (IsSmall (0 + 2 ^ 36)) (λ r. IsSmall most (raised before r))
+          (λ r s. record { number = omega (arith, s.number); stamp = s.stamp; bytes = s.bytes }) f first.each))
           (more-small (before + length f + 2 ^ 36 * length ts) most (joined_after (before + length f) fs) (omega (arith, first.few)) others.each);
     }
 joined-small before [] [] (n ∷ ns) bytes h = absurd h
@@ -135,7 +140,8 @@ joined-small before [] (f ∷ fs) notes bytes h = absurd h
 joined-small before (t ∷ ts) [] notes bytes h = absurd h
 joined-small before (t ∷ ts) (f ∷ fs) [] bytes h = absurd h
 
-pub cons-all : (P : FlowPacket → Type 0) (o : Option FlowPacket) (ps : List FlowPacket) → ((p : FlowPacket) → o ≡ Some p → P p) → All P ps → All P (cons_option o ps)
+pub cons-all : (P : FlowPacket → Type 0) (o : Option FlowPacket) (ps : List FlowPacket) → ((p : FlowPacket) → o ≡ Some p → P p) → All P ps
+    → All P (cons_option o ps)
 cons-all P None ps here h = h
 cons-all P (Some p) ps here h = All-cons P p ps (here p refl) h
 
@@ -164,6 +170,7 @@ flow-few m [] = omega arith
 flow-few m (r ∷ rs) = omega (arith, cons-few (flow_packet m r) (flow rs m), flow-few m rs)
 
 -- so each flow is judged in whole groups
-pub flow-grouped : (m : Media) (tai before most : ℕ) (items : List Record) → tai ≤ 1000 → most ≤ 2 ^ 40 → AreSmall before most items → IsGroupedVerdict (judged (flow items m) m.pt tai)
+pub flow-grouped : (m : Media) (tai before most : ℕ) (items : List Record) → tai ≤ 1000 → most ≤ 2 ^ 40 → AreSmall before most items
+    → IsGroupedVerdict (judged (flow items m) m.pt tai)
 flow-grouped m tai before most items seconds few h =
     judged-grouped (flow items m) m.pt tai (omega (arith, flow-few m items, h.few, few)) seconds (flow-stamped m (before + most) items h.each)

@@ -31,18 +31,24 @@ pub fed-few : (most : ℕ) (old new : Bank) → TakesFew Feeds most old new → 
 fed-few most old new t = (t.items, t.taken)
 
 -- media with these numbers are below a count
-rows-within : (tai file number count : ℕ) (media : List Media) (items : List Record) → number + length media ≤ count → All (λ (row : Row). row.key.media < count) (rows_from tai file number media items)
+rows-within : (tai file number count : ℕ) (media : List Media) (items : List Record) → number + length media ≤ count
+    → All (λ (row : Row). row.key.media < count) (rows_from tai file number media items)
 rows-within tai file number count [] items h = All-nil (λ (row : Row). row.key.media < count)
 rows-within tai file number count (m ∷ ms) items h =
-    All-cons (λ (row : Row). row.key.media < count) _ (rows_from tai file (number + 1) ms items) (omega (arith, h)) (rows-within tai file (number + 1) count ms items (omega (arith, h)))
+    All-cons (λ (row : Row). row.key.media < count) _ (rows_from tai file (number + 1) ms items) (omega (arith, h))
+    (rows-within tai file (number + 1) count ms items (omega (arith, h)))
 
 -- rows of the media of a session are put to rows of the session
-pub rows-of_session : (tai file : ℕ) (media : List Media) (items : List Record) (old new : List Row) → new ≡ old ++ rows_of tai file media items → AreOfSession media old → AreOfSession media new
+pub rows-of_session : (tai file : ℕ) (media : List Media) (items : List Record) (old new : List Row) → new ≡ old ++ rows_of tai file media items
+    → AreOfSession media old → AreOfSession media new
 rows-of_session tai file media items old new e h =
-    subst (AreOfSession media) (sym e) (All-append (λ (row : Row). row.key.media < length media) old (rows_of tai file media items) h (rows-within tai file 0 (length media) media items (omega arith)))
+    subst (AreOfSession media) (sym e)
+    (All-append (λ (row : Row). row.key.media < length media) old (rows_of tai file media items) h
+    (rows-within tai file 0 (length media) media items (omega arith)))
 
 -- a capture that was taken into a fresh bank has these rows, and its note
-pub finds-next : (text : List ℕ) (media : List Media) (tai file : ℕ) (old new : Bank) (taken : Taken) (old_notes new_notes : List FileNote) (old_rows new_rows : List Row)
+pub finds-next : (text : List ℕ) (media : List Media) (tai file : ℕ) (old new : Bank) (taken : Taken) (old_notes new_notes : List FileNote)
+    (old_rows new_rows : List Row)
     → TakesText Feeds text 0 old new taken → StandsFor media file tai old [] → new_notes ≡ old_notes ++ taken.note ∷ []
     → ((items : List Record) → StandsFor media file tai new items → new_rows ≡ old_rows ++ rows_of tai file media items)
     → FindsNext text media tai file old_notes new_notes old_rows new_rows
@@ -66,7 +72,8 @@ rows-push tai first media (x ∷ xs) items =
     ∙ ap (λ f. (rows_of tai first media x ++ rows_of_files tai (first + 1) media xs) ++ rows_of tai f media items) (sym same)
 
 -- nothing was judged yet
-pub found-none : (media : List Media) (tai : ℕ) (notes : List FileNote) (found : List Row) → notes ≡ [] → found ≡ [] → AreFound [] (rows_of_files tai 0 media) notes found
+pub found-none : (media : List Media) (tai : ℕ) (notes : List FileNote) (found : List Row) → notes ≡ [] → found ≡ []
+    → AreFound [] (rows_of_files tai 0 media) notes found
 found-none media tai notes found no_notes no_rows = record { files = []; records = subst (AreRecords [] []) (sym no_notes) tt; rows_are = no_rows }
 
 -- one capture more was judged
@@ -75,7 +82,8 @@ pub found-more : (texts : List (List ℕ)) (text : List ℕ) (media : List Media
     → AreFound (texts ++ text ∷ []) (rows_of_files tai 0 media) new_notes new_rows
 found-more texts text media tai old_notes new_notes old_rows new_rows found next = record {
   files = found.files ++ next.items ∷ [];
-  records = subst (AreRecords (texts ++ text ∷ []) (found.files ++ next.items ∷ [])) (sym next.notes) (records-push texts found.files old_notes text next.items next.note found.records next.records);
+  records = subst (AreRecords (texts ++ text ∷ []) (found.files ++ next.items ∷ [])) (sym next.notes)
+      (records-push texts found.files old_notes text next.items next.note found.records next.records);
   rows_are =
       let same : 0 + length found.files ≡ length found.files = omega arith in
       next.rows ∙ ap (λ l. l ++ rows_of tai (length old_notes) media next.items) found.rows_are
@@ -92,29 +100,36 @@ joined-push before [] items =
     append-nil (map (raised before) items) ∙ sym (ap (λ n. map (raised n) items) same)
 joined-push before (f ∷ fs) items =
     let long : length (map (raised before) f ++ joined_after (before + length f) fs) ≡ length f + length (joined_after (before + length f) fs) =
-    length-append (map (raised before) f) (joined_after (before + length f) fs) ∙ ap (λ n. n + length (joined_after (before + length f) fs)) (length-map f (raised before)) in
-    let same : before + length (map (raised before) f ++ joined_after (before + length f) fs) ≡ (before + length f) + length (joined_after (before + length f) fs) = omega (arith, long) in
+    length-append (map (raised before) f) (joined_after (before + length f) fs) ∙ ap (λ n. n + length (joined_after (before + length f) fs))
+    (length-map f (raised before)) in
+    let same : before + length (map (raised before) f ++ joined_after (before + length f) fs) ≡ (before + length f)
+    + length (joined_after (before + length f) fs) = omega (arith, long) in
     ap (λ l. map (raised before) f ++ l) (joined-push (before + length f) fs items)
-    ∙ sym (append_assoc (map (raised before) f) (joined_after (before + length f) fs) (map (raised ((before + length f) + length (joined_after (before + length f) fs))) items))
+    ∙ sym (append_assoc (map (raised before) f) (joined_after (before + length f) fs)
+    (map (raised ((before + length f) + length (joined_after (before + length f) fs))) items))
     ∙ ap (λ n. (map (raised before) f ++ joined_after (before + length f) fs) ++ map (raised n) items) (sym same)
 
 -- no capture was taken yet
-pub joined-none : (media : List Media) (tai : ℕ) (notes : List FileNote) (bank : Bank) → notes ≡ [] → StandsFor media 0 tai bank [] → AreJoined [] media tai notes 0 bank
+pub joined-none : (media : List Media) (tai : ℕ) (notes : List FileNote) (bank : Bank) → notes ≡ [] → StandsFor media 0 tai bank []
+    → AreJoined [] media tai notes 0 bank
 joined-none media tai notes bank no_notes stands = record { files = []; records = subst (AreRecords [] []) (sym no_notes) tt; count_is = refl; stands = stands }
 
 -- one capture more was taken
 pub joined-more : (texts : List (List ℕ)) (text : List ℕ) (media : List Media) (tai before after : ℕ) (old new : Bank) (old_notes new_notes : List FileNote)
-    → AreJoined texts media tai old_notes before old → JoinsNext text before after old new old_notes new_notes → AreJoined (texts ++ text ∷ []) media tai new_notes after new
+    → AreJoined texts media tai old_notes before old → JoinsNext text before after old new old_notes new_notes
+    → AreJoined (texts ++ text ∷ []) media tai new_notes after new
 joined-more texts text media tai before after old new old_notes new_notes done next =
     let more : joined (done.files ++ next.takes.items ∷ []) ≡ joined done.files ++ map (raised before) next.takes.items =
     let same : 0 + length (joined done.files) ≡ before = omega (arith, done.count_is) in
     joined-push 0 done.files next.takes.items ∙ ap (λ n. joined done.files ++ map (raised n) next.takes.items) same in
     record {
       files = done.files ++ next.takes.items ∷ [];
-      records = subst (AreRecords (texts ++ text ∷ []) (done.files ++ next.takes.items ∷ [])) (sym next.notes) (records-push texts done.files old_notes text next.takes.items next.taken.note done.records next.takes.records);
+      records = subst (AreRecords (texts ++ text ∷ []) (done.files ++ next.takes.items ∷ [])) (sym next.notes)
+          (records-push texts done.files old_notes text next.takes.items next.taken.note done.records next.takes.records);
       count_is =
           let long : length (joined (done.files ++ next.takes.items ∷ [])) ≡ length (joined done.files) + length next.takes.items =
-          ap length more ∙ length-append (joined done.files) (map (raised before) next.takes.items) ∙ ap (λ n. length (joined done.files) + n) (length-map next.takes.items (raised before)) in
+          ap length more ∙ length-append (joined done.files) (map (raised before) next.takes.items) ∙ ap (λ n. length (joined done.files) + n)
+          (length-map next.takes.items (raised before)) in
           omega (arith, long, next.count, next.takes.count, done.count_is);
       stands = subst (StandsFor media 0 tai new) (sym more) (next.takes.fed media 0 tai (joined done.files) done.stands);
     }
@@ -123,10 +138,12 @@ joined-more texts text media tai before after old new old_notes new_notes done n
 pub found-joined : (texts : List (List ℕ)) (media : List Media) (tai count : ℕ) (notes : List FileNote) (bank : Bank) (found : List Row)
     → AreJoined texts media tai notes count bank → ((items : List Record) → StandsFor media 0 tai bank items → found ≡ rows_of tai 0 media items)
     → AreFound texts (λ files. rows_of tai 0 media (joined files)) notes found
-found-joined texts media tai count notes bank found done rows_are = record { files = done.files; records = done.records; rows_are = rows_are (joined done.files) done.stands }
+found-joined texts media tai count notes bank found done rows_are =
+    record { files = done.files; records = done.records; rows_are = rows_are (joined done.files) done.stands }
 
 -- rows that come behind none
-pub rows-alone : (tai : ℕ) (media : List Media) (items : List Record) (old new : List Row) → old ≡ [] → new ≡ old ++ rows_of tai 0 media items → new ≡ rows_of tai 0 media items
+pub rows-alone : (tai : ℕ) (media : List Media) (items : List Record) (old new : List Row) → old ≡ [] → new ≡ old ++ rows_of tai 0 media items → new
+    ≡ rows_of tai 0 media items
 rows-alone tai media items old new none e = e ∙ ap (λ l. l ++ rows_of tai 0 media items) none
 
 -- the rows of a job, by whether its captures are joined
@@ -147,14 +164,20 @@ found-unless_joined texts job media notes found is h = record {
 }
 
 -- the same of a capture that may not have been read
-pub found-if_read : (o : Result (Unit {0}) Failure) (left : Option (List ℕ)) (media : List Media) (tai : ℕ) (old_notes new_notes : List FileNote) (old_rows new_rows : List Row)
+pub found-if_read : (o : Result (Unit {0}) Failure) (left : Option (List ℕ)) (media : List Media) (tai : ℕ) (old_notes new_notes : List FileNote)
+    (old_rows new_rows : List Row)
     → IfOk o (λ _. (text : List ℕ) → left ≡ Some text → FindsNext text media tai (length old_notes) old_notes new_notes old_rows new_rows)
-    → IfOk o (λ _. (read : List (List ℕ)) (text : List ℕ) → left ≡ Some text → AreFound read (rows_of_files tai 0 media) old_notes old_rows → AreFound (read ++ text ∷ []) (rows_of_files tai 0 media) new_notes new_rows)
-found-if_read (Ok u) left media tai old_notes new_notes old_rows new_rows h = λ read text whole found. found-more read text media tai old_notes new_notes old_rows new_rows found (h text whole)
+    → IfOk o (λ _. (read : List (List ℕ)) (text : List ℕ) → left ≡ Some text → AreFound read (rows_of_files tai 0 media) old_notes old_rows
+    → AreFound (read ++ text ∷ []) (rows_of_files tai 0 media) new_notes new_rows)
+found-if_read (Ok u) left media tai old_notes new_notes old_rows new_rows h = λ read text whole found. found-more read text media tai old_notes new_notes
+    old_rows new_rows found (h text whole)
 found-if_read (Err e) left media tai old_notes new_notes old_rows new_rows h = tt
 
-pub joined-if_read : (o : Result (Unit {0}) Failure) (left : Option (List ℕ)) (media : List Media) (tai before after : ℕ) (old new : Bank) (old_notes new_notes : List FileNote)
+pub joined-if_read : (o : Result (Unit {0}) Failure) (left : Option (List ℕ)) (media : List Media) (tai before after : ℕ) (old new : Bank)
+    (old_notes new_notes : List FileNote)
     → IfOk o (λ _. (text : List ℕ) → left ≡ Some text → JoinsNext text before after old new old_notes new_notes)
-    → IfOk o (λ _. (read : List (List ℕ)) (text : List ℕ) → left ≡ Some text → AreJoined read media tai old_notes before old → AreJoined (read ++ text ∷ []) media tai new_notes after new)
-joined-if_read (Ok u) left media tai before after old new old_notes new_notes h = λ read text whole done. joined-more read text media tai before after old new old_notes new_notes done (h text whole)
+    → IfOk o (λ _. (read : List (List ℕ)) (text : List ℕ) → left ≡ Some text → AreJoined read media tai old_notes before old
+    → AreJoined (read ++ text ∷ []) media tai new_notes after new)
+joined-if_read (Ok u) left media tai before after old new old_notes new_notes h = λ read text whole done. joined-more read text media tai before after old new
+    old_notes new_notes done (h text whole)
 joined-if_read (Err e) left media tai before after old new old_notes new_notes h = tt

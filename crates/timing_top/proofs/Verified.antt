@@ -22,7 +22,8 @@ prints-json : (job : CheckJob) (media : List Media) (texts : List (List ℕ)) (a
 prints-json job media texts answer json h =
     h.text_is ∙ ap (λ b. if b then json_text job media h.notes (rows job media h.files) else report_text job media h.notes (rows job media h.files)) json
 
-pub answer-told : (job : CheckJob) (media : List Media) (text : List ℕ → List ℕ) (answer : Answer) → IsReadable job media text → job.json ≡ true → length answer.text ≤ 16777216
+pub answer-told : (job : CheckJob) (media : List Media) (text : List ℕ → List ℕ) (answer : Answer) → IsReadable job media text → job.json ≡ true
+    → length answer.text ≤ 16777216
     → (h : HasReport job media (map text job.captures) answer) → IsReport answer.text (fails_of (rows job media h.files))
 answer-told job media text answer is json few h =
     let e = prints-json job media (map text job.captures) answer json h in
@@ -33,8 +34,10 @@ pub answer-confirmed : (job : CheckJob) (media : List Media) (text : List ℕ �
     → (h : HasReport job media (map text job.captures) answer) → All (IsConfirmed (reading_back job name) media text) (fails_of (rows job media h.files))
 answer-confirmed job media text name answer is h = report-confirmed job media text name h.files h.notes is h.records
 
-pub answer-status : (job : CheckJob) (media : List Media) (text : List ℕ → List ℕ) (name : List ℕ) (answer : Answer) (claims : List ReportProof) (verified : Answer) → IsReadable job media text
-    → job.json ≡ true → HasReport job media (map text job.captures) answer → IsReport answer.text claims → HasReported (reading_back job name) media claims text verified
+pub answer-status : (job : CheckJob) (media : List Media) (text : List ℕ → List ℕ) (name : List ℕ) (answer : Answer) (claims : List ReportProof)
+    (verified : Answer) → IsReadable job media text
+    → job.json ≡ true → HasReport job media (map text job.captures) answer → IsReport answer.text claims → HasReported (reading_back job name) media claims text
+    verified
     → verified.status ≡ status.Pass
 answer-status job media text name answer claims verified is json h told reported =
     let e = prints-json job media (map text job.captures) answer json h in

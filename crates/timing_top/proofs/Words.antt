@@ -44,7 +44,7 @@ use Rattle.fail_interval.specs.Row.{judged_values, run_of, run_verdict_of, verdi
 use Rattle.fail_interval.proofs.Confirmed.{fail-confirms}
 use Rattle.timing_json.specs.Fails.{AreWords, FitsJudged, FitsKind, FitsRun, FitsRunVerdict, FitsVerdict, IsWord}
 use Rattle.timing_json.proofs.Limits.{c_max_small, vrx_full_small}
-use Rattle.timing_top.specs.ReadBack.{AreBytes}
+use Rattle.pcapng_reader.specs.Bytes.{AreBytes}
 use Rattle.timing_top.proofs.Small.{AreSmall, IsSmall, byte-at, cons-all, flow-few, flow-stamped, if-some}
 
 -- the numbers that a fault tells of a gap
@@ -78,7 +78,8 @@ read-case false false c r h = record { number = omega arith; fault = tt }
 
 read-small : (payload : List ℕ) → AreBytes payload → IsRead (reading payload)
 read-small payload h =
-    read-case (nat_lt (length payload) 12) (slice_index payload 0 / 64 == 2) (nat_lt (length payload) (payload_place payload + 2)) (rtp_at payload (payload_place payload))
+    read-case (nat_lt (length payload) 12) (slice_index payload 0 / 64 == 2) (nat_lt (length payload) (payload_place payload + 2))
+    (rtp_at payload (payload_place payload))
     (omega (arith, number16-small payload (payload_place payload) h, number16-small payload 2 h))
 
 packet-if : (m : Media) (most number at : ℕ) (frame : List ℕ) (e : ℕ) (b : Bool) (p : FlowPacket) → AreBytes frame → number ≤ most
@@ -162,14 +163,33 @@ bucket-low m n stamps i h = omega (arith, count-low (ticks_at m n stamps) i, h)
 held-low : (m : Media) (n : ℕ) (stamps : List ℕ) (gapped : Bool) (i : ℕ) → i < length stamps → held_at m n stamps gapped i ≤ length stamps
 held-low m n stamps gapped i h = omega (arith, h)
 
-words-by : (m : Media) (n : ℕ) (stamps : List ℕ) (kind : Kind) (f : FailProof) (model : Broken) → IsMedia m → n ≤ 262144 → length stamps < 2 ^ 41 → f.from ≤ f.to → f.to < length stamps
+words-by : (m : Media) (n : ℕ) (stamps : List ℕ) (kind : Kind) (f : FailProof) (model : Broken) → IsMedia m → n ≤ 262144 → length stamps < 2 ^ 41 → f.from
+    ≤ f.to → f.to < length stamps
     → BreaksLimit m n stamps kind f model → AreWords f
 words-by m n stamps kind f Bucket is few long order within b =
-    record { from = omega (arith, order, within, long); to = omega (arith, within, long); count = omega (arith, b.1, order, within, long); limit = omega (arith, b.0, c_max_small m n kind is few) }
+    record {
+      from = omega (arith, order, within, long);
+      to = omega (arith, within, long);
+      count = omega (arith, b.1, order, within, long);
+      limit =
+          omega (arith, b.0, c_max_small m n kind is few);
+    }
 words-by m n stamps kind f Over is few long order within b =
-    record { from = omega (arith, order, within, long); to = omega (arith, within, long); count = omega (arith, b.2, order, within, long); limit = omega (arith, b.0, vrx_full_small m n kind is few) }
+    record {
+      from = omega (arith, order, within, long);
+      to = omega (arith, within, long);
+      count = omega (arith, b.2, order, within, long);
+      limit =
+          omega (arith, b.0, vrx_full_small m n kind is few);
+    }
 words-by m n stamps kind f Empty is few long order within b =
-    record { from = omega (arith, order, within, long); to = omega (arith, within, long); count = omega (arith, b.0, b.3, within, long); limit = omega (arith, b.0, within, long) }
+    record {
+      from = omega (arith, order, within, long);
+      to = omega (arith, within, long);
+      count = omega (arith, b.0, b.3, within, long);
+      limit =
+          omega (arith, b.0, within, long);
+    }
 
 kind-fits : (m : Media) (j : JudgedRun) (kind : Kind) (v : KindVerdict) → IsMedia m → IsGrouped j → kind_verdict m j.n j.stamps kind ≡ v → FitsKind v
 kind-fits m j kind Pass is g e = tt
@@ -221,10 +241,12 @@ either-low false x y most h k = k
 head-low : (packets : List FlowPacket) (from to : ℕ) → head_len (markers packets from to) from to ≤ to + 1
 head-low packets from to =
     let marks = markers packets from to in
-    either-low (length marks == 0) (to - from) (slice_index marks 0 + 1 - from) (to + 1) (omega arith) (omega (arith, first-low marks to (places-low _ from to)))
+    either-low (length marks == 0) (to - from) (slice_index marks 0 + 1 - from) (to + 1) (omega arith)
+    (omega (arith, first-low marks to (places-low _ from to)))
 
 outcome-case : (m : Media) (b : Bool) (head : ℕ) (j : JudgedRun) → IsMedia m → IsWord head → IsWord j.head → IsWord j.tail
-    → IsGroupedOutcome (if b then no_whole_frame head else whole_frames j) → FitsRunVerdict (run_verdict_of m (if b then no_whole_frame head else whole_frames j))
+    → IsGroupedOutcome (if b then no_whole_frame head else whole_frames j)
+    → FitsRunVerdict (run_verdict_of m (if b then no_whole_frame head else whole_frames j))
 outcome-case m true head j is h hj tj g = h
 outcome-case m false head j is h hj tj g = judged-fits m j is g hj tj
 
@@ -232,7 +254,8 @@ outcome-fits : (m : Media) (packets : List FlowPacket) (tai from to : ℕ) → I
     → FitsRunVerdict (run_verdict_of m (run_outcome packets tai from to))
 outcome-fits m packets tai from to is few g =
     let head : IsWord (head_len (markers packets from to) from to) = omega (arith, head-low packets from to, few) in
-    outcome-case m (nat_lt (length (markers packets from to)) 2) (head_len (markers packets from to) from to) (judged_run packets tai from to) is head head (omega (arith, few)) g
+    outcome-case m (nat_lt (length (markers packets from to)) 2) (head_len (markers packets from to) from to) (judged_run packets tai from to) is head head
+    (omega (arith, few)) g
 
 one-case : (m : Media) (o : RunOutcome) → FitsRunVerdict (run_verdict_of m o) → FitsVerdict (verdict_of m (in_one_run o))
 one-case m (no_whole_frame head) h = h
@@ -253,34 +276,40 @@ run-fits m most packets tai from to is few small low g =
       outcome = outcome-fits m packets tai from to is low g;
     }
 
-runs-fit : (m : Media) (most : ℕ) (packets : List FlowPacket) (tai to from : ℕ) (cs : List ℕ) → IsMedia m → most ≤ 2 ^ 41 → All (IsSmallPacket most) packets → to ≤ 2 ^ 41 → All (λ k. k < to) cs
+runs-fit : (m : Media) (most : ℕ) (packets : List FlowPacket) (tai to from : ℕ) (cs : List ℕ) → IsMedia m → most ≤ 2 ^ 41 → All (IsSmallPacket most) packets
+    → to ≤ 2 ^ 41 → All (λ k. k < to) cs
     → All (λ run. IsGroupedOutcome run.outcome) (runs_between packets tai to from cs) → All FitsRun (map (run_of m) (runs_between packets tai to from cs))
 runs-fit m most packets tai to from [] is few small low cut g =
     All-cons FitsRun (run_of m (run_at packets tai from to)) []
-    (run-fits m most packets tai from to is few small low (All-head (λ (run : FlowRun). IsGroupedOutcome run.outcome) (run_at packets tai from to) [] g)) (All-nil FitsRun)
+    (run-fits m most packets tai from to is few small low (All-head (λ (run : FlowRun). IsGroupedOutcome run.outcome) (run_at packets tai from to) [] g))
+    (All-nil FitsRun)
 runs-fit m most packets tai to from (c ∷ cs) is few small low cut g =
     let P : FlowRun → Type 0 = λ run. IsGroupedOutcome run.outcome in
     let here : c < to = All-head (λ k. k < to) c cs cut in
     All-cons FitsRun (run_of m (run_at packets tai from c)) (map (run_of m) (runs_between packets tai to c cs))
     (run-fits m most packets tai from c is few small (omega (arith, here, low)) (All-head P (run_at packets tai from c) (runs_between packets tai to c cs) g))
-    (runs-fit m most packets tai to c cs is few small low (All-tail (λ k. k < to) c cs cut) (All-tail P (run_at packets tai from c) (runs_between packets tai to c cs) g))
+    (runs-fit m most packets tai to c cs is few small low (All-tail (λ k. k < to) c cs cut)
+    (All-tail P (run_at packets tai from c) (runs_between packets tai to c cs) g))
 
 expects : (m : Media) (rs : List FlowRun) → ExpectsAfterFirst rs → ExpectAfterFirst (map (run_of m) rs)
 expects m [] h = tt
 expects m (r ∷ rs) h = (h.0, All-map (λ (run : Run). IsSome run.expected) (run_of m) rs h.1)
 
-runs-case : (m : Media) (b : Bool) (o : RunOutcome) (rs : List FlowRun) → (IsGroupedOutcome o → FitsRunVerdict (run_verdict_of m o)) → (AreGrouped rs → All FitsRun (map (run_of m) rs))
+runs-case : (m : Media) (b : Bool) (o : RunOutcome) (rs : List FlowRun) → (IsGroupedOutcome o → FitsRunVerdict (run_verdict_of m o))
+    → (AreGrouped rs → All FitsRun (map (run_of m) rs))
     → IsGroupedVerdict (if b then in_one_run o else in_runs rs) → FitsVerdict (verdict_of m (if b then in_one_run o else in_runs rs))
 runs-case m true o rs one many g = one-case m o (one g)
 runs-case m false o rs one many g =
     let size : length (map (run_of m) rs) ≡ length rs = length-map rs (run_of m) in
     (record { some = omega (arith, size, g.some); few = omega (arith, size, g.few); expected = expects m rs g.expected }, many g)
 
-fault-of : (most : ℕ) (packets : List FlowPacket) (pt : ℕ) (x : FirstFault) → All (IsSmallPacket most) packets → first_fault packets pt ≡ Some x → FitsFault x.fault
+fault-of : (most : ℕ) (packets : List FlowPacket) (pt : ℕ) (x : FirstFault) → All (IsSmallPacket most) packets → first_fault packets pt ≡ Some x
+    → FitsFault x.fault
 fault-of most packets pt x small e = subst FitsFirst (first_fault-is packets pt x e).has (fault-fits most packets pt x.index small)
 
 refused-case : (m : Media) (packets : List FlowPacket) (first : Option FirstFault) (v : FlowVerdict) → ((i : ℕ) → IsWord (packet packets i).rec)
-    → ((x : FirstFault) → first ≡ Some x → FitsFault x.fault) → (first ≡ None → FitsVerdict (verdict_of m v)) → FitsVerdict (verdict_of m (refused_or packets first v))
+    → ((x : FirstFault) → first ≡ Some x → FitsFault x.fault) → (first ≡ None → FitsVerdict (verdict_of m v))
+    → FitsVerdict (verdict_of m (refused_or packets first v))
 refused-case m packets (Some x) v rec f h = refusal-fits m (packet packets x.index).rec x.fault (rec x.index) (f x refl)
 refused-case m packets None v rec f h = h refl
 
@@ -289,7 +318,8 @@ judged-case m true v h = tt
 judged-case m false v h = h
 
 -- the verdict on a flow
-verdict-fits : (m : Media) (most tai : ℕ) (packets : List FlowPacket) → IsMedia m → tai ≤ 1000 → most ≤ 2 ^ 41 → length packets < 2 ^ 41 → AreStamped packets → All (IsSmallPacket most) packets
+verdict-fits : (m : Media) (most tai : ℕ) (packets : List FlowPacket) → IsMedia m → tai ≤ 1000 → most ≤ 2 ^ 41 → length packets < 2 ^ 41 → AreStamped packets
+    → All (IsSmallPacket most) packets
     → FitsVerdict (verdict_of m (judged packets m.pt tai))
 verdict-fits m most tai packets is seconds few long stamped small =
     judged-case m (length packets == 0) _
@@ -298,7 +328,8 @@ verdict-fits m most tai packets is seconds few long stamped small =
     (λ x e. fault-of most packets m.pt x small e)
     (λ e. runs-case m (length (cuts packets (length packets)) == 0) (run_outcome packets tai 0 (length packets)) (runs packets tai)
     (λ g. outcome-fits m packets tai 0 (length packets) is (omega (arith, long)) g)
-    (λ g. runs-fit m most packets tai (length packets) 0 (cuts packets (length packets)) is few small (omega (arith, long)) (places-low (is_cut packets) 0 (length packets)) g.outcomes)
+    (λ g. runs-fit m most packets tai (length packets) 0 (cuts packets (length packets)) is few small (omega (arith, long))
+    (places-low (is_cut packets) 0 (length packets)) g.outcomes)
     (unfaulted-grouped packets m.pt tai long seconds stamped e)))
 
 -- the verdict on a flow of small records

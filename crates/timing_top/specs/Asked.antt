@@ -55,4 +55,5 @@ names_of other = []
 
 -- what was seen of a shelf that tells by a test which names it lacks; the laws speak of such shelves
 abbrev pub seen : (texts : List ℕ → Option (List ℕ)) → (lacking : List ℕ → Bool) → (before now : List ℕ → ℕ) → Inputs
-seen texts lacking before now = record { texts = texts; lacks = λ name. IsTrue (lacking name); before = before; now = now }
+seen texts lacking before now =
+    record { texts = texts; lacks = λ name. IsTrue (lacking name); before = before; now = now }

@@ -1,4 +1,5 @@
--- What a report says of the sender types, in the terms of the standard (SMPTE ST 2110-21): a type passes exactly where the judged
+-- What a report says of the sender types, in the terms of the standard (SMPTE ST 2110-21): a type passes exactly where
+-- the judged
 -- packets keep its limits, and its fail names an interval that shows why they don't. Files and media count from 0.
 use Rattle.std.specs.Prelude.{◌≡◌, ℕ, Bool, true, false, List, [], ◌∷◌, Option, Some, slice_get}
 use Rattle.timing_base.specs.Captures.{Record, joined as joined_records}
@@ -59,9 +60,10 @@ AreRecordsOf true files file items = items ≡ joined_records files
 AreRecordsOf false files file items = slice_get files file ≡ Some items
 
 -- a row tells of the flow of its media in its file
-pub record IsExactRow (joined : Bool) (tai : ℕ) (media : List Media) (files : List (List Record)) (row : Row) : Type 0 where
-  pub m : Media
-  pub media_is : slice_get media row.key.media ≡ Some m
-  pub items : List Record
-  pub items_are : AreRecordsOf joined files row.key.file items
-  pub tells : TellsFlow m (judged (flow items m) m.pt tai) row.verdict
+pub record IsExactRow (joined : Bool) (tai : ℕ) (media : List Media) (files : List (List Record)) (row : Row) : Type 0
+  where
+    pub m : Media
+    pub media_is : slice_get media row.key.media ≡ Some m
+    pub items : List Record
+    pub items_are : AreRecordsOf joined files row.key.file items
+    pub tells : TellsFlow m (judged (flow items m) m.pt tai) row.verdict

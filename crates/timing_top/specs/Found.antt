@@ -23,9 +23,11 @@ use Rattle.timing_steps.specs.Taken.{TakesText}
 use Rattle.timing_steps.specs.declared.failure.Failure.{Failure}
 use Rattle.timing_top.specs.declared.captures.Found.{Found}
 
--- the description of a job is there and was read as the session of these media, and these are the sources of its captures,
+-- the description of a job is there and was read as the session of these media, and these are the sources of its
+-- captures,
 -- each whole and without a fault
-pub record IsOpened {S : Type 0} (name : S → List ℕ) (left : S → Option (List ℕ)) (faults : S → ℕ) (job : CheckJob) (i : Inputs) (media : List Media) (sources : List S) : Type 0 where
+pub record IsOpened {S : Type 0} (name : S → List ℕ) (left : S → Option (List ℕ)) (faults : S → ℕ) (job : CheckJob)
+    (i : Inputs) (media : List Media) (sources : List S) : Type 0 where
   pub there : ¬ i.lacks job.sdp
   pub told : (text : List ℕ) → i.texts job.sdp ≡ Some text → session text ≡ Ok media
   pub targets : HaveOwnTargets media
@@ -37,17 +39,21 @@ pub record IsOpened {S : Type 0} (name : S → List ℕ) (left : S → Option (L
 -- what the judging of captures comes to. Where their texts are told, what was found has these rows; there is a note for
 -- each capture, and the rows are of the session's media. Where nothing was found, memory ran out, or the count of a
 -- capture's name rose
-pub record IsJudged {S : Type 0} (name : S → List ℕ) (left : S → Option (List ℕ)) (faults : S → ℕ) (i : Inputs) (sources : List S)
+pub record IsJudged {S : Type 0} (name : S → List ℕ) (left : S → Option (List ℕ)) (faults : S → ℕ) (i : Inputs)
+    (sources : List S)
     (rows : List (List Record) → List Row) (media : List Media) (outcome : Result Found Failure) : Type 0 where
-  pub told : IfOk outcome (λ found. (names texts : List (List ℕ)) → AreFetched name left faults (classic_texts i.texts) names sources
+  pub told : IfOk outcome
+      (λ found. (names texts : List (List ℕ)) → AreFetched name left faults (classic_texts i.texts) names sources
       → AreTold (classic_texts i.texts) names texts → AreFound texts rows found.notes.items found.rows.items)
   pub count : IfOk outcome (λ found. length found.notes.items ≡ length sources)
   pub of_session : IfOk outcome (λ found. AreOfSession media found.rows.items)
   pub cause : (names : List (List ℕ)) → AreFetched name left faults (classic_texts i.texts) names sources
-      → IfErr outcome (λ e. OnReadFault e (λ x. (number : ℕ) × (x ≡ input.Capture number) × CaptureRose i.before i.now names number))
+      → IfErr outcome (λ e.
+      OnReadFault e (λ x. (number : ℕ) × (x ≡ input.Capture number) × CaptureRose i.before i.now names number))
 
 -- one capture more was judged by itself: its note and its rows stand at the ends
-pub record FindsNext (text : List ℕ) (media : List Media) (tai file : ℕ) (old_notes new_notes : List FileNote) (old_rows new_rows : List Row) : Type 0 where
+pub record FindsNext (text : List ℕ) (media : List Media) (tai file : ℕ) (old_notes new_notes : List FileNote)
+    (old_rows new_rows : List Row) : Type 0 where
   pub items : List Record
   pub note : FileNote
   pub records : Records text (2 ^ 40) items note
@@ -55,14 +61,16 @@ pub record FindsNext (text : List ℕ) (media : List Media) (tai file : ℕ) (ol
   pub rows : new_rows ≡ old_rows ++ rows_of tai file media items
 
 -- one capture more was taken behind so many records: its note stands at the end, and its records are counted
-pub record JoinsNext (text : List ℕ) (before after : ℕ) (old new : Bank) (old_notes new_notes : List FileNote) : Type 0 where
-  pub taken : Taken
-  pub takes : TakesText Feeds text before old new taken
-  pub notes : new_notes ≡ old_notes ++ taken.note ∷ []
-  pub count : after ≡ before + taken.records
+pub record JoinsNext (text : List ℕ) (before after : ℕ) (old new : Bank) (old_notes new_notes : List FileNote) : Type 0
+  where
+    pub taken : Taken
+    pub takes : TakesText Feeds text before old new taken
+    pub notes : new_notes ≡ old_notes ++ taken.note ∷ []
+    pub count : after ≡ before + taken.records
 
 -- the captures of these texts were taken as one: how they end, their count of records, and the bank that was fed them
-pub record AreJoined (texts : List (List ℕ)) (media : List Media) (tai : ℕ) (notes : List FileNote) (count : ℕ) (bank : Bank) : Type 0 where
+pub record AreJoined (texts : List (List ℕ)) (media : List Media) (tai : ℕ) (notes : List FileNote) (count : ℕ)
+    (bank : Bank) : Type 0 where
   pub files : List (List Record)
   pub records : AreRecords texts files notes
   pub count_is : count ≡ length (joined files)

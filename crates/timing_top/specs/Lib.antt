@@ -4,6 +4,7 @@ pub mod Check
 pub mod Report
 pub mod SelfTest
 -- what the laws say of reports
+pub mod Headline
 pub mod Exact
 pub mod ReadBack
 -- what judging and reporting say to each other

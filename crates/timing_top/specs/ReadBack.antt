@@ -1,17 +1,16 @@
 -- Reports that are read back by `verify-report`.
-use Rattle.std.specs.Prelude.{◌<◌, ℕ, List, map, All, IsUtf8}
+use Rattle.std.specs.Prelude.{ℕ, List, map, All, IsUtf8}
 use Rattle.timing_base.specs.Jobs.{CheckJob, IsCheckJob, ReportJob}
 use Rattle.timing_base.specs.Media.{IsMedia, IsSession, Media}
+use Rattle.pcapng_reader.specs.Bytes.{AreBytes}
 
 -- the job of `verify-report` on the report of this name, over the description and the captures that the report is of
 abbrev pub reading_back : CheckJob → (name : List ℕ) → ReportJob
-reading_back job name = record { sdp = job.sdp; report = name; tai = job.tai; captures = job.captures; joined = job.joined }
+reading_back job name =
+    record { sdp = job.sdp; report = name; tai = job.tai; captures = job.captures; joined = job.joined }
 
--- each number of the text is a byte
-abbrev pub AreBytes : List ℕ → Type 0
-AreBytes text = All (λ byte. byte < 256) text
-
--- what a report is made of is within its limits: the job, a session of these media, and captures that have these texts by
+-- what a report is made of is within its limits: the job, a session of these media, and captures that have these texts
+-- by
 -- their names
 pub record IsReadable (job : CheckJob) (media : List Media) (text : List ℕ → List ℕ) : Type 0 where
   pub job_is : IsCheckJob job

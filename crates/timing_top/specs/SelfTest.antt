@@ -36,7 +36,8 @@ pub record HasLine (frames flaw : ℕ) (line : List ℕ) : Type 0 where
 -- the lines of the captures with the flaws below a number, in order
 abbrev pub HasLines : (frames count : ℕ) → List ℕ → Type 0
 HasLines frames zero text = text ≡ []
-HasLines frames (suc flaw) text = (before : List ℕ) × (line : List ℕ) × (text ≡ before ++ line) × HasLines frames flaw before × HasLine frames flaw line
+HasLines frames (suc flaw) text = (before : List ℕ) × (line : List ℕ) × (text ≡ before ++ line)
+    × HasLines frames flaw before × HasLine frames flaw line
 
 -- the lines of the flaws 0 to 4, with status 0
 pub record HasSelfTest (frames : ℕ) (answer : Answer) : Type 0 where

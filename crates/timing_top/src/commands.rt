@@ -90,9 +90,8 @@ pub fn run<R: Wait + Threads + Sync, H: Shelf, K: Sink, G: Gate>(
     gate: &G,
 ) -> Status
     // What the texts of the request define was printed with its status, or nothing was and the status
-    // says why: an input couldn't be read whose count rose, a write failed, or memory ran out. That in the
-    // report of `check` a type passes exactly where bucket and buffer keep their limits, and that each fail
-    // is confirmed, is said of these definitions by `laws::types_are_exact`.
+    // says why: an input couldn't be read whose count rose, a write failed, or memory ran out. What that is
+    // for `check`, in the words of the standard and in one sentence, is the theorem `laws::headline`.
     ensures ran { Ran
         (Follows (request (map string_bytes words.now)) (seen_of H.Shelf shelf.old shelf.new))
         (InputRose (request (map string_bytes words.now)) (seen_of H.Shelf shelf.old shelf.new))

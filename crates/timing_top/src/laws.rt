@@ -1,32 +1,41 @@
 //! What holds of the definitions themselves. Each function is a theorem: it does nothing, and its
 //! clauses are proved.
 
-ghost use Rattle.std.specs.Prelude.{◌≡◌, ◌⊎◌, [], ◌∷◌, ℕ, Bool, List, All, Option, Ok, Err, false, ◌≤◌, length, true, map};
+ghost use Rattle.std.specs.Prelude.{◌≡◌, ◌⊎◌, [], ◌∷◌, ℕ, Bool, List, All, Option, Some, None, Result, Ok, Err, false, ◌≤◌, length, true, map};
 ghost use Rattle.timing_base.specs.Examples.{plain_media};
 ghost use Rattle.timing_base.specs.declared.job.Request.{Request};
+ghost use Rattle.timing_base.specs.declared.job.Request.TheVariants as asks;
 ghost use Rattle.sdp_reader.specs.Session.{session};
 ghost use Rattle.capture_gen.specs.Sdp.{sdp_text};
 ghost use Rattle.timing_report.specs.declared.status.Input.{Input as InputValue};
-ghost use Rattle.timing_steps.specs.Answers.{Answer, AreTold};
+ghost use Rattle.timing_steps.specs.Answers.{Answer, AreTold, seen_of};
+ghost use Rattle.timing_steps.specs.Ran.{Output, Ran};
 ghost use Rattle.timing_steps.specs.declared.failure.Failure.{Failure};
 ghost use Rattle.timing_steps.specs.declared.failure.Failure.TheVariants as failure;
 ghost use Rattle.timing_top.specs.Asked.{Follows, InputRose, names_of, seen};
+ghost use Rattle.timing_top.specs.Check.{FollowsCheck};
+ghost use Rattle.timing_top.specs.Headline.{Headline, NoRequest, with_workers};
 ghost use Rattle.timing_top.specs.SelfTest.{HasSelfTest};
+ghost use Rattle.timing_words.specs.Request.{request};
 ghost use Rattle.timing_base.specs.Jobs.{CheckJob, IsCheckJob};
 ghost use Rattle.timing_base.specs.Media.{Media, IsMedia};
 ghost use Rattle.timing_top.specs.Report.{HasReport, rows};
 ghost use Rattle.timing_base.specs.Captures.{Record};
 ghost use Rattle.timing_base.specs.declared.capture.FileNote.{FileNote};
 ghost use Rattle.pcap_reader.specs.Records.{AreRecords};
+ghost use Rattle.pcapng_reader.specs.Bytes.{AreBytes};
 ghost use Rattle.fail_interval.specs.Rows.{rows_over};
 ghost use Rattle.timing_json.specs.Fails.{FitsVerdict, fails_of};
 ghost use Rattle.timing_json.specs.Json.{json_text};
 ghost use Rattle.timing_json.specs.Reading.{IsReport};
 ghost use Rattle.timing_json.specs.declared.reading.ReportProof.{ReportProof};
+ghost use Rattle.timing_report.specs.declared.status.Status.{Status};
 ghost use Rattle.timing_report.specs.declared.status.Status.TheVariants as status;
 ghost use Rattle.timing_verify.specs.Asked.{FindsOf, HasReported, media_for};
 ghost use Rattle.timing_top.specs.Exact.{IsExactRow};
-ghost use Rattle.timing_top.specs.ReadBack.{AreBytes, IsReadable, reading_back};
+ghost use Rattle.timing_top.specs.ReadBack.{IsReadable, reading_back};
+
+use timing_outside::Shelf;
 
 /// `selftest` prints one text: there is one, and there are not two.
 pub fn one_self_test()
@@ -136,4 +145,35 @@ pub fn report_verifies()
         → HasReport job media (map text job.captures) answer → IsReport answer.text claims
         → HasReported (reading_back job name) media claims text verified
         → verified.status ≡ status.Pass }
+{}
+
+/// The number of workers is in no report, and in nothing that `check` follows, over any shelf.
+pub fn same_for_all_workers<H: Shelf>()
+    ensures report { (job : CheckJob) (workers : ℕ) (media : List Media) (texts : List (List ℕ))
+        (answer : Answer) → HasReport job media texts answer
+        → HasReport (with_workers workers job) media texts answer }
+    ensures follows { (job : CheckJob) (workers : ℕ) (old new : H) (outcome : Result Answer Failure)
+        → FollowsCheck job (seen_of H.Shelf old new) outcome
+        → FollowsCheck (with_workers workers job) (seen_of H.Shelf old new) outcome }
+{}
+
+/// What a run of `check` leaves and how it ends, whatever its words, the description and the bytes of the
+/// captures are, over any shelf, with every number of workers, and however their threads take turns; and what
+/// it leaves on words that are no request. The run is one of which the clause `ran` of `crate::run` holds: that
+/// clause is the last premise, word for word.
+pub fn headline<H: Shelf>()
+    ensures check { (words : List (List ℕ)) (job : CheckJob) (sdp : List ℕ) (captures : List (List ℕ))
+        (old new : H) (out err : Output) (ends : Status)
+        → request words ≡ Some (asks.Check job)
+        → H.text old job.sdp ≡ Some sdp
+        → AreTold (H.text old) job.captures captures
+        → All AreBytes captures
+        → Ran (Follows (request words) (seen_of H.Shelf old new))
+        (InputRose (request words) (seen_of H.Shelf old new)) out err ends
+        → Headline job sdp captures (seen_of H.Shelf old new) out ends }
+    ensures no_request { (words : List (List ℕ)) (old new : H) (out err : Output) (ends : Status)
+        → request words ≡ None
+        → Ran (Follows (request words) (seen_of H.Shelf old new))
+        (InputRose (request words) (seen_of H.Shelf old new)) out err ends
+        → NoRequest out ends }
 {}

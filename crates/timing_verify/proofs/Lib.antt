@@ -4,4 +4,5 @@ mod Following
 mod Needing
 mod Reports
 mod Seeing
+mod Served
 pub mod Unique

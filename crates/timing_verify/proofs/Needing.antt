@@ -20,7 +20,8 @@ use Rattle.timing_verify.specs.Verified.{reported}
 use Rattle.timing_verify.specs.declared.checked.Checked.{Checked}
 
 -- names that have these texts are told them
-told-texts : (texts : List ℕ → Option (List ℕ)) (text : List ℕ → List ℕ) (names : List (List ℕ)) → AreTexts texts text names → AreTold texts names (map text names)
+told-texts : (texts : List ℕ → Option (List ℕ)) (text : List ℕ → List ℕ) (names : List (List ℕ)) → AreTexts texts text names
+    → AreTold texts names (map text names)
 told-texts texts text [] h = tt
 told-texts texts text (n ∷ ns) h =
     (All-head (λ name. texts name ≡ Some (text name)) n ns h, told-texts texts text ns (All-tail (λ name. texts name ≡ Some (text name)) n ns h))
@@ -39,59 +40,53 @@ joined-captures : (job : ReportJob) (key : FlowKey) → job.joined ≡ true → 
 joined-captures job key e = ap (λ b. if b then job.captures else slice_index_or job.captures key.file [] ∷ []) e
 
 -- the names that were fetched are the captures of the flow
-pub apart-names : (job : ReportJob) (key : FlowKey) → job.joined ≡ false → key.file < length job.captures → slice_range job.captures key.file (key.file + 1) ≡ captures_of job key
+pub apart-names : (job : ReportJob) (key : FlowKey) → job.joined ≡ false → key.file < length job.captures → slice_range job.captures key.file (key.file + 1)
+    ≡ captures_of job key
 apart-names job key apart within = one-name job.captures key.file within ∙ sym (apart-captures job key apart)
 
 pub joined-names : (job : ReportJob) (key : FlowKey) → job.joined ≡ true → job.captures ≡ captures_of job key
 joined-names job key joined = sym (joined-captures job key joined)
 
--- what was found over those names is found in the captures of the flow
-pub finds-captures : (texts : List ℕ → Option (List ℕ)) (job : ReportJob) (media : Media) (claim : ReportProof) (names : List (List ℕ)) (tai : ℕ) (found : Result (Result Bool Unjudged) Failure) → names ≡ captures_of job claim.key → tai ≡ job.tai
-    → IfOk found (λ finding. (read : List (List ℕ)) → AreTold texts names read → Finds media claim tai read finding)
-    → IfOk found (λ finding. (text : List ℕ → List ℕ) → AreTexts texts text (captures_of job claim.key) → Finds media claim job.tai (map text (captures_of job claim.key)) finding)
-finds-captures texts job media claim names tai (Ok finding) e same h = λ text told.
-    subst (λ (t : ℕ). Finds media claim t (map text (captures_of job claim.key)) finding) same
-    (h (map text (captures_of job claim.key)) (subst (λ (l : List (List ℕ)). AreTold texts l (map text (captures_of job claim.key))) (sym e) (told-texts texts text (captures_of job claim.key) told)))
-finds-captures texts job media claim names tai (Err failed) e same h = tt
-
--- what is found of a claim whose flow is there
-pub told-there : (texts : List ℕ → Option (List ℕ)) (job : ReportJob) (media : List Media) (m : Media) (claim : ReportProof) (found : Result (Result Bool Unjudged) Failure) → media_for job media claim.key ≡ Some m
-    → IfOk found (λ finding. (text : List ℕ → List ℕ) → AreTexts texts text (captures_of job claim.key) → Finds m claim job.tai (map text (captures_of job claim.key)) finding)
-    → IfOk found (λ finding. (text : List ℕ → List ℕ) → AreTexts texts text (needed job media claim) → FindsOf (media_for job media claim.key) job claim text finding)
-told-there texts job media m claim found e h =
-    subst (λ (o : Option Media). IfOk found (λ finding. (text : List ℕ → List ℕ) → AreTexts texts text (captures_for o job claim.key) → FindsOf o job claim text finding)) (sym e) h
-
--- the same of a shelf that is seen later
-pub checked-seen : (texts also : List ℕ → Option (List ℕ)) (lacks later : List ℕ → Type 0) (job : ReportJob) (media : List Media) (checked : Checked) → ((n : List ℕ) → also n ≡ texts n) → ((n : List ℕ) → lacks n → later n)
-    → IsChecked also later job media checked → IsChecked texts lacks job media checked
-checked-seen texts also lacks later job media checked same kept h = record {
-  there = λ k d within lack. h.there k d within (kept _ lack);
-  finds = λ text told. h.finds text (λ k d within. same _ ∙ told k d within);
-}
+-- what is said of the texts of those names is said of the captures
+pub told-captures : {A : Type 0} (texts : List ℕ → Option (List ℕ)) (P : A → List (List ℕ) → Type 0) (names captures : List (List ℕ)) (found : Result A Failure)
+    → names ≡ captures → IfOk found (λ a. (read : List (List ℕ)) → AreTold texts names read → P a read)
+    → IfOk found (λ a. (text : List ℕ → List ℕ) → AreTexts texts text captures → P a (map text captures))
+told-captures texts P names captures (Ok a) e h = λ text told.
+    h (map text captures) (subst (λ (l : List (List ℕ)). AreTold texts l (map text captures)) (sym e) (told-texts texts text captures told))
+told-captures texts P names captures (Err failed) e h = tt
 
 -- of all claims, as of all that were checked
 pub unmapped : (P : ReportProof → Type 0) (checked : List Checked) → All P (map (λ c. c.claim) checked) → All (λ (c : Checked). P c.claim) checked
 unmapped P [] h = All-nil (λ (c : Checked). P c.claim)
-unmapped P (c ∷ cs) h = All-cons (λ (x : Checked). P x.claim) c cs (All-head P c.claim (map (λ x. x.claim) cs) h) (unmapped P cs (All-tail P c.claim (map (λ x. x.claim) cs) h))
+unmapped P (c ∷ cs) h = All-cons (λ (x : Checked). P x.claim) c cs (All-head P c.claim (map (λ x. x.claim) cs) h)
+    (unmapped P cs (All-tail P c.claim (map (λ x. x.claim) cs) h))
 
 -- texts as classic captures
-texts-classic : (texts : List ℕ → Option (List ℕ)) (text : List ℕ → List ℕ) (names : List (List ℕ)) → AreTexts texts text names → AreTexts (classic_texts texts) (λ name. classic (text name)) names
-texts-classic texts text names h = All-weaker (λ name. texts name ≡ Some (text name)) (λ name. classic_texts texts name ≡ Some (classic (text name))) (λ n e. ap (option_map classic) e) names h
+texts-classic : (texts : List ℕ → Option (List ℕ)) (text : List ℕ → List ℕ) (names : List (List ℕ)) → AreTexts texts text names
+    → AreTexts (classic_texts texts) (λ name. classic (text name)) names
+texts-classic texts text names h = All-weaker (λ name. texts name ≡ Some (text name)) (λ name. classic_texts texts name ≡ Some (classic (text name)))
+    (λ n e. ap (option_map classic) e) names h
 
 -- the answer on what was checked over a shelf of classic captures
-pub follows-checked : (i : Inputs) (job : ReportJob) (media : List Media) (claims : List ReportProof) (checked : List Checked) (answer : Answer) → map (λ c. c.claim) checked ≡ claims
+pub follows-checked : (i : Inputs) (job : ReportJob) (media : List Media) (claims : List ReportProof) (checked : List Checked) (answer : Answer)
+    → map (λ c. c.claim) checked ≡ claims
     → All (IsChecked (classic_texts i.texts) i.lacks job media) checked → answer ≡ reported checked
     → Yields (Ok answer) (ReadsNeeded i (Ok answer) job media claims (λ text. Gives (Ok answer) (HasReported job media claims text)))
 follows-checked i job media claims checked answer told all is = inr (inr (
   subst (All (λ claim. AreThere i.lacks (needed job media claim))) told
       (All-map (λ claim. AreThere i.lacks (needed job media claim)) (λ (c : Checked). c.claim) checked (λ k d within. (all k d within).there)),
   λ text texts.
-      let each = unmapped (λ claim. AreTexts i.texts text (needed job media claim)) checked (subst (All (λ claim. AreTexts i.texts text (needed job media claim))) (sym told) texts) in (
+      let each = unmapped (λ claim. AreTexts i.texts text (needed job media claim)) checked
+      (subst (All (λ claim. AreTexts i.texts text (needed job media claim))) (sym told) texts) in (
         answer,
         refl,
         record {
           checked = checked;
-          are = record { claims_are = told; each = λ k d within. (all k d within).finds (λ name. classic (text name)) (texts-classic i.texts text _ (each k d within)) };
+          are = record {
+            claims_are = told;
+            each = λ k d within. (all k d within).finds (λ name. classic (text name))
+                (texts-classic i.texts text _ (each k d within));
+          };
           answer_is = is;
         },
       ),

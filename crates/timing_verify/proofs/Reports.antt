@@ -15,7 +15,8 @@ report-front text bytes claims e h = elim (cases_lt 16777216 (length text)) as (
   | inr short ↦ subst (λ (l : List ℕ). IsReport l claims) (e ∙ take_all 16777217 text (omega (arith, short))) h
 ]
 
-pub no-report-front : (text bytes : List ℕ) → bytes ≡ take 16777217 text → ((claims : List ReportProof) → ¬ IsReport bytes claims) → (claims : List ReportProof) → ¬ IsReport text claims
+pub no-report-front : (text bytes : List ℕ) → bytes ≡ take 16777217 text → ((claims : List ReportProof) → ¬ IsReport bytes claims) → (claims : List ReportProof)
+    → ¬ IsReport text claims
 no-report-front text bytes e none claims h =
     none claims (subst (λ (l : List ℕ). IsReport l claims) (sym (e ∙ take_all 16777217 text (few-enough (length text) h.few))) h)
   where

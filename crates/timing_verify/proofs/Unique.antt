@@ -64,13 +64,16 @@ four-decided P Q R S (inl p) (inl q) (inr r) s = inr (λ h. r h.2)
 four-decided P Q R S (inl p) (inl q) (inl r) (inr s) = inr (λ h. s h.3)
 four-decided P Q R S (inl p) (inl q) (inl r) (inl s) = inl (p, q, r, s)
 
-breaks-decided : (m : Media) (n : ℕ) (stamps : List ℕ) (kind : Kind) (f : FailProof) (model : Broken) → BreaksLimit m n stamps kind f model ⊎ (BreaksLimit m n stamps kind f model → ⊥)
+breaks-decided : (m : Media) (n : ℕ) (stamps : List ℕ) (kind : Kind) (f : FailProof) (model : Broken) → BreaksLimit m n stamps kind f model
+    ⊎ (BreaksLimit m n stamps kind f model → ⊥)
 breaks-decided m n stamps kind f Bucket =
     three-decided _ _ _ (eq-decided f.limit (c_max_of m n kind)) (eq-decided f.count (load_of m n stamps f.from f.to)) (lt-decided f.limit f.count)
 breaks-decided m n stamps kind f Over =
-    four-decided _ _ _ _ (eq-decided f.limit (vrx_full_of m n kind)) (eq-decided f.from 0) (eq-decided f.count (held_at m n stamps (gapped_of kind) f.to)) (lt-decided f.limit f.count)
+    four-decided _ _ _ _ (eq-decided f.limit (vrx_full_of m n kind)) (eq-decided f.from 0) (eq-decided f.count (held_at m n stamps (gapped_of kind) f.to))
+    (lt-decided f.limit f.count)
 breaks-decided m n stamps kind f Empty =
-    four-decided _ _ _ _ (eq-decided f.limit (f.to + 1)) (eq-decided f.from f.to) (eq-decided f.count (arrived_by_read m n stamps kind f.to)) (lt-decided f.count f.limit)
+    four-decided _ _ _ _ (eq-decided f.limit (f.to + 1)) (eq-decided f.from f.to) (eq-decided f.count (arrived_by_read m n stamps kind f.to))
+    (lt-decided f.count f.limit)
 
 -- a fail is confirmed or isn't
 confirms-decided : (m : Media) (n : ℕ) (stamps : List ℕ) (kind : Kind) (f : FailProof) → Confirms m n stamps kind f ⊎ (Confirms m n stamps kind f → ⊥)
@@ -84,7 +87,8 @@ confirms-decided m n stamps kind f = together (le-decided f.from f.to) (lt-decid
     together (inl p) (inl q) (inl r) = inl (record { ordered = p; judged = q; breaks = r })
 
 -- something is said of each run
-some-judged : (m : Media) (kind : Kind) (f : FailProof) (j : JudgedRun) → Confirms m j.n j.stamps kind f ⊎ (Confirms m j.n j.stamps kind f → ⊥) → (finding : Result Bool Unjudged) × SaysJudged m kind f j finding
+some-judged : (m : Media) (kind : Kind) (f : FailProof) (j : JudgedRun) → Confirms m j.n j.stamps kind f ⊎ (Confirms m j.n j.stamps kind f → ⊥)
+    → (finding : Result Bool Unjudged) × SaysJudged m kind f j finding
 some-judged m kind f j (inl confirms) = (Ok true, confirms)
 some-judged m kind f j (inr denies) = (Ok false, denies)
 
@@ -92,7 +96,8 @@ some-outcome : (m : Media) (kind : Kind) (f : FailProof) (outcome : RunOutcome) 
 some-outcome m kind f (no_whole_frame head) = (Err (NoWholeFrame head), refl)
 some-outcome m kind f (whole_frames j) = some-judged m kind f j (confirms-decided m j.n j.stamps kind f)
 
-some-at : (m : Media) (kind : Kind) (f : FailProof) (outcomes : List RunOutcome) (run : ℕ) → (finding : Result Bool Unjudged) × SaysAt m kind f outcomes run finding
+some-at : (m : Media) (kind : Kind) (f : FailProof) (outcomes : List RunOutcome) (run : ℕ) → (finding : Result Bool Unjudged)
+    × SaysAt m kind f outcomes run finding
 some-at m kind f [] run = (Ok false, refl)
 some-at m kind f (outcome ∷ rest) zero = some-outcome m kind f outcome
 some-at m kind f (outcome ∷ rest) (suc run) = some-at m kind f rest run
@@ -114,32 +119,38 @@ only-judged m kind f j (Ok true) (Err why) h k = absurd k
 only-judged m kind f j (Ok false) (Err why) h k = absurd k
 only-judged m kind f j (Err why) b h k = absurd h
 
-only-outcome : (m : Media) (kind : Kind) (f : FailProof) (outcome : RunOutcome) (a b : Result Bool Unjudged) → SaysOutcome m kind f outcome a → SaysOutcome m kind f outcome b → a ≡ b
+only-outcome : (m : Media) (kind : Kind) (f : FailProof) (outcome : RunOutcome) (a b : Result Bool Unjudged) → SaysOutcome m kind f outcome a
+    → SaysOutcome m kind f outcome b → a ≡ b
 only-outcome m kind f (no_whole_frame head) a b h k = h ∙ sym k
 only-outcome m kind f (whole_frames j) a b h k = only-judged m kind f j a b h k
 
-only-at : (m : Media) (kind : Kind) (f : FailProof) (outcomes : List RunOutcome) (run : ℕ) (a b : Result Bool Unjudged) → SaysAt m kind f outcomes run a → SaysAt m kind f outcomes run b → a ≡ b
+only-at : (m : Media) (kind : Kind) (f : FailProof) (outcomes : List RunOutcome) (run : ℕ) (a b : Result Bool Unjudged) → SaysAt m kind f outcomes run a
+    → SaysAt m kind f outcomes run b → a ≡ b
 only-at m kind f [] run a b h k = h ∙ sym k
 only-at m kind f (outcome ∷ rest) zero a b h k = only-outcome m kind f outcome a b h k
 only-at m kind f (outcome ∷ rest) (suc run) a b h k = only-at m kind f rest run a b h k
 
-only-said : (m : Media) (kind : Kind) (f : FailProof) (run : ℕ) (v : FlowVerdict) (a b : Result Bool Unjudged) → Says m kind f run v a → Says m kind f run v b → a ≡ b
+only-said : (m : Media) (kind : Kind) (f : FailProof) (run : ℕ) (v : FlowVerdict) (a b : Result Bool Unjudged) → Says m kind f run v a → Says m kind f run v b
+    → a ≡ b
 only-said m kind f run absent a b h k = h ∙ sym k
 only-said m kind f run (refused rec fault) a b h k = h ∙ sym k
 only-said m kind f run (gap rec expected got) a b h k = h ∙ sym k
 only-said m kind f run (in_one_run outcome) a b h k = only-at m kind f (outcome ∷ []) run a b h k
 only-said m kind f run (in_runs runs) a b h k = only-at m kind f (map (λ r. r.outcome) runs) run a b h k
 
-pub some-finding : (media : Media) (claim : ReportProof) (tai : ℕ) (texts : List (List ℕ)) → (finding : Result Bool Unjudged) × Finds media claim tai texts finding
+pub some-finding : (media : Media) (claim : ReportProof) (tai : ℕ) (texts : List (List ℕ)) → (finding : Result Bool Unjudged)
+    × Finds media claim tai texts finding
 some-finding media claim tai texts =
     let all = some-records texts in
     let said = some-said media claim.kind claim.proof claim.run (judged (flow (joined all.0) media) media.pt tai) in
     (said.0, record { files = all.0; notes = all.1; records = all.2; says = said.1 })
 
-pub only-finding : (media : Media) (claim : ReportProof) (tai : ℕ) (texts : List (List ℕ)) (a b : Result Bool Unjudged) → Finds media claim tai texts a → Finds media claim tai texts b → a ≡ b
+pub only-finding : (media : Media) (claim : ReportProof) (tai : ℕ) (texts : List (List ℕ)) (a b : Result Bool Unjudged) → Finds media claim tai texts a
+    → Finds media claim tai texts b → a ≡ b
 only-finding media claim tai texts a b h k =
     only-said media claim.kind claim.proof claim.run (judged (flow (joined k.files) media) media.pt tai) a b
-    (subst (λ (files : List (List Record)). Says media claim.kind claim.proof claim.run (judged (flow (joined files) media) media.pt tai) a) (only-records texts h.files k.files h.notes k.notes h.records k.records).0 h.says)
+    (subst (λ (files : List (List Record)). Says media claim.kind claim.proof claim.run (judged (flow (joined files) media) media.pt tai) a)
+    (only-records texts h.files k.files h.notes k.notes h.records k.records).0 h.says)
     k.says
 
 -- `verify`
@@ -148,16 +159,19 @@ some-verified job media texts =
     let found = some-finding media (claim_of job) job.tai texts in
     (verified found.0, record { finding = found.0; finds = found.1; answer_is = refl })
 
-pub only-verified : (job : VerifyJob) (media : Media) (texts : List (List ℕ)) (a b : Answer) → HasVerified job media texts a → HasVerified job media texts b → a ≡ b
+pub only-verified : (job : VerifyJob) (media : Media) (texts : List (List ℕ)) (a b : Answer) → HasVerified job media texts a → HasVerified job media texts b → a
+    ≡ b
 only-verified job media texts a b h k =
     h.answer_is ∙ ap verified (only-finding media (claim_of job) job.tai texts h.finding k.finding h.finds k.finds) ∙ sym k.answer_is
 
 -- a fail of a report
-some-of : (there : Option Media) (job : ReportJob) (claim : ReportProof) (text : List ℕ → List ℕ) → (finding : Result Bool Unjudged) × FindsOf there job claim text finding
+some-of : (there : Option Media) (job : ReportJob) (claim : ReportProof) (text : List ℕ → List ℕ) → (finding : Result Bool Unjudged)
+    × FindsOf there job claim text finding
 some-of None job claim text = (Ok false, refl)
 some-of (Some media) job claim text = some-finding media claim job.tai (map text (captures_of job claim.key))
 
-only-of : (there : Option Media) (job : ReportJob) (claim : ReportProof) (text : List ℕ → List ℕ) (a b : Result Bool Unjudged) → FindsOf there job claim text a → FindsOf there job claim text b → a ≡ b
+only-of : (there : Option Media) (job : ReportJob) (claim : ReportProof) (text : List ℕ → List ℕ) (a b : Result Bool Unjudged) → FindsOf there job claim text a
+    → FindsOf there job claim text b → a ≡ b
 only-of None job claim text a b h k = h ∙ sym k
 only-of (Some media) job claim text a b h k = only-finding media claim job.tai (map text (captures_of job claim.key)) a b h k
 
@@ -165,7 +179,8 @@ only-of (Some media) job claim text a b h k = only-finding media claim job.tai (
 abbrev FindsChecked : ReportJob → List Media → (List ℕ → List ℕ) → Checked → Type 0
 FindsChecked job media text c = FindsOf (media_for job media c.claim.key) job c.claim text c.finding
 
-some-checked : (job : ReportJob) (media : List Media) (text : List ℕ → List ℕ) (claims : List ReportProof) → (checked : List Checked) × AreChecked job media text claims checked
+some-checked : (job : ReportJob) (media : List Media) (text : List ℕ → List ℕ) (claims : List ReportProof) → (checked : List Checked)
+    × AreChecked job media text claims checked
 some-checked job media text [] = ([], record { claims_are = refl; each = All-nil (FindsChecked job media text) })
 some-checked job media text (claim ∷ claims) =
     let first = some-of (media_for job media claim.key) job claim text in
@@ -197,14 +212,17 @@ only-checked job media text (x ∷ xs) (y ∷ ys) e h k =
     ∙ ap (λ l. y ∷ l) (only-checked job media text xs ys others (All-tail (FindsChecked job media text) x xs h) (All-tail (FindsChecked job media text) y ys k))
 
 -- `verify-report`
-pub some-reported : (job : ReportJob) (media : List Media) (claims : List ReportProof) (text : List ℕ → List ℕ) → (answer : Answer) × HasReported job media claims text answer
+pub some-reported : (job : ReportJob) (media : List Media) (claims : List ReportProof) (text : List ℕ → List ℕ) → (answer : Answer)
+    × HasReported job media claims text answer
 some-reported job media claims text =
     let all = some-checked job media text claims in
     (reported all.0, record { checked = all.0; are = all.1; answer_is = refl })
 
-pub only-reported : (job : ReportJob) (media : List Media) (claims : List ReportProof) (text : List ℕ → List ℕ) (a b : Answer) → HasReported job media claims text a → HasReported job media claims text b → a ≡ b
+pub only-reported : (job : ReportJob) (media : List Media) (claims : List ReportProof) (text : List ℕ → List ℕ) (a b : Answer)
+    → HasReported job media claims text a → HasReported job media claims text b → a ≡ b
 only-reported job media claims text a b h k =
-    h.answer_is ∙ ap reported (only-checked job media text h.checked k.checked (h.are.claims_are ∙ sym k.are.claims_are) h.are.each k.are.each) ∙ sym k.answer_is
+    h.answer_is ∙ ap reported (only-checked job media text h.checked k.checked (h.are.claims_are ∙ sym k.are.claims_are) h.are.each k.are.each) ∙ sym
+    k.answer_is
 
 -- a claim that is confirmed
 abbrev confirmed : ReportProof → Checked
@@ -239,5 +257,6 @@ pub confirmed-status : (job : ReportJob) (media : List Media) (claims : List Rep
     → answer.status ≡ status.Pass
 confirmed-status job media claims text answer each h =
     ap (λ a. a.status) (confirmed-lines job media claims text answer each h)
-    ∙ ap (λ b. if b then status.NotAllJudged else (if list_all (λ (c : Checked). is_confirmed c.finding) (map confirmed claims) then status.Pass else status.Fail)) (none-unjudged claims)
+    ∙ ap (λ b. if b then status.NotAllJudged else (if list_all (λ (c : Checked). is_confirmed c.finding) (map confirmed claims) then status.Pass
+    else status.Fail)) (none-unjudged claims)
     ∙ ap (λ b. if b then status.Pass else status.Fail) (all-confirmed claims)

@@ -32,11 +32,13 @@ pub record HasVerified (job : VerifyJob) (media : Media) (texts : List (List ℕ
 -- a media that the description hasn't confirms nothing, and no capture is read for it; else the captures lead on
 abbrev pub ReadsMedia : Inputs → Result Answer Failure → VerifyJob → Option Media → Type 0
 ReadsMedia i outcome job None = Gives outcome (λ answer. answer ≡ verified (Ok false))
-ReadsMedia i outcome job (Some media) = ReadsCaptures i outcome job.captures (λ texts. Gives outcome (HasVerified job media texts))
+ReadsMedia i outcome job (Some media) = ReadsCaptures i outcome job.captures
+    (λ texts. Gives outcome (HasVerified job media texts))
 
 -- `verify`: the description, then the captures
 abbrev pub FollowsVerify : VerifyJob → Inputs → Result Answer Failure → Type 0
-FollowsVerify job i outcome = Yields outcome (ReadsSession i outcome job.sdp (λ media. ReadsMedia i outcome job (slice_get media job.media)))
+FollowsVerify job i outcome =
+    Yields outcome (ReadsSession i outcome job.sdp (λ media. ReadsMedia i outcome job (slice_get media job.media)))
 
 -- the count of the name of this input of `verify` rose
 abbrev pub VerifyInputRose : VerifyJob → Inputs → Input → Type 0
@@ -71,12 +73,14 @@ FindsOf None job claim text finding = finding ≡ Ok false
 FindsOf (Some media) job claim text finding = Finds media claim job.tai (map text (captures_of job claim.key)) finding
 
 -- each fail of a report, in its order, with what is found of it
-pub record AreChecked (job : ReportJob) (media : List Media) (text : List ℕ → List ℕ) (claims : List ReportProof) (checked : List Checked) : Type 0 where
+pub record AreChecked (job : ReportJob) (media : List Media) (text : List ℕ → List ℕ) (claims : List ReportProof)
+    (checked : List Checked) : Type 0 where
   pub claims_are : map (λ c. c.claim) checked ≡ claims
   pub each : All (λ c. FindsOf (media_for job media c.claim.key) job c.claim text c.finding) checked
 
 -- the answer of `verify-report` on a report of these fails
-pub record HasReported (job : ReportJob) (media : List Media) (claims : List ReportProof) (text : List ℕ → List ℕ) (answer : Answer) : Type 0 where
+pub record HasReported (job : ReportJob) (media : List Media) (claims : List ReportProof) (text : List ℕ → List ℕ)
+    (answer : Answer) : Type 0 where
   pub checked : List Checked
   pub are : AreChecked job media text claims checked
   pub answer_is : answer ≡ reported checked
@@ -84,7 +88,8 @@ pub record HasReported (job : ReportJob) (media : List Media) (claims : List Rep
 -- the text of a report leads on with its fails; where it is none, that is the answer
 abbrev pub OnReport : List ℕ → Result Answer Failure → (List ReportProof → Type 0) → Type 0
 OnReport text outcome next =
-    (((claims : List ReportProof) → ¬ IsReport text claims) × Gives outcome (λ answer. answer ≡ silent status.ReportRefused))
+    (((claims : List ReportProof) → ¬ IsReport text claims)
+    × Gives outcome (λ answer. answer ≡ silent status.ReportRefused))
     ⊎ ((claims : List ReportProof) × IsReport text claims × next claims)
 
 -- the report is read: that failed, as it does where the shelf lacks it, or what its text leads to
@@ -94,7 +99,8 @@ ReadsReport i outcome name next =
     ⊎ (¬ i.lacks name × ((text : List ℕ) → i.texts name ≡ Some text → OnReport text outcome next))
 
 -- the count of a capture rose that is read for some fail of the report
-pub record NeededRose (i : Inputs) (job : ReportJob) (media : List Media) (claims : List ReportProof) (number : ℕ) : Type 0 where
+pub record NeededRose (i : Inputs) (job : ReportJob) (media : List Media) (claims : List ReportProof) (number : ℕ) :
+    Type 0 where
   pub claim : ReportProof
   pub reported : Contains claims claim
   pub needs : Contains (needed job media claim) (slice_index_or job.captures number [])
@@ -106,11 +112,13 @@ AreTexts texts text names = All (λ name. texts name ≡ Some (text name)) names
 
 -- the captures of the fails are read: that failed for one of them, as it does where the shelf lacks one, or what their
 -- texts as classic captures lead to
-abbrev pub ReadsNeeded : Inputs → Result Answer Failure → ReportJob → List Media → List ReportProof → ((List ℕ → List ℕ) → Type 0) → Type 0
+abbrev pub ReadsNeeded : Inputs → Result Answer Failure → ReportJob → List Media → List ReportProof
+    → ((List ℕ → List ℕ) → Type 0) → Type 0
 ReadsNeeded i outcome job media claims next =
     ((number : ℕ) × (outcome ≡ Err (failure.ReadFault (input.Capture number))) × NeededRose i job media claims number)
     ⊎ (All (λ claim. AreThere i.lacks (needed job media claim)) claims
-    × ((text : List ℕ → List ℕ) → All (λ claim. AreTexts i.texts text (needed job media claim)) claims → next (λ name. classic (text name))))
+    × ((text : List ℕ → List ℕ) → All (λ claim. AreTexts i.texts text (needed job media claim)) claims
+    → next (λ name. classic (text name))))
 
 -- `verify-report`: the description, then the report, then the captures of its fails
 abbrev pub FollowsReport : ReportJob → Inputs → Result Answer Failure → Type 0

@@ -1,32 +1,20 @@
-//! One claim, checked over captures that are fetched for it.
+//! One claim, checked over captures that are read for it.
 
 ghost use Rattle.std.specs.Prelude.{◌≡◌, ◌≤◌, ℕ, List, IfOk, IfErr, length};
 ghost use Rattle.timing_outside.specs.Shelves.{StaysAs};
 ghost use Rattle.pcapng_reader.specs.Classic.{classic_texts};
 ghost use Rattle.timing_steps.specs.Answers.{AreThere, AreTold};
 ghost use Rattle.timing_verify.specs.Findings.{Finds};
-ghost use Rattle.timing_verify.specs.Found.{FailedAmong, finding_of};
+ghost use Rattle.timing_verify.specs.Found.{FailedAmong};
 
 use crate::checked::Finding;
-use interval_checker::{CheckFault, confirm};
+use crate::read::{answer_of, read_captures};
+use interval_checker::{Asked, Reading};
 use std::alloc::Global;
 use timing_base::{FileName, Media};
 use timing_json::ReportProof;
 use timing_outside::Shelf;
-use timing_report::Input;
-use timing_steps::{Failure, fetch_captures, give_back_all};
-
-/// What was found, or why nothing was.
-fn finding_of(said: Result<bool, CheckFault>) -> Result<Finding, Failure>
-    ensures { result ≡ finding_of said }
-{
-    match said {
-        Ok(confirmed) => Ok(Ok(confirmed)),
-        Err(CheckFault::FlowFault(why)) => Ok(Err(why)),
-        Err(CheckFault::ReadFault { source }) => Err(Failure::ReadFault(Input::Capture(source))),
-        Err(CheckFault::OutOfMemory) => Err(Failure::OutOfMemory),
-    }
-}
+use timing_steps::Failure;
 
 /// What the captures of these names, as one classic capture, say of a claim. Each is fetched for it, in
 /// order, and goes back to the shelf; one that couldn't be read is named by its number among them,
@@ -39,7 +27,6 @@ pub fn find<H: Shelf>(
     claim: &ReportProof,
     tai: u64,
 ) -> Result<Finding, Failure>
-    requires some { 1 ≤ length names.now }
     requires few { length names.now ≤ 16 }
     requires tai { tai ≤ 1000 }
     ensures told { IfOk result (λ finding. (texts : List (List ℕ))
@@ -49,9 +36,10 @@ pub fn find<H: Shelf>(
     ensures there { IfOk result (λ _. AreThere (H.lacks shelf.old) names.now) }
     ensures stays { StaysAs H.text H.lacks H.faults shelf.old shelf.new }
 {
-    let sources = fetch_captures(alloc, shelf, names)?;
-    let (kind, run) = (claim.kind, claim.run);
-    let (sources, said) = confirm(alloc, media, kind, run, &claim.proof, tai, sources);
-    give_back_all(shelf, sources);
-    finding_of(said)
+    let mut asked = Asked::new(alloc);
+    asked.ask(u64::from(claim.run), &claim.proof)?;
+    let mut readings = Vec::new(alloc);
+    readings.push(Reading::new(media, tai, asked))?;
+    let read = read_captures(alloc, shelf, names, readings)?;
+    Ok(answer_of(&read, 0, claim))
 }

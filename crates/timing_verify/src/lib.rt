@@ -4,10 +4,12 @@
 //! Each claim is checked from the captures alone, by `interval_checker`: no judge runs here.
 #![tactic(auto)]
 
+mod asks;
 mod checked;
 mod find;
 pub mod laws;
 mod needs;
+mod read;
 mod report;
 mod verify;
 mod words;

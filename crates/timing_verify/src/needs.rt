@@ -1,15 +1,18 @@
 //! The captures that the fails of a report need.
 
-ghost use Rattle.std.specs.Prelude.{◌≡◌, ◌<◌, ℕ, List, All, IfOk, IfErr, false, map, length, option_map};
+ghost use Rattle.std.specs.Prelude.{◌≡◌, ◌<◌, ℕ, List, All, Contains, IfOk, IfErr, IfSome, Some, map, option_map, slice_get};
 ghost use Rattle.timing_outside.specs.Shelves.{StaysAs};
 ghost use Rattle.pcapng_reader.specs.Classic.{classic_texts};
+ghost use Rattle.timing_base.specs.Jobs.{ReportJob as JobValue};
+ghost use Rattle.timing_base.specs.Media.{Media as MediaValue};
+ghost use Rattle.timing_json.specs.declared.reading.ReportProof.{ReportProof as Claim};
 ghost use Rattle.timing_steps.specs.Answers.{OnReadFault, seen_of};
-ghost use Rattle.timing_verify.specs.Asked.{FindsOf, NeededRose, captures_of, file_count, media_for, needed};
+ghost use Rattle.timing_verify.specs.Asked.{NeededRose, captures_of, file_count, media_for, needed};
 ghost use Rattle.timing_verify.specs.Findings.{Finds};
-ghost use Rattle.timing_verify.specs.Found.{FailedNeeded, IsChecked, Tells, numbered};
+ghost use Rattle.timing_verify.specs.Found.{AreServed, FailedNeeded, IsChecked, IsFound, Serves};
 
 use crate::checked::{Checked, Finding};
-use crate::find::find;
+use crate::read::{FileRead, answer_of, read_file};
 use std::alloc::Global;
 use timing_base::{FlowKey, Media, ReportJob};
 use timing_json::ReportProof;
@@ -35,72 +38,83 @@ fn media_for<'a>(job: &ReportJob, media: &'a [Media], key: FlowKey) -> Option<&'
     }
 }
 
-/// The failure of a read of one capture, under its number.
-fn numbered(number: u32, failure: Failure) -> Failure
-    ensures { result ≡ numbered number failure }
+/// The file of this number, if it was read.
+fn read_of(reads: &[FileRead], file: u32) -> Option<&FileRead>
+    ensures there { IfSome result (λ read. Contains reads.now read.now) }
+    ensures file { IfSome result (λ read. read.now.file ≡ file) }
 {
-    match failure {
-        Failure::ReadFault(_) => Failure::ReadFault(Input::Capture(number)),
-        other => other,
-    }
+    reads.iter().find(|read| read.file == file)
 }
 
-/// What the capture of a claim's file says of it.
-fn find_alone<H: Shelf>(
+/// What a file that was read says of a claim on one of its flows.
+fn answer(read: &FileRead, claim: &ReportProof) -> Finding
+    ensures { (job : JobValue) (media : List MediaValue) (claims : List Claim) (text : List ℕ → List ℕ)
+        (m : MediaValue) → Serves job media claims text read.now → claim.now.key.file ≡ read.now.file
+        → Contains claims claim.now → slice_get media claim.now.key.media ≡ Some m
+        → Finds m claim.now job.tai (map text (captures_of job claim.now.key)) result }
+{
+    answer_of(&read.readings, claim.key.media as usize, claim)
+}
+
+/// What the captures of a claim's file say of it, which are read for all claims where they weren't yet.
+fn find_there<H: Shelf>(
     alloc: Global,
     job: &ReportJob,
     shelf: &mut H,
-    media: &Media,
-    claim: &ReportProof,
-) -> Result<Finding, Failure>
-    requires apart { job.now.joined ≡ false }
-    requires within { claim.now.key.file < length job.now.captures }
-    ensures tells { Tells (seen_of H.Shelf shelf.old shelf.new) job.now (captures_of job.now claim.now.key)
-        (λ text. Finds media.now claim.now job.now.tai (map text (captures_of job.now claim.now.key))) result }
-    ensures stays { StaysAs H.text H.lacks H.faults shelf.old shelf.new }
-{
-    let file = claim.key.file as usize;
-    let names = &job.captures.as_slice()[file..file + 1];
-    match find(alloc, shelf, names, media, claim, job.tai) {
-        Ok(finding) => Ok(finding),
-        Err(failure) => Err(numbered(claim.key.file, failure)),
-    }
-}
-
-/// What the captures of a claim's flow say of it: that of its file, or all where they are joined.
-fn find_of<H: Shelf>(
-    alloc: Global,
-    job: &ReportJob,
-    shelf: &mut H,
-    media: &Media,
+    media: &[Media],
+    claims: &[ReportProof],
+    reads: &mut Vec<FileRead>,
     claim: &ReportProof,
 ) -> Result<Finding, Failure>
     requires within { claim.now.key.file < file_count job.now }
-    ensures tells { Tells (seen_of H.Shelf shelf.old shelf.new) job.now (captures_of job.now claim.now.key)
-        (λ text. Finds media.now claim.now job.now.tai (map text (captures_of job.now claim.now.key))) result }
+    requires reported { Contains claims.now claim.now }
+    ensures found { (first : _) (m : MediaValue) → StaysAs H.text H.lacks H.faults first shelf.old
+        → AreServed (classic_texts (H.text first)) (H.lacks first) job.now media.now claims.now reads.old.items
+        → slice_get media.now claim.now.key.media ≡ Some m
+        → IfOk result (IsFound (classic_texts (H.text first)) (H.lacks first) job.now m claim.now) }
+    ensures served { (first : _) → StaysAs H.text H.lacks H.faults first shelf.old
+        → AreServed (classic_texts (H.text first)) (H.lacks first) job.now media.now claims.now reads.old.items
+        → IfOk result (λ _. AreServed (classic_texts (H.text first)) (H.lacks first) job.now media.now claims.now
+        reads.new.items) }
+    ensures cause { IfErr result (FailedNeeded (H.faults shelf.old) (H.faults shelf.new) job.now
+        (captures_of job.now claim.now.key)) }
     ensures stays { StaysAs H.text H.lacks H.faults shelf.old shelf.new }
 {
-    if !job.joined {
-        return find_alone(alloc, job, shelf, media, claim);
+    if let Some(read) = read_of(reads, claim.key.file) {
+        return Ok(answer(read, claim));
     }
-    find(alloc, shelf, job.captures.as_slice(), media, claim, job.tai)
+    let read = read_file(alloc, job, shelf, media, claims, claim.key.file)?;
+    let finding = answer(&read, claim);
+    reads.push(read)?;
+    Ok(finding)
 }
 
 /// What the captures that a claim needs say of it. One whose flow isn't there is not confirmed, and
-/// nothing is fetched for it.
+/// nothing is read for it.
 fn find_needed<H: Shelf>(
     alloc: Global,
     job: &ReportJob,
     shelf: &mut H,
     media: &[Media],
+    claims: &[ReportProof],
+    reads: &mut Vec<FileRead>,
     claim: &ReportProof,
 ) -> Result<Finding, Failure>
-    ensures tells { Tells (seen_of H.Shelf shelf.old shelf.new) job.now (needed job.now media.now claim.now)
-        (FindsOf (media_for job.now media.now claim.now.key) job.now claim.now) result }
+    requires reported { Contains claims.now claim.now }
+    ensures found { (first : _) → StaysAs H.text H.lacks H.faults first shelf.old
+        → AreServed (classic_texts (H.text first)) (H.lacks first) job.now media.now claims.now reads.old.items
+        → IfOk result (λ finding. IsChecked (classic_texts (H.text first)) (H.lacks first) job.now media.now
+        (record { claim = claim.now; finding = finding })) }
+    ensures served { (first : _) → StaysAs H.text H.lacks H.faults first shelf.old
+        → AreServed (classic_texts (H.text first)) (H.lacks first) job.now media.now claims.now reads.old.items
+        → IfOk result (λ _. AreServed (classic_texts (H.text first)) (H.lacks first) job.now media.now claims.now
+        reads.new.items) }
+    ensures cause { IfErr result (FailedNeeded (H.faults shelf.old) (H.faults shelf.new) job.now
+        (needed job.now media.now claim.now)) }
     ensures stays { StaysAs H.text H.lacks H.faults shelf.old shelf.new }
 {
     match media_for(job, media, claim.key) {
-        Some(media) => find_of(alloc, job, shelf, media, claim),
+        Some(_) => find_there(alloc, job, shelf, media, claims, reads, claim),
         None => Ok(Ok(false)),
     }
 }
@@ -111,22 +125,32 @@ fn check_claim<H: Shelf>(
     job: &ReportJob,
     shelf: &mut H,
     media: &[Media],
+    claims: &[ReportProof],
+    reads: &mut Vec<FileRead>,
     claim: &ReportProof,
 ) -> Result<Checked, Failure>
-    ensures checked { IfOk result (IsChecked (classic_texts (H.text shelf.old)) (H.lacks shelf.old) job.now media.now) }
+    requires reported { Contains claims.now claim.now }
+    ensures checked { (first : _) → StaysAs H.text H.lacks H.faults first shelf.old
+        → AreServed (classic_texts (H.text first)) (H.lacks first) job.now media.now claims.now reads.old.items
+        → IfOk result (IsChecked (classic_texts (H.text first)) (H.lacks first) job.now media.now) }
+    ensures served { (first : _) → StaysAs H.text H.lacks H.faults first shelf.old
+        → AreServed (classic_texts (H.text first)) (H.lacks first) job.now media.now claims.now reads.old.items
+        → IfOk result (λ _. AreServed (classic_texts (H.text first)) (H.lacks first) job.now media.now claims.now
+        reads.new.items) }
     ensures claim { IfOk result (λ checked. checked.claim ≡ claim.now) }
     ensures cause { IfErr result (FailedNeeded (H.faults shelf.old) (H.faults shelf.new) job.now
         (needed job.now media.now claim.now)) }
     ensures stays { StaysAs H.text H.lacks H.faults shelf.old shelf.new }
 {
-    let finding = find_needed(alloc, job, shelf, media, claim)?;
+    let finding = find_needed(alloc, job, shelf, media, claims, reads, claim)?;
     Ok(Checked {
         claim: *claim,
         finding,
     })
 }
 
-/// Checks the claims of a report, one after the other.
+/// Checks the claims of a report, one after the other. Each file is read once, for the first claim that
+/// needs it.
 pub fn check_each<H: Shelf>(
     alloc: Global,
     job: &ReportJob,
@@ -141,9 +165,10 @@ pub fn check_each<H: Shelf>(
         × NeededRose (seen_of H.Shelf shelf.old shelf.new) job.now media.now claims.now number)) }
     ensures stays { StaysAs H.text H.lacks H.faults shelf.old shelf.new }
 {
+    let mut reads = Vec::new(alloc);
     let mut checked = Vec::new(alloc);
     for claim in claims {
-        checked.push(check_claim(alloc, job, shelf, media, claim)?)?;
+        checked.push(check_claim(alloc, job, shelf, media, claims, &mut reads, claim)?)?;
     }
     Ok(checked)
 }

@@ -7,3 +7,4 @@ pub mod Checks
 pub mod Tables
 pub mod Texts
 pub mod Says
+pub mod Limits

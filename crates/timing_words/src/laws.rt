@@ -1,13 +1,15 @@
-//! The grammar on words worked by hand. Each function is a theorem: it does nothing, and its clauses
-//! are proved.
+//! What holds of the grammar, and the grammar on words worked by hand. Each function is a theorem: it
+//! does nothing, and its clauses are proved.
 
-ghost use Rattle.std.specs.Prelude.{◌≡◌, [], ◌∷◌, ◌++◌, Some, None, codes, false, true};
+ghost use Rattle.std.specs.Prelude.{◌≡◌, List, [], ◌∷◌, ◌++◌, Some, None, codes, false, true};
 ghost use Rattle.timing_base.specs.declared.fail.Broken.TheVariants as broken;
+ghost use Rattle.timing_base.specs.declared.job.Request.{Request};
 ghost use Rattle.timing_base.specs.declared.job.Request.TheVariants as asks;
 ghost use Rattle.timing_base.specs.declared.media.Kind.TheVariants as kind;
 ghost use Rattle.timing_words.specs.Examples.{Asks, IsCut, IsRefused, IsUncut, plain_check, second_flow};
 ghost use Rattle.timing_words.specs.Examples.{sixteen, sixteen_names, words};
-ghost use Rattle.timing_words.specs.Line.{flag, line, name, option};
+ghost use Rattle.timing_words.specs.Limits.{IsWithinLimits};
+ghost use Rattle.timing_words.specs.Line.{Text, flag, line, name, option};
 ghost use Rattle.timing_words.specs.Request.{check_sorts, check_workers, count, file_name, file_names};
 ghost use Rattle.timing_words.specs.Request.{kind_named, media, model_named, number, request, tai, test_workers};
 
@@ -246,4 +248,10 @@ pub fn no_commands_by_hand()
     ensures prefix { IsRefused (codes "chec --sdp p c") }
     ensures capital { IsRefused (codes "Check --sdp p c") }
     ensures after_options { IsRefused (codes "--sdp p check c") }
+{}
+
+/// What words ask for is within its limits: 1 to 16 captures, at most 16 workers and 1,000 seconds, and
+/// so on for each command.
+pub fn jobs_are_within_limits()
+    ensures { (words : List Text) (asked : Request) → request words ≡ Some asked → IsWithinLimits asked }
 {}

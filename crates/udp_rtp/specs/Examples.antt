@@ -1,5 +1,6 @@
 -- A frame laid out by hand, byte by byte, with what may differ in it.
-use Rattle.std.specs.Prelude.{ℕ, List, [], ◌∷◌, ◌++◌}
+use Rattle.std.specs.Prelude.{ℕ, false, List, [], ◌∷◌, ◌++◌}
+use Rattle.timing_base.specs.declared.packet.Rtp.{Rtp}
 use Rattle.timing_base.specs.declared.target.Target.{Target}
 use Rattle.udp_rtp.specs.Frames.{Datagram}
 
@@ -53,9 +54,17 @@ extension = 0xbe ∷ 0xde ∷ 0x00 ∷ 0x01 ∷ 0x51 ∷ 0x52 ∷ 0x53 ∷ 0x54 
 abbrev pub packet : List ℕ
 packet = rtp 0x80 0x60 ++ extended
 
+-- what is read of it
+abbrev pub plain_packet : Rtp
+plain_packet = record { number = 65544; timestamp = 1800; marker = false; pt = 96; ssrc = 1 }
+
+-- an untagged frame of this IPv4 header with its options, this UDP header and this payload
+abbrev pub frame_with : List ℕ → List ℕ → List ℕ → List ℕ
+frame_with header datagram payload = macs ++ (ip_type ++ (header ++ (datagram ++ payload)))
+
 -- an untagged frame of this IPv4 header with its options, and a whole packet
 abbrev pub frame_of : List ℕ → List ℕ
-frame_of header = macs ++ (ip_type ++ (header ++ (udp 22 ++ packet)))
+frame_of header = frame_with header (udp 22) packet
 
 -- 239.0.0.1, port 50000
 abbrev pub group : Target

@@ -1,4 +1,5 @@
 -- what is promised
+pub mod Carried
 pub mod Flow
 pub mod Frames
 pub mod Numbers

@@ -7,11 +7,16 @@ ghost use Rattle.timing_base.specs.Media.{Media};
 ghost use Rattle.timing_base.specs.Targets.{target_of};
 ghost use Rattle.timing_base.specs.declared.packet.FlowPacket.{FlowPacket};
 ghost use Rattle.timing_base.specs.declared.packet.PacketFault.TheVariants.{Short, Version};
+ghost use Rattle.timing_base.specs.declared.packet.Rtp.{Rtp};
+ghost use Rattle.timing_base.specs.declared.target.Target.{Target};
+ghost use Rattle.udp_rtp.specs.Carried.{carries};
 ghost use Rattle.udp_rtp.specs.Numbers.{number16};
 ghost use Rattle.udp_rtp.specs.Frames.{datagram_of, payload_at};
 ghost use Rattle.udp_rtp.specs.Reading.{reading};
 ghost use Rattle.udp_rtp.specs.Flow.{flow, flow_packet};
-ghost use Rattle.udp_rtp.specs.Examples.{macs, ip_type, tag, ip, plain_ip, udp, rtp, extended, source, extension, packet, frame_of, group, to_group};
+ghost use Rattle.udp_rtp.specs.Examples.{macs, ip_type, tag, ip, plain_ip, udp, rtp, extended, source, extension};
+ghost use Rattle.udp_rtp.specs.Examples.{packet, plain_packet, frame_of, frame_with, group, to_group};
+ghost use Rattle.udp_rtp.specs.TwoFlows.{next_port};
 
 /// The flow of records and one more is their flow and then that of the one alone, which is one
 /// packet or none.
@@ -143,4 +148,93 @@ pub fn flow_by_hand()
         ∷ record { number = 9; stamp = 80; bytes = take 38 (frame_of plain_ip) } ∷ []) media
         ≡ record { rec = 7; at = 100; rtp = reading packet }
         ∷ record { rec = 9; at = 80; rtp = Err Short } ∷ [] }
+{}
+
+/// Where a frame carries a packet to a target, its datagram goes there, and that packet is what is read
+/// of its payload. So a record of this frame has that packet in the flow of each media of this target.
+pub fn carried_is_read()
+    ensures datagram { (target : Target) (p : Rtp) (frame : List ℕ) → carries target p frame ≡ true
+        → datagram_of frame ≡ Some (record { target = target; payload = payload_at frame 34 }) }
+    ensures read { (target : Target) (p : Rtp) (frame : List ℕ) → carries target p frame ≡ true
+        → reading (payload_at frame 34) ≡ Ok p }
+    ensures packet { (media : Media) (p : Rtp) (r : Record)
+        → carries (target_of media) p r.bytes ≡ true
+        → flow_packet media r ≡ Some (record { rec = r.number; at = r.stamp; rtp = Ok p }) }
+{}
+
+/// Worked by hand: a frame to 239.0.0.1, port 50000, with RTP packet 65,544, and what it carries.
+pub fn carried_by_hand()
+    ensures plain { carries group plain_packet (frame_of plain_ip) ≡ true }
+
+    // Fragments may be forbidden or not, and the reserved flag may be set; the source's port is passed
+    // over, and so is what follows the extended sequence number.
+    ensures allowed { carries group plain_packet (frame_of (ip 0x45 0x00 0 17)) ≡ true }
+    ensures reserved { carries group plain_packet (frame_of (ip 0x45 0x80 0 17)) ≡ true }
+    ensures other_source { carries group plain_packet
+        (frame_with plain_ip (0x13 ∷ 0x88 ∷ drop 2 (udp 22)) packet) ≡ true }
+    ensures longer { carries group plain_packet
+        (frame_with plain_ip (udp 25) (packet ++ 7 ∷ 8 ∷ 9 ∷ [])) ≡ true }
+
+    // Another port and another address; a tag, options, another type and another protocol.
+    ensures port { carries next_port plain_packet (frame_of plain_ip) ≡ false }
+    ensures address { carries (record { address = 0xef000002; port = 50000 }) plain_packet
+        (frame_of plain_ip) ≡ false }
+    ensures tagged { carries group plain_packet
+        (macs ++ tag ++ ip_type ++ plain_ip ++ udp 22 ++ packet) ≡ false }
+    ensures options { carries group plain_packet (frame_of (ip 0x46 0x40 0 17 ++ source)) ≡ false }
+    ensures ipv6 { carries group plain_packet
+        (macs ++ (0x86 ∷ 0xdd ∷ []) ++ plain_ip ++ udp 22 ++ packet) ≡ false }
+    ensures protocol { carries group plain_packet (frame_of (ip 0x45 0x40 0 6)) ≡ false }
+
+    // The flag MF, the lowest bit of the fragment offset, and its highest.
+    ensures first { carries group plain_packet (frame_of (ip 0x45 0x20 0 17)) ≡ false }
+    ensures later { carries group plain_packet (frame_of (ip 0x45 0x00 1 17)) ≡ false }
+    ensures last { carries group plain_packet (frame_of (ip 0x45 0x10 0 17)) ≡ false }
+
+    // The UDP length leaves out the last byte of the extended sequence number, or the frame does.
+    ensures stated { carries group plain_packet (frame_with plain_ip (udp 21) packet) ≡ false }
+    ensures cut_55 { carries group plain_packet (take 55 (frame_of plain_ip)) ≡ false }
+    ensures empty { carries group plain_packet [] ≡ false }
+
+    // Padding, an extension, a contributing source, and version 1.
+    ensures padding { carries group plain_packet
+        (frame_with plain_ip (udp 22) (rtp 0xa0 0x60 ++ extended)) ≡ false }
+    ensures extension { carries group plain_packet
+        (frame_with plain_ip (udp 22) (rtp 0x90 0x60 ++ extended)) ≡ false }
+    ensures sources { carries group plain_packet
+        (frame_with plain_ip (udp 22) (rtp 0x81 0x60 ++ extended)) ≡ false }
+    ensures version { carries group plain_packet
+        (frame_with plain_ip (udp 22) (rtp 0x40 0x60 ++ extended)) ≡ false }
+
+    // The frame has the marker, and none is expected; it has none, and one is expected; both have it.
+    ensures marked { carries group plain_packet
+        (frame_with plain_ip (udp 22) (rtp 0x80 0xe0 ++ extended)) ≡ false }
+    ensures unmarked { carries group
+        (record { number = 65544; timestamp = 1800; marker = true; pt = 96; ssrc = 1 })
+        (frame_of plain_ip) ≡ false }
+    ensures both { carries group
+        (record { number = 65544; timestamp = 1800; marker = true; pt = 96; ssrc = 1 })
+        (frame_with plain_ip (udp 22) (rtp 0x80 0xe0 ++ extended)) ≡ false }
+
+    // No packet has payload type 224, which would be the byte of 96 with the marker.
+    ensures no_type { carries group
+        (record { number = 65544; timestamp = 1800; marker = false; pt = 224; ssrc = 1 })
+        (frame_with plain_ip (udp 22) (rtp 0x80 0xe0 ++ extended)) ≡ false }
+
+    // The next packet, the one with the next high half, and another timestamp, type and source.
+    ensures next { carries group
+        (record { number = 65545; timestamp = 1800; marker = false; pt = 96; ssrc = 1 })
+        (frame_of plain_ip) ≡ false }
+    ensures high { carries group
+        (record { number = 131080; timestamp = 1800; marker = false; pt = 96; ssrc = 1 })
+        (frame_of plain_ip) ≡ false }
+    ensures timestamp { carries group
+        (record { number = 65544; timestamp = 1801; marker = false; pt = 96; ssrc = 1 })
+        (frame_of plain_ip) ≡ false }
+    ensures other_type { carries group
+        (record { number = 65544; timestamp = 1800; marker = false; pt = 97; ssrc = 1 })
+        (frame_of plain_ip) ≡ false }
+    ensures ssrc { carries group
+        (record { number = 65544; timestamp = 1800; marker = false; pt = 96; ssrc = 2 })
+        (frame_of plain_ip) ≡ false }
 {}

@@ -10,7 +10,7 @@ use std::thread;
 use std::thread::Threads;
 use timing_base::{FlowKey, Row, Unjudged, Verdict};
 
-// A row without a verdict, with this number.
+/// A row without a verdict, with this number.
 fn row(number: u32) -> Row {
     Row {
         key: FlowKey {
@@ -23,7 +23,7 @@ fn row(number: u32) -> Row {
     }
 }
 
-// Asserts that a row is the one with this number.
+/// Asserts that a row is the one with this number.
 fn is_row(rt: &impl Abort, found: &Row, number: u32) {
     assert_eq!(rt; found.key.file, number);
     match &found.verdict {
@@ -52,14 +52,14 @@ fn book_receipts(rt: HostRuntime) {
     is_row(&rt, book.read(&first), 3);
 }
 
-// Posts the row with this number.
+/// Posts the row with this number.
 fn post_one<R: Wait>(rt: &R, book: &Book, number: u32) -> Option<Receipt>
     ensures { IfSome result (λ receipt. IsOf book.now receipt) }
 {
     book.post(rt, row(number)).ok()
 }
 
-// Two threads post side by side, and one thread reads what both posted.
+/// Two threads post side by side, and one thread reads what both posted.
 fn posts_of_two<R: Threads + Wait + Abort + Sync>(rt: &R, book: &Book) {
     let (first, second) = thread::join(rt, || post_one(rt, book, 3), || post_one(rt, book, 8));
     let Some(first) = first else {

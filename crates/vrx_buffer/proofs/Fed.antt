@@ -1,5 +1,5 @@
 -- A buffer stands for one packet more after it is fed.
-use Rattle.std.proofs.Common.{◌≡◌, ◌≤◌, ◌<◌, ◌+◌, ◌-◌, ℕ, ℤ, Bool, nat_lt, max, false, refl, if◌then◌else◌, Option, Some, None, List, [], ◌∷◌, ◌++◌, length}
+use Rattle.std.proofs.Common.{◌≡◌, ◌≤◌, ◌<◌, ◌+◌, ◌-◌, ℕ, Bool, nat_lt, max, false, refl, if◌then◌else◌, Option, Some, None, List, [], ◌∷◌, ◌++◌, length}
 use Rattle.std.proofs.Common.{slice_index, sym, ap, subst, inl, inr, ◌∙◌, arith, length-append}
 use Rattle.std.proofs.Math.Seq.{get_or-append_seam}
 use Rattle.std.proofs.lemmas.List.{get_or_append_left}
@@ -99,27 +99,27 @@ first-more m n stamps at kind None (Some fault) e h =
 pub took-fault : (params : Params) (v w : Vrx) (stamps : List ℕ) (at count : ℕ) (late : Bool) (answer : Option VrxFault)
     → StandsFor params v stamps
     → AreDue params.media params.n (anchor_of params.media (slice_index (stamps ++ at ∷ []) 0)) (gapped_of v.kind) (whole at) count
-    → below (read_of params.media params.n (anchor_of params.media (slice_index (stamps ++ at ∷ []) 0)) (gapped_of v.kind) v.seen) (whole at) ≡ late
-    → Took params v w count late answer
+    → below (read_of params.media params.n (anchor_of params.media (slice_index (stamps ++ at ∷ []) 0)) (gapped_of v.kind) (length stamps)) (whole at) ≡ late
+    → Took params v w (length stamps) count late answer
     → answer ≡ fault_at params.media params.n (stamps ++ at ∷ []) v.kind (length stamps)
 took-fault params v w stamps at count late answer s are is took =
     let m = params.media in
     let n = params.n in
     let new = stamps ++ at ∷ [] in
     let last : slice_index new (length stamps) ≡ at = get_or-append_seam stamps at [] 0 in
-    let there : slice_index new v.seen ≡ at = ap (slice_index new) s.seen ∙ last in
-    let due = subst (λ a. AreDue m n (anchor_of m (slice_index new 0)) (gapped_of v.kind) (whole a) count) (sym there) are in
-    let held = held_at-is m n new (gapped_of v.kind) v.seen count due in
-    let lateness : is_empty m n new v.kind v.seen ≡ late =
-    ap (λ a. below (read_of m n (anchor_of m (slice_index new 0)) (gapped_of v.kind) v.seen) (whole a)) there ∙ is in
-    took.answer_is ∙ sym (fault_at-is m n new v.kind v.seen ((v.seen + 1) - count) late held lateness) ∙ ap (fault_at m n new v.kind) s.seen
+    let i = length stamps in
+    let due = subst (λ a. AreDue m n (anchor_of m (slice_index new 0)) (gapped_of v.kind) (whole a) count) (sym last) are in
+    let held = held_at-is m n new (gapped_of v.kind) i count due in
+    let lateness : is_empty m n new v.kind i ≡ late =
+    ap (λ a. below (read_of m n (anchor_of m (slice_index new 0)) (gapped_of v.kind) i) (whole a)) last ∙ is in
+    took.answer_is ∙ sym (fault_at-is m n new v.kind i ((i + 1) - count) late held lateness)
 
 -- after the packet the buffer stands for one more
 pub took-stands : (params : Params) (v w : Vrx) (stamps : List ℕ) (at count : ℕ) (late : Bool) (answer : Option VrxFault)
     → StandsFor params v stamps
     → AreDue params.media params.n (anchor_of params.media (slice_index (stamps ++ at ∷ []) 0)) (gapped_of v.kind) (whole at) count
-    → below (read_of params.media params.n (anchor_of params.media (slice_index (stamps ++ at ∷ []) 0)) (gapped_of v.kind) v.seen) (whole at) ≡ late
-    → Took params v w count late answer
+    → below (read_of params.media params.n (anchor_of params.media (slice_index (stamps ++ at ∷ []) 0)) (gapped_of v.kind) (length stamps)) (whole at) ≡ late
+    → Took params v w (length stamps) count late answer
     → StandsFor params w (stamps ++ at ∷ [])
 took-stands params v w stamps at count late answer s are is took =
     let m = params.media in
@@ -134,20 +134,19 @@ took-stands params v w stamps at count late answer s are is took =
     let before = λ (k : ℕ) (few : k < i). held_at-append m n stamps at g k few in
     let fault = first-more m n stamps at v.kind v.fault answer (sym (took-fault params v w stamps at count late answer s are is took)) s.fault in
     record {
-      seen = omega (arith, took.seen, s.seen, long);
       peak_most = λ k few. subst (λ kind. held_at m n new (gapped_of kind) k ≤ w.peak) (sym took.kind)
           (elim (cases_lt k i) as (λ _. held_at m n new g k ≤ w.peak) [
             | inl early ↦ omega (arith, before k early, s.peak_most k early, took.peak)
             | inr late_on ↦
                 let same : k ≡ i = omega (arith, late_on, few, long) in
-                omega (arith, ap (held_at m n new g) same, held, took.peak, s.seen)
+                omega (arith, ap (held_at m n new g) same, held, took.peak)
           ]);
       peak_reached = λ some. subst (λ kind. (k : ℕ) × (k < length new) × (held_at m n new (gapped_of kind) k ≡ w.peak)) (sym took.kind)
           (elim (cases_lt v.peak ((i + 1) - count)) as (λ _. (k : ℕ) × (k < length new) × (held_at m n new g k ≡ w.peak)) [
-            | inl above ↦ (i, omega (arith, long), omega (arith, held, took.peak, above, s.seen))
+            | inl above ↦ (i, omega (arith, long), omega (arith, held, took.peak, above))
             | inr kept ↦
-                let old = s.peak_reached (omega (arith, some, took.peak, kept, s.seen)) in
-                (old.0, omega (arith, old.1, long), omega (arith, before old.0 old.1, old.2, took.peak, kept, s.seen))
+                let old = s.peak_reached (omega (arith, some, took.peak, kept)) in
+                (old.0, omega (arith, old.1, long), omega (arith, before old.0 old.1, old.2, took.peak, kept))
           ]);
       fault = subst (IsFirstFault m n new w.kind) (sym took.fault) (subst (λ kind. IsFirstFault m n new kind (earlier v.fault answer)) (sym took.kind) fault);
     }
@@ -185,24 +184,22 @@ quiet-fault params kind packet held late fits in_time =
     sym (ap (λ b. if b then Some (Over packet held) else if late then Some (Empty packet) else None) (le-ltb (vrx_full_of params.media params.n kind) held fits)
     ∙ ap (λ l. if l then Some (Empty packet) else None) in_time)
 
-pub quiet-took : (params : Params) (v w : Vrx) (count held : ℕ) (late : Bool)
+pub quiet-took : (params : Params) (v w : Vrx) (packet count held : ℕ) (late : Bool)
     → IsWithin params v
-    → held ≡ (v.seen + 1) - count
+    → held ≡ (packet + 1) - count
     → held ≤ v.peak
     → late ≡ false
     → v.fault ≡ None
     → w.kind ≡ v.kind
-    → w.seen ≡ v.seen + 1
     → w.peak ≡ v.peak
     → w.fault ≡ v.fault
-    → Took params v w count late None
-quiet-took params v w count held late within is low in_time none kind seen peak fault =
+    → Took params v w packet count late None
+quiet-took params v w packet count held late within is low in_time none kind peak fault =
     record {
       kind = kind;
-      seen = seen;
       peak = omega (arith, peak, is, low);
       fault = fault ∙ none ∙ sym (ap (λ o. earlier o None) none);
-      answer_is = quiet-fault params v.kind v.seen ((v.seen + 1) - count) late (omega (arith, is, low, within.within none)) in_time;
+      answer_is = quiet-fault params v.kind packet ((packet + 1) - count) late (omega (arith, is, low, within.within none)) in_time;
     }
 
 -- after a fault the buffer stands for one packet more, whatever comes
@@ -211,57 +208,53 @@ pub after-stands : (params : Params) (v w : Vrx) (stamps : List ℕ) (at count :
     → AreDue params.media params.n (anchor_of params.media (slice_index (stamps ++ at ∷ []) 0)) (gapped_of v.kind) (whole at) count
     → v.fault ≡ Some first
     → w.kind ≡ v.kind
-    → w.seen ≡ v.seen + 1
-    → w.peak ≡ max v.peak ((v.seen + 1) - count)
+    → w.peak ≡ max v.peak ((length stamps + 1) - count)
     → w.fault ≡ v.fault
     → StandsFor params w (stamps ++ at ∷ [])
-after-stands params v w stamps at count first s are some kind seen peak fault =
-    let late = below (read_of params.media params.n (anchor_of params.media (slice_index (stamps ++ at ∷ []) 0)) (gapped_of v.kind) v.seen) (whole at) in
-    let answer = fault_by params v.kind v.seen ((v.seen + 1) - count) late in
+after-stands params v w stamps at count first s are some kind peak fault =
+    let i = length stamps in
+    let late = below (read_of params.media params.n (anchor_of params.media (slice_index (stamps ++ at ∷ []) 0)) (gapped_of v.kind) i) (whole at) in
+    let answer = fault_by params v.kind (length stamps) ((length stamps + 1) - count) late in
     took-stands params v w stamps at count late answer s are refl
-    record { kind = kind; seen = seen; peak = peak; fault = fault ∙ some ∙ sym (ap (λ o. earlier o answer) some); answer_is = refl }
+    record { kind = kind; peak = peak; fault = fault ∙ some ∙ sym (ap (λ o. earlier o answer) some); answer_is = refl }
 
 -- a packet that raises nothing and comes in time has no fault, where none before it breaks the model
 pub quiet-at : (params : Params) (v : Vrx) (stamps : List ℕ) (at : ℕ) (due : Due)
     → StandsFor params v stamps
     → IsDueAt params.media params.n (anchor_of params.media (slice_index (stamps ++ at ∷ []) 0)) (gapped_of v.kind) at due
     → BreaksNowhere params.media params.n stamps v.kind
-    → due.count ≤ v.seen
-    → v.seen - due.count < v.peak
+    → due.count ≤ length stamps
+    → length stamps - due.count < v.peak
     → fault_at params.media params.n (stamps ++ at ∷ []) v.kind (length stamps) ≡ None
 quiet-at params v stamps at due s are nowhere few low =
-    let held = (v.seen + 1) - due.count in
-    let answer = fault_by params v.kind v.seen held false in
-    let w : Vrx = record { kind = v.kind; seen = v.seen + 1; peak = max v.peak held; fault = earlier v.fault answer } in
-    let late = late-fewer params.media params.n _ (gapped_of v.kind) at v.seen due.count are.count few in
+    let held = (length stamps + 1) - due.count in
+    let answer = fault_by params v.kind (length stamps) held false in
+    let w : Vrx = record { kind = v.kind; peak = max v.peak held; fault = earlier v.fault answer } in
+    let late = late-fewer params.media params.n _ (gapped_of v.kind) at (length stamps) due.count are.count few in
     let fits = nowhere-within params v stamps s nowhere in
-    sym (quiet-fault params v.kind v.seen held false (omega (arith, few, low, fits)) refl
-    ∙ took-fault params v w stamps at due.count false answer s are.count late record { kind = refl; seen = refl; peak = refl; fault = refl; answer_is = refl })
+    sym (quiet-fault params v.kind (length stamps) held false (omega (arith, few, low, fits)) refl
+    ∙ took-fault params v w stamps at due.count false answer s are.count late record { kind = refl; peak = refl; fault = refl; answer_is = refl })
 
--- the buffer with one packet more
-abbrev pub one_more : Vrx → Vrx
-one_more v = record { kind = v.kind; seen = v.seen + 1; peak = v.peak; fault = v.fault }
-
--- it stands for that packet too, whether one before had a fault or not
+-- the buffer stands for that packet too, whether one before had a fault or not
 pub quiet-more : (params : Params) (v : Vrx) (stamps : List ℕ) (at : ℕ) (due : Due) (fault : Option VrxFault)
     → v.fault ≡ fault
     → StandsFor params v stamps
     → IsDueAt params.media params.n (anchor_of params.media (slice_index (stamps ++ at ∷ []) 0)) (gapped_of v.kind) at due
-    → due.count ≤ v.seen
-    → v.seen - due.count < v.peak
-    → StandsFor params (one_more v) (stamps ++ at ∷ [])
+    → due.count ≤ length stamps
+    → length stamps - due.count < v.peak
+    → StandsFor params v (stamps ++ at ∷ [])
 quiet-more params v stamps at due None e s are few low =
-    let late = late-fewer params.media params.n _ (gapped_of v.kind) at v.seen due.count are.count few in
-    took-stands params v (one_more v) stamps at due.count false None s are.count late
-    (quiet-took params v (one_more v) due.count ((v.seen + 1) - due.count) false (stands-within params v stamps s) refl (omega (arith, few, low)) refl e refl
-    refl refl refl)
+    let late = late-fewer params.media params.n _ (gapped_of v.kind) at (length stamps) due.count are.count few in
+    took-stands params v v stamps at due.count false None s are.count late
+    (quiet-took params v v (length stamps) due.count ((length stamps + 1) - due.count) false (stands-within params v stamps s) refl (omega (arith, few, low))
+    refl e refl refl refl)
 quiet-more params v stamps at due (Some first) e s are few low =
-    after-stands params v (one_more v) stamps at due.count first s are.count e refl refl (omega (arith, few, low)) refl
+    after-stands params v v stamps at due.count first s are.count e refl (omega (arith, few, low)) refl
 
 pub quiet-stands : (params : Params) (v : Vrx) (stamps : List ℕ) (at : ℕ) (due : Due)
     → StandsFor params v stamps
     → IsDueAt params.media params.n (anchor_of params.media (slice_index (stamps ++ at ∷ []) 0)) (gapped_of v.kind) at due
-    → due.count ≤ v.seen
-    → v.seen - due.count < v.peak
-    → StandsFor params (one_more v) (stamps ++ at ∷ [])
+    → due.count ≤ length stamps
+    → length stamps - due.count < v.peak
+    → StandsFor params v (stamps ++ at ∷ [])
 quiet-stands params v stamps at due s are few low = quiet-more params v stamps at due v.fault refl s are few low

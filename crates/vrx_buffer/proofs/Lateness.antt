@@ -1,5 +1,5 @@
 -- Whether a packet comes after its own read, by the reads that are due.
-use Rattle.std.proofs.Common.{◌≡◌, ◌≤◌, ◌<◌, ◌+◌, ◌-◌, ℕ, ℤ, Bool, true, false, cond, not, nat_lt, ap, sym, ◌∙◌, arith, inl, inr}
+use Rattle.std.proofs.Common.{◌≡◌, ◌≤◌, ◌<◌, ◌+◌, ◌-◌, ℕ, ℤ, Bool, true, false, cond, not, nat_lt, ap, subst, sym, ◌∙◌, arith, inl, inr}
 use Rattle.std.proofs.lemmas.Bool.{cases_lt}
 use Rattle.std.proofs.lemmas.Bool.Decides.{nat_tests}
 use Rattle.std.proofs.lemmas.Int.{ints}
@@ -63,3 +63,16 @@ late-is m n anchor gapped at i due late is some are last more fewer =
             late-last m n anchor gapped at i due are same ∙ sym (last same)
       ]
     ]
+
+-- by the packet's number
+pub late-at : (m : Media) (n : ℕ) (anchor : ℤ) (gapped : Bool) (at i packet : ℕ) (due : Due) (late : Bool)
+    → packet ≡ i
+    → IsMedia m
+    → 1 ≤ n
+    → IsDueAt m n anchor gapped at due
+    → (due.count ≡ packet + 1 → late ≡ not due.on_time)
+    → (packet + 1 < due.count → late ≡ true)
+    → (due.count ≤ packet → late ≡ false)
+    → below (read_of m n anchor gapped i) (whole at) ≡ late
+late-at m n anchor gapped at i packet due late same is some are last more fewer =
+    subst (λ k. below (read_of m n anchor gapped k) (whole at) ≡ late) same (late-is m n anchor gapped at packet due late is some are last more fewer)

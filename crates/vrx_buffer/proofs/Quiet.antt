@@ -14,7 +14,7 @@ use Rattle.vrx_buffer.specs.Quiet.{IsQuiet}
 use Rattle.vrx_buffer.specs.Stands.{StandsFor}
 use Rattle.vrx_buffer.specs.declared.vrx.Vrx.{Vrx}
 use Rattle.vrx_buffer.specs.declared.vrx.VrxFault.{VrxFault}
-use Rattle.vrx_buffer.proofs.Fed.{after-stands, one_more, quiet-at, quiet-more}
+use Rattle.vrx_buffer.proofs.Fed.{after-stands, quiet-at, quiet-more}
 use Rattle.vrx_buffer.proofs.Instants.{none-first}
 
 -- the reads that are due when the packet comes
@@ -34,26 +34,26 @@ due_of params v stamps at count = record {
 
 -- they are more than those that make room
 reads-more : (params : Params) (v : Vrx) (stamps : List ℕ) (at count : ℕ) → IsQuiet params v stamps at → Reads params v stamps at count
-    → v.seen - v.peak < count
+    → length stamps - v.peak < count
 reads-more params v stamps at count quiet are =
-    elim (cases_lt (v.seen - v.peak) count) as (λ _. v.seen - v.peak < count) [
+    elim (cases_lt (length stamps - v.peak) count) as (λ _. length stamps - v.peak < count) [
       | inl more ↦ more
-      | inr few ↦ absurd (omega (arith, ints, quiet.due, are.ahead (v.seen - v.peak) few))
+      | inr few ↦ absurd (omega (arith, ints, quiet.due, are.ahead (length stamps - v.peak) few))
     ]
 
 -- and no more than the packets before it
 reads-few : (params : Params) (v : Vrx) (stamps : List ℕ) (at count : ℕ) → v.fault ≡ None → IsQuiet params v stamps at → Reads params v stamps at count
-    → count ≤ v.seen
+    → count ≤ length stamps
 reads-few params v stamps at count none quiet are =
-    elim (cases_lt v.seen count) as (λ _. count ≤ v.seen) [
-      | inl more ↦ absurd (omega (arith, ints, quiet.ahead none, are.due v.seen more))
+    elim (cases_lt (length stamps) count) as (λ _. count ≤ length stamps) [
+      | inl more ↦ absurd (omega (arith, ints, quiet.ahead none, are.due (length stamps) more))
       | inr few ↦ few
     ]
 
 quiet-by : (params : Params) (v : Vrx) (stamps : List ℕ) (at : ℕ) (fault : Option VrxFault) → v.fault ≡ fault
     → StandsFor params v stamps
     → IsQuiet params v stamps at
-    → StandsFor params (one_more v) (stamps ++ at ∷ [])
+    → StandsFor params v (stamps ++ at ∷ [])
 quiet-by params v stamps at None e s quiet =
     let reads = reads-some params v stamps at in
     let more = reads-more params v stamps at reads.0 quiet reads.1 in
@@ -62,13 +62,13 @@ quiet-by params v stamps at None e s quiet =
 quiet-by params v stamps at (Some first) e s quiet =
     let reads = reads-some params v stamps at in
     let more = reads-more params v stamps at reads.0 quiet reads.1 in
-    after-stands params v (one_more v) stamps at reads.0 first s reads.1 e refl refl (omega (arith, more)) refl
+    after-stands params v v stamps at reads.0 first s reads.1 e refl (omega (arith, more)) refl
 
 -- the buffer stands for it too
 pub known-stands : (params : Params) (v : Vrx) (stamps : List ℕ) (at : ℕ)
     → StandsFor params v stamps
     → IsQuiet params v stamps at
-    → StandsFor params (one_more v) (stamps ++ at ∷ [])
+    → StandsFor params v (stamps ++ at ∷ [])
 known-stands params v stamps at s quiet = quiet-by params v stamps at v.fault refl s quiet
 
 -- no fault was seen where no packet breaks the model

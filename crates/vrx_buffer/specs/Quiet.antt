@@ -1,5 +1,5 @@
--- A packet that changes no more of a `Vrx` than its count.
-use Rattle.std.specs.Prelude.{◌≡◌, ◌-◌, ℕ, List, [], ◌∷◌, ◌++◌, slice_index, None}
+-- A packet that changes nothing of a `Vrx`.
+use Rattle.std.specs.Prelude.{◌≡◌, ◌-◌, ℕ, List, [], ◌∷◌, ◌++◌, length, slice_index, None}
 use Rattle.fraction128.specs.Fractions.{AtMost, Below, whole}
 use Rattle.sender_params.specs.Limits.{gapped_of}
 use Rattle.sender_params.specs.Reads.{anchor_of, read_of}
@@ -10,7 +10,7 @@ use Rattle.vrx_buffer.specs.declared.vrx.Vrx.{Vrx}
 -- before its own read, as long as there is no fault
 pub record IsQuiet (params : Params) (v : Vrx) (stamps : List ℕ) (at : ℕ) : Type 0 where
   pub due : AtMost (read_of params.media params.n (anchor_of params.media (slice_index (stamps ++ at ∷ []) 0))
-      (gapped_of v.kind) (v.seen - v.peak)) (whole at)
+      (gapped_of v.kind) (length stamps - v.peak)) (whole at)
   pub ahead : v.fault ≡ None
       → Below (whole at) (read_of params.media params.n (anchor_of params.media (slice_index (stamps ++ at ∷ []) 0))
-      (gapped_of v.kind) v.seen)
+      (gapped_of v.kind) (length stamps))

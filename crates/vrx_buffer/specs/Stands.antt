@@ -8,7 +8,6 @@ use Rattle.vrx_buffer.specs.declared.vrx.Vrx.{Vrx}
 
 -- the buffer was fed packets with these stamps and no others, as far as later calls can tell
 pub record StandsFor (params : Params) (v : Vrx) (stamps : List ℕ) : Type 0 where
-  pub seen : v.seen ≡ length stamps
   -- `peak` is the greatest number held, and 0 before the first packet
   pub peak_most : (k : ℕ) → k < length stamps → held_at params.media params.n stamps (gapped_of v.kind) k ≤ v.peak
   pub peak_reached : 0 < v.peak

@@ -23,10 +23,9 @@ fault_by params kind packet held late =
 pub record IsWithin (params : Params) (v : Vrx) : Type 0 where
   pub within : v.fault ≡ None → v.peak ≤ vrx_full_of params.media params.n v.kind
 
--- packet `v.seen` came when `count` reads were due, and late or not
-pub record Took (params : Params) (v w : Vrx) (count : ℕ) (late : Bool) (answer : Option VrxFault) : Type 0 where
+-- this packet came when `count` reads were due, and late or not
+pub record Took (params : Params) (v w : Vrx) (packet count : ℕ) (late : Bool) (answer : Option VrxFault) : Type 0 where
   pub kind : w.kind ≡ v.kind
-  pub seen : w.seen ≡ v.seen + 1
-  pub peak : w.peak ≡ max v.peak ((v.seen + 1) - count)
+  pub peak : w.peak ≡ max v.peak ((packet + 1) - count)
   pub fault : w.fault ≡ earlier v.fault answer
-  pub answer_is : answer ≡ fault_by params v.kind v.seen ((v.seen + 1) - count) late
+  pub answer_is : answer ≡ fault_by params v.kind packet ((packet + 1) - count) late

@@ -1,7 +1,7 @@
 //! What holds of the model itself, for every list of stamps that never falls. Each function is a
 //! theorem: it does nothing, and its clauses are proved.
 
-ghost use Rattle.std.specs.Prelude.{◌≡◌, ◌≤◌, ◌∷◌, [], ℕ, List, true, false, Some, None};
+ghost use Rattle.std.specs.Prelude.{◌≡◌, ◌≤◌, ◌++◌, ◌∷◌, [], ℕ, List, length, true, false, Some, None};
 ghost use Rattle.timing_base.specs.Media.{IsMedia, Media};
 ghost use Rattle.timing_base.specs.declared.media.Kind.{Kind};
 ghost use Rattle.timing_base.specs.declared.media.Kind.TheVariants.{N, NL, W};
@@ -9,6 +9,10 @@ ghost use Rattle.sender_params.specs.Keeps.{KeepsBuffer, held_at, is_empty, is_o
 ghost use Rattle.sender_params.specs.Ticks.{NeverFall};
 ghost use Rattle.sender_params.specs.Worked.{at_once, hd_50, linear_two, sd_25_interlaced};
 ghost use Rattle.vrx_buffer.specs.Faults.{BreaksNowhere, IsFirstFault, fault_at};
+ghost use Rattle.sender_params.specs.declared.params.Params.{Params};
+ghost use Rattle.vrx_buffer.specs.Quiet.{IsQuiet};
+ghost use Rattle.vrx_buffer.specs.Stands.{StandsFor};
+ghost use Rattle.vrx_buffer.specs.declared.vrx.Vrx.{Vrx};
 ghost use Rattle.vrx_buffer.specs.declared.vrx.VrxFault.TheVariants.{Over, Empty};
 
 /// No packet breaks the model exactly where the buffer holds between nothing and VRX_FULL at every
@@ -33,6 +37,16 @@ pub fn no_fault_is_no_break()
 pub fn over_is_in_time()
     ensures { (m : Media) (n : ℕ) (stamps : List ℕ) (kind : Kind) (i : ℕ) → IsMedia m → 1 ≤ n
         → is_over m n stamps kind i ≡ true → is_empty m n stamps kind i ≡ false }
+{}
+
+/// A packet that is quiet changes nothing: the buffer stands for it, too, as it is. It has no fault where
+/// none before it breaks the model.
+pub fn quiet_changes_nothing()
+    ensures stands { (params : Params) (v : Vrx) (stamps : List ℕ) (at : ℕ) → StandsFor params v stamps
+        → IsQuiet params v stamps at → StandsFor params v (stamps ++ at ∷ []) }
+    ensures none { (params : Params) (v : Vrx) (stamps : List ℕ) (at : ℕ) → StandsFor params v stamps
+        → IsQuiet params v stamps at → BreaksNowhere params.media params.n stamps v.kind
+        → fault_at params.media params.n (stamps ++ at ∷ []) v.kind (length stamps) ≡ None }
 {}
 
 /// 1080p at 50 with 20 packets per frame, where VRX_FULL of types N and NL is 8 and that of W is

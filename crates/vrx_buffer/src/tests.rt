@@ -21,10 +21,11 @@ fn plain() -> Params {
     Params::of(&video(1080, false, 50, 1), 20)
 }
 
-// A buffer, and the schedule that says what is due at its packets.
+// A buffer, the packets fed, and the schedule that says what is due at them.
 #[derive(Clone, Copy, Debug)]
 struct Flow {
     buffer: Vrx,
+    seen: u64,
     schedule: Schedule,
 }
 
@@ -33,6 +34,7 @@ fn started(rt: &impl Abort, params: &Params, kind: Kind, first: u64) -> Flow {
     assert!(rt; first < 1 << 62);
     Flow {
         buffer: Vrx::new(kind),
+        seen: 0,
         schedule: Schedule::new(params, kind == Kind::N, params.anchor(first)),
     }
 }
@@ -40,9 +42,11 @@ fn started(rt: &impl Abort, params: &Params, kind: Kind, first: u64) -> Flow {
 // Asserts what the calls require, since a proof does not follow the rows of a table.
 fn fed(rt: &impl Abort, params: &Params, flow: &mut Flow, at: u64) -> Option<VrxFault> {
     assert!(rt; at < 1 << 62);
-    assert!(rt; flow.buffer.seen < 1 << 41);
+    assert!(rt; flow.seen < 1 << 41);
     let due = flow.schedule.advance(at);
-    flow.buffer.feed_due(params, due)
+    let packet = flow.seen;
+    flow.seen += 1;
+    flow.buffer.feed_due(params, packet, due)
 }
 
 // The buffer after two frames of 20 packets, each so long after the first.
@@ -55,7 +59,7 @@ fn after(rt: &impl Abort, params: &Params, kind: Kind, first: u64, step: u64) ->
             fed(rt, params, &mut flow, first.saturating_add(late));
         }
     }
-    assert_eq!(rt; flow.buffer.seen, 40);
+    assert_eq!(rt; flow.seen, 40);
     flow.buffer
 }
 
@@ -143,7 +147,7 @@ fn interlaced_narrow(rt: HostRuntime) {
             }
         }
         assert_eq!(rt; flow.buffer.peak, 1);
-        assert_eq!(rt; flow.buffer.seen, 40);
+        assert_eq!(rt; flow.seen, 40);
     }
 }
 

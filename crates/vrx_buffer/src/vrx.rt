@@ -31,8 +31,6 @@ pub enum VrxFault {
 pub struct Vrx {
     /// The sender type.
     pub kind: Kind,
-    /// The packets fed.
-    pub seen: u64,
     /// The greatest number held just after any packet, and 0 before the first.
     pub peak: u64,
     /// The first fault.
@@ -43,7 +41,6 @@ impl Vrx {
     ghost use Rattle.read_schedule.specs.Stands.{IsDueAt};
     ghost use Rattle.sender_params.specs.declared.params.Params.{Params};
     ghost use Rattle.vrx_buffer.specs.Faults.{BreaksNowhere, fault_at};
-    ghost use Rattle.vrx_buffer.specs.Quiet.{IsQuiet};
     ghost use Rattle.vrx_buffer.specs.Stands.{StandsFor};
     ghost use Rattle.vrx_buffer.specs.Taking.{IsWithin, Took, earlier, fault_by};
 
@@ -54,47 +51,49 @@ impl Vrx {
     {
         Vrx {
             kind,
-            seen: 0,
             peak: 0,
             fault: None,
         }
     }
 
-    /// Puts in a packet at whose instant so much is due, of the schedule of this sender type, and answers
-    /// how it breaks the model, if it does. At equal instants the packet has come and the read is done
-    /// (SMPTE ST 2110-21, virtual receiver buffer; this project's profile).
+    /// Puts in the packet of this number, counted from 0, at whose instant so much is due, of the schedule
+    /// of this sender type, and answers how it breaks the model, if it does. At equal instants the packet
+    /// has come and the read is done (SMPTE ST 2110-21, virtual receiver buffer; this project's profile).
     ///
-    /// Feed one buffer with one `Params` and one schedule alone: `stands` says nothing of others.
+    /// Feed one buffer with one `Params` and one schedule alone, and with packets that follow one another:
+    /// `stands` says nothing of others.
     #[inline(always)]
-    pub fn feed_due(&mut self, params: &Params, due: Due) -> Option<VrxFault>
-        requires { self.old.seen < 2 ^ 41 }
+    pub fn feed_due(&mut self, params: &Params, packet: u64, due: Due) -> Option<VrxFault>
+        requires { packet < 2 ^ 41 }
 
         ensures kind { self.new.kind ≡ self.old.kind }
 
         // Whatever packets the buffer stood for, and whenever this one came.
-        ensures fault { (stamps : List ℕ) (at : ℕ) → StandsFor params.now self.old stamps
+        ensures fault { (stamps : List ℕ) (at : ℕ) → packet ≡ length stamps
+            → StandsFor params.now self.old stamps
             → IsDueAt params.now.media params.now.n
             (anchor_of params.now.media (slice_index (stamps ++ at ∷ []) 0))
             (gapped_of self.old.kind) at due
-            → result ≡ fault_at params.now.media params.now.n (stamps ++ at ∷ []) self.old.kind
-            (length stamps) }
-        ensures stands { (stamps : List ℕ) (at : ℕ) → StandsFor params.now self.old stamps
+            → result ≡ fault_at params.now.media params.now.n (stamps ++ at ∷ []) self.old.kind packet }
+        ensures stands { (stamps : List ℕ) (at : ℕ) → packet ≡ length stamps
+            → StandsFor params.now self.old stamps
             → IsDueAt params.now.media params.now.n
             (anchor_of params.now.media (slice_index (stamps ++ at ∷ []) 0))
             (gapped_of self.old.kind) at due
             → StandsFor params.now self.new (stamps ++ at ∷ []) }
     {
-        let late = comes_late(self.seen, due);
-        self.take(params, due.count, late)
+        let late = comes_late(packet, due);
+        self.take(params, packet, due.count, late)
     }
 
     /// Puts in a packet as [`Vrx::feed_due`] does, and doesn't say how it breaks the model.
     #[inline(always)]
-    pub fn pass_due(&mut self, params: &Params, due: Due)
-        requires { self.old.seen < 2 ^ 41 }
+    pub fn pass_due(&mut self, params: &Params, packet: u64, due: Due)
+        requires { packet < 2 ^ 41 }
 
         ensures kind { self.new.kind ≡ self.old.kind }
-        ensures stands { (stamps : List ℕ) (at : ℕ) → StandsFor params.now self.old stamps
+        ensures stands { (stamps : List ℕ) (at : ℕ) → packet ≡ length stamps
+            → StandsFor params.now self.old stamps
             → IsDueAt params.now.media params.now.n
             (anchor_of params.now.media (slice_index (stamps ++ at ∷ []) 0))
             (gapped_of self.old.kind) at due
@@ -102,92 +101,57 @@ impl Vrx {
     {
         match self.fault {
             None => {
-                self.feed_due(params, due);
+                self.feed_due(params, packet, due);
             }
-            Some(_) => self.go_on(due.count),
+            Some(_) => self.go_on(packet, due.count),
         }
     }
 
-    /// Puts in a packet at whose instant so much is due, of the schedule of this sender type, where it
-    /// comes before its own read and raises no peak, and answers whether it does. Else nothing changes:
-    /// for callers that then go on with another of these calls.
+    /// Whether the packet of this number, at whose instant so much is due, of the schedule of this sender
+    /// type, comes before its own read and raises no peak. Then the buffer stands for it, too, as it is; else
+    /// one of the other calls puts it in.
     #[inline(always)]
-    pub fn feed_quiet(&mut self, due: Due) -> bool
-        requires { self.old.seen < 2 ^ 41 }
-
-        ensures kind { self.new.kind ≡ self.old.kind }
-        ensures other { result ≡ false → self.new ≡ self.old }
-
-        // Whatever packets the buffer stood for, and whenever this one came: it has no fault where none
+    pub fn is_quiet_at(&self, packet: u64, due: Due) -> bool
+        // Whatever packets the buffer stood for, and whenever this one comes: it has no fault where none
         // before it breaks the model.
-        ensures fault { (params : Params) (stamps : List ℕ) (at : ℕ)
-            → StandsFor params self.old stamps
+        ensures fault { (params : Params) (stamps : List ℕ) (at : ℕ) → packet ≡ length stamps
+            → StandsFor params self.now stamps
             → IsDueAt params.media params.n
             (anchor_of params.media (slice_index (stamps ++ at ∷ []) 0))
-            (gapped_of self.old.kind) at due
-            → BreaksNowhere params.media params.n stamps self.old.kind
+            (gapped_of self.now.kind) at due
+            → BreaksNowhere params.media params.n stamps self.now.kind
             → result ≡ true
-            → fault_at params.media params.n (stamps ++ at ∷ []) self.old.kind (length stamps) ≡ None }
-        ensures stands { (params : Params) (stamps : List ℕ) (at : ℕ)
-            → StandsFor params self.old stamps
+            → fault_at params.media params.n (stamps ++ at ∷ []) self.now.kind packet ≡ None }
+        ensures stands { (params : Params) (stamps : List ℕ) (at : ℕ) → packet ≡ length stamps
+            → StandsFor params self.now stamps
             → IsDueAt params.media params.n
             (anchor_of params.media (slice_index (stamps ++ at ∷ []) 0))
-            (gapped_of self.old.kind) at due
-            → result ≡ true → StandsFor params self.new (stamps ++ at ∷ []) }
+            (gapped_of self.now.kind) at due
+            → result ≡ true → StandsFor params self.now (stamps ++ at ∷ []) }
     {
-        if due.count > self.seen || self.seen - due.count >= self.peak {
-            return false;
-        }
-        self.seen += 1;
-        true
+        due.count <= packet && packet - due.count < self.peak
     }
 
-    /// Puts in a packet that raises no peak and, as long as there is no fault, comes before its own read:
-    /// for callers that know so by its stamp, without counting the reads.
-    #[inline(always)]
-    pub fn pass_quiet(&mut self)
-        requires { self.old.seen < 2 ^ 41 }
-
+    /// After the first fault: this packet came when so many reads were due.
+    fn go_on(&mut self, packet: u64, count: u64)
+        requires { packet < 2 ^ 41 }
         ensures kind { self.new.kind ≡ self.old.kind }
-        ensures seen { self.new.seen ≡ self.old.seen + 1 }
-        ensures peak { self.new.peak ≡ self.old.peak }
-        ensures fault { self.new.fault ≡ self.old.fault }
-
-        // Whatever packets the buffer stood for: it has no fault where none before it breaks the model.
-        ensures none { (params : Params) (stamps : List ℕ) (at : ℕ)
-            → StandsFor params self.old stamps → IsQuiet params self.old stamps at
-            → BreaksNowhere params.media params.n stamps self.old.kind
-            → fault_at params.media params.n (stamps ++ at ∷ []) self.old.kind (length stamps) ≡ None }
-        ensures stands { (params : Params) (stamps : List ℕ) (at : ℕ)
-            → StandsFor params self.old stamps → IsQuiet params self.old stamps at
-            → StandsFor params self.new (stamps ++ at ∷ []) }
-    {
-        self.seen += 1;
-    }
-
-    /// After the first fault: a packet came when so many reads were due.
-    fn go_on(&mut self, count: u64)
-        requires { self.old.seen < 2 ^ 41 }
-        ensures kind { self.new.kind ≡ self.old.kind }
-        ensures seen { self.new.seen ≡ self.old.seen + 1 }
-        ensures peak { self.new.peak ≡ max self.old.peak ((self.old.seen + 1) - count) }
+        ensures peak { self.new.peak ≡ max self.old.peak ((packet + 1) - count) }
         ensures fault { self.new.fault ≡ self.old.fault }
     {
-        self.seen += 1;
-        self.peak = self.peak.max(self.seen.saturating_sub(count));
+        self.peak = self.peak.max((packet + 1).saturating_sub(count));
     }
 
-    /// Puts in a packet that came when so many reads were due, and after its own read or not.
+    /// Puts in the packet of this number, which came when so many reads were due, and after its own read
+    /// or not.
     #[inline(always)]
-    fn take(&mut self, params: &Params, count: u64, late: bool) -> Option<VrxFault>
-        requires { self.old.seen < 2 ^ 41 }
+    fn take(&mut self, params: &Params, packet: u64, count: u64, late: bool) -> Option<VrxFault>
+        requires { packet < 2 ^ 41 }
         ensures kind { self.new.kind ≡ self.old.kind }
         ensures took { IsWithin params.now self.old
-            → Took params.now self.old self.new count late result }
+            → Took params.now self.old self.new packet count late result }
     {
-        let packet = self.seen;
         let held = (packet + 1).saturating_sub(count);
-        self.seen = packet + 1;
         if self.is_quiet(held, late) {
             return None;
         }
@@ -207,7 +171,6 @@ impl Vrx {
     #[inline(never)]
     fn note(&mut self, params: &Params, packet: u64, held: u64, late: bool) -> Option<VrxFault>
         ensures kind { self.new.kind ≡ self.old.kind }
-        ensures seen { self.new.seen ≡ self.old.seen }
         ensures peak { self.new.peak ≡ max self.old.peak held }
         ensures fault { self.new.fault ≡ earlier self.old.fault result }
         ensures answer { result ≡ fault_by params.now self.old.kind packet held late }

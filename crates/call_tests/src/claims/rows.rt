@@ -27,6 +27,11 @@ struct Row {
     next: (Status, &'static str),
 }
 
+// The types whose reads and limits are narrow, and all of them.
+const NARROW_TYPES: [Kind; 2] = [Kind::N, Kind::NL];
+
+const ALL_TYPES: [Kind; 3] = [Kind::N, Kind::NL, Kind::W];
+
 // The numbers of a fail.
 fn fail(model: Broken, from: u64, to: u64, count: u64, limit: u64) -> FailProof {
     FailProof {
@@ -59,13 +64,9 @@ fn row_of(
 // The fail with one number changed by one, up or down, and then with the other models. Less than 0 is
 // the greatest number.
 fn changed(proof: &FailProof) -> [FailProof; 10] {
-    let FailProof {
-        model,
-        from,
-        to,
-        count,
-        limit,
-    } = *proof;
+    let model = proof.model;
+    let (from, to) = (proof.from, proof.to);
+    let (count, limit) = (proof.count, proof.limit);
     let (next, other) = match model {
         Broken::Bucket => (Broken::Over, Broken::Empty),
         Broken::Over => (Broken::Empty, Broken::Bucket),
@@ -169,32 +170,41 @@ fn stand<R: Abort + AllocGlobal>(rt: &R, row: &Row, kinds: &[Kind]) -> Result<()
     Ok(())
 }
 
+// The fail stands for these types, where the plain description has one text in the place of another and the capture
+// is spread so.
+fn stand_over<R: Abort + AllocGlobal>(
+    rt: &R,
+    described: (&str, &str),
+    spread: Spread,
+    proof: FailProof,
+    kinds: &[Kind],
+) -> Result<(), Fail> {
+    let row = row_of(rt.alloc(), described, spread, proof)?;
+    stand(rt, &row, kinds)
+}
+
 #[test]
 fn linear_sender(rt: HostRuntime) -> Result<(), Fail> {
     let proof = fail(Broken::Empty, 1, 1, 1, 2);
-    let row = row_of(rt.alloc(), ("", ""), EVEN, proof)?;
-    stand(&rt, &row, &[Kind::N])
+    stand_over(&rt, ("", ""), EVEN, proof, &[Kind::N])
 }
 
 #[test]
 fn five_at_once(rt: HostRuntime) -> Result<(), Fail> {
     let proof = fail(Broken::Bucket, 0, 4, 5, 4);
-    let row = row_of(rt.alloc(), ("", ""), FIVE_AT_ONCE, proof)?;
-    stand(&rt, &row, &[Kind::N, Kind::NL])
+    stand_over(&rt, ("", ""), FIVE_AT_ONCE, proof, &NARROW_TYPES)
 }
 
 #[test]
 fn burst_in_second_frame(rt: HostRuntime) -> Result<(), Fail> {
     let proof = fail(Broken::Bucket, 20, 24, 5, 4);
-    let row = row_of(rt.alloc(), ("", ""), BURST, proof)?;
-    stand(&rt, &row, &[Kind::N, Kind::NL])
+    stand_over(&rt, ("", ""), BURST, proof, &NARROW_TYPES)
 }
 
 #[test]
 fn declared_wide(rt: HostRuntime) -> Result<(), Fail> {
     let proof = fail(Broken::Bucket, 20, 24, 5, 4);
-    let row = row_of(rt.alloc(), ("2110TPN;", "2110TPW;"), BURST, proof)?;
-    stand(&rt, &row, &[Kind::N, Kind::NL])
+    stand_over(&rt, ("2110TPN;", "2110TPW;"), BURST, proof, &NARROW_TYPES)
 }
 
 #[test]
@@ -203,16 +213,26 @@ fn one_ns_late(rt: HostRuntime) -> Result<(), Fail> {
         first: 700_001,
         ..NARROW
     };
-    let proof = fail(Broken::Empty, 0, 0, 0, 1);
-    let row = row_of(rt.alloc(), ("2110TPN;", "2110TPN; TROFF=700;"), late, proof)?;
-    stand(&rt, &row, &[Kind::N, Kind::NL, Kind::W])
+    let described = ("2110TPN;", "2110TPN; TROFF=700;");
+    stand_over(
+        &rt,
+        described,
+        late,
+        fail(Broken::Empty, 0, 0, 0, 1),
+        &ALL_TYPES,
+    )
 }
 
 #[test]
 fn height_720(rt: HostRuntime) -> Result<(), Fail> {
-    let proof = fail(Broken::Empty, 0, 0, 0, 1);
-    let row = row_of(rt.alloc(), ("height=1080;", "height=720;"), NARROW, proof)?;
-    stand(&rt, &row, &[Kind::N, Kind::NL, Kind::W])
+    let described = ("height=1080;", "height=720;");
+    stand_over(
+        &rt,
+        described,
+        NARROW,
+        fail(Broken::Empty, 0, 0, 0, 1),
+        &ALL_TYPES,
+    )
 }
 
 #[test]
@@ -222,8 +242,13 @@ fn cmax_of_declared(rt: HostRuntime) -> Result<(), Fail> {
         ..NARROW
     };
     let proof = fail(Broken::Bucket, 0, 1, 2, 1);
-    let row = row_of(rt.alloc(), ("2110TPN;", "2110TPN; CMAX=1;"), two, proof)?;
-    stand(&rt, &row, &[Kind::N])
+    stand_over(
+        &rt,
+        ("2110TPN;", "2110TPN; CMAX=1;"),
+        two,
+        proof,
+        &[Kind::N],
+    )
 }
 
 // With linear reads the buffer holds, just after packet i came, i less the whole part of
@@ -260,5 +285,5 @@ fn joined_burst(rt: HostRuntime) -> Result<(), Fail> {
     let mut row = row_of(alloc, ("", ""), BURST, fail(Broken::Bucket, 20, 24, 5, 4))?;
     row.capture = front;
     row.rest = Some(rest);
-    stand(&rt, &row, &[Kind::N, Kind::NL])
+    stand(&rt, &row, &NARROW_TYPES)
 }

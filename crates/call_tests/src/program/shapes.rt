@@ -17,15 +17,15 @@ use timing_top::run;
 const FILE_HEAD: usize = 24;
 
 // The bytes of a record of a made capture: its head, and its frame.
-const RECORD: usize = 72;
+pub const RECORD: usize = 72;
 
-const LIST: &str = "shape --sdp p.sdp --media 1 --type N --list a.pcap";
+pub const LIST: &str = "shape --sdp p.sdp --media 1 --type N --list a.pcap";
 
-const WRITE: &str = "shape --sdp p.sdp --media 1 --type N a.pcap";
+pub const WRITE: &str = "shape --sdp p.sdp --media 1 --type N a.pcap";
 
 const WRITE_LATER: &str = "shape --sdp p.sdp --media 1 --type N --tai 37 a.pcap";
 
-const NONE_LINES: &str = "delayed 0 of 40, greatest 0 ns\n";
+pub const NONE_LINES: &str = "delayed 0 of 40, greatest 0 ns\n";
 
 // The plain description, and a capture in which so many packets of a frame come at once.
 fn bunched(alloc: Global, bunched: u8, at_once: u8) -> Result<Setting, AllocError> {
@@ -55,7 +55,7 @@ fn written<R: Abort + AllocGlobal + Wait + Threads + Sync>(
 }
 
 // A capture whose record of this number, from 0, has another stamp.
-fn with_stamp(
+pub fn with_stamp(
     rt: &impl Abort,
     alloc: Global,
     capture: &[u8],
@@ -112,6 +112,17 @@ fn shape_buffer(rt: HostRuntime) -> Result<(), Fail> {
     let list =
         "packet 8 delayed 445 ns by read 0\npacket 9 delayed 960445 ns by read 1\npacket 10 delayed 1920445 ns by read 2\npacket 11 delayed 2880445 ns by read 3\ndelayed 4 of 40, greatest 2880445 ns\n";
     prints(&rt, LIST, &setting, (Status::Pass, list))
+}
+
+// So for a narrow linear sender, whose 20 reads in a frame of 20 ms are a millisecond apart.
+#[test]
+fn shape_linear_buffer(rt: HostRuntime) -> Result<(), Fail> {
+    let mut setting = bunched(rt.alloc(), 0, 12)?;
+    setting.sdp = described(rt.alloc(), "2110TPN;", "2110TPNL; CMAX=100;")?;
+    let line = "shape --sdp p.sdp --media 1 --type NL --list a.pcap";
+    let list =
+        "packet 8 delayed 445 ns by read 0\npacket 9 delayed 1000445 ns by read 1\npacket 10 delayed 2000445 ns by read 2\npacket 11 delayed 3000445 ns by read 3\ndelayed 4 of 40, greatest 3000445 ns\n";
+    prints(&rt, line, &setting, (Status::Pass, list))
 }
 
 // A packet behind the judged ones keeps its stamp where it comes after the last of them left, and else

@@ -242,6 +242,10 @@ impl<'a> Shelf for HeldShelf<'a> {
         } = source;
         self.inner.give_back(inner);
     }
+
+    fn note_change(&mut self, name: &str) {
+        self.inner.note_change(name);
+    }
 }
 
 // Both captures are read at once, and the worker takes before the first is read whole: a run that reads

@@ -8,10 +8,10 @@ use std::test::Fail;
 use std::thread::Threads;
 use timing_report::{Input, Status};
 
-const PLAIN: &str =
+pub const PLAIN: &str =
     "N lower 764 at packet 0, upper 8444 at packet 8\nNL lower 764 at packet 0, upper 8004 at packet 19\nW lower 764 at packet 0, upper 1000000\n";
 
-const LINE: &str = "window --sdp p.sdp --media 1 a.pcap";
+pub const LINE: &str = "window --sdp p.sdp --media 1 a.pcap";
 
 // The words are answered so, and nothing is said on standard error.
 pub fn prints<R: Abort + AllocGlobal + Wait + Threads + Sync>(

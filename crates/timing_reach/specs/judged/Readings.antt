@@ -13,6 +13,7 @@ use Rattle.fail_interval.specs.Stands.{StandsFor, count_fed}
 use Rattle.pcap_reader.specs.Records.{Records}
 use Rattle.sender_params.specs.Ticks.{NeverFall}
 use Rattle.udp_rtp.specs.Flow.{flow, flow_packet}
+use Rattle.timing_reach.specs.judged.Marks.{last_marked}
 use Rattle.timing_reach.specs.judged.Opening.{IsOpening}
 use Rattle.timing_reach.specs.declared.judged.judging.Judging.{Judging}
 use Rattle.timing_reach.specs.declared.judged.judgment.Judgment.{Judgment}
@@ -22,6 +23,7 @@ pub record IsJudging (m : Media) (key : FlowKey) (tai : ℕ) (j : Judging) (pack
   pub media : j.media ≡ m
   pub judge : StandsFor m key tai j.judge packets
   pub opening : IsOpening packets j.opening
+  pub last : j.last ≡ last_marked 0 packets
 
 -- how many packets were passed
 abbrev pub count_judged : Judging → ℕ
@@ -50,13 +52,15 @@ judges_more x y z a b first second m key tai packets h =
     ∙ ap (λ l. packets ++ l) (sym (filter_map-append (flow_packet m) a b)))
     (second m key tai (packets ++ flow a m) (first m key tai packets h))
 
--- what is found where these packets are the flow: its verdict, and where it is judged in one run the stamp of the first
--- judged packet, before the seconds are added; the stamps of the run never fall
+-- what is found where these packets are the flow: its verdict, the stamp of the last packet that has the marker, and
+-- where it is judged in one run that of the first judged packet, before the seconds are added; the stamps of the run
+-- never fall
 pub record IsJudgment (m : Media) (tai : ℕ) (packets : List FlowPacket) (judgment : Judgment) : Type 0 where
   pub verdict_is : judgment.verdict ≡ verdict_of m (judged packets m.pt tai)
   pub first : (run : JudgedRun) → judged packets m.pt tai ≡ in_one_run (whole_frames run)
       → slice_index run.stamps 0 ≡ judgment.first + tai * 10 ^ 9
   pub ordered : (run : JudgedRun) → judged packets m.pt tai ≡ in_one_run (whole_frames run) → NeverFall run.stamps
+  pub last : judgment.last ≡ last_marked 0 packets
 
 -- what is found of the flow of a media in a capture of this text
 pub record IsJudgmentIn (m : Media) (tai : ℕ) (text : List ℕ) (judgment : Judgment) : Type 0 where

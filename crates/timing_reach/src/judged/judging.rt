@@ -1,4 +1,4 @@
-//! The first reading of a flow: what comes of it, and with which stamp its judged part begins.
+//! A reading of a flow: what comes of it, and with which stamps its judged part begins and ends.
 
 ghost use Rattle.std.specs.Prelude.{◌≡◌, ◌≤◌, ◌<◌, ◌^◌, [], ℕ, List, Some, IfOk, IfErr};
 ghost use Rattle.timing_base.specs.Verdicts.{Judged as JudgedValue};
@@ -11,7 +11,7 @@ ghost use Rattle.timing_steps.specs.Answers.{OnReadFault};
 
 use crate::judged::captures::take_capture;
 use crate::judged::judgment::Judgment;
-use crate::judged::opening::Opening;
+use crate::judged::opening::{Opening, last_marked};
 use fail_interval::FlowJudge;
 use pcap_reader::Taker;
 use std::alloc::{AllocError as OutOfMemory, Global};
@@ -21,19 +21,21 @@ use timing_report::Input;
 use timing_steps::Failure;
 use udp_rtp::packet_of;
 
-/// The judge of a flow, and how its judged part opens.
+/// The judge of a flow, and how its judged part opens and ends.
 #[derive(Drop)]
 pub struct Judging {
     pub media: Media,
     pub judge: FlowJudge,
     pub opening: Opening,
+    /// The stamp of the last packet that had the marker, in nanoseconds, as the capture has it; 0 before.
+    pub last: u64,
 }
 
 impl Judging {
     ghost use Rattle.timing_reach.specs.judged.Readings.{IsJudging, IsJudgment, count_judged};
 
     /// The judge of this media before the first record. `tai` seconds are added to the stamps.
-    fn new(alloc: Global, media: &Media, number: u32, tai: u64) -> Judging
+    pub fn new(alloc: Global, media: &Media, number: u32, tai: u64) -> Judging
         requires { tai ≤ 1000 }
         ensures stands { IsJudging media.now (record { file = 0; media = number }) tai result [] }
         ensures count { count_judged result ≡ 0 }
@@ -46,11 +48,12 @@ impl Judging {
             media: *media,
             judge: FlowJudge::new(alloc, media, key, tai),
             opening: Opening::new(),
+            last: 0,
         }
     }
 
     /// What comes of the flow, where it ends here.
-    fn finish(self) -> Judgment
+    pub fn finish(self) -> Judgment
         requires { count_judged self < 2 ^ 41 }
         ensures { (media : _) (key : KeyValue) (tai : ℕ) (packets : List _) → tai ≤ 1000
             → IsJudging media key tai self packets → IsJudgment media tai packets result }
@@ -59,10 +62,12 @@ impl Judging {
             media: _,
             judge,
             opening,
+            last,
         } = self;
         Judgment {
             verdict: judge.finish().verdict,
             first: opening.stamp(),
+            last,
         }
     }
 }
@@ -96,6 +101,7 @@ impl Taker for Judging {
             None => Ok(()),
             Some(packet) => {
                 self.opening.pass(&packet);
+                self.last = last_marked(self.last, &packet);
                 self.judge.feed(packet.rec, packet.at, packet.rtp)
             }
         }

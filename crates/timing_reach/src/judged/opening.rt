@@ -62,6 +62,19 @@ impl Opening {
 }
 
 ghost use Rattle.timing_base.specs.Flows.{read_or_zeros};
+ghost use Rattle.timing_reach.specs.judged.Marks.{last_marked};
+
+/// The stamp of this packet, where it has the marker, and else the one before.
+#[inline]
+pub fn last_marked(before: u64, packet: &FlowPacket) -> u64
+    ensures { result ≡ last_marked before (packet.now ∷ []) }
+{
+    if is_last_of_group(packet) {
+        packet.at
+    } else {
+        before
+    }
+}
 
 /// Whether a packet has the marker; one that wasn't read has none.
 #[inline]

@@ -130,7 +130,7 @@ fn put_first(skew: &mut Skew, packet: Option<FlowPacket>) -> Result<(), OutOfMem
     ensures adds { IfOk result (λ _. Adds skew.old skew.new (cons_option packet []) []) }
 {
     match packet {
-        Some(packet) => skew.first(packet.rec, packet.at, packet.rtp),
+        Some(packet) => skew.first(packet),
         None => Ok(()),
     }
 }
@@ -145,7 +145,7 @@ fn put_second(skew: &mut Skew, packet: Option<FlowPacket>) -> Result<(), OutOfMe
     ensures adds { IfOk result (λ _. Adds skew.old skew.new [] (cons_option packet [])) }
 {
     match packet {
-        Some(packet) => skew.second(packet.rec, packet.at, packet.rtp),
+        Some(packet) => skew.second(packet),
         None => Ok(()),
     }
 }

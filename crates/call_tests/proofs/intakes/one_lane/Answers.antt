@@ -13,7 +13,8 @@ one-sender lane ps senders one none = record {
       let first : w ≡ 0 = omega (arith, below) in
       let within : w < length ps = omega (arith, first, one) in
       let is = senders w d within in
-      sender-is (slice_index_or ps w d) (slice_index_or (lane ∷ []) w l) 0 [] (is.lane_is ∙ ap (λ (v : ℕ). slice_index_or (lane ∷ []) v l) (sym first)) (is.from_is ∙ first)
+      sender-is (slice_index_or ps w d) (slice_index_or (lane ∷ []) w l) 0 [] (is.lane_is ∙ ap (λ (v : ℕ). slice_index_or (lane ∷ []) v l) (sym first))
+      (is.from_is ∙ first)
       (sym (sent_of-at ps w d within) ∙ none w);
 }
 

@@ -22,4 +22,5 @@ pub taken_in-done-requires-clause-passes : goal.taken_in-done-requires-clause-pa
 taken_in-done-requires-clause-passes g c = λ _.
     let all : c.append.new.self.items ≡ c.in_ok-first.passes.items ++ c.in_ok-second.more.items = c.in_ok-append.ensures.items in
     subst (HaveSentNothing 0 (c.in_ok-first.first ∷ c.in_ok-second.second ∷ [])) (sym all)
-    (two-passes c.in_ok-first.first c.in_ok-second.second c.in_ok-first.passes.items c.in_ok-second.more.items c.in_ok-first.ensures.passes c.in_ok-second.ensures.passes)
+    (two-passes c.in_ok-first.first c.in_ok-second.second c.in_ok-first.passes.items c.in_ok-second.more.items c.in_ok-first.ensures.passes
+    c.in_ok-second.ensures.passes)

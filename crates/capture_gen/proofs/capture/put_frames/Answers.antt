@@ -8,7 +8,8 @@ use Rattle.capture_gen.proofs.capture.put_frames.Goals as goal
 pub returns-in_err-put-clause-bytes : goal.returns-in_err-put-clause-bytes
 returns-in_err-put-clause-bytes g c =
     puts_err _ _ c.from_residual.result _ c.from_residual.ensures.0
-    (front_of_frames _ _ _ c.args.number c.args.frames c.args.flaw c.loop-index.index c.loop-index-test.true c.loop-index.invariant.bytes c.in_err-put.ensures.bytes)
+    (front_of_frames _ _ _ c.args.number c.args.frames c.args.flaw c.loop-index.index c.loop-index-test.true c.loop-index.invariant.bytes
+    c.in_err-put.ensures.bytes)
 
 pub loop-index-preserved : goal.loop-index-preserved
 loop-index-preserved g c = record {

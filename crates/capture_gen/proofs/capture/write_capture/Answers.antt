@@ -14,7 +14,8 @@ returns-in_err-put_all-clause-bytes g c =
     let flaw = flaw_of c.args.flaw in
     let P = AppendsFront (g.K.Sink.written c.args.out.now) (g.K.Sink.written c.put_all.new.out) in
     let whole = parts-capture c.args.number c.args.frames c.args.flaw c.file_head.result first flaw c.file_head.ensures refl refl in
-    puts_err _ _ c.from_residual.result _ c.from_residual.ensures.0 (subst P whole (front_in_head _ _ _ first (frames_bytes c.args.number c.args.frames flaw) c.in_err-put_all.ensures.bytes))
+    puts_err _ _ c.from_residual.result _ c.from_residual.ensures.0
+    (subst P whole (front_in_head _ _ _ first (frames_bytes c.args.number c.args.frames flaw) c.in_err-put_all.ensures.bytes))
 
 pub returns-in_err-put_all-2-clause-bytes : goal.returns-in_err-put_all-2-clause-bytes
 returns-in_err-put_all-2-clause-bytes g c =

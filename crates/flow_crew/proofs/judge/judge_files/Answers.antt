@@ -77,7 +77,7 @@ returns-clause-back g c =
 
 pub returns-clause-whole : goal.returns-clause-whole
 returns-clause-whole g c =
-    IfSome_then c.rows_if_whole-rows.result c.rows_if_whole-rows.ensures.whole (λ _ whole. subst (All IsWhole) c.deref-2.ensures.value whole)
+    IfSome_then c.rows_if_whole-rows.result c.rows_if_whole-rows.ensures.whole (λ _ whole. subst (All IsWhole) c.deref-3.ensures.value whole)
 
 pub returns-clause-keys : goal.returns-clause-keys
 returns-clause-keys g c =
@@ -100,4 +100,4 @@ returns-clause-told g c =
     made c.in_ok-intakes.ensures count c.in_ok-worked.ensures.worked c.in_ok-takers.ensures.takers c.in_ok-takers.ensures.posted
     (read_on _ _ _ _ _ _ _ _ c.deref.ensures.value c.in_ok-worked.ensures.read) c.in_ok-sources.ensures.notes c.in_ok-sources.ensures.rows
     c.in_ok-senders.ensures
-    c.close_all.ensures (subst (All IsWhole) c.deref-2.ensures.value whole) are are_texts)
+    c.close_all.ensures (subst (All IsWhole) c.deref-3.ensures.value whole) are are_texts)

@@ -7,4 +7,5 @@ use Rattle.flow_worker.proofs.routing.find_media.Goals as goal
 pub returns-then-eq : goal.returns-then-eq
 returns-then-eq c =
     let same : is_same_target c.args.target (target_of c.index-media-number.result) ≡ true = search rules in
-    media_to-here c.args.target c.loop-number.number c.args.media.now c.index-media-number.result (search rules) c.index-media-number.is same c.loop-number.invariant
+    media_to-here c.args.target c.loop-number.number c.args.media.now c.index-media-number.result (search rules) c.index-media-number.is same
+    c.loop-number.invariant

@@ -30,7 +30,8 @@ take_all-requires-clause-stands g c =
     let new = c.next_message.new.pass in
     let first = c.in_ok-first.first in
     let none : messages old.taken ≡ [] = ap messages c.requires.pass.1 in
-    let took : messages new.taken ≡ [] ++ first ∷ [] = taken-more old new first c.in_ok-first.ensures.taken ∙ ap (λ (l : List Message). l ++ first ∷ []) none in (
+    let took : messages new.taken ≡ [] ++ first ∷ [] = taken-more old new first c.in_ok-first.ensures.taken ∙ ap (λ (l : List Message). l ++ first ∷ []) none
+    in (
       s,
       c.args.run.now.files,
       c.args.worker,
@@ -49,4 +50,5 @@ returns-clause-receipts g c =
     let began = subst (λ (l : List Message). StandsFor s c.args.run.now.files c.args.worker l c.take.new.self) (sym took)
     (c.in_ok-take.ensures.stands s c.args.run.now.files c.args.worker [] c.in_ok-judging.ensures.stands) in
     let all = c.in_ok-take_all.ensures.stands s c.args.run.now.files c.args.worker began in
-    judged_if c.post.result s c.args.run.now.files c.args.worker c.take_all.new.pass c.args.book.now c.take_all.new.judging all.0 all.1 c.post.ensures.posted c.post.ensures.rows
+    judged_if c.post.result s c.args.run.now.files c.args.worker c.take_all.new.pass c.args.book.now c.take_all.new.judging all.0 all.1 c.post.ensures.posted
+    c.post.ensures.rows

@@ -31,7 +31,14 @@ take-requires g c =
     let message = c.in_ok-message.message in
     let took = c.in_ok-message.ensures.taken in
     record {
-      few = (has.0, has.1, has.2, messages old.taken, c.loop.invariant.2.stands has.0 has.1 has.2 has.3, taken-few old new message took c.in_ok-message.ensures.few);
+      few = (
+        has.0,
+        has.1,
+        has.2,
+        messages old.taken,
+        c.loop.invariant.2.stands has.0 has.1 has.2 has.3,
+        taken-few old new message took c.in_ok-message.ensures.few,
+      );
     }
 
 pub returns-clause-stands : goal.returns-clause-stands

@@ -1,4 +1,4 @@
-use Rattle.std.proofs.Common.{◌≡◌, ◌+◌, [], ◌∷◌, rules, arith, refl}
+use Rattle.std.proofs.Common.{◌≡◌, ◌+◌, [], ◌∷◌, arith}
 use Rattle.std.proofs.lemmas.Result.{err_from_is_err_and}
 use Rattle.timing_base.specs.Captures.{Record}
 use Rattle.pcap_reader.specs.Readers.{frame_count}
@@ -14,7 +14,8 @@ returns-in_err-take-in-Ok-clause-told g c = λ items end given.
     let halts = g.met.T.Taker.halts c.args.taker.now c.take.new.self c.in_err-take-in-Ok.field-0.0 (first ∷ []) in
     let p = err_from_is_err_and c.from_residual.result c.from_residual.ensures.1 in
     rw (p.1, p.2)
-    (stops-first g.T.Taker.stops c.args.before c.args.taker.now c.take.new.self c.in_err-take-in-Ok.field-0.0 first _ found.0 items found.1 same halts c.in_err-take-in-Ok.ensures.stops)
+    (stops-first g.T.Taker.stops c.args.before c.args.taker.now c.take.new.self c.in_err-take-in-Ok.field-0.0 first _ found.0 items found.1 same halts
+    c.in_err-take-in-Ok.ensures.stops)
 
 pub returns-in_err-take-in-Ok-clause-stopped : goal.returns-in_err-take-in-Ok-clause-stopped
 returns-in_err-take-in-Ok-clause-stopped g c =

@@ -18,6 +18,7 @@ loop-from-preserved c =
     let told = c.another-seat.ensures in
     let seat = c.another-seat.result in
     let lane : record { web = seat.web; heap = seat.heap } ≡ c.args.queue.now = λ i. record { web = told.queue.2.0.0 i; heap = told.queue.2.0.1 i } in
-    let more = senders_more c.args.queue.now c.loop-from.passes.items c.push.new.self.items c.loop-from.from (record { web = seat.web; heap = seat.heap }) seat.me.view.client
+    let more = senders_more c.args.queue.now c.loop-from.passes.items c.push.new.self.items c.loop-from.from (record { web = seat.web; heap = seat.heap })
+    seat.me.view.client
     kept.long kept.each kept.none lane (told.rule.1 ∙ ap new_sender kept.taker_is) c.in_ok-push.ensures.items in
     record { long = more.0; each = more.1; none = more.2; ours = told.queue.0; taker_is = told.rule.0 ∙ ap with_one_more kept.taker_is }

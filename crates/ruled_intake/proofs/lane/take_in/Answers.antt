@@ -17,8 +17,10 @@ absorb-requires-clause-rule c =
     let other = c.each.inside.pass in
     let next = next_sender c.args.queue.now c.args.senders.items loop.yielded loop.each-iterator.rest.items c.next.new.self.rest.items c.in-Some.each
     c.requires.senders loop.invariant.whole c.in-Some.ensures.steps.0 in
-    let turn : c.each.inside.from ≡ length (all_sent loop.yielded) = ap (λ (s : Sender). s.from) c.each.view_is ∙ next.from_is ∙ sym (length-map loop.yielded (λ (s : Sender). s.sent)) in
+    let turn : c.each.inside.from ≡ length (all_sent loop.yielded) = ap (λ (s : Sender). s.from) c.each.view_is ∙ next.from_is ∙ sym
+    (length-map loop.yielded (λ (s : Sender). s.sent)) in
     let put = put_by other.me.view.client in
     subst (λ (v : View). Merges Delivers loop.taker.id v other.id other.me.view.client (with_known v other.me.view.client) Spent) (sym loop.invariant.knows)
-    (subst (λ (w : View). Merges Delivers loop.taker.id (Takes (got_by old) (made_by old) (all_sent loop.yielded)) other.id w (with_known (Takes (got_by old) (made_by old) (all_sent loop.yielded)) w) Spent) (sym c.each.invariant.2.view_is)
+    (subst (λ (w : View). Merges Delivers loop.taker.id (Takes (got_by old) (made_by old) (all_sent loop.yielded)) other.id w
+    (with_known (Takes (got_by old) (made_by old) (all_sent loop.yielded)) w) Spent) (sym c.each.invariant.2.view_is)
     (takes_in loop.taker.id (made_by old) (got_by old) (all_sent loop.yielded) other.id c.each.inside.from put turn))

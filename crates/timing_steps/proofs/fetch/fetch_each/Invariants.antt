@@ -10,7 +10,8 @@ use Rattle.timing_steps.proofs.fetch.fetch_each.Given as goal
 abbrev pub invariant-loop-number : goal.invariant-loop-number
 invariant-loop-number g l = record {
   within : l.number ≤ length l.names;
-  fetched : AreFetched (name_of g.H.Source.Source.name) (left_of g.H.Source.Source.left) (faults_of g.H.Source.Source.faults) (classic_texts (g.H.Shelf.text l.fn.shelf)) (take l.number l.names) l.sources.items;
+  fetched : AreFetched (name_of g.H.Source.Source.name) (left_of g.H.Source.Source.left) (faults_of g.H.Source.Source.faults)
+      (classic_texts (g.H.Shelf.text l.fn.shelf)) (take l.number l.names) l.sources.items;
   there : AreThere (g.H.Shelf.lacks l.fn.shelf) (take l.number l.names);
   stays : StaysAs g.H.Shelf.text g.H.Shelf.lacks g.H.Shelf.faults l.fn.shelf l.shelf;
 }

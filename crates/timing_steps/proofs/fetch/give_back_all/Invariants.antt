@@ -5,6 +5,7 @@ use Rattle.timing_steps.proofs.fetch.give_back_all.Given as goal
 
 abbrev pub invariant-loop-source : goal.invariant-loop-source
 invariant-loop-source g l = record {
-  returning : Returning (name_of g.H.Source.Source.name) (faults_of g.H.Source.Source.faults) (g.H.Shelf.faults l.fn.shelf) (g.H.Shelf.faults l.shelf) l.fn.sources.items l.source-iterator.rest.items;
+  returning : Returning (name_of g.H.Source.Source.name) (faults_of g.H.Source.Source.faults) (g.H.Shelf.faults l.fn.shelf) (g.H.Shelf.faults l.shelf)
+      l.fn.sources.items l.source-iterator.rest.items;
   stays : StaysAs g.H.Shelf.text g.H.Shelf.lacks g.H.Shelf.faults l.fn.shelf l.shelf;
 }

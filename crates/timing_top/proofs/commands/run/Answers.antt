@@ -8,4 +8,5 @@ returns-in-Err-Usage-clause-ran g c =
 
 pub returns-in-Err-OutOfMemory-clause-ran : goal.returns-in-Err-OutOfMemory-clause-ran
 returns-in-Err-OutOfMemory-clause-ran g c =
-    lacks-memory _ _ _ _ _ c.conclude-in-Err-OutOfMemory.ensures.printed c.conclude-in-Err-OutOfMemory.ensures.told c.conclude-in-Err-OutOfMemory.ensures.later_out c.conclude-in-Err-OutOfMemory.ensures.later_err
+    lacks-memory _ _ _ _ _ c.conclude-in-Err-OutOfMemory.ensures.printed c.conclude-in-Err-OutOfMemory.ensures.told
+    c.conclude-in-Err-OutOfMemory.ensures.later_out c.conclude-in-Err-OutOfMemory.ensures.later_err

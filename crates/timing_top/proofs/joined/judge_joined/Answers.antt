@@ -13,8 +13,10 @@ use Rattle.timing_top.proofs.joined.judge_joined.Goals as goal
 pub loop-source-init : goal.loop-source-init
 loop-source-init g c = record {
   reading = λ names fetched.
-      reading-start (name_of g.H.Source.Source.name) (left_of g.H.Source.Source.left) (faults_of g.H.Source.Source.faults) (classic_texts (g.H.Shelf.text c.args.shelf.now)) (g.H.Shelf.faults c.args.shelf.now) names c.args.sources.items
-      c.into_iter-source-iterator.result.rest.items _ _ c.into_iter-source-iterator.ensures.into_iter_gives.0 (search rules) (joined-none c.args.media.now c.args.tai _ _ (search rules) c.in-Ok.ensures.stands) fetched;
+      reading-start (name_of g.H.Source.Source.name) (left_of g.H.Source.Source.left) (faults_of g.H.Source.Source.faults)
+      (classic_texts (g.H.Shelf.text c.args.shelf.now)) (g.H.Shelf.faults c.args.shelf.now) names c.args.sources.items
+      c.into_iter-source-iterator.result.rest.items _ _ c.into_iter-source-iterator.ensures.into_iter_gives.0 (search rules)
+      (joined-none c.args.media.now c.args.tai _ _ (search rules) c.in-Ok.ensures.stands) fetched;
   fresh = search rules;
   count = search rules;
   before = search rules;
@@ -26,21 +28,27 @@ loop-source-init g c = record {
 pub loop-source-preserved-in-Ok-outcome : goal.loop-source-preserved-in-Ok-outcome
 loop-source-preserved-in-Ok-outcome g c = record {
   reading = λ names fetched.
-      reading-next (name_of g.H.Source.Source.name) (left_of g.H.Source.Source.left) (faults_of g.H.Source.Source.faults) (classic_texts (g.H.Shelf.text c.args.shelf.now)) (g.H.Shelf.faults c.args.shelf.now) (g.H.Shelf.faults c.loop-source.shelf) (g.H.Shelf.faults c.join_next-outcome.new.shelf)
+      reading-next (name_of g.H.Source.Source.name) (left_of g.H.Source.Source.left) (faults_of g.H.Source.Source.faults)
+      (classic_texts (g.H.Shelf.text c.args.shelf.now)) (g.H.Shelf.faults c.args.shelf.now) (g.H.Shelf.faults c.loop-source.shelf)
+      (g.H.Shelf.faults c.join_next-outcome.new.shelf)
       names c.in-Some.source c.next.new.self.rest.items c.join_next-outcome.result _ _
       (λ read. AreJoined read c.args.media.now c.args.tai c.loop-source.joined.notes.items c.loop-source.joined.records c.loop-source.joined.bank)
-      (λ read. AreJoined read c.args.media.now c.args.tai c.join_next-outcome.new.joined.notes.items c.join_next-outcome.new.joined.records c.join_next-outcome.new.joined.bank)
+      (λ read. AreJoined read c.args.media.now c.args.tai c.join_next-outcome.new.joined.notes.items c.join_next-outcome.new.joined.records
+      c.join_next-outcome.new.joined.bank)
       (reading-at _ _ _ _ _ _ names _ _ _ _ _ _ c.in-Some.ensures.steps.0 c.in-Ok-outcome.is (c.loop-source.invariant.reading names fetched))
       c.loop-source.invariant.stays.later
-      (joined-if_read c.join_next-outcome.result ((left_of g.H.Source.Source.left) c.in-Some.source) c.args.media.now c.args.tai _ _ _ _ _ _ c.join_next-outcome.ensures.told)
+      (joined-if_read c.join_next-outcome.result ((left_of g.H.Source.Source.left) c.in-Some.source) c.args.media.now c.args.tai _ _ _ _ _ _
+      c.join_next-outcome.ensures.told)
       c.join_next-outcome.ensures.count c.join_next-outcome.ensures.cause;
   fresh = fresh-tail (λ source. (faults_of g.H.Source.Source.faults) source ≡ 0) _ c.in-Some.source _ c.in-Some.ensures.steps.0 c.loop-source.invariant.fresh;
   count = search rules;
   before = c.join_next-outcome.ensures.few;
   few_fed = c.join_next-outcome.ensures.few_fed;
   fed =
-      let was : (items : List Record) × StandsFor c.args.media.now 0 c.args.tai c.loop-source.joined.bank items = if_ok-at _ _ _ c.in-Ok-outcome.is c.loop-source.invariant.fed in
-      if_ok-map c.join_next-outcome.result (λ _. IsFed c.loop-source.joined.bank c.join_next-outcome.new.joined.bank) (λ _. (items : List Record) × StandsFor c.args.media.now 0 c.args.tai c.join_next-outcome.new.joined.bank items)
+      let was : (items : List Record) × StandsFor c.args.media.now 0 c.args.tai c.loop-source.joined.bank items =
+      if_ok-at _ _ _ c.in-Ok-outcome.is c.loop-source.invariant.fed in
+      if_ok-map c.join_next-outcome.result (λ _. IsFed c.loop-source.joined.bank c.join_next-outcome.new.joined.bank)
+      (λ _. (items : List Record) × StandsFor c.args.media.now 0 c.args.tai c.join_next-outcome.new.joined.bank items)
       (λ _ fed. (was.0 ++ fed.0, fed.1 c.args.media.now 0 c.args.tai was.0 was.1)) c.join_next-outcome.ensures.fed;
   stays = stays-then g.H.Shelf.text g.H.Shelf.lacks g.H.Shelf.faults _ _ _ c.loop-source.invariant.stays c.join_next-outcome.ensures.stays;
 }
@@ -48,9 +56,12 @@ loop-source-preserved-in-Ok-outcome g c = record {
 pub loop-source-preserved : goal.loop-source-preserved
 loop-source-preserved g c = record {
   reading = λ names fetched.
-      reading-stopped (name_of g.H.Source.Source.name) (left_of g.H.Source.Source.left) (faults_of g.H.Source.Source.faults) (classic_texts (g.H.Shelf.text c.args.shelf.now)) (g.H.Shelf.faults c.args.shelf.now) (g.H.Shelf.faults c.loop-source.shelf) (g.H.Shelf.faults c.give_back.new.shelf)
+      reading-stopped (name_of g.H.Source.Source.name) (left_of g.H.Source.Source.left) (faults_of g.H.Source.Source.faults)
+      (classic_texts (g.H.Shelf.text c.args.shelf.now)) (g.H.Shelf.faults c.args.shelf.now) (g.H.Shelf.faults c.loop-source.shelf)
+      (g.H.Shelf.faults c.give_back.new.shelf)
       names c.in-Some.source c.next.new.self.rest.items _ _ c.in-Err-outcome.failure
-      (reading-at _ _ _ _ _ _ names _ _ _ _ _ _ c.in-Some.ensures.steps.0 c.in-Err-outcome.is (c.loop-source.invariant.reading names fetched)) c.give_back.ensures.stays.later;
+      (reading-at _ _ _ _ _ _ names _ _ _ _ _ _ c.in-Some.ensures.steps.0 c.in-Err-outcome.is (c.loop-source.invariant.reading names fetched))
+      c.give_back.ensures.stays.later;
   fresh = fresh-tail (λ source. (faults_of g.H.Source.Source.faults) source ≡ 0) _ c.in-Some.source _ c.in-Some.ensures.steps.0 c.loop-source.invariant.fresh;
   count = search rules;
   before = search rules;
@@ -62,15 +73,22 @@ loop-source-preserved g c = record {
 pub returns-clause-judged : goal.returns-clause-judged
 returns-clause-judged g c = record {
   told = λ names texts fetched told.
-      found-joined texts c.args.media.now c.args.tai c.loop-source.joined.records c.loop-source.joined.notes.items c.loop-source.joined.bank c.finish.new.rows.items
-      (reading-all (name_of g.H.Source.Source.name) (left_of g.H.Source.Source.left) (faults_of g.H.Source.Source.faults) (classic_texts (g.H.Shelf.text c.args.shelf.now)) (g.H.Shelf.faults c.args.shelf.now) (g.H.Shelf.faults c.loop-source.shelf) names texts
-      c.loop-source.source-iterator.rest.items _ (λ read. AreJoined read c.args.media.now c.args.tai c.loop-source.joined.notes.items c.loop-source.joined.records c.loop-source.joined.bank)
+      found-joined texts c.args.media.now c.args.tai c.loop-source.joined.records c.loop-source.joined.notes.items c.loop-source.joined.bank
+      c.finish.new.rows.items
+      (reading-all (name_of g.H.Source.Source.name) (left_of g.H.Source.Source.left) (faults_of g.H.Source.Source.faults)
+      (classic_texts (g.H.Shelf.text c.args.shelf.now)) (g.H.Shelf.faults c.args.shelf.now) (g.H.Shelf.faults c.loop-source.shelf) names texts
+      c.loop-source.source-iterator.rest.items _
+      (λ read. AreJoined read c.args.media.now c.args.tai c.loop-source.joined.notes.items c.loop-source.joined.records c.loop-source.joined.bank)
       (reading-at _ _ _ _ _ _ names _ _ _ _ _ _ refl (search rules) (c.loop-source.invariant.reading names fetched)) (none-left _ (search rules)) told)
-      (λ items stands. rows-alone c.args.tai c.args.media.now items c.new-rows.result.items c.finish.new.rows.items c.new-rows.ensures.items (c.in_ok-finish.ensures.rows c.args.media.now 0 c.args.tai items stands));
+      (λ items stands. rows-alone c.args.tai c.args.media.now items c.new-rows.result.items c.finish.new.rows.items c.new-rows.ensures.items
+      (c.in_ok-finish.ensures.rows c.args.media.now 0 c.args.tai items stands));
   count = search rules;
   of_session =
-      let was : IfOk c.loop-source.outcome (λ _. (items : List Record) × StandsFor c.args.media.now 0 c.args.tai c.loop-source.joined.bank items) = c.loop-source.invariant.fed in
-      let fed : (items : List Record) × StandsFor c.args.media.now 0 c.args.tai c.loop-source.joined.bank items = if_ok-at c.loop-source.outcome c.in_ok-outcome.field-0 _ (search rules) was in
-      rows-of_session c.args.tai 0 c.args.media.now fed.0 c.new-rows.result.items c.finish.new.rows.items (c.in_ok-finish.ensures.rows c.args.media.now 0 c.args.tai fed.0 fed.1) (search rules);
+      let was : IfOk c.loop-source.outcome (λ _. (items : List Record) × StandsFor c.args.media.now 0 c.args.tai c.loop-source.joined.bank items) =
+      c.loop-source.invariant.fed in
+      let fed : (items : List Record) × StandsFor c.args.media.now 0 c.args.tai c.loop-source.joined.bank items =
+      if_ok-at c.loop-source.outcome c.in_ok-outcome.field-0 _ (search rules) was in
+      rows-of_session c.args.tai 0 c.args.media.now fed.0 c.new-rows.result.items c.finish.new.rows.items
+      (c.in_ok-finish.ensures.rows c.args.media.now 0 c.args.tai fed.0 fed.1) (search rules);
   cause = λ names fetched. tt;
 }

@@ -11,9 +11,12 @@ use Rattle.timing_top.proofs.joined.judge_joined.Given as goal
 
 abbrev pub invariant-loop-source : goal.invariant-loop-source
 invariant-loop-source g l = record {
-  reading : (names : List (List ℕ)) → AreFetched (name_of g.H.Source.Source.name) (left_of g.H.Source.Source.left) (faults_of g.H.Source.Source.faults) (classic_texts (g.H.Shelf.text l.fn.shelf)) names l.fn.sources.items
-      → Reading (name_of g.H.Source.Source.name) (left_of g.H.Source.Source.left) (faults_of g.H.Source.Source.faults) (classic_texts (g.H.Shelf.text l.fn.shelf)) (g.H.Shelf.faults l.fn.shelf) (g.H.Shelf.faults l.shelf)
-      names l.source-iterator.rest.items l.outcome (length l.joined.notes.items) (λ read. AreJoined read l.media l.tai l.joined.notes.items l.joined.records l.joined.bank);
+  reading : (names : List (List ℕ)) → AreFetched (name_of g.H.Source.Source.name) (left_of g.H.Source.Source.left) (faults_of g.H.Source.Source.faults)
+      (classic_texts (g.H.Shelf.text l.fn.shelf)) names l.fn.sources.items
+      → Reading (name_of g.H.Source.Source.name) (left_of g.H.Source.Source.left) (faults_of g.H.Source.Source.faults)
+      (classic_texts (g.H.Shelf.text l.fn.shelf)) (g.H.Shelf.faults l.fn.shelf) (g.H.Shelf.faults l.shelf)
+      names l.source-iterator.rest.items l.outcome (length l.joined.notes.items)
+      (λ read. AreJoined read l.media l.tai l.joined.notes.items l.joined.records l.joined.bank);
   fresh : All (λ source. (faults_of g.H.Source.Source.faults) source ≡ 0) l.source-iterator.rest.items;
   count : IfOk l.outcome (λ _. length l.joined.notes.items + length l.source-iterator.rest.items ≡ length l.fn.sources.items);
   before : IfOk l.outcome (λ _. l.joined.records ≤ length l.joined.notes.items * 2 ^ 36);

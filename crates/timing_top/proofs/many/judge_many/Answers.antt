@@ -16,7 +16,8 @@ use Rattle.timing_top.proofs.many.judge_many.Goals as goal
 pub first_unread-requires : goal.first_unread-requires
 first_unread-requires g c = record {
   few =
-      let long = back-length (name_of g.H.Source.Source.name) (faults_of g.H.Source.Source.faults) c.args.sources.items c.in_ok-sources.field-0.notes.items c.in_ok-sources.field-0.sources.items c.in_ok-sources.ensures.back in
+      let long = back-length (name_of g.H.Source.Source.name) (faults_of g.H.Source.Source.faults) c.args.sources.items c.in_ok-sources.field-0.notes.items
+      c.in_ok-sources.field-0.sources.items c.in_ok-sources.ensures.back in
       omega (arith, long, c.requires.few, ap length c.deref.ensures.value);
 }
 
@@ -28,11 +29,14 @@ returns-in-Some-clause-judged g c = record {
   cause = λ names fetched.
       let notes = c.in_ok-sources.field-0.notes.items in
       let unread : (c.in-Some.number < length notes) × ((d : FileNote) → slice_index_or notes c.in-Some.number d ≡ Refused ReadFault) =
-      subst (λ (l : List FileNote). (c.in-Some.number < length l) × ((d : FileNote) → slice_index_or l c.in-Some.number d ≡ Refused ReadFault)) c.deref.ensures.value c.in-Some.ensures in (
+      subst (λ (l : List FileNote). (c.in-Some.number < length l) × ((d : FileNote) → slice_index_or l c.in-Some.number d ≡ Refused ReadFault))
+      c.deref.ensures.value c.in-Some.ensures in (
         c.in-Some.number,
         refl,
-        unread-rose (name_of g.H.Source.Source.name) (left_of g.H.Source.Source.left) (faults_of g.H.Source.Source.faults) (classic_texts (g.H.Shelf.text c.args.shelf.now)) (g.H.Shelf.faults c.args.shelf.now) (g.H.Shelf.faults c.give_back_all.new.shelf)
-            names c.args.sources.items notes c.in_ok-sources.field-0.sources.items c.in-Some.number fetched c.in_ok-sources.ensures.back c.give_back_all.ensures.raised unread.0 unread.1,
+        unread-rose (name_of g.H.Source.Source.name) (left_of g.H.Source.Source.left) (faults_of g.H.Source.Source.faults)
+            (classic_texts (g.H.Shelf.text c.args.shelf.now)) (g.H.Shelf.faults c.args.shelf.now) (g.H.Shelf.faults c.give_back_all.new.shelf)
+            names c.args.sources.items notes c.in_ok-sources.field-0.sources.items c.in-Some.number fetched c.in_ok-sources.ensures.back
+            c.give_back_all.ensures.raised unread.0 unread.1,
       );
 }
 
@@ -43,9 +47,11 @@ returns-in-Some-rows-clause-judged g c = record {
       (λ rows. (read : List (List ℕ)) → AreTexts (left_of g.H.Source.Source.left) read c.args.sources.items
       → AreFound read (rows_over c.args.joined c.args.tai c.args.media.now) c.in_ok-sources.field-0.notes.items rows.items)
       c.in-Some-rows.is c.in_ok-sources.ensures.told texts
-      (fetched-texts (name_of g.H.Source.Source.name) (left_of g.H.Source.Source.left) (faults_of g.H.Source.Source.faults) (classic_texts (g.H.Shelf.text c.args.shelf.now)) names texts c.args.sources.items fetched told);
+      (fetched-texts (name_of g.H.Source.Source.name) (left_of g.H.Source.Source.left) (faults_of g.H.Source.Source.faults)
+      (classic_texts (g.H.Shelf.text c.args.shelf.now)) names texts c.args.sources.items fetched told);
   count =
-      back-length (name_of g.H.Source.Source.name) (faults_of g.H.Source.Source.faults) c.args.sources.items c.in_ok-sources.field-0.notes.items c.in_ok-sources.field-0.sources.items c.in_ok-sources.ensures.back;
+      back-length (name_of g.H.Source.Source.name) (faults_of g.H.Source.Source.faults) c.args.sources.items c.in_ok-sources.field-0.notes.items
+      c.in_ok-sources.field-0.sources.items c.in_ok-sources.ensures.back;
   of_session =
       keys-of_session c.args.joined (length c.args.sources.items) c.args.media.now c.in-Some-rows.rows.items c.requires.few
       (some-at c.in_ok-sources.field-0.rows c.in-Some-rows.rows

@@ -15,22 +15,33 @@ use Rattle.timing_top.proofs.self_tests.line_of.Goals as goal
 
 pub returns-in-Err-clause-memory : goal.returns-in-Err-clause-memory
 returns-in-Err-clause-memory g c =
-    let fetched = fetched-same (classic_name name_of) (classic_left (λ s. Some (left_of s))) (classic_faults (λ s. 0)) (classic_texts (λ n. Some (bytes_of c.fetch_session.new.shelf n))) (classic_texts (λ n. Some (bytes_of c.fetch_captures.new.shelf n))) (c.from_text.result ∷ []) c.in_ok-sources.sources.items
+    let fetched = fetched-same (classic_name name_of) (classic_left (λ s. Some (left_of s))) (classic_faults (λ s. 0))
+    (classic_texts (λ n. Some (bytes_of c.fetch_session.new.shelf n))) (classic_texts (λ n. Some (bytes_of c.fetch_captures.new.shelf n)))
+    (c.from_text.result ∷ []) c.in_ok-sources.sources.items
     (λ n. ap (option_map classic) (c.fetch_captures.ensures.stays.texts n)) c.in_ok-sources.ensures.fetched in
-    no-cause c.in-Err.failure (λ (i : Input). (number : ℕ) × (i ≡ Capture number) × CaptureRose (λ (n : List ℕ). 0) (λ (n : List ℕ). 0) (c.from_text.result ∷ []) number)
+    no-cause c.in-Err.failure (λ (i : Input). (number : ℕ) × (i ≡ Capture number) × CaptureRose (λ (n : List ℕ). 0) (λ (n : List ℕ). 0)
+    (c.from_text.result ∷ []) number)
     (λ i h. never-rose h.2.rose) (c.in-Err.ensures.judged.cause (c.from_text.result ∷ []) fetched)
 
 pub text_on-requires-clause-one_row : goal.text_on-requires-clause-one_row
 text_on-requires-clause-one_row g c =
-    let found = found-made (classic_name name_of) (classic_left (λ s. Some (left_of s))) (classic_faults (λ s. 0)) c.args.frames c.args.flaw (bytes_of c.in_ok-shelf.shelf) (bytes_of c.fetch_session.new.shelf) (bytes_of c.fetch_captures.new.shelf) c.from_text.result
-    c.in_ok-sources.sources.items c.in-Ok.session c.as_slice-media.result.now _ _ c.in_ok-shelf.ensures.capture (search rules) c.fetch_session.ensures.stays.texts c.fetch_captures.ensures.stays.texts
-    c.in_ok-sources.ensures.fetched (c.in_ok-session.ensures.told sdp_text (ap Some c.in_ok-shelf.ensures.sdp) ∙ c.in-Ok.is) (search rules) c.in-Ok-judge_made.ensures.judged.told in
+    let found = found-made (classic_name name_of) (classic_left (λ s. Some (left_of s))) (classic_faults (λ s. 0)) c.args.frames c.args.flaw
+    (bytes_of c.in_ok-shelf.shelf) (bytes_of c.fetch_session.new.shelf) (bytes_of c.fetch_captures.new.shelf) c.from_text.result
+    c.in_ok-sources.sources.items c.in-Ok.session c.as_slice-media.result.now _ _ c.in_ok-shelf.ensures.capture (search rules)
+    c.fetch_session.ensures.stays.texts c.fetch_captures.ensures.stays.texts
+    c.in_ok-sources.ensures.fetched (c.in_ok-session.ensures.told sdp_text (ap Some c.in_ok-shelf.ensures.sdp) ∙ c.in-Ok.is) (search rules)
+    c.in-Ok-judge_made.ensures.judged.told in
     let one = one-found (capture c.args.frames c.args.frames c.args.flaw) plain_media _ _ found in
     ap length one.found_is
 
 pub returns-clause-line : goal.returns-clause-line
 returns-clause-line g c =
-    let found = found-made (classic_name name_of) (classic_left (λ s. Some (left_of s))) (classic_faults (λ s. 0)) c.args.frames c.args.flaw (bytes_of c.in_ok-shelf.shelf) (bytes_of c.fetch_session.new.shelf) (bytes_of c.fetch_captures.new.shelf) c.from_text.result
-    c.in_ok-sources.sources.items c.in-Ok.session c.as_slice-media.result.now _ _ c.in_ok-shelf.ensures.capture (search rules) c.fetch_session.ensures.stays.texts c.fetch_captures.ensures.stays.texts
-    c.in_ok-sources.ensures.fetched (c.in_ok-session.ensures.told sdp_text (ap Some c.in_ok-shelf.ensures.sdp) ∙ c.in-Ok.is) (search rules) c.in-Ok-judge_made.ensures.judged.told in
-    has-line c.args.frames c.args.flaw _ _ _ found (λ note row n r. c.in_ok-text_on.ensures plain_media note row (session-is c.in-Ok.session (c.in_ok-session.ensures.told sdp_text (ap Some c.in_ok-shelf.ensures.sdp) ∙ c.in-Ok.is)) n r)
+    let found = found-made (classic_name name_of) (classic_left (λ s. Some (left_of s))) (classic_faults (λ s. 0)) c.args.frames c.args.flaw
+    (bytes_of c.in_ok-shelf.shelf) (bytes_of c.fetch_session.new.shelf) (bytes_of c.fetch_captures.new.shelf) c.from_text.result
+    c.in_ok-sources.sources.items c.in-Ok.session c.as_slice-media.result.now _ _ c.in_ok-shelf.ensures.capture (search rules)
+    c.fetch_session.ensures.stays.texts c.fetch_captures.ensures.stays.texts
+    c.in_ok-sources.ensures.fetched (c.in_ok-session.ensures.told sdp_text (ap Some c.in_ok-shelf.ensures.sdp) ∙ c.in-Ok.is) (search rules)
+    c.in-Ok-judge_made.ensures.judged.told in
+    has-line c.args.frames c.args.flaw _ _ _ found
+    (λ note row n r. c.in_ok-text_on.ensures plain_media note row
+    (session-is c.in-Ok.session (c.in_ok-session.ensures.told sdp_text (ap Some c.in_ok-shelf.ensures.sdp) ∙ c.in-Ok.is)) n r)

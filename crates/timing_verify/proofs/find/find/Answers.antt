@@ -1,23 +1,19 @@
-use Rattle.std.proofs.Common.{arith}
-use Rattle.pcapng_reader.specs.Classic.{classic_texts}
-use Rattle.pcapng_reader.specs.Sources.{faults_of, left_of, name_of}
-use Rattle.timing_steps.proofs.Readings.{fetched-length}
-use Rattle.timing_verify.proofs.Confirming.{find-cause, find-told, tell-texts}
+use Rattle.std.proofs.Common.{◌≡◌, [], ◌∷◌, ◌++◌, sym, ap, ◌∙◌, subst, arith}
+use Rattle.std.specs.Prelude.{slice_get}
+use Rattle.interval_checker.specs.Asking.{IsAsked}
+use Rattle.interval_checker.specs.Readings.{AreSame, asked_by}
+use Rattle.timing_verify.proofs.Confirming.{one-read}
 use Rattle.timing_verify.proofs.find.find.Goals as goal
 
-pub confirm-sources-requires-clause-few : goal.confirm-sources-requires-clause-few
-confirm-sources-requires-clause-few g c κs within =
-    omega (arith, c.requires.few, fetched-length (name_of g.H.Source.Source.name) (left_of g.H.Source.Source.left) (faults_of g.H.Source.Source.faults) (classic_texts (g.H.Shelf.text c.args.shelf.now)) c.args.names.now c.in_ok-sources.sources.items c.in_ok-sources.ensures.fetched)
-
 pub returns-clause-told : goal.returns-clause-told
-returns-clause-told g c =
-    find-told (classic_texts (g.H.Shelf.text c.args.shelf.now)) c.args.names.now c.args.media.now c.args.claim.now c.args.tai c.confirm-sources.result.1 c.finding_of.result c.finding_of.ensures
-    (λ read files notes told records.
-    c.confirm-sources.ensures.told read files notes
-    (tell-texts (name_of g.H.Source.Source.name) (left_of g.H.Source.Source.left) (faults_of g.H.Source.Source.faults) (classic_texts (g.H.Shelf.text c.args.shelf.now)) c.args.names.now c.in_ok-sources.sources.items read c.in_ok-sources.ensures.fetched told) records)
-
-pub returns-clause-cause : goal.returns-clause-cause
-returns-clause-cause g c =
-    find-cause (name_of g.H.Source.Source.name) (left_of g.H.Source.Source.left) (faults_of g.H.Source.Source.faults) (classic_texts (g.H.Shelf.text c.args.shelf.now)) c.args.names.now c.in_ok-sources.sources.items c.confirm-sources.result.0.items
-    (g.H.Shelf.faults c.args.shelf.now) (g.H.Shelf.faults c.fetch_captures.new.shelf) (g.H.Shelf.faults c.give_back_all.new.shelf) c.confirm-sources.result.1 c.finding_of.result c.finding_of.ensures
-    c.fetch_captures.ensures.stays.later c.in_ok-sources.ensures.fetched c.confirm-sources.ensures.back c.confirm-sources.ensures.cause c.give_back_all.ensures.raised
+returns-clause-told g c = λ texts told.
+    let claim = c.args.claim.now in
+    let first = c.new.result in
+    let items : c.push.new.self.items ≡ first ∷ [] = c.in_ok-push.ensures.items ∙ ap (λ l. l ++ first ∷ []) c.new-readings.ensures.items in
+    let same : c.from.result ≡ claim.run = omega (arith, c.from.ensures) in
+    let asked : IsAsked (asked_by first) claim.run claim.proof =
+    subst (λ a. IsAsked a claim.run claim.proof) (sym c.new.ensures.asked)
+    (subst (λ r. IsAsked c.ask.new.self r claim.proof) same c.in_ok-ask.ensures.asked) in
+    one-read c.args.media.now claim c.args.tai texts first c.in_ok-read.read.items c.answer_of.result c.new.ensures.media c.new.ensures.tai asked
+    (subst (λ l. AreSame l c.in_ok-read.read.items) items c.in_ok-read.ensures.same) (c.in_ok-read.ensures.told texts told)
+    (λ x t l r e is. c.answer_of.ensures x t l r (ap (λ rs. slice_get rs 0) c.deref.ensures.value ∙ e) is)

@@ -1,21 +1,33 @@
-use Rattle.std.proofs.Common.{rules, arith, ap, sym, subst}
+use Rattle.std.proofs.Common.{◌≡◌, ◌<◌, arith, length, rules, sym, subst}
 use Rattle.std.proofs.lemmas.Grind.{common_steps}
 use Rattle.std.proofs.lemmas.List.Elements.{All-push}
-use Rattle.std.specs.Prelude.{All}
-use Rattle.std.specs.Option.{option_map}
-use Rattle.pcapng_reader.specs.Classic.{classic, classic_texts}
+use Rattle.std.specs.Prelude.{All, Err}
+use Rattle.pcapng_reader.specs.Classic.{classic_texts}
+use Rattle.timing_steps.specs.Answers.{seen_of}
 use Rattle.timing_verify.specs.Found.{IsChecked}
 use Rattle.timing_steps.proofs.Seeing.{stays-then}
-use Rattle.timing_verify.proofs.Needing.{checked-seen}
+use Rattle.timing_verify.proofs.Served.{needed-rose}
 use Rattle.timing_verify.proofs.needs.check_each.Goals as goal
 
 pub loop-claim-preserved : goal.loop-claim-preserved
-loop-claim-preserved g c = record {
-  checked =
-      subst (All (IsChecked (classic_texts (g.H.Shelf.text c.args.shelf.now)) (g.H.Shelf.lacks c.args.shelf.now) c.args.job.now c.args.media.now)) (sym c.in_ok-push.ensures.items)
-      (All-push (IsChecked (classic_texts (g.H.Shelf.text c.args.shelf.now)) (g.H.Shelf.lacks c.args.shelf.now) c.args.job.now c.args.media.now) c.loop-claim.checked.items c.in_ok-check_claim.field-0 c.loop-claim.invariant.checked
-      (checked-seen (classic_texts (g.H.Shelf.text c.args.shelf.now)) (classic_texts (g.H.Shelf.text c.loop-claim.shelf)) (g.H.Shelf.lacks c.args.shelf.now) (g.H.Shelf.lacks c.loop-claim.shelf) c.args.job.now c.args.media.now c.in_ok-check_claim.field-0
-      (λ n. ap (option_map classic) (c.loop-claim.invariant.stays.texts n)) c.loop-claim.invariant.stays.lacks c.in_ok-check_claim.ensures.checked));
-  claims = grind (arith, common_steps, c.in_ok-check_claim.ensures.claim, c.in_ok-push.ensures.items, c.loop-claim.invariant.claims);
-  stays = stays-then g.H.Shelf.text g.H.Shelf.lacks g.H.Shelf.faults _ _ _ c.loop-claim.invariant.stays c.check_claim.ensures.stays;
-}
+loop-claim-preserved g c =
+    let texts = classic_texts (g.H.Shelf.text c.args.shelf.now) in
+    let lacks = g.H.Shelf.lacks c.args.shelf.now in
+    let i = c.loop-claim.invariant in
+    record {
+      checked =
+          subst (All (IsChecked texts lacks c.args.job.now c.args.media.now)) (sym c.in_ok-push.ensures.items)
+          (All-push (IsChecked texts lacks c.args.job.now c.args.media.now) c.loop-claim.checked.items c.in_ok-check_claim.field-0 i.checked
+          (c.in_ok-check_claim.ensures.checked c.args.shelf.now i.stays i.served));
+      claims = grind (arith, common_steps, c.in_ok-check_claim.ensures.claim, c.in_ok-push.ensures.items, i.claims);
+      served = c.in_ok-check_claim.ensures.served c.args.shelf.now i.stays i.served;
+      stays = stays-then g.H.Shelf.text g.H.Shelf.lacks g.H.Shelf.faults _ _ _ i.stays c.check_claim.ensures.stays;
+    }
+
+pub returns-in_err-check_claim-clause-cause : goal.returns-in_err-check_claim-clause-cause
+returns-in_err-check_claim-clause-cause g c =
+    let failed : c.from_residual.result ≡ Err c.in_err-check_claim.field-0.0 = search rules in
+    let within : c.loop-claim.claim-index < length c.args.claims.now = search rules in
+    needed-rose (seen_of g.H.Shelf c.args.shelf.now c.check_claim.new.shelf) (g.H.Shelf.faults c.loop-claim.shelf) c.args.job.now c.args.media.now
+    c.args.claims.now c.loop-claim.claim-index _ c.in_err-check_claim.field-0.0 c.from_residual.result failed within
+    c.loop-claim.invariant.stays.later c.in_err-check_claim.ensures.cause

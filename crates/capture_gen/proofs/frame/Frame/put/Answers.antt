@@ -18,4 +18,5 @@ loop-place-preserved g c = record {
 
 pub returns-clause-bytes : goal.returns-clause-bytes
 returns-clause-bytes g c =
-    subst (Appends (g.K.Sink.written c.args.out.now) (g.K.Sink.written c.loop-place.out)) (sym (frame_bytes-places c.args.self.now c.loop-place.place (omega arith))) c.loop-place.invariant.bytes
+    subst (Appends (g.K.Sink.written c.args.out.now) (g.K.Sink.written c.loop-place.out))
+    (sym (frame_bytes-places c.args.self.now c.loop-place.place (omega arith))) c.loop-place.invariant.bytes

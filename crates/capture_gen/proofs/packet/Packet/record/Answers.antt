@@ -14,4 +14,5 @@ record_joined p head shared rtp e f g =
     ∙ ap (λ x. put_mid 58 14 (put_mid 16 42 (record_head p.at 56 ++ replicate 56 0) (ethernet_header ++ ipv4_header ++ udp_header)) x) g
 
 pub returns : goal.returns
-returns c = record_joined c.args.self.now _ _ _ (c.copy_from_slice.ensures.after ∙ c.record_head.ensures) c.copy_from_slice-2.ensures.after (c.copy_from_slice-3.ensures.after ∙ c.rtp.ensures)
+returns c = record_joined c.args.self.now _ _ _ (c.copy_from_slice.ensures.after ∙ c.record_head.ensures) c.copy_from_slice-2.ensures.after
+    (c.copy_from_slice-3.ensures.after ∙ c.rtp.ensures)

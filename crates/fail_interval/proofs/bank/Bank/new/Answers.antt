@@ -5,6 +5,7 @@ use Rattle.fail_interval.specs.Stands.{count_fed}
 use Rattle.fail_interval.specs.BankStands.{AreJudgesOf}
 use Rattle.fail_interval.specs.declared.media_judge.MediaJudge.{MediaJudge}
 use Rattle.fail_interval.proofs.Banks.{few-more, judges-more}
+use Rattle.fail_interval.proofs.OneTakes.{order-made}
 use Rattle.fail_interval.proofs.bank.Bank.new.Goals as goal
 
 pub loop-number-init : goal.loop-number-init
@@ -22,7 +23,14 @@ loop-number-preserved c = record {
 }
 
 pub invariant_of-result : goal.invariant_of-result
-invariant_of-result c = record { few = c.loop-number.invariant.few }
+invariant_of-result c =
+    let stands =
+    subst (λ (l : List Media). AreJudgesOf c.args.tai c.args.file 0 l c.loop-number.judges.items [])
+    (take_all c.loop-number.number c.args.media.now c.loop-number-test.false) c.loop-number.invariant.stands in
+    record {
+      few = c.loop-number.invariant.few;
+      ordered = order-made c.in_ok-order.order c.args.tai c.args.file c.args.media.now c.loop-number.judges.items [] c.in_ok-order.ensures stands;
+    }
 
 pub returns-clause-stands : goal.returns-clause-stands
 returns-clause-stands c =

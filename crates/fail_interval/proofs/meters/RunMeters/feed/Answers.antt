@@ -1,3 +1,4 @@
+use Rattle.std.proofs.Common.{arith}
 use Rattle.fail_interval.proofs.Fit.{bounds-known}
 use Rattle.fail_interval.proofs.Metering.{bucket-follows}
 use Rattle.fail_interval.proofs.meters.RunMeters.feed.Goals as goal
@@ -6,16 +7,18 @@ pub feed-requires-clause-begun : goal.feed-requires-clause-begun
 feed-requires-clause-begun c = (bounds-known _ _ _ c.requires).begun
 
 pub feed-requires-clause-in_time : goal.feed-requires-clause-in_time
-feed-requires-clause-in_time c = (bounds-known _ _ _ c.requires).within.in_time
+feed-requires-clause-in_time c = (bounds-known _ _ _ c.requires).in_time
 
 pub feed-requires-clause-few : goal.feed-requires-clause-few
 feed-requires-clause-few c = (bounds-known _ _ _ c.requires).few
 
-pub pass-requires-clause-within : goal.pass-requires-clause-within
-pass-requires-clause-within c = (bounds-known _ _ _ c.requires).within
+pub pass-requires-clause-in_time : goal.pass-requires-clause-in_time
+pass-requires-clause-in_time c = (bounds-known _ _ _ c.requires).in_time
 
 pub tell-requires : goal.tell-requires
-tell-requires c = (bounds-known _ _ _ c.requires).within
+tell-requires c =
+    let known = bounds-known _ _ _ c.requires in
+    record { in_time = known.in_time; some = omega (arith, c.feed.ensures.seen); few = omega (arith, c.feed.ensures.seen, known.few) }
 
 pub returns-then-holds-clause-stands : goal.returns-then-holds-clause-stands
 returns-then-holds-clause-stands c = λ stamps follows.

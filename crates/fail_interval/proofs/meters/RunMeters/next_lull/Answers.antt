@@ -1,4 +1,4 @@
-use Rattle.std.proofs.Common.{true, false, arith, ap, refl, ◌∙◌, sym}
+use Rattle.std.proofs.Common.{true, false, arith, ap, length, ◌∙◌, sym}
 use Rattle.std.specs.Prelude.{is_some}
 use Rattle.sender_params.specs.Limits.{gapped_of}
 use Rattle.timing_base.specs.declared.media.Kind.TheVariants.{NL, W}
@@ -14,24 +14,25 @@ returns c = λ params stamps f.
     let peak = vrx-peak params s.narrow_linear.vrx stamps NL f.narrow_linear_kind f.narrow_linear.vrx
     ∙ sym (vrx-peak params s.wide.vrx stamps W f.wide_kind f.wide.vrx) in
     record {
-      narrow = calm-begins params s.bucket.origin s.narrow c.min.result c.min-3.result c.saturating_sub-gapped.result s.narrow.vrx.seen true _
-          (ap gapped_of f.narrow_kind) c.saturating_sub-gapped.ensures refl
+      narrow = calm-begins params s.bucket.origin (length stamps) s.narrow c.min.result c.min-3.result c.saturating_sub-gapped_read.result s.bucket.seen true _
+          (ap gapped_of f.narrow_kind) (omega (arith, c.saturating_sub-gapped_read.ensures, f.bucket.seen)) f.bucket.seen
           (λ pass. omega (arith, c.brim.ensures pass, c.min-2.ensures, c.min-3.ensures))
-          (c.calm.ensures.due m n _ true _ c.min.result f.gapped (omega (arith, c.left.ensures.early, c.min.ensures)))
-          (λ none. c.calm.ensures.ahead m n _ true _ c.min.result f.gapped (omega (arith, c.left.ensures.late, c.min.ensures))
+          (c.calm-gapped.ensures.due m n _ true _ c.min.result f.gapped (omega (arith, c.min.ensures)))
+          (λ none. c.calm-gapped.ensures.ahead m n _ true _ c.min.result f.gapped (omega (arith, c.min.ensures))
           (c.is_some.ensures ∙ ap is_some none));
-      narrow_linear = calm-begins params s.bucket.origin s.narrow_linear c.min.result c.min-3.result c.saturating_sub-linear.result s.narrow.vrx.seen false _
-          (ap gapped_of f.narrow_linear_kind) (omega (arith, c.saturating_sub-linear.ensures, f.narrow.vrx.seen, f.narrow_linear.vrx.seen))
-          (f.narrow.vrx.seen ∙ sym f.narrow_linear.vrx.seen)
+      narrow_linear = calm-begins params s.bucket.origin (length stamps) s.narrow_linear c.min.result c.min-3.result c.saturating_sub-linear_read.result
+          s.bucket.seen false _
+          (ap gapped_of f.narrow_linear_kind) (omega (arith, c.saturating_sub-linear_read.ensures, f.bucket.seen))
+          f.bucket.seen
           (λ pass. omega (arith, c.brim-2.ensures pass, c.min-2.ensures, c.min-3.ensures))
-          (c.calm-2.ensures.due m n _ false _ c.min.result f.linear (omega (arith, c.left-2.ensures.early, c.min.ensures)))
-          (λ none. c.calm-2.ensures.ahead m n _ false _ c.min.result f.linear (omega (arith, c.left-2.ensures.late, c.min.ensures))
+          (c.calm-linear.ensures.due m n _ false _ c.min.result f.linear (omega (arith, c.min.ensures)))
+          (λ none. c.calm-linear.ensures.ahead m n _ false _ c.min.result f.linear (omega (arith, c.min.ensures))
           (c.both_break-breaks.ensures.first none));
-      wide = calm-begins params s.bucket.origin s.wide c.min.result c.min-3.result c.saturating_sub-linear.result s.narrow.vrx.seen false _
-          (ap gapped_of f.wide_kind) (omega (arith, c.saturating_sub-linear.ensures, f.narrow.vrx.seen, f.wide.vrx.seen, peak))
-          (f.narrow.vrx.seen ∙ sym f.wide.vrx.seen)
+      wide = calm-begins params s.bucket.origin (length stamps) s.wide c.min.result c.min-3.result c.saturating_sub-linear_read.result s.bucket.seen false _
+          (ap gapped_of f.wide_kind) (omega (arith, c.saturating_sub-linear_read.ensures, f.bucket.seen, peak))
+          f.bucket.seen
           (λ pass. omega (arith, c.brim-3.ensures pass, c.min-3.ensures))
-          (c.calm-2.ensures.due m n _ false _ c.min.result f.linear (omega (arith, c.left-2.ensures.early, c.min.ensures)))
-          (λ none. c.calm-2.ensures.ahead m n _ false _ c.min.result f.linear (omega (arith, c.left-2.ensures.late, c.min.ensures))
+          (c.calm-linear.ensures.due m n _ false _ c.min.result f.linear (omega (arith, c.min.ensures)))
+          (λ none. c.calm-linear.ensures.ahead m n _ false _ c.min.result f.linear (omega (arith, c.min.ensures))
           (c.both_break-breaks.ensures.second none));
     }

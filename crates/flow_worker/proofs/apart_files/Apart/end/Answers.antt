@@ -13,7 +13,8 @@ returns-then-file-len c = record {
       let same : c.end.inside.file ≡ end.file = search rules in
       let within : end.file < length items = search rules in
       let here : was ≡ get_or items end.file was = c.index_mut.ensures.value ∙ ap (λ n. get_or items n was) same in
-      apart-ended s files worker taken end.file end.note end.records c.args.self.now _ was one within refl (ap (λ (x : OneFile). x.judges) here) (ap (λ n. set items n one) same) h;
+      apart-ended s files worker taken end.file end.note end.records c.args.self.now _ was one within refl (ap (λ (x : OneFile). x.judges) here)
+      (ap (λ n. set items n one) same) h;
 }
 
 pub returns-else-file-len : goal.returns-else-file-len

@@ -39,7 +39,8 @@ take-requires-clause-room c =
     let within : batch.file < length items = search rules in
     let here : was ≡ get_or items batch.file was = c.index_mut.ensures.value ∙ ap (λ n. get_or items n was) same in
     subst (λ (l : List Packet). HaveRoom (length l) was.judges) packets
-    (subst (λ (x : OneFile). HaveRoom (length batch.packets) x.judges) (sym here) (apart-room few.0 few.1 few.2 few.3 batch.file batch.packets c.args.self.now was within few.5 few.4))
+    (subst (λ (x : OneFile). HaveRoom (length batch.packets) x.judges) (sym here)
+    (apart-room few.0 few.1 few.2 few.3 batch.file batch.packets c.args.self.now was within few.5 few.4))
 
 pub returns : goal.returns
 returns c =
@@ -55,7 +56,8 @@ returns c =
     let first : seen ≡ get_or items batch.file was = c.index.ensures ∙ ap (λ n. get_or items n seen) same ∙ get_or_default items batch.file seen was within in
     let was_open : (get_or items batch.file was).ended ≡ false = ap (λ (x : OneFile). x.ended) (sym first) ∙ c.if-index.false in
     record {
-      stands = apart-fed_if c.take.result batch.file batch.packets c.args.self.now record { files = with_item c.args.self.now.files c.batch.inside.file one } was one within was_open
+      stands = apart-fed_if c.take.result batch.file batch.packets c.args.self.now record { files = with_item c.args.self.now.files c.batch.inside.file one }
+          was one within was_open
           (ap (λ (x : OneFile). x.ended) here) (ap (λ n. set items n one) same)
           (subst (λ (x : OneFile). IfOk c.take.result (λ _. Feeds 0 batch.packets x.judges c.take.new.self)) here
           (subst (λ (l : List Packet). IfOk c.take.result (λ _. Feeds 0 l was.judges c.take.new.self)) (sym packets) c.take.ensures.feeds));

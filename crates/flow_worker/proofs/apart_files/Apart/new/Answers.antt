@@ -12,6 +12,7 @@ loop-file-preserved c =
     let one : OneFile = record { judges = c.in_ok-judges.judges; ended = false } in
     record {
       count = search rules;
-      each = each-push-at (IsFile s c.args.run.now.files c.args.worker []) c.loop-file.file c.loop-file.all.items c.push.new.self.items one c.loop-file.invariant.count c.in_ok-push.ensures.items c.loop-file.invariant.each
+      each = each-push-at (IsFile s c.args.run.now.files c.args.worker []) c.loop-file.file c.loop-file.all.items c.push.new.self.items one
+          c.loop-file.invariant.count c.in_ok-push.ensures.items c.loop-file.invariant.each
           (file-new s c.args.run.now.files c.args.worker c.loop-file.file one refl refl (c.in_ok-judges.ensures.fed false refl));
     }

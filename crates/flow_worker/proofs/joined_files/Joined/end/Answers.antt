@@ -44,9 +44,17 @@ returns c =
     let first : seen ≡ get_or items end.file was = c.index.ensures ∙ ap (λ n. get_or items n seen) same ∙ get_or_default items end.file seen was within in
     let none : (get_or items end.file was).end ≡ None =
     tested_none (get_or items end.file was).end (ap (λ (x : Waiting). is_some x.end) (sym first) ∙ sym c.is_some.ensures ∙ c.if-is_some.false) in
-    let mid : Joined = record { alloc = joined.alloc; judges = joined.judges; files = with_item joined.files c.end.inside.file w; next = joined.next; before = joined.before } in
+    let mid : Joined = record {
+      alloc = joined.alloc;
+      judges = joined.judges;
+      files = with_item joined.files c.end.inside.file w;
+      next = joined.next;
+      before =
+          joined.before;
+    } in
     record {
-      stands = joined-ended_if c.advance.result end.file end.note end.records end joined mid c.advance.new.self was w within refl none refl (ap (λ (x : Waiting). x.batches.items) here) refl refl refl
+      stands = joined-ended_if c.advance.result end.file end.note end.records end joined mid c.advance.new.self was w within refl none refl
+          (ap (λ (x : Waiting). x.batches.items) here) refl refl refl
           (ap (λ n. set items n w) same) c.advance.ensures.stands;
     }
 
@@ -65,14 +73,22 @@ advance-requires c =
     let first : seen ≡ get_or items end.file was = c.index.ensures ∙ ap (λ n. get_or items n seen) same ∙ get_or_default items end.file seen was within in
     let none : (get_or items end.file was).end ≡ None =
     tested_none (get_or items end.file was).end (ap (λ (x : Waiting). is_some x.end) (sym first) ∙ sym c.is_some.ensures ∙ c.if-is_some.false) in
-    let mid : Joined = record { alloc = joined.alloc; judges = joined.judges; files = with_item joined.files c.end.inside.file w; next = joined.next; before = joined.before } in
+    let mid : Joined = record {
+      alloc = joined.alloc;
+      judges = joined.judges;
+      files = with_item joined.files c.end.inside.file w;
+      next = joined.next;
+      before =
+          joined.before;
+    } in
     record {
       few = (
         few.0,
         few.1,
         few.2,
         few.3 ++ ending end.file end.note end.records ∷ [],
-        joined-ended few.0 few.1 few.2 few.3 end.file end.note end.records end joined mid was w within refl none refl (ap (λ (x : Waiting). x.batches.items) here) refl refl refl
+        joined-ended few.0 few.1 few.2 few.3 end.file end.note end.records end joined mid was w within refl none refl
+            (ap (λ (x : Waiting). x.batches.items) here) refl refl refl
             (ap (λ n. set items n w) same) few.4.at,
         few.5,
       );

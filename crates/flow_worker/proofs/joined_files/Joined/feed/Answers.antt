@@ -70,5 +70,6 @@ returns c = record {
       let none : (get_or items batch.file was).end ≡ None =
       tested_none (get_or items batch.file was).end (ap (λ (x : Waiting). is_some x.end) (sym first) ∙ sym c.is_some.ensures ∙ c.if-is_some.false) in
       joined-held s files worker taken batch.file batch.packets batch joined _ was w other within refl none (ap (λ (x : Waiting). x.end) here)
-      (subst (λ (x : Waiting). c.push.new.self.items ≡ x.batches.items ++ batch ∷ []) here c.in_ok-push.ensures.items) refl refl refl (ap (λ n. set items n w) same) h;
+      (subst (λ (x : Waiting). c.push.new.self.items ≡ x.batches.items ++ batch ∷ []) here c.in_ok-push.ensures.items) refl refl refl
+      (ap (λ n. set items n w) same) h;
 }

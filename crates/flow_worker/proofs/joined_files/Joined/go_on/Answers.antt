@@ -42,4 +42,5 @@ returns-clause-stands c =
       before = joined.before + c.args.records;
     } in
     joined-on_if c.take_batches.result c.args.records joined new was w within refl refl (ap (λ (w : Waiting). w.end) c.index_mut.ensures.value) refl
-    (subst (λ (l : List Batch). IfOk c.take_batches.result (λ _. Feeds (joined.before + c.args.records) (batched l) joined.judges c.take_batches.new.self)) waited c.take_batches.ensures.feeds)
+    (subst (λ (l : List Batch). IfOk c.take_batches.result (λ _. Feeds (joined.before + c.args.records) (batched l) joined.judges c.take_batches.new.self))
+    waited c.take_batches.ensures.feeds)

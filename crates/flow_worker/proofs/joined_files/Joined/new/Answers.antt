@@ -9,7 +9,8 @@ use Rattle.flow_worker.proofs.joined_files.Joined.new.Goals as goal
 pub loop-preserved : goal.loop-preserved
 loop-preserved c = record {
   count = search rules;
-  each = each-push-at (IsWaiting 0 []) c.loop.counter c.loop.all.items c.push.new.self.items _ c.loop.invariant.count c.in_ok-push.ensures.items c.loop.invariant.each
+  each = each-push-at (IsWaiting 0 []) c.loop.counter c.loop.all.items c.push.new.self.items _ c.loop.invariant.count c.in_ok-push.ensures.items
+      c.loop.invariant.each
       (waiting-new c.loop.counter _ refl (search rules));
 }
 
@@ -19,5 +20,6 @@ returns c =
     let joined : Joined = record { alloc = c.args.alloc; judges = c.in_ok-judges.judges; files = c.loop.all; next = 0; before = 0 } in
     let count : length c.loop.all.items ≡ c.args.run.now.files = search rules in
     record {
-      stands = joined-new s c.args.run.now.files c.args.worker joined refl c.requires.limits.some_files c.requires.limits.few_files count refl refl c.loop.invariant.each (c.in_ok-judges.ensures.fed true refl);
+      stands = joined-new s c.args.run.now.files c.args.worker joined refl c.requires.limits.some_files c.requires.limits.few_files count refl refl
+          c.loop.invariant.each (c.in_ok-judges.ensures.fed true refl);
     }

@@ -10,8 +10,10 @@ loop-judge-preserved-in-Continue-1 g c = (
   record {
     posted = λ h. c.post_row.ensures.posted (c.loop-judge.invariant.2.posted h);
     rows = λ s worker file fed h.
-        rows-some s worker file fed (map row_of c.args.receipts.now.items) (map row_of c.loop-judge.receipts.items) (map row_of c.post_row.new.receipts.items) c.in-Some.judge c.in-Some-judge.judge
-        c.loop-judge.judge-iterator.rest.items c.next.new.self.rest.items c.finish.result c.in-Some.ensures.steps.0 c.in-Some-judge.is c.finish.ensures c.in_ok-post_row.ensures.row
+        rows-some s worker file fed (map row_of c.args.receipts.now.items) (map row_of c.loop-judge.receipts.items) (map row_of c.post_row.new.receipts.items)
+        c.in-Some.judge c.in-Some-judge.judge
+        c.loop-judge.judge-iterator.rest.items c.next.new.self.rest.items c.finish.result c.in-Some.ensures.steps.0 c.in-Some-judge.is c.finish.ensures
+        c.in_ok-post_row.ensures.row
         (c.loop-judge.invariant.2.rows s worker file fed h);
   },
 )

@@ -12,7 +12,8 @@ pub loop-packet-preserved : goal.loop-packet-preserved
 loop-packet-preserved c =
     let within : c.loop-packet.packet-index < length c.args.packets.now = search rules in
     record {
-      feeds = feeds-more c.args.before c.loop-packet.packet-index c.args.packets.now c.packet-item.result c.args.self.now c.loop-packet.self c.feed.new.self within (sym c.packet-item.is)
+      feeds = feeds-more c.args.before c.loop-packet.packet-index c.args.packets.now c.packet-item.result c.args.self.now c.loop-packet.self c.feed.new.self
+          within (sym c.packet-item.is)
           c.loop-packet.invariant.feeds c.in_ok-feed.ensures.feeds;
       room = λ more h. c.feed.ensures.room (length c.args.packets.now - (c.loop-packet.packet-index + 1) + more)
           (room-same _ _ c.loop-packet.self (omega (arith, within)) (c.loop-packet.invariant.room more h));

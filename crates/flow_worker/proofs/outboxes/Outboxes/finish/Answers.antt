@@ -8,5 +8,6 @@ returns-in_err-send_rests-clause-err g c =
 pub returns-clause-err : goal.returns-clause-err
 returns-clause-err g c =
     on_err-then c.send_ends.result _ _
-    (λ begun. finish-ending c.args.self.now c.send_rests.new.self c.send_ends.new.self c.args.note c.args.records c.in_ok-send_rests.ensures.same c.in_ok-send_rests.ensures.ok begun)
+    (λ begun. finish-ending c.args.self.now c.send_rests.new.self c.send_ends.new.self c.args.note c.args.records c.in_ok-send_rests.ensures.same
+    c.in_ok-send_rests.ensures.ok begun)
     c.send_ends.ensures.err

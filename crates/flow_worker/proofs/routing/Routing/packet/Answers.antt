@@ -28,6 +28,7 @@ returns-clause-packet c =
 pub returns-clause-media : goal.returns-clause-media
 returns-clause-media c =
     let d : Datagram = record { target = c.datagram-2.inside.target; payload = c.datagram-2.inside.payload.now } in
-    let below : c.in_ok-media.media < 0 + length c.args.self.now.media.now = media_to-below d.target 0 c.in_ok-media.media c.args.self.now.media.now (sym c.in_ok-media.ensures) in
+    let below : c.in_ok-media.media < 0 + length c.args.self.now.media.now = media_to-below d.target 0 c.in_ok-media.media c.args.self.now.media.now
+    (sym c.in_ok-media.ensures) in
     let same : c.new.result.media ≡ c.in_ok-media.media = ap (λ (p : Packet). p.media) c.new.ensures.value in
     omega (arith, below, same)

@@ -4,4 +4,4 @@ use Rattle.interval_checker.proofs.walk.Walk.new.Goals as goal
 
 pub returns-clause-stands : goal.returns-clause-stands
 returns-clause-stands c =
-    λ claim. record { ahead = λ rest. new-keeps claim rest _ record { fed = refl; before = refl; cut_count = refl; start = refl; marks = refl; answer = refl } }
+    λ pt tai. record { ahead = λ rest. new-keeps pt tai rest _ record { fed = refl; before = refl; cut_count = refl; start = refl; marks = refl } }

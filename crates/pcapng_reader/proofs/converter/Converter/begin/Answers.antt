@@ -15,7 +15,8 @@ returns-then-begins_section c =
     record {
       text = λ left.
           text-begun w.stage (section_of w) (kept_bytes w.window) h (take w.budget left) (h ++ left) (list_of c.clear.new.self) c.requires
-          (ap begins_section (sym c.peek.ensures) ∙ sym c.begins_section.ensures ∙ c.if-begins_section.true) (w.begins (ap is_start c.requires)) c.clear.ensures;
+          (ap begins_section (sym c.peek.ensures) ∙ sym c.begins_section.ensures ∙ c.if-begins_section.true) (w.begins (ap is_start c.requires))
+          c.clear.ensures;
       tells = omega (arith, ap rank c.requires);
       budget = refl;
     }

@@ -42,7 +42,8 @@ head-requires-clause-head c =
     let h = held_bytes w.window in
     λ left.
     text-at_block w.stage (section_of w) (kept_bytes w.window) (ahead w left) (whole w left) c.requires.stage c.requires.given
-    ∙ blocks-head (section_of w) h (take w.budget left) c.in-Some.order (omega arith) (ap (order_by w.order) (sym c.peek.ensures) ∙ sym c.of_block.ensures ∙ c.in-Some.is)
+    ∙ blocks-head (section_of w) h (take w.budget left) c.in-Some.order (omega arith)
+    (ap (order_by w.order) (sym c.peek.ensures) ∙ sym c.of_block.ensures ∙ c.in-Some.is)
 
 pub returns-in-None : goal.returns-in-None
 returns-in-None c =
@@ -52,7 +53,8 @@ returns-in-None c =
       text = λ left.
           c.end-in-None.ensures.text left
           ∙ sym (text-at_block w.stage (section_of w) (kept_bytes w.window) (ahead w left) (whole w left) c.requires.stage c.requires.given
-          ∙ blocks-unordered (section_of w) h (take w.budget left) (omega arith) (ap (order_by w.order) (sym c.peek.ensures) ∙ sym c.of_block.ensures ∙ c.in-None.is));
+          ∙ blocks-unordered (section_of w) h (take w.budget left) (omega arith)
+          (ap (order_by w.order) (sym c.peek.ensures) ∙ sym c.of_block.ensures ∙ c.in-None.is));
       tells = omega (arith, c.end-in-None.ensures.work, ap rank c.requires.stage);
       budget = c.end-in-None.ensures.budget;
     }

@@ -45,7 +45,8 @@ returns-then-read_u32-body c =
           ∙ ap (λ k. go_on (λ next. blocks next (g ++ r)) (content_given x b.order k s)) c.pass.ensures.kept
           ∙ ap (λ y. go_on (λ next. blocks next y) given) (ahead_pass 4 h g r c.pass.ensures.held len)
           ∙ sym (text-at_passing w.stage s (kept_bytes w.window) a (whole w left) b x c.requires.stage
-          ∙ after-end b a given c.requires.left (omega (arith, length-append h r)) (number-front b.order 4 0 h r len ∙ sym (c.read_u32.ensures ∙ ap (number b.order 4 0) c.peek.ensures) ∙ c.if-read_u32-body.true));
+          ∙ after-end b a given c.requires.left (omega (arith, length-append h r))
+          (number-front b.order 4 0 h r len ∙ sym (c.read_u32.ensures ∙ ap (number b.order 4 0) c.peek.ensures) ∙ c.if-read_u32-body.true));
       tells = omega (arith, c.finish.ensures.work, ap rank c.requires.stage, ap length c.pass.ensures.kept, ap length c.pass.ensures.held, length-drop 4 h);
       budget = c.finish.ensures.budget;
     }
@@ -65,7 +66,8 @@ returns-else-read_u32-body c =
           c.end.ensures.text left
           ∙ sym (text-at_passing w.stage s (kept_bytes w.window) a (whole w left) b x c.requires.stage
           ∙ after-broken b a (content_given x b.order (kept_bytes w.window) s) c.requires.left (omega (arith, length-append h r))
-          (ap (λ n. n == b.total) (number-front b.order 4 0 h r len ∙ sym (c.read_u32.ensures ∙ ap (number b.order 4 0) c.peek.ensures)) ∙ other_number c.read_u32.result b.total c.if-read_u32-body.false));
+          (ap (λ n. n == b.total) (number-front b.order 4 0 h r len ∙ sym (c.read_u32.ensures ∙ ap (number b.order 4 0) c.peek.ensures)) ∙ other_number
+          c.read_u32.result b.total c.if-read_u32-body.false));
       tells = omega (arith, c.end.ensures.work, ap rank c.requires.stage);
       budget = c.end.ensures.budget;
     }

@@ -13,7 +13,8 @@ returns-then-len-eq0 c =
     record {
       text = λ left. refl;
       tells = λ left.
-          text-at_through w.stage (section_of w) (kept_bytes w.window) (ahead w left) (h ++ left) c.requires.stage ∙ ap (λ k. k ++ (h ++ left)) c.requires.given ∙ ap (λ l. l ++ left) none;
+          text-at_through w.stage (section_of w) (kept_bytes w.window) (ahead w left) (h ++ left) c.requires.stage ∙ ap (λ k. k ++ (h ++ left)) c.requires.given
+          ∙ ap (λ l. l ++ left) none;
       budget = refl;
     }
 
@@ -27,7 +28,8 @@ returns c =
     let kept = c.keep_front.ensures.some some in
     record {
       text = λ left.
-          text-handed_on w.stage (section_of w) (kept_bytes w.window) h k g left (ahead w left) (g ++ take w.budget left) c.requires.stage c.requires.given c.keep_front.ensures.held;
+          text-handed_on w.stage (section_of w) (kept_bytes w.window) h k g left (ahead w left) (g ++ take w.budget left) c.requires.stage c.requires.given
+          c.keep_front.ensures.held;
       tells = omega (arith, kept, ap length c.keep_front.ensures.held, length-append k g);
       budget = refl;
     }

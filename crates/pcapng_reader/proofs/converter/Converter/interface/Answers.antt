@@ -33,7 +33,15 @@ returns c =
     ap (λ n. let y : Found = record { offset = None; link = n; resolution = None } in y) (c.read_u16.ensures ∙ ap (number o 2 8) c.peek.ensures) in
     let short : total - 20 ≡ (total - 4) - 16 = omega arith in
     steps-entered w _ o kind.Interface total 16 (total - 20)
-    (λ left. add_interface (section_of w) (found_by o f (options o (take (total - 20) (drop 16 (ahead w left)))))) c.requires.block.head c.requires.block.total_is (omega arith) len short
+    (λ left. add_interface (section_of w) (found_by o f (options o (take (total - 20) (drop 16 (ahead w left)))))) c.requires.block.head
+    c.requires.block.total_is (omega arith) len short
     (λ left t. interface-content o (section_of w) total (total - 20) h (take w.budget left) f len least short e t)
     (λ left. text-option_entered _ (section_of w) (kept_bytes c.pass.new.self) h g (take w.budget left) (g ++ left) 16 b f refl c.pass.ensures.held len)
-    (omega (arith, ap rank c.requires.block.stage_is, ap length c.requires.block.given, ap length c.pass.ensures.kept, ap length c.pass.ensures.held, length-drop 16 h)) refl
+    (omega (
+      arith,
+      ap rank c.requires.block.stage_is,
+      ap length c.requires.block.given,
+      ap length c.pass.ensures.kept,
+      ap length c.pass.ensures.held,
+      length-drop 16 h,
+    )) refl

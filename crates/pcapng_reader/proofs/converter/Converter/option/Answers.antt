@@ -18,14 +18,16 @@ returns-then-from-body c =
           let a = ahead w left in
           c.settle.ensures.text left
           ∙ sym (text-at_option w.stage s (kept_bytes w.window) a (whole w left) b f c.requires.stage
-          ∙ ap (after b a) (options-broken s h (take w.budget left) b f c.requires.held c.requires.left (omega (arith, c.requires.code)) (omega (arith, c.requires.size))));
+          ∙ ap (after b a) (options-broken s h (take w.budget left) b f c.requires.held c.requires.left (omega (arith, c.requires.code))
+          (omega (arith, c.requires.size))));
       tells = c.settle.ensures.work;
       budget = c.settle.ensures.budget;
     }
 
 pub returns-then-len-count : goal.returns-then-len-count
 returns-then-len-count c =
-    option-waits c.args.self.now c.wait.new.self c.wait.result c.args.body c.args.found c.wait.ensures c.requires.stage c.requires.given (omega arith) (omega arith)
+    option-waits c.args.self.now c.wait.new.self c.wait.result c.args.body c.args.found c.wait.ensures c.requires.stage c.requires.given (omega arith)
+    (omega arith)
 
 pub returns-in-Some : goal.returns-in-Some
 returns-in-Some c =
@@ -41,8 +43,10 @@ returns-in-Some c =
           let r = take w.budget left in
           let a = h ++ r in
           c.pass_option.ensures.text left
-          ∙ option-passed s h r (take ((4 + c.args.size) - 4) (drop 4 c.peek.result.now)) b f c.in-Some.found c.min-count.result c.requires.held (omega (arith, c.requires.code)) (omega arith) count (omega arith) value
-          (ap (λ n. found_with b.order (record { code = n; value = take ((4 + c.args.size) - 4) (drop 4 c.peek.result.now) }) f) (sym c.requires.code) ∙ sym c.with.ensures ∙ c.in-Some.is)
+          ∙ option-passed s h r (take ((4 + c.args.size) - 4) (drop 4 c.peek.result.now)) b f c.in-Some.found c.min-count.result c.requires.held
+          (omega (arith, c.requires.code)) (omega arith) count (omega arith) value
+          (ap (λ n. found_with b.order (record { code = n; value = take ((4 + c.args.size) - 4) (drop 4 c.peek.result.now) }) f) (sym c.requires.code) ∙ sym
+          c.with.ensures ∙ c.in-Some.is)
           ∙ sym (text-at_option w.stage s (kept_bytes w.window) a (whole w left) b f c.requires.stage);
       tells = c.pass_option.ensures.work;
       budget = c.pass_option.ensures.budget;
@@ -62,8 +66,10 @@ returns-in-None c =
           let r = take w.budget left in
           let a = h ++ r in
           c.settle-in-None.ensures.text left
-          ∙ ap (after b a) (sym (option-unformed s h r (take ((4 + c.args.size) - 4) (drop 4 c.peek.result.now)) b f c.min-count.result c.requires.held (omega (arith, c.requires.code)) (omega arith) count (omega arith) value
-          (ap (λ n. found_with b.order (record { code = n; value = take ((4 + c.args.size) - 4) (drop 4 c.peek.result.now) }) f) (sym c.requires.code) ∙ sym c.with.ensures ∙ c.in-None.is)))
+          ∙ ap (after b a) (sym (option-unformed s h r (take ((4 + c.args.size) - 4) (drop 4 c.peek.result.now)) b f c.min-count.result c.requires.held
+          (omega (arith, c.requires.code)) (omega arith) count (omega arith) value
+          (ap (λ n. found_with b.order (record { code = n; value = take ((4 + c.args.size) - 4) (drop 4 c.peek.result.now) }) f) (sym c.requires.code) ∙ sym
+          c.with.ensures ∙ c.in-None.is)))
           ∙ sym (text-at_option w.stage s (kept_bytes w.window) a (whole w left) b f c.requires.stage);
       tells = c.settle-in-None.ensures.work;
       budget = c.settle-in-None.ensures.budget;

@@ -23,7 +23,8 @@ returns-then-body-lt4 c =
 
 pub returns-then-len-lt4 : goal.returns-then-len-lt4
 returns-then-len-lt4 c =
-    option-waits c.args.self.now c.wait.new.self c.wait.result c.args.body c.args.found c.wait.ensures c.requires.stage c.requires.given (omega arith) (omega arith)
+    option-waits c.args.self.now c.wait.new.self c.wait.result c.args.body c.args.found c.wait.ensures c.requires.stage c.requires.given (omega arith)
+    (omega arith)
 
 pub returns-then-code-eq0 : goal.returns-then-code-eq0
 returns-then-code-eq0 c =

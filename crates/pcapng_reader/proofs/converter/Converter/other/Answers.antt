@@ -11,5 +11,6 @@ returns c =
     let w = c.args.self.now in
     let total = c.args.total in
     let least : 12 ≤ total = total-least kind.Other total c.requires.block.total_is in
-    steps-entered w c.enter.new.self c.args.order kind.Other total 8 ((total - 4) - 8) (λ left. gives [] (section_of w)) c.requires.block.head c.requires.block.total_is (omega arith) (omega arith) refl
+    steps-entered w c.enter.new.self c.args.order kind.Other total 8 ((total - 4) - 8) (λ left. gives [] (section_of w)) c.requires.block.head
+    c.requires.block.total_is (omega arith) (omega arith) refl
     (λ left t. refl) c.enter.ensures.text c.enter.ensures.work c.enter.ensures.budget

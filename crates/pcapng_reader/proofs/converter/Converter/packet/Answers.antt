@@ -24,8 +24,10 @@ returns-in-Broken c =
     let items = list_of w.interfaces in
     let least : 32 ≤ total = total-least kind.Packet total c.requires.block.total_is in
     let len : 28 ≤ length h = omega arith in
-    let e = fate-is items o total _ _ _ fate.Broken _ _ h c.get-found.ensures c.read_u32-number.ensures c.peek.ensures c.fate_of.ensures.fate c.peek-2.ensures c.in-Broken.is in
-    steps-entered w c.enter.new.self o kind.Packet total 28 ((total - 4) - 28) (λ left. broken) c.requires.block.head c.requires.block.total_is (omega arith) len refl
+    let e = fate-is items o total _ _ _ fate.Broken _ _ h c.get-found.ensures c.read_u32-number.ensures c.peek.ensures c.fate_of.ensures.fate c.peek-2.ensures
+    c.in-Broken.is in
+    steps-entered w c.enter.new.self o kind.Packet total 28 ((total - 4) - 28) (λ left. broken) c.requires.block.head c.requires.block.total_is (omega arith)
+    len refl
     (λ left t. packet-given o (section_of w) total h (take w.budget left) fate.Broken len least e t)
     c.enter.ensures.text c.enter.ensures.work c.enter.ensures.budget
 
@@ -38,7 +40,9 @@ returns-in-Late c =
     let items = list_of w.interfaces in
     let least : 32 ≤ total = total-least kind.Packet total c.requires.block.total_is in
     let len : 28 ≤ length h = omega arith in
-    let e = fate-is items o total _ _ _ fate.Late _ _ h c.get-found.ensures c.read_u32-number.ensures c.peek.ensures c.fate_of.ensures.fate c.peek-2.ensures c.in-Late.is in
-    steps-entered w c.enter-in-Late.new.self o kind.Packet total 28 ((total - 4) - 28) (λ left. late) c.requires.block.head c.requires.block.total_is (omega arith) len refl
+    let e = fate-is items o total _ _ _ fate.Late _ _ h c.get-found.ensures c.read_u32-number.ensures c.peek.ensures c.fate_of.ensures.fate c.peek-2.ensures
+    c.in-Late.is in
+    steps-entered w c.enter-in-Late.new.self o kind.Packet total 28 ((total - 4) - 28) (λ left. late) c.requires.block.head c.requires.block.total_is
+    (omega arith) len refl
     (λ left t. packet-given o (section_of w) total h (take w.budget left) fate.Late len least e t)
     c.enter-in-Late.ensures.text c.enter-in-Late.ensures.work c.enter-in-Late.ensures.budget

@@ -37,7 +37,8 @@ returns c =
       text = λ left.
           let r = take w.budget left in
           let given = content_given c.args.content b.order (kept_bytes w.window) s in
-          text-passed _ s (kept_bytes w.window) (kept_bytes c.pass.new.self) h g r (g ++ left) n next c.args.content refl c.pass.ensures.kept c.pass.ensures.held len
+          text-passed _ s (kept_bytes w.window) (kept_bytes c.pass.new.self) h g r (g ++ left) n next c.args.content refl c.pass.ensures.kept
+          c.pass.ensures.held len
           ∙ sym (text-at_passing w.stage s (kept_bytes w.window) (h ++ r) (whole w left) b c.args.content c.requires
           ∙ after-passes b n (h ++ r) given within (omega (arith, length-append h r)));
       tells = omega (arith, some, len, ap rank c.requires, ap length c.pass.ensures.kept, ap length c.pass.ensures.held, length-drop n h);

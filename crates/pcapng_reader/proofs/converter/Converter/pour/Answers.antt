@@ -24,7 +24,8 @@ returns c =
       least = omega arith;
       most = omega arith;
       text = λ left.
-          text-poured w.stage (section_of w) (kept_bytes w.window) (kept_bytes c.give.new.self) o out _ (ahead w left) _ (whole w left) _ at n due c.give.ensures.bytes
+          text-poured w.stage (section_of w) (kept_bytes w.window) (kept_bytes c.give.new.self) o out _ (ahead w left) _ (whole w left) _ at n due
+          c.give.ensures.bytes
           (ap (λ h. h ++ take w.budget left) c.give.ensures.held) (ap (λ h. h ++ left) c.give.ensures.held) (front-written at n out o _ c.requires fits);
       stage = refl;
       budget = refl;

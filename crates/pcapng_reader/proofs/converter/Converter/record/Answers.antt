@@ -14,7 +14,8 @@ use Rattle.pcapng_reader.proofs.converter.Converter.record.Goals as goal
 pub returns-then-len-captured : goal.returns-then-len-captured
 returns-then-len-captured c =
     let w = c.args.self.now in
-    block-waits w c.wait.new.self c.wait.result c.args.order kind.Packet c.args.total c.wait.ensures c.requires.block (omega (arith, c.requires.fits.1)) (omega (arith, c.requires.fits.2))
+    block-waits w c.wait.new.self c.wait.result c.args.order kind.Packet c.args.total c.wait.ensures c.requires.block (omega (arith, c.requires.fits.1))
+    (omega (arith, c.requires.fits.2))
 
 pub returns : goal.returns
 returns c =
@@ -29,7 +30,16 @@ returns c =
     let held : 28 + len ≤ length h = omega arith in
     let kept = c.keep_record.ensures.kept ∙ ap (λ x. x ++ take len (drop 28 h)) c.record_head.ensures in
     let b : Body = record { order = o; total = total; left = (total - 32) - len } in
-    steps-entered w _ o kind.Packet total (28 + len) ((total - 32) - len) (λ left. gives k (section_of w)) c.requires.block.head c.requires.block.total_is (omega (arith, fits)) held (omega arith)
+    steps-entered w _ o kind.Packet total (28 + len) ((total - 32) - len) (λ left. gives k (section_of w)) c.requires.block.head c.requires.block.total_is
+    (omega (arith, fits)) held (omega arith)
     (λ left t. record-given o (section_of w) total c.args.at len h (take w.budget left) k held (omega (arith, fits)) c.requires.fate kept t)
     (λ left. text-passed _ (section_of w) k k h g (take w.budget left) (g ++ left) (28 + len) b content.Record refl refl c.keep_record.ensures.held held)
-    (omega (arith, ap rank c.requires.block.stage_is, ap length kept, length-append (record_head c.args.at len) (take len (drop 28 h)), length-take len (drop 28 h), ap length c.keep_record.ensures.held, length-drop (28 + len) h)) refl
+    (omega (
+      arith,
+      ap rank c.requires.block.stage_is,
+      ap length kept,
+      length-append (record_head c.args.at len) (take len (drop 28 h)),
+      length-take len (drop 28 h),
+      ap length c.keep_record.ensures.held,
+      length-drop (28 + len) h,
+    )) refl

@@ -27,6 +27,7 @@ returns c =
     let len : 16 ≤ length h = omega arith in
     let e : x ≡ (if number o 2 12 h == 1 then content.Section else content.Broken) =
     c.section_content-content.ensures ∙ ap (λ b. if number o 2 12 b == 1 then content.Section else content.Broken) c.peek.ensures in
-    steps-entered w c.enter.new.self o kind.Section total 16 ((total - 4) - 16) (λ left. content_given x o (kept_bytes w.window) (section_of w)) c.requires.block.head c.requires.block.total_is (omega arith) len refl
+    steps-entered w c.enter.new.self o kind.Section total 16 ((total - 4) - 16) (λ left. content_given x o (kept_bytes w.window) (section_of w))
+    c.requires.block.head c.requires.block.total_is (omega arith) len refl
     (λ left t. section-content o (section_of w) (kept_bytes w.window) total h (take w.budget left) x len least e t)
     c.enter.ensures.text c.enter.ensures.work c.enter.ensures.budget

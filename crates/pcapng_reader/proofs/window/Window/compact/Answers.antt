@@ -10,5 +10,6 @@ returns-clause-held c =
     let once = with_items_is w.buf c.shift.new.buf (search (rules, places)) in
     let twice = with_items_is (with_items w.buf c.shift.new.buf) c.shift-2.new.buf (search (rules, places)) in
     held-moved w.kept w.kept_end w.start w.filled w.buf.items c.deref_mut-2.result.now _ w.kept_first w.apart w.ordered (search rules)
-    (c.deref_mut-2.ensures.value ∙ once ∙ c.shift.ensures ∙ ap (λ xs. take 0 xs ++ (range w.kept w.kept_end xs ++ drop (0 + (w.kept_end - w.kept)) xs)) c.deref_mut.ensures.value)
+    (c.deref_mut-2.ensures.value ∙ once ∙ c.shift.ensures ∙ ap (λ xs. take 0 xs ++ (range w.kept w.kept_end xs ++ drop (0 + (w.kept_end - w.kept)) xs))
+    c.deref_mut.ensures.value)
     (twice ∙ c.shift-2.ensures)

@@ -18,7 +18,8 @@ returns-in-Ok-clause-got g c =
     let is = with_items_is w.buf c.read_at.new.buf (search (rules, places)) in
     let front = ap (take w.filled) is ∙ c.in-Ok.ensures.before ∙ ap (take w.filled) c.deref_mut.ensures.value in
     let long = length-part w.filled n c.read_at.new.buf (grind arith) in
-    let held = held-read w.start w.filled n w.buf.items _ front w.ordered (grind arith) ∙ ap (λ ys. held_bytes w ++ take n (drop w.filled ys)) is ∙ ap (λ l. l ++ take n (drop w.filled c.read_at.new.buf)) c.make_room.ensures.held in
+    let held = held-read w.start w.filled n w.buf.items _ front w.ordered (grind arith) ∙ ap (λ ys. held_bytes w ++ take n (drop w.filled ys)) is ∙ ap
+    (λ l. l ++ take n (drop w.filled c.read_at.new.buf)) c.make_room.ensures.held in
     (take n (drop w.filled c.read_at.new.buf), long, search rules, search rules, held)
 
 pub returns-in-Err-clause-kept : goal.returns-in-Err-clause-kept

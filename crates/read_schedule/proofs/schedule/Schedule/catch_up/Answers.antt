@@ -1,4 +1,4 @@
-use Rattle.std.proofs.Common.{◌≡◌, ◌≤◌, ◌<◌, ◌+◌, ◌*◌, ◌^◌, ℕ, arith, inl, inr, subst, sym}
+use Rattle.std.proofs.Common.{◌≡◌, ◌≤◌, ◌<◌, ◌+◌, ◌*◌, ◌^◌, ℕ, arith, inl, inr, refl, subst, sym, ◌∙◌}
 use Rattle.std.proofs.lemmas.Bool.{cases_lt}
 use Rattle.read_schedule.specs.Parts.{parts_at}
 use Rattle.read_schedule.specs.declared.grid.Grid.{Grid}
@@ -31,23 +31,29 @@ are_due s t passed x e late low old few =
           rw same (is_due s t late low)
     ]
 
-pub returns-then-t-self-clause-ahead : goal.returns-then-t-self-clause-ahead
-returns-then-t-self-clause-ahead c = λ x high. none_more c.args.self.now c.args.t x c.if-t-self.true high
+pub returns-then-t-self : goal.returns-then-t-self
+returns-then-t-self c = record { grid = refl; due = λ old. old; ahead = λ x high. none_more c.args.self.now c.args.t x c.if-t-self.true high }
 
-pub returns-then-t-self-2-clause-due : goal.returns-then-t-self-2-clause-due
-returns-then-t-self-2-clause-due c = λ old x few.
-    are_due c.args.self.now c.args.t _ x c.pass.ensures.passed c.if-t-self.false c.requires.in_time old few
+pub returns-then-t-self-2 : goal.returns-then-t-self-2
+returns-then-t-self-2 c = record {
+  grid = c.pass.ensures.grid;
+  due = λ old x few. are_due c.args.self.now c.args.t _ x c.pass.ensures.passed c.if-t-self.false c.requires.in_time old few;
+  ahead = λ x high.
+      subst (λ (g : Grid). c.args.t * g.den < parts_at g x) c.pass.ensures.grid
+      (none_more c.pass.new.self c.args.t x c.if-t-self-2.true high);
+}
 
-pub returns-then-t-self-2-clause-ahead : goal.returns-then-t-self-2-clause-ahead
-returns-then-t-self-2-clause-ahead c = λ x high.
-    subst (λ (g : Grid). c.args.t * g.den < parts_at g x) c.pass.ensures.grid
-    (none_more c.pass.new.self c.args.t x c.if-t-self-2.true high)
-
-pub returns-clause-due : goal.returns-clause-due
-returns-clause-due c = λ old x few.
+pub returns : goal.returns
+returns c =
     let e = c.pass.ensures in
-    subst (λ (g : Grid). parts_at g x ≤ c.args.t * g.den) e.grid
-    (c.race.ensures.due
-    (λ y low. subst (λ (g : Grid). parts_at g y ≤ c.args.t * g.den) (sym e.grid)
-    (are_due c.args.self.now c.args.t _ y e.passed c.if-t-self.false c.requires.in_time old low))
-    x few)
+    let r = c.race.ensures in
+    record {
+      grid = r.grid ∙ e.grid;
+      due = λ old x few.
+          subst (λ (g : Grid). parts_at g x ≤ c.args.t * g.den) e.grid
+          (r.due
+          (λ y low. subst (λ (g : Grid). parts_at g y ≤ c.args.t * g.den) (sym e.grid)
+          (are_due c.args.self.now c.args.t _ y e.passed c.if-t-self.false c.requires.in_time old low))
+          x few);
+      ahead = λ x high. subst (λ (g : Grid). c.args.t * g.den < parts_at g x) e.grid (r.ahead x high);
+    }

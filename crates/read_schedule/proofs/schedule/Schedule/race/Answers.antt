@@ -24,10 +24,10 @@ loop-self-preserved c =
       ];
     }
 
-pub returns-clause-ahead : goal.returns-clause-ahead
-returns-clause-ahead c = λ x high.
+pub returns : goal.returns
+returns c =
     let s = c.loop-self.self in
     let i = c.loop-self.invariant in
     let next : c.args.t * s.grid.den < parts_at s.grid s.passed =
     rounded-after s.next.at c.args.t s.grid.den _ s.next.slack s.next_low s.next_left c.loop-self-test.false in
-    rw (← i.grid) (omega (arith, next, parts_at-le s.grid s.passed x high))
+    record { grid = i.grid; due = i.due; ahead = λ x high. rw (← i.grid) (omega (arith, next, parts_at-le s.grid s.passed x high)) }

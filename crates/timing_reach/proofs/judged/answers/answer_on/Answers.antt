@@ -1,8 +1,15 @@
+use Rattle.std.proofs.Common.{ap, sym, ◌∙◌}
+use Rattle.std.specs.Option.{option_map}
+use Rattle.pcapng_reader.specs.Classic.{classic}
 use Rattle.timing_steps.specs.Answers.{seen_of}
 use Rattle.timing_reach.specs.Asked.{OnFlow}
 use Rattle.timing_reach.specs.judged.Readings.{IsJudgmentIn}
 use Rattle.timing_reach.proofs.Following.{capture-cause, cause-after, reads-twice}
 use Rattle.timing_reach.proofs.judged.answers.answer_on.Goals as goal
+
+pub answer_seen-requires-clause-known : goal.answer_seen-requires-clause-known
+answer_seen-requires-clause-known g c = λ lifetimes lives text whole.
+    c.in_ok-judgment.ensures.told text (ap (option_map classic) (sym (c.judge_flow.ensures.stays.texts c.args.job.now.capture)) ∙ whole)
 
 pub returns-clause-follows : goal.returns-clause-follows
 returns-clause-follows g c =

@@ -12,4 +12,5 @@ returns c = λ media key tai packets seconds h.
           first-stamp packets tai run c.args.self.opening.is_marked c.args.self.opening.first c.stamp.result (one-run packets media.pt tai run e)
           (some-judged packets media.pt tai run few seconds h.judge.stamped e) h.opening c.stamp.ensures.some;
       ordered = λ run e. judged-rises packets media.pt tai run few seconds h.judge.stamped e;
+      last = h.last;
     }

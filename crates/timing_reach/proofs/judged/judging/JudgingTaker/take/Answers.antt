@@ -25,5 +25,6 @@ feed-requires-clause-reading c =
 pub returns-in-Some-clause-takes : goal.returns-in-Some-clause-takes
 returns-in-Some-clause-takes c =
     let r : Record = record { number = c.args.number; stamp = c.args.at; bytes = c.args.frame.now } in
-    let new : Judging = record { media = c.args.self.now.media; judge = c.feed.new.self; opening = c.pass.new.self } in
-    judges-packet c.feed.result c.args.self.now new r c.in-Some.packet (sym c.packet_of.ensures ∙ c.in-Some.is) refl c.pass.ensures c.feed.ensures.stands
+    let new : Judging = record { media = c.args.self.now.media; judge = c.feed.new.self; opening = c.pass.new.self; last = c.last_marked-self.result } in
+    judges-packet c.feed.result c.args.self.now new r c.in-Some.packet (sym c.packet_of.ensures ∙ c.in-Some.is) refl c.pass.ensures c.last_marked-self.ensures
+    c.feed.ensures.stands

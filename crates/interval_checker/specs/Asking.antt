@@ -1,0 +1,75 @@
+-- What is asked of the runs of a flow, and what is kept for it. Runs count from 0, packets from 0 behind the first
+-- marker
+-- of their run; stamps are in nanoseconds, as the capture has them.
+use Rattle.std.specs.Prelude.{◌≡◌, ◌<◌, ◌-◌, ℕ, nat_eq, ◌&&◌, Bool, if◌then◌else◌, List, [], ◌∷◌, length, zero, suc, ⊤}
+use Rattle.std.specs.Prelude.{slice_index, ◌+◌, ◌*◌, ◌^◌, Option, Some, None, IsSome, option_map}
+use Rattle.std.specs.HashMap as hash
+use Rattle.timing_base.specs.declared.fail.FailProof.{FailProof}
+use Rattle.interval_checker.specs.declared.asked.Asked.{Asked}
+use Rattle.interval_checker.specs.declared.ending.Ending.{Ending}
+use Rattle.interval_checker.specs.declared.ending.Ending.TheVariants as ending
+use Rattle.timing_base.specs.Judged.{RunOutcome, no_whole_frame, whole_frames}
+use Rattle.sender_params.specs.Ticks.{NeverFall}
+
+-- whole frames of so many packets each, and of so many in all
+abbrev pub IsWhole : Ending → (size count : ℕ) → Type 0
+IsWhole (ending.NoWholeFrame head) size count = ⊥
+IsWhole (ending.WholeFrames f) size count = (f.size ≡ size) × (f.count ≡ count)
+
+-- the stamp that is kept of a packet, where it is asked for
+abbrev pub stamp_of : Asked → (run place : ℕ) → Option ℕ
+stamp_of a run place = option_map (λ s. s.at) (hash.get (λ x y. nat_eq x.0 y.0 && nat_eq x.1 y.1) a.stamps (run, place))
+
+-- how a run ends, where it is asked for
+abbrev pub ending_of : Asked → (run : ℕ) → Option Ending
+ending_of a run = hash.get nat_eq a.endings run
+
+-- what is kept where this is asked and comes now, or was kept before
+abbrev pub if_asked : {A : Type 0} → Bool → A → Option A → Option A
+if_asked here now None = None
+if_asked here now (Some before) = if here then Some now else Some before
+
+-- all is asked that the second is asked
+pub record AsksNoLess (old new : Asked) : Type 0 where
+  pub stamps : (r p : ℕ) → IsSome (stamp_of old r p) → IsSome (stamp_of new r p)
+  pub endings : (r : ℕ) → IsSome (ending_of old r) → IsSome (ending_of new r)
+
+-- what a fail that is claimed of a run needs is asked
+pub record IsAsked (a : Asked) (run : ℕ) (f : FailProof) : Type 0 where
+  pub ending : IsSome (ending_of a run)
+  pub first : IsSome (stamp_of a run 0)
+  pub from : IsSome (stamp_of a run f.from)
+  pub to : IsSome (stamp_of a run f.to)
+  pub last_counted : IsSome (stamp_of a run (f.count - 1))
+  pub behind : IsSome (stamp_of a run f.count)
+
+-- of the first `count` packets of the run, those that are asked for have these stamps
+abbrev pub AreKept : Asked → (run : ℕ) → (stamps : ℕ → ℕ) → (count : ℕ) → Type 0
+AreKept a run stamps count = (place : ℕ) → place < count → IsSome (stamp_of a run place)
+    → stamp_of a run place ≡ Some (stamps place)
+
+-- of judged packets with these stamps, in nanoseconds of TAI, which never fall, so many seconds were added to: those
+-- that
+-- are asked for are kept
+pub record IsRunKept (a : Asked) (run tai : ℕ) (stamps : List ℕ) : Type 0 where
+  pub raw : ℕ → ℕ
+  pub added : (k : ℕ) → k < length stamps → slice_index stamps k ≡ raw k + tai * 10 ^ 9
+  pub rising : NeverFall stamps
+  pub kept : AreKept a run raw (length stamps)
+
+-- how a run ends, by its outcome
+abbrev pub EndsAs : Asked → (run tai : ℕ) → RunOutcome → Ending → Type 0
+EndsAs a run tai (no_whole_frame head) e = e ≡ ending.NoWholeFrame head
+EndsAs a run tai (whole_frames j) e = IsWhole e j.n (length j.stamps) × IsRunKept a run tai j.stamps
+
+-- the runs from one on that are over, by their outcomes, are kept where they are asked for
+abbrev pub AreEnded : Asked → (tai run : ℕ) → List RunOutcome → Type 0
+AreEnded a tai run [] = ⊤
+AreEnded a tai run (o ∷ os) = ((e : Ending) → ending_of a run ≡ Some e → EndsAs a run tai o e)
+    × AreEnded a tai (suc run) os
+
+-- the outcome that stands `behind` others ends so
+abbrev pub EndsAt : Asked → (run tai : ℕ) → List RunOutcome → (behind : ℕ) → Ending → Type 0
+EndsAt a run tai [] behind e = ⊥
+EndsAt a run tai (o ∷ os) zero e = EndsAs a run tai o e
+EndsAt a run tai (o ∷ os) (suc behind) e = EndsAt a run tai os behind e

@@ -1,0 +1,46 @@
+-- What is kept of two flows, seen from one of them: by packet number, or by the place of a number on its page.
+use Rattle.std.specs.Prelude.{◌≡◌, ◌≢◌, ℕ, Bool, true, false, not, ◌==◌, if◌then◌else◌, Option, Some, None}
+use Rattle.std.specs.Int.{bit_at}
+use Rattle.path_skew.specs.Slots.{arrival_at}
+use Rattle.path_skew.specs.declared.arrival.Arrival.{Arrival}
+use Rattle.path_skew.specs.declared.arrivals.Arrivals.{Arrivals}
+use Rattle.path_skew.specs.declared.pages.Found.{Found}
+use Rattle.path_skew.specs.declared.pages.Found.TheVariants.{Again, Opens}
+
+-- whether the flow had a number, whether the other had it, and the arrival that is kept of it
+pub record View : Type 0 where
+  pub own : ℕ → Bool
+  pub other : ℕ → Bool
+  pub kept : ℕ → Option Arrival
+
+-- what a page has, by the bits of the flow, those of the other, and its arrivals
+abbrev pub of_parts : (own other : ℕ) → Arrivals → View
+of_parts own other arrivals = record {
+  own = λ i. bit_at own i == 1;
+  other = λ i. bit_at other i == 1;
+  kept = arrival_at arrivals;
+}
+
+-- one flow had the number, and one had it not
+abbrev pub Waits : View → ℕ → Type 0
+Waits v number = v.own number ≡ not (v.other number)
+
+-- the flows had the same numbers, and of each that one alone had the same arrival is kept
+pub record IsSame (v w : View) : Type 0 where
+  pub own : (n : ℕ) → w.own n ≡ v.own n
+  pub other : (n : ℕ) → w.other n ≡ v.other n
+  pub kept : (n : ℕ) (x : Arrival) → Waits v n → v.kept n ≡ Some x → w.kept n ≡ Some x
+
+-- the flow had the number not, and has it now; what the other had of it was found, and else its arrival is kept
+pub record IsOpened (v w : View) (number : ℕ) (arrival : Arrival) (found : Option Arrival) : Type 0 where
+  pub absent : v.own number ≡ false
+  pub own : (n : ℕ) → w.own n ≡ (if n == number then true else v.own n)
+  pub other : (n : ℕ) → w.other n ≡ v.other n
+  pub kept : (n : ℕ) (x : Arrival) → n ≢ number → Waits v n → v.kept n ≡ Some x → w.kept n ≡ Some x
+  pub alone : v.other number ≡ false → (found ≡ None) × (w.kept number ≡ Some arrival)
+  pub both : v.other number ≡ true → (x : Arrival) → v.kept number ≡ Some x → found ≡ Some x
+
+-- a packet with the number came
+abbrev pub Meets : View → View → ℕ → Arrival → Found → Type 0
+Meets v w number arrival Again = (v.own number ≡ true) × IsSame v w
+Meets v w number arrival (Opens found) = IsOpened v w number arrival found

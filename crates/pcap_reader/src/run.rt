@@ -1,0 +1,109 @@
+//! Records that stand whole in bytes that are held, taken one after the other.
+
+ghost use Rattle.std.specs.Prelude.{◌≡◌, ◌≤◌, ◌<◌, ◌+◌, ◌*◌, ◌^◌, ℕ, IfSome, length};
+ghost use Rattle.pcap_reader.specs.Heads.{IsWhole};
+ghost use Rattle.pcap_reader.specs.Runs.{TakesRun};
+
+use crate::layout::{Layout, Order};
+use crate::stage::Head;
+use crate::taker::Taker;
+use crate::window::MOST_CAPTURED;
+
+/// The bytes of the head of a record.
+const RECORD_HEAD: usize = 16;
+
+/// Records that were taken, one behind the other.
+#[derive(Clone, Copy, Debug)]
+pub struct Run {
+    pub records: u64,
+    /// The bytes that they have, with their heads.
+    pub size: usize,
+}
+
+/// The head of the record at the front of these bytes, where it has no fault and stands there whole.
+#[inline(always)]
+fn whole_head(layout: Layout, bytes: &[u8]) -> Option<Head>
+    ensures { IfSome result (IsWhole layout bytes.now) }
+{
+    if bytes.len() < RECORD_HEAD {
+        return None;
+    }
+    let seconds = layout.order.read_u32(bytes, 0);
+    let fraction = layout.order.read_u32(bytes, 4);
+    let captured = layout.order.read_u32(bytes, 8);
+    if fraction >= layout.fraction.per_second()
+        || captured > MOST_CAPTURED
+        || bytes.len() < RECORD_HEAD + captured as usize
+    {
+        return None;
+    }
+    let nanos = layout.fraction.to_nanos(fraction);
+    Some(Head {
+        at: u64::from(seconds) * 1_000_000_000 + u64::from(nanos),
+        captured: captured as usize,
+    })
+}
+
+/// Takes the records of one layout, as [`take_run`] says.
+#[inline(always)]
+fn take_laid_out<T: Taker>(
+    layout: Layout,
+    bytes: &[u8],
+    before: u64,
+    number: u64,
+    taker: &mut T,
+) -> Result<Run, T::Stop>
+    requires before { before ≤ 2 ^ 41 }
+    requires number { number ≤ 2 ^ 37 }
+    requires short { length bytes.now ≤ 2 ^ 40 }
+    requires room { (count : ℕ) → 16 * count ≤ length bytes.now → T.room (before + number) count taker.old }
+    ensures { TakesRun T.takes T.stops T.room layout bytes.now before number taker.old taker.new result }
+{
+    let mut run = Run {
+        records: 0,
+        size: 0,
+    };
+    while let Some(head) = whole_head(layout, &bytes[run.size..]) {
+        let start = run.size + RECORD_HEAD;
+        let end = start + head.captured;
+        taker.take(before + number + run.records, head.at, &bytes[start..end])?;
+        run.records += 1;
+        run.size = end;
+    }
+    Ok(run)
+}
+
+/// Takes the records that stand whole at the front of these bytes and have no fault, up to the first that
+/// isn't so. The first has this number, and each number is raised by `before`.
+#[inline(always)]
+pub fn take_run<T: Taker>(
+    layout: Layout,
+    bytes: &[u8],
+    before: u64,
+    number: u64,
+    taker: &mut T,
+) -> Result<Run, T::Stop>
+    requires before { before ≤ 2 ^ 41 }
+    requires number { number ≤ 2 ^ 37 }
+    requires short { length bytes.now ≤ 2 ^ 40 }
+    requires room { (count : ℕ) → 16 * count ≤ length bytes.now → T.room (before + number) count taker.old }
+    ensures { TakesRun T.takes T.stops T.room layout bytes.now before number taker.old taker.new result }
+{
+    // The loop is compiled once for each order, so that no record asks for it.
+    match layout.order {
+        Order::Little => {
+            let little = Layout {
+                order: Order::Little,
+                fraction: layout.fraction,
+            };
+            take_laid_out(little, bytes, before, number, taker)
+        }
+        Order::Big => {
+            let big = Layout {
+                order: Order::Big,
+                fraction: layout.fraction,
+            };
+            take_laid_out(big, bytes, before, number, taker)
+        }
+    }
+}

@@ -1,0 +1,199 @@
+-- The jobs that words ask for are within their limits.
+use Rattle.std.proofs.Common.{◌≡◌, ◌≤◌, ◌<◌, ◌-◌, ◌&&◌, Bool, true, false, refl, subst, List, [], ◌∷◌, length, Some, None, Option, ℕ, arith}
+use Rattle.std.specs.Prelude.{codes, if◌then◌else◌, nat_le, option_map}
+use Rattle.std.specs.List.{list_all}
+use Rattle.std.proofs.lemmas.Bool.{leb-true}
+use Rattle.timing_base.specs.Jobs.{CheckJob, FlowJob, IsCheckJob, IsFlowJob, IsReportJob, IsSelfTestJob}
+use Rattle.timing_base.specs.Jobs.{IsSkewJob, IsVerifyJob, ReportJob, SelfTestJob, ShapeJob}
+use Rattle.timing_base.specs.Jobs.{SkewJob, VerifyJob}
+use Rattle.timing_base.specs.Name.{is_file_name}
+use Rattle.timing_base.specs.declared.job.Request.{Request}
+use Rattle.timing_base.specs.declared.job.Request.TheVariants as asks
+use Rattle.timing_words.specs.declared.command.Command.{Command}
+use Rattle.timing_words.specs.declared.command.Command.TheVariants as command
+use Rattle.timing_words.specs.Limits.{IsWithinLimits}
+use Rattle.timing_words.specs.Line.{Stands, Text, line, stands}
+use Rattle.timing_words.specs.Request.{asked, asked_by, check_asked, check_workers, command_named, file_name, file_names}
+use Rattle.timing_words.specs.Request.{flow_asked, given, kind_named, media, need, number, passing}
+use Rattle.timing_words.specs.Request.{proof_asked, report_asked, request, self_test_asked, shape_asked, skew_asked}
+use Rattle.timing_words.specs.Request.{sole, sorts, tai, test_workers, verify_asked, written}
+use Rattle.timing_words.proofs.Checks.{both_true}
+
+-- a step that was needed gave something
+record Needed {A B : Type 0} (o : Option A) (f : A → Option B) (b : B) : Type 0 where
+  a : A
+  gave : o ≡ Some a
+  rest : f a ≡ Some b
+
+needed : {A B : Type 0} (o : Option A) (f : A → Option B) (b : B) → need o f ≡ Some b → Needed o f b
+needed None f b e = cc
+needed (Some a) f b e = record { a = a; gave = refl; rest = e }
+
+passed : {A : Type 0} (b : Bool) (x y : A) → passing b x ≡ Some y → (b ≡ true) × (x ≡ y)
+passed true x y e = (refl, cc)
+passed false x y e = cc
+
+same : {A : Type 0} (x y : A) → Some x ≡ Some y → x ≡ y
+same x y e = cc
+
+mapped : {A B : Type 0} (f : A → B) (o : Option A) (b : B) → option_map f o ≡ Some b → (a : A) × (o ≡ Some a) × (f a ≡ b)
+mapped f None b e = cc
+mapped f (Some a) b e = (a, refl, same (f a) b e)
+
+-- ---- values
+
+within : (low high : ℕ) (t : Text) (n : ℕ) → number low high t ≡ Some n → (low ≤ n) × (n ≤ high)
+within low high t n e =
+    let w = needed (written t) (λ m. passing (nat_le low m && nat_le m high) m) n e in
+    let p = passed (nat_le low w.a && nat_le w.a high) w.a n w.rest in
+    let k = both_true (nat_le low w.a) (nat_le w.a high) p.0 in
+    subst (λ m. (low ≤ m) × (m ≤ high)) p.1 (leb-true low w.a k.0, leb-true w.a high k.1)
+
+media-few : (t : Text) (m : ℕ) → media t ≡ Some m → m < 64
+media-few t m e =
+    let n = mapped (λ n. n - 1) (number 1 64 t) m e in
+    let k = within 1 64 t n.0 n.1 in
+    omega (arith, k.0, k.1, n.2)
+
+tai-most : (o : Option Text) (n : ℕ) → tai o ≡ Some n → n ≤ 1000
+tai-most None n e = subst (λ m. m ≤ 1000) (same 0 n e) (omega arith)
+tai-most (Some t) n e = (within 0 1000 t n e).1
+
+workers-few : (o : Option Text) (b : Bool) (n : ℕ) → check_workers o b ≡ Some n → n ≤ 16
+workers-few None false n e = subst (λ m. m ≤ 16) (same 4 n e) (omega arith)
+workers-few None true n e = subst (λ m. m ≤ 16) (same 0 n e) (omega arith)
+workers-few (Some t) false n e = (within 1 16 t n e).1
+workers-few (Some t) true n e = cc
+
+testers-few : (o : Option Text) (n : ℕ) → test_workers o ≡ Some n → n ≤ 16
+testers-few None n e = subst (λ m. m ≤ 16) (same 0 n e) (omega arith)
+testers-few (Some t) n e = (within 1 16 t n e).1
+
+names-few : (most : ℕ) (names captures : List Text) → file_names most names ≡ Some captures → (1 ≤ length captures) × (length captures ≤ most)
+names-few most names captures e =
+    let p = passed (nat_le 1 (length names) && (nat_le (length names) most && list_all is_file_name names)) names captures e in
+    let k = both_true (nat_le 1 (length names)) _ p.0 in
+    let l = both_true (nat_le (length names) most) (list_all is_file_name names) k.1 in
+    subst (λ (c : List Text). (1 ≤ length c) × (length c ≤ most)) p.1 (leb-true 1 (length names) k.0, leb-true (length names) most l.0)
+
+-- joined captures are up to 16, and else there is one
+captures-most : (joined : Bool) (n : ℕ) → n ≤ (if joined then 16 else 1) → (n ≤ 16) × (joined ≡ false → n ≤ 1)
+captures-most true n e = (e, λ h. cc)
+captures-most false n e = (omega arith, λ h. e)
+
+-- ---- commands
+
+check-within : (l : Stands) (job : CheckJob) → check_asked l ≡ Some job → IsCheckJob job
+check-within l job e =
+    let a = needed (given (codes "sdp") l file_name) _ job e in
+    let b = needed (check_workers (l.value (codes "workers")) (l.flag (codes "serial"))) _ job a.rest in
+    let c = needed (tai (l.value (codes "tai"))) _ job b.rest in
+    let d = needed (file_names 16 l.names) _ job c.rest in
+    let few = names-few 16 l.names d.a d.gave in
+    subst IsCheckJob (same _ job d.rest) record {
+      captures_are = record { some = few.0; few = few.1 };
+      workers_few = workers-few (l.value (codes "workers")) (l.flag (codes "serial")) b.a b.gave;
+      tai_most = tai-most (l.value (codes "tai")) c.a c.gave;
+    }
+
+verify-within : (l : Stands) (job : VerifyJob) → verify_asked l ≡ Some job → IsVerifyJob job
+verify-within l job e =
+    let a = needed (given (codes "sdp") l file_name) _ job e in
+    let b = needed (given (codes "media") l media) _ job a.rest in
+    let c = needed (given (codes "type") l kind_named) _ job b.rest in
+    let d = needed (proof_asked l) _ job c.rest in
+    let f = needed (tai (l.value (codes "tai"))) _ job d.rest in
+    let g = needed (file_names (if l.flag (codes "joined") then 16 else 1) l.names) _ job f.rest in
+    let m = needed (l.value (codes "media")) media b.a b.gave in
+    let few = names-few (if l.flag (codes "joined") then 16 else 1) l.names g.a g.gave in
+    let most = captures-most (l.flag (codes "joined")) (length g.a) few.1 in
+    subst IsVerifyJob (same _ job g.rest) record {
+      media_few = media-few m.a b.a m.rest;
+      tai_most = tai-most (l.value (codes "tai")) f.a f.gave;
+      captures_are = record { some = few.0; few = most.0 };
+      alone = λ joined. let one = most.1 joined in omega (arith, one, few.0);
+    }
+
+report-within : (l : Stands) (job : ReportJob) → report_asked l ≡ Some job → IsReportJob job
+report-within l job e =
+    let a = needed (given (codes "sdp") l file_name) _ job e in
+    let b = needed (given (codes "report") l file_name) _ job a.rest in
+    let c = needed (tai (l.value (codes "tai"))) _ job b.rest in
+    let d = needed (file_names 16 l.names) _ job c.rest in
+    let few = names-few 16 l.names d.a d.gave in
+    subst IsReportJob (same _ job d.rest) record { tai_most = tai-most (l.value (codes "tai")) c.a c.gave; captures_are = record { some = few.0; few = few.1 } }
+
+self_test-within : (l : Stands) (job : SelfTestJob) → self_test_asked l ≡ Some job → IsSelfTestJob job
+self_test-within l job e =
+    let a = needed (need (sole l.names) (number 2 20000)) _ job e in
+    let b = needed (test_workers (l.value (codes "workers"))) _ job a.rest in
+    let c = needed (sole l.names) (number 2 20000) a.a a.gave in
+    let frames = within 2 20000 c.a a.a c.rest in
+    subst IsSelfTestJob (same _ job b.rest) record {
+      frames_some = frames.0;
+      frames_few = frames.1;
+      workers_few = testers-few (l.value (codes "workers")) b.a b.gave;
+    }
+
+flow-within : (l : Stands) (job : FlowJob) → flow_asked l ≡ Some job → IsFlowJob job
+flow-within l job e =
+    let a = needed (given (codes "sdp") l file_name) _ job e in
+    let b = needed (given (codes "media") l media) _ job a.rest in
+    let c = needed (tai (l.value (codes "tai"))) _ job b.rest in
+    let d = needed (need (sole l.names) file_name) _ job c.rest in
+    let m = needed (l.value (codes "media")) media b.a b.gave in
+    subst IsFlowJob (same _ job d.rest) record { media_few = media-few m.a b.a m.rest; tai_most = tai-most (l.value (codes "tai")) c.a c.gave }
+
+shape-within : (l : Stands) (job : ShapeJob) → shape_asked l ≡ Some job → IsFlowJob job.flow
+shape-within l job e =
+    let a = needed (flow_asked l) _ job e in
+    let b = needed (given (codes "type") l kind_named) _ job a.rest in
+    subst (λ (j : ShapeJob). IsFlowJob j.flow) (same _ job b.rest) (flow-within l a.a a.gave)
+
+skew-within : (l : Stands) (job : SkewJob) → skew_asked l ≡ Some job → IsSkewJob job
+skew-within l job e =
+    let a = needed (given (codes "sdp") l file_name) _ job e in
+    let b = needed (given (codes "media") l media) _ job a.rest in
+    let c = needed (given (codes "pair") l media) _ job b.rest in
+    let d = needed (file_names 2 l.names) _ job c.rest in
+    let m = needed (l.value (codes "media")) media b.a b.gave in
+    let n = needed (l.value (codes "pair")) media c.a c.gave in
+    let few = names-few 2 l.names d.a d.gave in
+    subst IsSkewJob (same _ job d.rest)
+    record { media_few = media-few m.a b.a m.rest; pair_few = media-few n.a c.a n.rest; some = few.0; few = few.1 }
+
+-- ---- the whole line
+
+asked-within : (c : Command) (l : Stands) (r : Request) → asked c l ≡ Some r → IsWithinLimits r
+asked-within command.Check l r e =
+    let m = mapped asks.Check (check_asked l) r e in
+    subst IsWithinLimits m.2 (check-within l m.0 m.1)
+asked-within command.Verify l r e =
+    let m = mapped asks.Verify (verify_asked l) r e in
+    subst IsWithinLimits m.2 (verify-within l m.0 m.1)
+asked-within command.VerifyReport l r e =
+    let m = mapped asks.VerifyReport (report_asked l) r e in
+    subst IsWithinLimits m.2 (report-within l m.0 m.1)
+asked-within command.SelfTest l r e =
+    let m = mapped asks.SelfTest (self_test_asked l) r e in
+    subst IsWithinLimits m.2 (self_test-within l m.0 m.1)
+asked-within command.Window l r e =
+    let m = mapped asks.Window (flow_asked l) r e in
+    subst IsWithinLimits m.2 (flow-within l m.0 m.1)
+asked-within command.Shape l r e =
+    let m = mapped asks.Shape (shape_asked l) r e in
+    subst IsWithinLimits m.2 (shape-within l m.0 m.1)
+asked-within command.Skew l r e =
+    let m = mapped asks.Skew (skew_asked l) r e in
+    subst IsWithinLimits m.2 (skew-within l m.0 m.1)
+
+by-within : (c : Command) (words : List Text) (r : Request) → asked_by c words ≡ Some r → IsWithinLimits r
+by-within c words r e =
+    let a = needed (line (sorts c) words) (λ ps. asked c (stands ps)) r e in
+    asked-within c (stands a.a) r a.rest
+
+pub request-within : (words : List Text) (r : Request) → request words ≡ Some r → IsWithinLimits r
+request-within [] r e = cc
+request-within (w ∷ words) r e =
+    let c = needed (command_named w) (λ c. asked_by c words) r e in
+    by-within c.a words r c.rest

@@ -1,0 +1,14 @@
+-- What every request keeps: the limits of its job's quantities, as `timing_base` states them.
+use Rattle.timing_base.specs.Jobs.{IsCheckJob, IsFlowJob, IsReportJob, IsSelfTestJob, IsSkewJob, IsVerifyJob}
+use Rattle.timing_base.specs.declared.job.Request.{Request}
+use Rattle.timing_base.specs.declared.job.Request.TheVariants as asks
+
+-- the job of a request is within its limits
+abbrev pub IsWithinLimits : Request → Type 0
+IsWithinLimits (asks.Check job) = IsCheckJob job
+IsWithinLimits (asks.Verify job) = IsVerifyJob job
+IsWithinLimits (asks.VerifyReport job) = IsReportJob job
+IsWithinLimits (asks.SelfTest job) = IsSelfTestJob job
+IsWithinLimits (asks.Window job) = IsFlowJob job
+IsWithinLimits (asks.Shape job) = IsFlowJob job.flow
+IsWithinLimits (asks.Skew job) = IsSkewJob job

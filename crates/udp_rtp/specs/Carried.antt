@@ -1,0 +1,46 @@
+-- Whether a frame carries a packet that is known beforehand. A place is a count of bytes from the frame's start.
+-- From the standards: the places and meanings of the fields, IEEE 802.3, clause 3.2.6, RFC 791, section 3.1 (IPv4),
+-- RFC 768 (UDP), RFC 3550, section 5.1 (RTP) and RFC 4175, section 4.2 (the extended sequence number).
+-- This project's profile: only a plain frame counts, in which each field has one place. A frame that isn't plain
+-- carries nothing here, though `flow_packet` may have the very packet of it.
+use Rattle.std.specs.Prelude.{ℕ, ◌/◌, ◌%◌, ◌^◌, ◌==◌, ◌&&◌, nat_le, nat_lt, not, Bool, List, length, slice_index}
+use Rattle.timing_base.specs.declared.packet.Rtp.{Rtp}
+use Rattle.timing_base.specs.declared.target.Target.{Target}
+use Rattle.udp_rtp.specs.Numbers.{number16, number32}
+
+-- a UDP datagram over IPv4 with no tag, no IPv4 options and no fragments: version 4 and an IHL of 5 are 0x45
+abbrev pub is_plain_udp : List ℕ → Bool
+is_plain_udp frame =
+    (number16 frame 12 == 0x0800)
+    && (slice_index frame 14 == 0x45)
+    && (number16 frame 20 % 2 ^ 14 == 0)
+    && (slice_index frame 23 == 17)
+
+-- the datagram goes to this address and port
+abbrev pub goes_to : Target → List ℕ → Bool
+goes_to target frame = (number32 frame 30 == target.address) && (number16 frame 36 == target.port)
+
+-- the UDP length counts the eight bytes of its header, the twelve of RTP and the extended sequence number at least;
+-- RTP is of version 2 and has no padding, no header extension and no contributing sources: 0x80
+abbrev pub is_plain_rtp : List ℕ → Bool
+is_plain_rtp frame = nat_le 22 (number16 frame 38) && (slice_index frame 42 == 0x80)
+
+-- the fields of a plain frame are those of this packet, which hasn't the marker: then byte 43 is the payload type
+abbrev pub has_fields : Rtp → List ℕ → Bool
+has_fields rtp frame =
+    not rtp.marker
+    && nat_lt rtp.pt 128
+    && (slice_index frame 43 == rtp.pt)
+    && (number16 frame 44 == rtp.number % 2 ^ 16)
+    && (number32 frame 46 == rtp.timestamp)
+    && (number32 frame 50 == rtp.ssrc)
+    && (number16 frame 54 == rtp.number / 2 ^ 16)
+
+-- a frame is plain, reaches through the extended sequence number, and carries this packet to this target
+abbrev pub carries : Target → Rtp → List ℕ → Bool
+carries target rtp frame =
+    nat_le 56 (length frame)
+    && is_plain_udp frame
+    && goes_to target frame
+    && is_plain_rtp frame
+    && has_fields rtp frame

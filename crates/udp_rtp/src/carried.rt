@@ -1,0 +1,70 @@
+//! Frames that carry a packet that is known beforehand.
+
+ghost use Rattle.std.specs.Prelude.{◌≡◌, ◌≤◌, length};
+ghost use Rattle.udp_rtp.specs.Carried.{carries, goes_to, has_fields, is_plain_rtp, is_plain_udp};
+
+use byteorder::{BigEndian, ByteOrder};
+use timing_base::{Rtp, Target};
+
+/// Whether a UDP datagram over IPv4 stands in the frame with no tag, options or fragments.
+#[inline(always)]
+fn is_plain_udp(frame: &[u8]) -> bool
+    requires { 56 ≤ length frame.now }
+    ensures { result ≡ is_plain_udp frame.now }
+{
+    BigEndian::read_u16(&frame[12..]) == 0x0800
+        && frame[14] == 0x45
+        && BigEndian::read_u16(&frame[20..]) % 0x4000 == 0
+        && frame[23] == 17
+}
+
+/// Whether the datagram of the frame goes to the target.
+#[inline(always)]
+fn goes_to(frame: &[u8], target: Target) -> bool
+    requires { 56 ≤ length frame.now }
+    ensures { result ≡ goes_to target frame.now }
+{
+    BigEndian::read_u32(&frame[30..]) == target.address
+        && BigEndian::read_u16(&frame[36..]) == target.port
+}
+
+/// Whether the payload is long enough, and RTP of version 2 with nothing before the extended sequence
+/// number but its fixed header.
+#[inline(always)]
+fn is_plain_rtp(frame: &[u8]) -> bool
+    requires { 56 ≤ length frame.now }
+    ensures { result ≡ is_plain_rtp frame.now }
+{
+    BigEndian::read_u16(&frame[38..]) >= 22 && frame[42] == 0x80
+}
+
+/// Whether the fields of RTP in the frame are those of the packet.
+#[inline(always)]
+fn has_fields(frame: &[u8], rtp: Rtp) -> bool
+    requires { 56 ≤ length frame.now }
+    ensures { result ≡ has_fields rtp frame.now }
+{
+    !rtp.marker
+        && rtp.pt < 128
+        && frame[43] == rtp.pt
+        && u32::from(BigEndian::read_u16(&frame[44..])) == rtp.number % 65_536
+        && BigEndian::read_u32(&frame[46..]) == rtp.timestamp
+        && BigEndian::read_u32(&frame[50..]) == rtp.ssrc
+        && u32::from(BigEndian::read_u16(&frame[54..])) == rtp.number / 65_536
+}
+
+/// Whether a frame carries this packet, which has no marker, to this target, and is laid out as most
+/// are: with no tag, IPv4 options, fragments, padding, header extension or contributing sources.
+///
+/// Where it does, [`packet_of`](crate::packet_of) reads this very packet of the frame for each media
+/// of this target. Where it doesn't, the frame may still have that packet, behind a tag for one.
+#[inline(always)]
+pub fn carries(frame: &[u8], target: Target, rtp: Rtp) -> bool
+    ensures { result ≡ carries target rtp frame.now }
+{
+    frame.len() >= 56
+        && is_plain_udp(frame)
+        && goes_to(frame, target)
+        && is_plain_rtp(frame)
+        && has_fields(frame, rtp)
+}
