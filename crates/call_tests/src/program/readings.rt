@@ -1,24 +1,26 @@
 //! A capture whose second reading gives another text than its first.
 
+ghost use Rattle.std.specs.Prelude.{◌≡◌};
+
 use super::shapes::{LIST, NONE_LINES, RECORD, WRITE, with_stamp};
 use super::windows::{LINE, PLAIN};
-use super::{Setting, made, over, part, shelf_of, words_of};
+use super::{Setting, made, over, part, put, shelf_of, whole, words_of};
 use capture_gen::{capture_len, write_capture};
-use std::alloc::Global;
 use std::process::Abort;
 use std::sync::Wait;
 use std::test::Fail;
 use std::thread::Threads;
 use timing_outside::{
-    Failed, MemoryShelf, MemorySink, MemorySource, NoGate, OpenFault, ReadPlan, Shelf, Source,
+    Failed, MemoryShelf, MemorySink, MemorySource, NoGate, OpenFault, Shelf, Source,
 };
 use timing_report::{Input, Status};
 use timing_top::run;
 
-// A source that doesn't tell its bytes.
+// A source that doesn't tell its bytes: where there is a later text, that is read in the place of its own.
 #[derive(Drop)]
 struct UntoldSource {
     inner: MemorySource,
+    later: Option<MemorySource>,
 }
 
 impl Source for UntoldSource {
@@ -32,32 +34,36 @@ impl Source for UntoldSource {
     ghost faults = { λ s. faults_of s.inner };
 
     fn read(&mut self, buf: &mut [u8]) -> Result<usize, Failed> {
-        self.inner.read(buf)
+        match &mut self.later {
+            None => self.inner.read(buf),
+            // no read of a later text fails
+            Some(later) => Ok(later.read(buf).unwrap_or(0)),
+        }
     }
 }
 
-// A shelf that doesn't tell its texts: a capture that was fetched has another text from then on.
+// A shelf that doesn't tell its texts: the capture reads as a later text from its second fetch on.
 #[derive(Drop)]
 struct ChangingShelf {
-    alloc: Global,
     inner: MemoryShelf,
-    later: Vec<u8>,
+    later: MemoryShelf,
     fetched: u32,
     noted: u32,
 }
 
 impl ChangingShelf {
-    // Puts the later text in the place of a capture's first.
-    fn change(&mut self, name: &str) -> Result<(), OpenFault> {
-        let plan = ReadPlan {
-            fetch_fails: false,
-            piece: 65_536,
-            fails: Vec::new(self.alloc),
-        };
-        let name = String::from_str(self.alloc, name)?;
-        let later = Vec::from_slice(self.alloc, &self.later)?;
-        self.inner.put(name, later, plan)?;
-        Ok(())
+    // The later text, where this is the capture and it was fetched before.
+    fn later_of(&mut self, name: &str) -> Option<MemorySource>
+        ensures { self.new.inner ≡ self.old.inner }
+    {
+        if name != "a.pcap" {
+            return None;
+        }
+        self.fetched = self.fetched.saturating_add(1);
+        if self.fetched == 1 {
+            return None;
+        }
+        self.later.fetch(name).ok()
     }
 }
 
@@ -75,11 +81,8 @@ impl Shelf for ChangingShelf {
 
     fn fetch(&mut self, name: &str) -> Result<UntoldSource, OpenFault> {
         let inner = self.inner.fetch(name)?;
-        if name == "a.pcap" {
-            self.fetched = self.fetched.saturating_add(1);
-            self.change(name)?;
-        }
-        Ok(UntoldSource { inner })
+        let later = self.later_of(name);
+        Ok(UntoldSource { inner, later })
     }
 
     fn give_back(&mut self, source: UntoldSource) {
@@ -104,12 +107,12 @@ fn reads_again<R: Abort + AllocGlobal + Wait + Threads + Sync>(
     let alloc = rt.alloc();
     let words = words_of(alloc, line)?;
     let mut shelf = ChangingShelf {
-        alloc,
         inner: shelf_of(rt, alloc, setting, "a.pcap")?,
-        later: Vec::from_slice(alloc, later)?,
+        later: MemoryShelf::new(alloc),
         fetched: 0,
         noted: 0,
     };
+    put(rt, alloc, &mut shelf.later, "a.pcap", later, &whole(alloc))?;
     let mut out = MemorySink::new(alloc, setting.room)?;
     let mut err = MemorySink::new(alloc, setting.room_for_err)?;
     let status = run(rt, alloc, &words, &mut shelf, &mut out, &mut err, &NoGate);
