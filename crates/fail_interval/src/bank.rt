@@ -102,9 +102,10 @@ impl Bank {
             let ahead = order.ahead();
             let judge = &mut self.judges[ahead];
             if let Some(expected) = judge.expected_in(frame) {
+                let taken = judge.take_carried(number, at, expected);
                 self.records += 1;
                 order.pass(ahead);
-                return judge.take_carried(number, at, expected);
+                return taken;
             }
         }
         self.take_other(number, at, frame)
