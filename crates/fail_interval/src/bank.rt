@@ -112,6 +112,7 @@ impl Bank {
     }
 
     /// Takes a record as [`Bank::take`] does, whatever its frame, and learns whose packet it has.
+    #[cold]
     #[inline(never)]
     fn take_other(&mut self, number: u64, at: u64, frame: &[u8]) -> Result<(), OutOfMemory>
         requires stamp { IsStamp at }
