@@ -1,12 +1,12 @@
 -- A bucket stands for one packet more after it is fed.
-use Rattle.std.proofs.Common.{◌≡◌, ◌≤◌, ◌<◌, ◌+◌, ◌-◌, ℕ, suc, List, [], ◌∷◌, ◌++◌, length, slice_index, refl, sym, ap, subst, inl, inr, ◌∙◌, arith, max}
+use Rattle.std.proofs.Common.{◌≡◌, ◌≤◌, ◌<◌, ◌+◌, ◌-◌, ℕ, zero, suc, List, [], ◌∷◌, ◌++◌, length, slice_index, refl, sym, ap, subst, inl, inr, ◌∙◌, arith, max}
 use Rattle.std.proofs.Common.{length-append, ◌^◌}
 use Rattle.std.proofs.Math.Seq.{get_or-append_seam}
 use Rattle.std.proofs.lemmas.List.{get_or_append_left}
 use Rattle.std.proofs.lemmas.Bool.{cases_lt}
 use Rattle.fraction128.specs.Clocks.{HasPassed, StandsAt, passed_by}
 use Rattle.fraction128.specs.declared.clock.Clock.{Clock}
-use Rattle.fraction128.proofs.Due.{one_in}
+use Rattle.fraction128.proofs.Due.{ahead, one_in, so_far}
 use Rattle.sender_params.specs.declared.params.Params.{Params}
 use Rattle.sender_params.specs.Ticks.{NeverFall, ticks_at, ticks_of}
 use Rattle.drain_bucket.specs.Stands.{CanFollow, IsAfter, StandsFor}
@@ -317,4 +317,57 @@ spaced_more params b c stamps at in_time s f one far n =
       kept = λ many. absurd (omega (arith, many, n.count));
       seen = n.seen;
       peak = omega (arith, n.peak, n.count, b.count_within, one);
+    }) n.last (omega (arith, was.early, was.order)) stands
+
+-- the numbers after a packet that comes before the next tick
+pub record Crowded (b c : Bucket) (at : ℕ) : Type 0 where
+  pub origin : c.origin ≡ b.origin
+  pub count : c.count ≡ b.count + 1
+  pub begin : c.begin ≡ b.begin
+  pub seen : c.seen ≡ b.seen + 1
+  pub peak : c.peak ≡ max b.peak c.count
+  pub last : c.last ≡ at
+  pub next : c.next ≡ b.next
+
+-- a packet stays in the bucket until a tick
+count_after-some : (clock : ℕ → ℕ) (i : ℕ) → 1 ≤ count_after clock i
+count_after-some clock zero = omega arith
+count_after-some clock (suc i) = omega (arith, count_after-suc clock i)
+
+-- an empty bucket was fed nothing
+begin-fresh : (params : Params) (b : Bucket) (stamps : List ℕ) → StandsFor params b stamps → b.count ≡ 0 → b.begin ≡ b.seen
+begin-fresh params b [] s none = omega (arith, (s.fresh refl).begin, s.seen)
+begin-fresh params b (x ∷ xs) s none =
+    let i = length xs in
+    let was = s.fed i (omega arith) in
+    absurd (omega (arith, none, was.count, count_after-some (ticks_at params.media params.n (x ∷ xs)) i))
+
+-- no tick comes up to it
+no-tick : (params : Params) (b : Bucket) (at : ℕ) (was : Before params b at) → at < b.next.due
+    → passed_by params.drain b.origin b.last + 0 ≡ passed_by params.drain b.origin at
+no-tick params b at was early =
+    let line = params.drain in
+    let total = passed_by line b.origin was.stood in
+    let high = ahead line.num line.den b.origin total b.next.due b.next.slack at (omega (arith, line.some, line.slow)) was.stands early in
+    omega (arith, high, so_far line b.origin was.stood b.last was.early, so_far line b.origin b.last at was.order)
+
+-- a packet that comes before the next tick
+pub crowded_more : (params : Params) (b c : Bucket) (stamps : List ℕ) (at : ℕ)
+    → at < 2 ^ 62
+    → StandsFor params b stamps
+    → CanFollow b stamps at
+    → at < b.next.due
+    → Crowded b c at
+    → StandsFor params c (stamps ++ at ∷ [])
+crowded_more params b c stamps at in_time s f early n =
+    let was = before params b stamps at in_time s f in
+    let stands : StandsAt params.drain c.next c.origin was.stood =
+    subst (λ o. StandsAt params.drain c.next o was.stood) (sym n.origin) (subst (λ k. StandsAt params.drain k b.origin was.stood) (sym n.next) was.stands) in
+    fed_more params b c stamps at 0 was.stood s f (no-tick params b at was early) (record {
+      origin = n.origin;
+      count = omega (arith, n.count);
+      fresh = λ one. n.begin ∙ begin-fresh params b stamps s (omega (arith, one, n.count));
+      kept = λ _. n.begin;
+      seen = n.seen;
+      peak = n.peak;
     }) n.last (omega (arith, was.early, was.order)) stands

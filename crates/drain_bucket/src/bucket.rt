@@ -34,6 +34,7 @@ pub struct Bucket {
 
 impl Bucket {
     ghost use Rattle.drain_bucket.specs.Stands.{CanFollow, StandsFor};
+    ghost use Rattle.sender_params.specs.declared.params.Params.{Params as ParamsValue};
 
     /// The empty bucket of a flow whose first packet comes at `origin`, in nanoseconds of TAI.
     pub fn new(params: &Params, origin: u64) -> Bucket
@@ -79,8 +80,31 @@ impl Bucket {
             self.last = at;
             return 1;
         }
+        if at < self.next.due {
+            self.feed_before_tick(at);
+            return self.count;
+        }
         self.feed_by_ticks(params, at);
         self.count
+    }
+
+    /// Puts in the next packet, which comes before the next tick: none lies between the last packet and it.
+    #[inline(always)]
+    fn feed_before_tick(&mut self, at: u64)
+        requires early { at < self.old.next.due }
+        requires in_time { at < 2 ^ 62 }
+        requires few { self.old.seen < 2 ^ 41 }
+        ensures origin { self.new.origin ≡ self.old.origin }
+        ensures seen { self.new.seen ≡ self.old.seen + 1 }
+        ensures stands { (params : ParamsValue) (stamps : List ℕ) → StandsFor params self.old stamps
+            → CanFollow self.old stamps at
+            → StandsFor params self.new (stamps ++ at ∷ []) }
+    {
+        let count = self.count + 1;
+        self.count = count;
+        self.seen += 1;
+        self.last = at;
+        self.peak = self.peak.max(count);
     }
 
     /// Puts in the next packet, and counts the ticks between the last one and it.

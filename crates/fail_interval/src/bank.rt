@@ -102,15 +102,17 @@ impl Bank {
             let ahead = order.ahead();
             let judge = &mut self.judges[ahead];
             if let Some(expected) = judge.expected_in(frame) {
+                let taken = judge.take_carried(number, at, expected);
                 self.records += 1;
                 order.pass(ahead);
-                return judge.take_carried(number, at, expected);
+                return taken;
             }
         }
         self.take_other(number, at, frame)
     }
 
     /// Takes a record as [`Bank::take`] does, whatever its frame, and learns whose packet it has.
+    #[cold]
     #[inline(never)]
     fn take_other(&mut self, number: u64, at: u64, frame: &[u8]) -> Result<(), OutOfMemory>
         requires stamp { IsStamp at }

@@ -167,6 +167,7 @@ impl FlowJudge {
     }
 
     /// Takes the next packet, which was read and may begin or end a group, or have a fault.
+    #[cold]
     #[inline(never)]
     fn feed_other(&mut self, rec: u64, at: u64, rtp: Rtp) -> Result<(), OutOfMemory>
         requires stamp { IsStamp at }

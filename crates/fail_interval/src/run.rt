@@ -119,7 +119,8 @@ pub enum RunJudge {
 
 impl RunJudge {
     ghost use Rattle.fail_interval.specs.Runs.{CanGoOn as CanTake, IsWholeFirst, StandsFor};
-    ghost use Rattle.fail_interval.specs.declared.run.RunJudge.TheVariants.{First, Head};
+    ghost use Rattle.fail_interval.specs.declared.run.RunJudge.TheVariants.{First, Groups as GroupsValue, Head};
+    ghost use Rattle.fail_interval.specs.declared.run.WholeGroups.{WholeGroups as WholeGroupsValue};
 
     /// Before the first packet.
     pub fn new() -> RunJudge
@@ -141,8 +142,30 @@ impl RunJudge {
         ensures { (so_far : SoFar) → CanTake media.now self.old so_far at marker
             → OnOk result (StandsFor media.now self.new (so_far_next so_far at marker)) }
     {
+        if let RunJudge::Groups(groups) = self {
+            groups.feed(at, marker);
+            return Ok(());
+        }
+        self.feed_early(alloc, media, at, marker)
+    }
+
+    /// Takes the next packet, before the first group is whole. `Err` is want of memory.
+    #[cold]
+    #[inline(never)]
+    fn feed_early(
+        &mut self,
+        alloc: Global,
+        media: &Media,
+        at: u64,
+        marker: bool,
+    ) -> Result<(), OutOfMemory>
+        requires early { (groups : WholeGroupsValue) → self.old ≡ GroupsValue groups → ⊥ }
+        requires next { ∥ ((so_far : SoFar) × CanTake media.now self.old so_far at marker) ∥₁ }
+        ensures { (so_far : SoFar) → CanTake media.now self.old so_far at marker
+            → OnOk result (StandsFor media.now self.new (so_far_next so_far at marker)) }
+    {
         match self {
-            RunJudge::Groups(groups) => groups.feed(at, marker),
+            RunJudge::Groups(_) => {}
             RunJudge::First { stamps, .. } => {
                 stamps.push(at)?;
                 if marker {

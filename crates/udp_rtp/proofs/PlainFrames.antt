@@ -6,7 +6,7 @@ use Rattle.std.proofs.lemmas.Bool.{and_from, and_parts, not-true}
 use Rattle.std.proofs.lemmas.Bool.Decides.{nat_tests}
 use Rattle.timing_base.specs.declared.packet.Rtp.{Rtp}
 use Rattle.timing_base.specs.declared.target.Target.{Target}
-use Rattle.udp_rtp.specs.Carried.{carries, goes_to, has_fields, is_plain_rtp, is_plain_udp}
+use Rattle.udp_rtp.specs.Carried.{carries, goes_to, has_fields, is_plain_rtp, is_plain_udp, number}
 use Rattle.timing_base.specs.Captures.{Record}
 use Rattle.timing_base.specs.Media.{Media}
 use Rattle.timing_base.specs.Targets.{target_of}
@@ -32,10 +32,9 @@ pub record IsCarried (target : Target) (p : Rtp) (frame : List ℕ) : Type 0 whe
   pub marker : p.marker ≡ false
   pub small : p.pt < 128
   pub pt : slice_index frame 43 ≡ p.pt
-  pub low : number16 frame 44 ≡ p.number % 2 ^ 16
+  pub number : number frame ≡ p.number
   pub timestamp : number32 frame 46 ≡ p.timestamp
   pub ssrc : number32 frame 50 ≡ p.ssrc
-  pub high : number16 frame 54 ≡ p.number / 2 ^ 16
 
 -- the parts of a test with several
 and4 : (a b c d : Bool) → (a && b && c && d) ≡ true → (a ≡ true) × (b ≡ true) × (c ≡ true) × (d ≡ true)
@@ -52,13 +51,12 @@ and5 a b c d e h =
     let (x, y, z, w) = and4 a b c d abcd in
     (x, y, z, w, v)
 
-and7 : (a b c d e f g : Bool) → (a && b && c && d && e && f && g) ≡ true
-    → (a ≡ true) × (b ≡ true) × (c ≡ true) × (d ≡ true) × (e ≡ true) × (f ≡ true) × (g ≡ true)
-and7 a b c d e f g h =
-    let (first, t) = and_parts (a && b && c && d && e && f) g h in
-    let (five, u) = and_parts (a && b && c && d && e) f first in
+and6 : (a b c d e f : Bool) → (a && b && c && d && e && f) ≡ true
+    → (a ≡ true) × (b ≡ true) × (c ≡ true) × (d ≡ true) × (e ≡ true) × (f ≡ true)
+and6 a b c d e f h =
+    let (five, u) = and_parts (a && b && c && d && e) f h in
     let (x, y, z, w, v) = and5 a b c d e five in
-    (x, y, z, w, v, u, t)
+    (x, y, z, w, v, u)
 
 equal : (a b : ℕ) → (a == b) ≡ true → a ≡ b
 equal a b h = grind (arith, nat_tests)
@@ -75,9 +73,9 @@ carried target p frame h =
     and4 (number16 frame 12 == 0x0800) (slice_index frame 14 == 0x45) (number16 frame 20 % 2 ^ 14 == 0) (slice_index frame 23 == 17) udp in
     let (address, port) = and_parts (number32 frame 30 == target.address) (number16 frame 36 == target.port) goes in
     let (stated, version) = and_parts (nat_le 22 (number16 frame 38)) (slice_index frame 42 == 0x80) rtp in
-    let (marker, small, pt, low, timestamp, ssrc, high) =
-    and7 (not p.marker) (nat_lt p.pt 128) (slice_index frame 43 == p.pt) (number16 frame 44 == p.number % 2 ^ 16)
-    (number32 frame 46 == p.timestamp) (number32 frame 50 == p.ssrc) (number16 frame 54 == p.number / 2 ^ 16) fields in
+    let (marker, small, pt, same, timestamp, ssrc) =
+    and6 (not p.marker) (nat_lt p.pt 128) (slice_index frame 43 == p.pt) (number frame == p.number)
+    (number32 frame 46 == p.timestamp) (number32 frame 50 == p.ssrc) fields in
     record {
       long = at_most _ _ long;
       kind = equal _ _ kind;
@@ -91,10 +89,9 @@ carried target p frame h =
       marker = not-true _ marker;
       small = at_most _ _ small;
       pt = equal _ _ pt;
-      low = equal _ _ low;
+      number = equal _ _ same;
       timestamp = equal _ _ timestamp;
       ssrc = equal _ _ ssrc;
-      high = equal _ _ high;
     }
 
 -- the UDP header stands behind the plain IPv4 header
@@ -146,10 +143,10 @@ same-fields : (number timestamp pt ssrc : ℕ) (marker : Bool) (p : Rtp) → num
     → pt ≡ p.pt → ssrc ≡ p.ssrc → record { number = number; timestamp = timestamp; marker = marker; pt = pt; ssrc = ssrc } ≡ p
 same-fields number timestamp pt ssrc marker p n t m k s = rw (n, t, m, k, s) refl
 
-fields-are : (bytes : List ℕ) (p : Rtp) → p.marker ≡ false → p.pt < 128 → slice_index bytes 1 ≡ p.pt → number16 bytes 2 ≡ p.number % 2 ^ 16
-    → number32 bytes 4 ≡ p.timestamp → number32 bytes 8 ≡ p.ssrc → number16 bytes 12 ≡ p.number / 2 ^ 16 → rtp_at bytes 12 ≡ p
-fields-are bytes p marker small pt low timestamp ssrc high =
-    same-fields _ _ _ _ _ p (omega (arith, low, high)) timestamp (grind (arith, nat_tests)) (omega (arith, pt, small)) ssrc
+fields-are : (bytes : List ℕ) (p : Rtp) → p.marker ≡ false → p.pt < 128 → slice_index bytes 1 ≡ p.pt → number16 bytes 12 * 2 ^ 16 + number16 bytes 2 ≡ p.number
+    → number32 bytes 4 ≡ p.timestamp → number32 bytes 8 ≡ p.ssrc → rtp_at bytes 12 ≡ p
+fields-are bytes p marker small pt number timestamp ssrc =
+    same-fields _ _ _ _ _ p number timestamp (grind (arith, nat_tests)) (omega (arith, pt, small)) ssrc
 
 -- its payload reads as this packet
 pub reading-carried : (target : Target) (p : Rtp) (frame : List ℕ) → IsCarried target p frame → reading (payload_at frame 34) ≡ Ok p
@@ -157,10 +154,9 @@ reading-carried target p frame f =
     let bytes = payload_at frame 34 in
     reading-plain bytes (length-payload frame f.long f.stated) (byte-payload 0 frame f.stated (omega arith) ∙ f.version)
     ∙ ap Ok (fields-are bytes p f.marker f.small (byte-payload 1 frame f.stated (omega arith) ∙ f.pt)
-    (number-payload 2 2 frame f.stated (omega arith) ∙ f.low)
+    (omega (arith, number-payload 2 12 frame f.stated (omega arith), number-payload 2 2 frame f.stated (omega arith), f.number))
     (number-payload 4 4 frame f.stated (omega arith) ∙ f.timestamp)
-    (number-payload 4 8 frame f.stated (omega arith) ∙ f.ssrc)
-    (number-payload 2 12 frame f.stated (omega arith) ∙ f.high))
+    (number-payload 4 8 frame f.stated (omega arith) ∙ f.ssrc))
 
 same-target : (t : Target) → is_same_target t t ≡ true
 same-target t = grind (arith, nat_tests, and_from)

@@ -3,7 +3,7 @@
 -- RFC 768 (UDP), RFC 3550, section 5.1 (RTP) and RFC 4175, section 4.2 (the extended sequence number).
 -- This project's profile: only a plain frame counts, in which each field has one place. A frame that isn't plain
 -- carries nothing here, though `flow_packet` may have the very packet of it.
-use Rattle.std.specs.Prelude.{ℕ, ◌/◌, ◌%◌, ◌^◌, ◌==◌, ◌&&◌, nat_le, nat_lt, not, Bool, List, length, slice_index}
+use Rattle.std.specs.Prelude.{ℕ, ◌+◌, ◌*◌, ◌%◌, ◌^◌, ◌==◌, ◌&&◌, nat_le, nat_lt, not, Bool, List, length, slice_index}
 use Rattle.timing_base.specs.declared.packet.Rtp.{Rtp}
 use Rattle.timing_base.specs.declared.target.Target.{Target}
 use Rattle.udp_rtp.specs.Numbers.{number16, number32}
@@ -25,16 +25,19 @@ goes_to target frame = (number32 frame 30 == target.address) && (number16 frame 
 abbrev pub is_plain_rtp : List ℕ → Bool
 is_plain_rtp frame = nat_le 22 (number16 frame 38) && (slice_index frame 42 == 0x80)
 
+-- the packet number of a plain frame: the extended sequence number is its high half, the sequence number its low half
+abbrev pub number : List ℕ → ℕ
+number frame = number16 frame 54 * 2 ^ 16 + number16 frame 44
+
 -- the fields of a plain frame are those of this packet, which hasn't the marker: then byte 43 is the payload type
 abbrev pub has_fields : Rtp → List ℕ → Bool
 has_fields rtp frame =
     not rtp.marker
     && nat_lt rtp.pt 128
     && (slice_index frame 43 == rtp.pt)
-    && (number16 frame 44 == rtp.number % 2 ^ 16)
+    && (number frame == rtp.number)
     && (number32 frame 46 == rtp.timestamp)
     && (number32 frame 50 == rtp.ssrc)
-    && (number16 frame 54 == rtp.number / 2 ^ 16)
 
 -- a frame is plain, reaches through the extended sequence number, and carries this packet to this target
 abbrev pub carries : Target → Rtp → List ℕ → Bool

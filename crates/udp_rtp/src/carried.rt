@@ -1,7 +1,7 @@
 //! Frames that carry a packet that is known beforehand.
 
 ghost use Rattle.std.specs.Prelude.{◌≡◌, ◌≤◌, length};
-ghost use Rattle.udp_rtp.specs.Carried.{carries, goes_to, has_fields, is_plain_rtp, is_plain_udp};
+ghost use Rattle.udp_rtp.specs.Carried.{carries, goes_to, has_fields, is_plain_rtp, is_plain_udp, number};
 
 use byteorder::{BigEndian, ByteOrder};
 use timing_base::{Rtp, Target};
@@ -38,6 +38,17 @@ fn is_plain_rtp(frame: &[u8]) -> bool
     BigEndian::read_u16(&frame[38..]) >= 22 && frame[42] == 0x80
 }
 
+/// The packet number in the frame.
+#[inline(always)]
+fn number(frame: &[u8]) -> u32
+    requires { 56 ≤ length frame.now }
+    ensures { result ≡ number frame.now }
+{
+    let high = BigEndian::read_u16(&frame[54..]);
+    let low = BigEndian::read_u16(&frame[44..]);
+    u32::from(high) * 65_536 + u32::from(low)
+}
+
 /// Whether the fields of RTP in the frame are those of the packet.
 #[inline(always)]
 fn has_fields(frame: &[u8], rtp: Rtp) -> bool
@@ -47,10 +58,9 @@ fn has_fields(frame: &[u8], rtp: Rtp) -> bool
     !rtp.marker
         && rtp.pt < 128
         && frame[43] == rtp.pt
-        && u32::from(BigEndian::read_u16(&frame[44..])) == rtp.number % 65_536
+        && number(frame) == rtp.number
         && BigEndian::read_u32(&frame[46..]) == rtp.timestamp
         && BigEndian::read_u32(&frame[50..]) == rtp.ssrc
-        && u32::from(BigEndian::read_u16(&frame[54..])) == rtp.number / 65_536
 }
 
 /// Whether a frame carries this packet, which has no marker, to this target, and is laid out as most

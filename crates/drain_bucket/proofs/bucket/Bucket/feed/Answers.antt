@@ -13,3 +13,8 @@ returns-then-at-self-clause-stands c = λ stamps s f.
       last = search rules;
       next = search rules;
     }
+
+pub returns-then-at-self-2-clause-stands : goal.returns-then-at-self-2-clause-stands
+returns-then-at-self-2-clause-stands c =
+    let stands = c.feed_before_tick.ensures.stands c.args.params.now in
+    search (rules, stands)
