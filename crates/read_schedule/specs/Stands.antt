@@ -42,8 +42,12 @@ pub record CatchesUp (old new : Schedule) (t : ℕ) : Type 0 where
   pub due : ArePast old.grid old.passed t → ArePast old.grid new.passed t
   pub ahead : AreAhead old.grid new.passed t
 
--- whatever reads a schedule was of, and whatever stamp no later it stood by, it now stands by this one
-abbrev pub MovesTo : (old new : Schedule) → (at : ℕ) → Type 0
-MovesTo old new at = (m : Media) (n : ℕ) (anchor : ℤ) (gapped : Bool) (before : ℕ)
+-- whatever reads a schedule was of, and whatever stamp no later it stood by, this says so of them at `at`
+abbrev pub Tells : {T : Type 0} → (Says : Media → ℕ → ℤ → Bool → ℕ → T → Type 0) → (old : Schedule) → (at : ℕ) → T → Type 0
+Tells Says old at told = (m : Media) (n : ℕ) (anchor : ℤ) (gapped : Bool) (before : ℕ)
     → before ≤ at → StandsBy m n anchor gapped old before
-    → StandsBy m n anchor gapped new at
+    → Says m n anchor gapped at told
+
+-- and the schedule itself now stands by `at`
+abbrev pub MovesTo : (old new : Schedule) → (at : ℕ) → Type 0
+MovesTo old new at = Tells (λ m n anchor gapped at new. StandsBy m n anchor gapped new at) old at new
