@@ -88,7 +88,7 @@ impl Schedule {
     ghost use Rattle.std.specs.Prelude.{ℤ, pos, negsuc, ◌≤ℤ◌, Bool};
     ghost use Rattle.timing_base.specs.Media.{Media};
     ghost use Rattle.read_schedule.specs.Between.{IsFrom, IsUpTo};
-    ghost use Rattle.read_schedule.specs.Stands.{CatchesUp, IsDueAt, IsNextAfter, MovesTo, StandsBy, Tells, left_of};
+    ghost use Rattle.read_schedule.specs.Stands.{CatchesUp, IsDueAt, IsNextAfter, LeadsTo, MovesTo, StandsBy, Tells, left_of};
 
     /// The reads of a sender, gapped or linear, where read 0 is of group `n0`. None is due yet.
     pub fn new(params: &Params, gapped: bool, n0: i128) -> Schedule
@@ -221,13 +221,7 @@ impl Schedule {
     fn step_ahead(&self) -> Span
         requires few { self.now.passed < 2 ^ 63 }
         requires within { self.now.place + 1 < self.now.grid.n }
-        ensures reach { parts_at self.now.grid (self.now.passed + 1)
-            ≡ parts_at self.now.grid self.now.passed
-            + (result.whole * self.now.grid.den + result.part) }
-        ensures left { result.part < self.now.grid.den }
-        ensures some { 1 ≤ result.whole }
-        ensures small { result.whole < 2 ^ 52 }
-        ensures place { (self.now.passed + 1) % self.now.grid.n ≡ self.now.place + 1 }
+        ensures { LeadsTo self.now (self.now.place + 1) result }
     {
         self.step
     }
@@ -237,13 +231,7 @@ impl Schedule {
     fn turn_ahead(&self) -> Span
         requires few { self.now.passed < 2 ^ 63 }
         requires last { self.now.place + 1 ≡ self.now.grid.n }
-        ensures reach { parts_at self.now.grid (self.now.passed + 1)
-            ≡ parts_at self.now.grid self.now.passed
-            + (result.whole * self.now.grid.den + result.part) }
-        ensures left { result.part < self.now.grid.den }
-        ensures some { 1 ≤ result.whole }
-        ensures small { result.whole < 2 ^ 52 }
-        ensures place { (self.now.passed + 1) % self.now.grid.n ≡ 0 }
+        ensures { LeadsTo self.now 0 result }
     {
         self.turn
     }
