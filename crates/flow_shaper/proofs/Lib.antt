@@ -1,4 +1,5 @@
 pub mod Buffers
+pub mod ByHand
 pub mod Counts
 pub mod Exists
 pub mod Fed

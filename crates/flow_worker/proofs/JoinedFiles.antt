@@ -70,6 +70,12 @@ waiting-at s files worker taken joined g d within h =
     subst (λ (f : ℕ). IsWaiting joined.next taken f (get_or joined.files.items g d)) z
     (each-at (IsWaiting joined.next taken) 0 joined.files.items g d within h.each)
 
+-- the first end of the next file, by what is seen of it
+pub next-end : (s : Setting) (files worker : ℕ) (taken : List Message) (joined : Joined) (seen : Waiting) → joined.next < length joined.files.items
+    → seen ≡ get_or joined.files.items joined.next seen → JoinedIsAt s files worker taken joined → IsFirstEnd taken joined.next seen.end
+next-end s files worker taken joined seen within same h =
+    subst (λ (w : Waiting). IsFirstEnd taken joined.next w.end) (sym same) (waiting-at s files worker taken joined joined.next seen within h).end
+
 -- a file without an end
 pub no_end : (taken : List Message) (f : ℕ) (end : Option FileEnd) → end ≡ None → IsFirstEnd taken f end → has_end f taken ≡ false
 no_end taken f end e h = subst (IsFirstEnd taken f) e h
@@ -499,18 +505,13 @@ joined-new s files worker joined one some few count next before each fed = recor
 }
 
 -- where the files that have ended are gone through
-pub joined-ended_if : {X E : Type 0} (r : Result X E) (g : ℕ) (o : FileNote) (k : ℕ) (it : FileEnd) (old mid new : Joined) (d w : Waiting) → g
-    < length old.files.items
-    → it.records ≡ k → (get_or old.files.items g d).end ≡ None → w.end ≡ Some it → w.batches.items ≡ (get_or old.files.items g d).batches.items
-    → mid.next ≡ old.next → mid.before ≡ old.before → mid.judges ≡ old.judges → mid.files.items ≡ set old.files.items g w
+pub joined-ended_if : {X E : Type 0} (r : Result X E) (m : Message) (old mid new : Joined)
+    → ((s : Setting) (files worker : ℕ) (taken : List Message) → JoinedIsAt s files worker taken old → JoinedIsAt s files worker (taken ++ m ∷ []) mid)
     → IfOk r (λ _. (s : Setting) (files worker : ℕ) (taken : List Message) → JoinedIsAt s files worker taken mid → JoinedStandsFor s files worker taken new)
     → IfOk r (λ _. (s : Setting) (files worker : ℕ) (taken : List Message) → JoinedStandsFor s files worker taken old
-    → JoinedStandsFor s files worker (taken ++ ending g o k ∷ []) new)
-joined-ended_if (Ok x) g o k it old mid new d w within records none end batches next before judges written goes =
-    λ s files worker taken h.
-    goes s files worker (taken ++ ending g o k ∷ []) (joined-ended s files worker taken g o k it old mid d w within records none end batches next before judges
-    written h.at)
-joined-ended_if (Err e) g o k it old mid new d w within records none end batches next before judges written goes = tt
+    → JoinedStandsFor s files worker (taken ++ m ∷ []) new)
+joined-ended_if (Ok x) m old mid new ended goes = λ s files worker taken h. goes s files worker (taken ++ m ∷ []) (ended s files worker taken h.at)
+joined-ended_if (Err e) m old mid new ended goes = tt
 
 -- a file of which nothing came
 pub waiting-new : (f : ℕ) (w : Waiting) → w.end ≡ None → w.batches.items ≡ [] → IsWaiting 0 [] f w

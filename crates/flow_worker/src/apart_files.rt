@@ -27,6 +27,7 @@ struct OneFile {
 /// The files of a run, in order.
 #[derive(Drop)]
 pub struct Apart {
+    alloc: Global,
     files: Vec<OneFile>,
 }
 
@@ -47,7 +48,7 @@ impl Apart {
                 ended: false,
             })?;
         }
-        Ok(Apart { files: all })
+        Ok(Apart { alloc, files: all })
     }
 
     /// Takes a message. What is of a file that isn't there, or comes behind its file's first end, is
@@ -95,20 +96,15 @@ impl Apart {
     }
 
     /// Posts the rows of the worker's flows, by rising file and then media. `Err` is want of memory.
-    pub fn post<R: Wait>(
-        self,
-        rt: &R,
-        alloc: Global,
-        book: &Book,
-    ) -> Result<Vec<Receipt>, OutOfMemory>
+    pub fn post<R: Wait>(self, rt: &R, book: &Book) -> Result<Vec<Receipt>, OutOfMemory>
         ensures posted { IfOk result (λ receipts. All (IsOf book.now) receipts.items) }
         ensures rows { IfOk result (λ receipts.
             (s : Setting) (files worker : ℕ) (taken : List MessageValue)
             → ApartStandsFor s files worker taken self
             → map row_of receipts.items ≡ map (taken_row s files taken) (own_keys s files worker)) }
     {
+        let Apart { alloc, files } = self;
         let mut receipts = Vec::new(alloc);
-        let Apart { files } = self;
         for file in files {
             let OneFile { judges, ended: _ } = file;
             judges.post(rt, book, &mut receipts)?;

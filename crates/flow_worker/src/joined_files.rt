@@ -1,6 +1,6 @@
 //! Files that are joined: they are judged as one, in their order.
 
-ghost use Rattle.std.specs.Prelude.{◌≡◌, ◌<◌, ◌+◌, ◌^◌, [], ℕ, List, All, false, true, IfNone, IfOk, IfSome, length};
+ghost use Rattle.std.specs.Prelude.{◌≡◌, ◌<◌, ◌+◌, ◌^◌, ◌++◌, ◌∷◌, [], ℕ, List, All, None, false, true, IfNone, IfOk, IfSome, get_or, length};
 ghost use Rattle.ruled_intake.specs.declared.message.Message.{Message as MessageValue};
 ghost use Rattle.ruled_intake.specs.Lanes.{IsWithin};
 ghost use Rattle.verdict_book.specs.Receipts.{IsOf};
@@ -37,6 +37,7 @@ pub struct Joined {
 }
 
 impl Joined {
+    ghost use Rattle.flow_worker.specs.declared.joined_files.Waiting.{Waiting};
     ghost use Rattle.flow_worker.specs.Standing.{HasEnded, HasRows, JoinedIsAt, JoinedStandsFor, MayTake, Takes, TellsEnds};
 
     /// So many files, of which nothing was taken yet. `Err` is want of memory.
@@ -99,8 +100,20 @@ impl Joined {
         if file >= self.files.len() || self.files[file].end.is_some() {
             return Ok(());
         }
-        self.files[file].end = Some(end);
+        self.note_end(file, end);
         self.advance()
+    }
+
+    /// Notes the end of a file that has none.
+    fn note_end(&mut self, file: usize, end: FileEnd)
+        requires file { file ≡ end.file }
+        requires there { file < length self.old.files.items }
+        requires none { (d : Waiting) → (get_or self.old.files.items file d).end ≡ None }
+        ensures { (s : Setting) (files worker : ℕ) (taken : List MessageValue)
+            → JoinedIsAt s files worker taken self.old
+            → JoinedIsAt s files worker (taken ++ ending end.file end.note end.records ∷ []) self.new }
+    {
+        self.files[file].end = Some(end);
     }
 
     /// Goes on behind each file that has ended.
@@ -166,16 +179,11 @@ impl Joined {
 
     /// Posts the rows of the worker's flows, by rising media, where all files have ended. `Err` is
     /// want of memory.
-    pub fn post<R: Wait>(
-        self,
-        rt: &R,
-        alloc: Global,
-        book: &Book,
-    ) -> Result<Vec<Receipt>, OutOfMemory>
+    pub fn post<R: Wait>(self, rt: &R, book: &Book) -> Result<Vec<Receipt>, OutOfMemory>
         ensures posted { IfOk result (λ receipts. All (IsOf book.now) receipts.items) }
         ensures rows { IfOk result (λ receipts. HasRows JoinedStandsFor self receipts.items) }
     {
-        let mut receipts = Vec::new(alloc);
+        let mut receipts = Vec::new(self.alloc);
         self.judges.post(rt, book, &mut receipts)?;
         Ok(receipts)
     }

@@ -59,18 +59,13 @@ impl Judging {
 
     /// Posts the rows of the worker's flows, by rising file and then media, where all files have
     /// ended. `Err` is want of memory.
-    pub fn post<R: Wait>(
-        self,
-        rt: &R,
-        alloc: Global,
-        book: &Book,
-    ) -> Result<Vec<Receipt>, OutOfMemory>
+    pub fn post<R: Wait>(self, rt: &R, book: &Book) -> Result<Vec<Receipt>, OutOfMemory>
         ensures posted { IfOk result (λ receipts. All (IsOf book.now) receipts.items) }
         ensures rows { IfOk result (λ receipts. HasRows StandsFor self receipts.items) }
     {
         match self {
-            Judging::Apart(files) => files.post(rt, alloc, book),
-            Judging::Joined(files) => files.post(rt, alloc, book),
+            Judging::Apart(files) => files.post(rt, book),
+            Judging::Joined(files) => files.post(rt, book),
         }
     }
 }

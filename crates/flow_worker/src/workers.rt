@@ -90,7 +90,7 @@ fn judged<R: Wait, G: Gate>(
     gate.meet(rt, 32 + u64::from(worker));
     judging.take(first)?;
     take_all(rt, lane, pass, halt, &mut judging)?;
-    judging.post(rt, alloc, book)
+    judging.post(rt, book)
 }
 
 /// Takes the messages that are left, until an end of each file came.

@@ -46,14 +46,6 @@ impl Reading {
         }
     }
 
-    /// Why the flow isn't judged, where that is known.
-    #[inline]
-    fn refused(&self) -> Option<Unjudged>
-        ensures { result ≡ self.now.refused }
-    {
-        self.refused
-    }
-
     /// Takes the packet of a record of the flow.
     #[inline]
     fn feed(&mut self, packet: FlowPacket)
@@ -63,7 +55,7 @@ impl Reading {
         ensures reads { (r : Record) → flow_packet (media_of self.old) r ≡ Some packet
             → ReadsOn self.old self.new (r ∷ []) }
     {
-        match self.refused() {
+        match self.refused {
             Some(_) => {}
             None => self.refused = self.walk.feed(self.media.pt, packet).err(),
         }

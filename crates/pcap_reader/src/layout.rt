@@ -1,10 +1,14 @@
-//! The file header, and how the numbers of a capture are laid out.
+//! The file header and the head of a record, and how the numbers of a capture are laid out.
 
-ghost use Rattle.std.specs.Prelude.{◌≡◌, ◌≤◌, ◌<◌, ◌+◌, ◌*◌, ◌^◌, length, drop};
+ghost use Rattle.std.specs.Prelude.{◌≡◌, ◌≤◌, ◌<◌, ◌+◌, ◌*◌, ◌^◌, ℕ, IfErr, IfOk, Some, length, drop};
 ghost use Rattle.pcap_reader.specs.Header.{number, layout_of, header, per_second, nanos};
 
+use crate::stage::Head;
 use byteorder::{BigEndian, ByteOrder, LittleEndian};
 use timing_base::PcapFault;
+
+/// The most bytes of a record that are captured.
+const MOST_CAPTURED: u32 = 262_144;
 
 /// The order of the bytes of a number.
 #[derive(Clone, Copy, Debug)]
@@ -76,6 +80,10 @@ impl Fraction {
 }
 
 impl Layout {
+    ghost use Rattle.timing_base.specs.declared.capture.FileNote.TheVariants as file_note;
+    ghost use Rattle.pcap_reader.specs.Heads.{SaysHead};
+    ghost use Rattle.pcap_reader.specs.Records.{OnReadFault, captured, fraction, note_by};
+
     /// The layout that a magic stands for, its four bytes being read as big-endian.
     fn of_magic(magic: u32) -> Option<Layout>
         ensures { result ≡ layout_of magic }
@@ -107,5 +115,32 @@ impl Layout {
             return Err(PcapFault::BadLink);
         }
         Ok(layout)
+    }
+
+    /// Reads the head of the record of this number: its first 16 bytes. The first fault wins: the fraction, the
+    /// captured length.
+    #[inline(always)]
+    pub fn read_head(self, bytes: &[u8], rec: u64) -> Result<Head, PcapFault>
+        requires { 16 ≤ length bytes.now }
+        ensures head { IfOk result (SaysHead self bytes.now) }
+        ensures faulty { IfErr result (λ fault. (most place long : ℕ)
+            → note_by self.fraction most rec place long (fraction self bytes.now) (captured self bytes.now)
+            ≡ Some (file_note.Refused fault)) }
+        ensures read { IfErr result (λ fault. OnReadFault (file_note.Refused fault) ⊥) }
+    {
+        let seconds = self.order.read_u32(bytes, 0);
+        let fraction = self.order.read_u32(bytes, 4);
+        let captured = self.order.read_u32(bytes, 8);
+        if fraction >= self.fraction.per_second() {
+            return Err(PcapFault::BadStamp { rec });
+        }
+        if captured > MOST_CAPTURED {
+            return Err(PcapFault::BadLength { rec });
+        }
+        let nanos = self.fraction.to_nanos(fraction);
+        Ok(Head {
+            at: u64::from(seconds) * 1_000_000_000 + u64::from(nanos),
+            captured: captured as usize,
+        })
     }
 }

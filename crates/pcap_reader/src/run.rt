@@ -7,7 +7,6 @@ ghost use Rattle.pcap_reader.specs.Runs.{TakesRun};
 use crate::layout::{Layout, Order};
 use crate::stage::Head;
 use crate::taker::Taker;
-use crate::window::MOST_CAPTURED;
 
 /// The bytes of the head of a record.
 const RECORD_HEAD: usize = 16;
@@ -20,28 +19,22 @@ pub struct Run {
     pub size: usize,
 }
 
-/// The head of the record at the front of these bytes, where it has no fault and stands there whole.
+/// The head of the record of this number at the front of these bytes, where it has no fault and stands there whole.
+/// The fault is told once the reader comes to it.
 #[inline(always)]
-fn whole_head(layout: Layout, bytes: &[u8]) -> Option<Head>
+fn whole_head(layout: Layout, bytes: &[u8], rec: u64) -> Option<Head>
     ensures { IfSome result (IsWhole layout bytes.now) }
 {
     if bytes.len() < RECORD_HEAD {
         return None;
     }
-    let seconds = layout.order.read_u32(bytes, 0);
-    let fraction = layout.order.read_u32(bytes, 4);
-    let captured = layout.order.read_u32(bytes, 8);
-    if fraction >= layout.fraction.per_second()
-        || captured > MOST_CAPTURED
-        || bytes.len() < RECORD_HEAD + captured as usize
-    {
+    let Ok(head) = layout.read_head(bytes, rec) else {
+        return None;
+    };
+    if bytes.len() < RECORD_HEAD + head.captured {
         return None;
     }
-    let nanos = layout.fraction.to_nanos(fraction);
-    Some(Head {
-        at: u64::from(seconds) * 1_000_000_000 + u64::from(nanos),
-        captured: captured as usize,
-    })
+    Some(head)
 }
 
 /// Takes the records of one layout, as [`take_run`] says.
@@ -63,7 +56,7 @@ fn take_laid_out<T: Taker>(
         records: 0,
         size: 0,
     };
-    while let Some(head) = whole_head(layout, &bytes[run.size..]) {
+    while let Some(head) = whole_head(layout, &bytes[run.size..], number + run.records) {
         let start = run.size + RECORD_HEAD;
         let end = start + head.captured;
         taker.take(before + number + run.records, head.at, &bytes[start..end])?;

@@ -13,9 +13,6 @@ use timing_outside::{Failed, Source};
 /// The capacity of the buffer: a whole record of the greatest length, and then a whole read.
 const ROOM: usize = 327_696;
 
-/// The most bytes that a record may have.
-pub const MOST_CAPTURED: u32 = 262_144;
-
 /// The most bytes that one read asks for.
 const READ: u64 = 65_536;
 
@@ -154,25 +151,15 @@ impl Window {
         ensures faulty { IfErr result (λ e. (long : ℕ) → front_note layout self.now long ≡ Some e) }
         ensures read { IfErr result (λ e. OnReadFault e ⊥) }
     {
-        let bytes = self.peek();
-        let seconds = layout.order.read_u32(bytes, 0);
-        let fraction = layout.order.read_u32(bytes, 4);
-        let captured = layout.order.read_u32(bytes, 8);
-        let rec = self.count + 1;
-        if fraction >= layout.fraction.per_second() {
-            return Err(FileNote::Refused(PcapFault::BadStamp { rec }));
+        match layout.read_head(self.peek(), self.count + 1) {
+            Ok(head) => {
+                if self.place + 16 + head.captured as u64 > self.most {
+                    return Err(FileNote::Refused(PcapFault::TooLong));
+                }
+                Ok(head)
+            }
+            Err(fault) => Err(FileNote::Refused(fault)),
         }
-        if captured > MOST_CAPTURED {
-            return Err(FileNote::Refused(PcapFault::BadLength { rec }));
-        }
-        if self.place + 16 + u64::from(captured) > self.most {
-            return Err(FileNote::Refused(PcapFault::TooLong));
-        }
-        let nanos = layout.fraction.to_nanos(fraction);
-        Ok(Head {
-            at: u64::from(seconds) * 1_000_000_000 + u64::from(nanos),
-            captured: captured as usize,
-        })
     }
 
     /// Lets a record with so many captured bytes go, which still stand behind what is held.

@@ -1,8 +1,9 @@
 -- Lemmas on the steps of a converter: each leaves the text that is still to be given.
-use Rattle.std.proofs.Common.{refl, subst, ◌≡◌, ◌≤◌, ◌<◌, ◌+◌, ◌-◌, inl, inr, ℕ, min, Bool, true, false, List, [], ◌∷◌, ◌++◌, length, take, drop, None, Some}
+use Rattle.std.proofs.Common.{refl, subst, ◌≡◌, ◌≤◌, ◌<◌, ◌+◌, ◌-◌, ◌^◌, inl, inr, ℕ, min, Bool, true, false, List, [], ◌∷◌, ◌++◌, length, take, drop, None, Some}
 use Rattle.std.proofs.Common.{sym, ap, ◌∙◌, arith, append-nil, append_assoc, length-append, length-drop}
 use Rattle.std.proofs.Math.Seq.{take-append-add}
 use Rattle.std.proofs.lemmas.Bool.{cases_lt}
+use Rattle.std.proofs.lemmas.Bool.Decides.{nat_tests}
 use Rattle.std.proofs.lemmas.List.{drop-append-le, take-append-le, length-take, drop-take, take-take, length-take-le, nil_from_length, take_all}
 use Rattle.std.specs.Prelude.{◌==◌, if◌then◌else◌, slice_get, Option}
 use Rattle.pcap_reader.specs.WrittenHeads.{record_head}
@@ -22,18 +23,19 @@ use Rattle.pcapng_reader.specs.declared.step.Step.{Step}
 use Rattle.pcapng_reader.specs.declared.step.Step.TheVariants as step
 use Rattle.pcapng_reader.specs.declared.converter.Converter.{Converter}
 use Rattle.pcapng_reader.specs.declared.window.Window.{Window}
-use Rattle.pcapng_reader.specs.Classic.{number, Section, Given, broken, gives, options, padded, interface_by, body_from, add_interface, content, is_length}
+use Rattle.pcapng_reader.specs.Classic.{number, Section, Given, bare_head, broken, gives, options, padded, interface_by, body_from, add_interface, content, is_length}
 use Rattle.pcapng_reader.specs.Converting.{found_by, found_with, found_interface, fate_by, fate_given, content_given, options_text, after, head_text}
-use Rattle.pcapng_reader.specs.Texts.{text_by, section_of, ahead, whole, text_of, work, HasRoom, Steps, Waits, IsHead, AtBlock}
+use Rattle.pcapng_reader.specs.Texts.{text_by, section_of, ahead, whole, text_of, work, HasRoom, Steps, Waits, IsHead, AtBlock, AtOption}
 use Rattle.pcapng_reader.specs.Windows.{kept_bytes, held_bytes}
 use Rattle.pcapng_reader.proofs.Numbers.{number-front, number-take}
-use Rattle.pcapng_reader.proofs.Blocks.{head-short, head-passes, after-short, after-passes}
+use Rattle.pcapng_reader.proofs.Blocks.{head-short, head-passes, after-broken, after-short, after-passes, total-least}
 use Rattle.pcapng_reader.proofs.Options.{option_at, behind, then_found, options-none, options-end, options-past, found-more}
 use Rattle.pcapng_reader.proofs.Packets.{packet-content, block-data}
 use Rattle.std.specs.Option.{option_map}
 use Rattle.std.specs.Io.KnownBytes.{Consumes, Keeps}
+use Rattle.pcapng_reader.specs.Described.{list_of}
 use Rattle.pcapng_reader.specs.Stages.{is_due, rank}
-use Rattle.pcapng_reader.proofs.Texts.{text-options, text-passing, text-due}
+use Rattle.pcapng_reader.proofs.Texts.{text-at_passing, text-options, text-passing, text-due}
 
 -- nothing is ahead but what is held, where the source has ended
 pub ahead_end : (h : List ℕ) (n : ℕ) (left : List ℕ) → n ≡ 0 → h ++ take n left ≡ h
@@ -87,6 +89,29 @@ steps-entered old new o k total n rest x is e m l left_is same text fewer budget
 -- what is ahead when the first held bytes are let go
 pub ahead_pass : (n : ℕ) (h g r : List ℕ) → g ≡ drop n h → n ≤ length h → g ++ r ≡ drop n (h ++ r)
 ahead_pass n h g r e l = ap (λ x. x ++ r) e ∙ sym (drop-append-le n h r l)
+
+-- the second total length of a block, as it was read
+pub closing-number : (b : Body) (n : ℕ) (seen h r : List ℕ) → n ≡ number b.order 4 0 seen → seen ≡ h → 4 ≤ length h → number b.order 4 0 (h ++ r) ≡ n
+closing-number b n seen h r is same held = number-front b.order 4 0 h r held ∙ sym (is ∙ ap (number b.order 4 0) same)
+
+other_number : (m n : ℕ) → (m ≡ n → ⊥) → (m == n) ≡ false
+other_number m n h = grind (arith, nat_tests)
+
+-- a block whose second total length isn't its first is broken
+pub steps-unclosed : (old new : Converter) (b : Body) (x : Content) (n : ℕ) (seen : List ℕ) → old.stage ≡ stage.Passing b x → b.left ≡ 0
+    → 4 ≤ length (held_bytes old.window) → n ≡ number b.order 4 0 seen → seen ≡ held_bytes old.window → (n ≡ b.total → ⊥)
+    → ((left : List ℕ) → text_of new left ≡ bare_head 0 (2 ^ 32 - 1)) → work new ≡ 16 → new.budget ≡ old.budget → Steps old new step.Moved
+steps-unclosed old new b x n seen at none held is same other text few budget = record {
+  text = λ left.
+      let r = take old.budget left in
+      text left
+      ∙ sym (text-at_passing old.stage (section_of old) (kept_bytes old.window) (ahead old left) (whole old left) b x at
+      ∙ after-broken b (ahead old left) (content_given x b.order (kept_bytes old.window) (section_of old)) none
+      (omega (arith, held, length-append (held_bytes old.window) r))
+      (ap (λ k. k == b.total) (closing-number b n seen (held_bytes old.window) r is same held) ∙ other_number n b.total other));
+  tells = omega (arith, few, ap rank at);
+  budget = budget;
+}
 
 -- in a block of which no byte is read any more
 pub text-passed : (st : Stage) (s : Section) (kept k h g r far : List ℕ) (n : ℕ) (b : Body) (x : Content) → st ≡ stage.Passing b x → k ≡ kept → g ≡ drop n h → n
@@ -143,6 +168,19 @@ pub packet-given : (o : Order) (s : Section) (total : ℕ) (h r : List ℕ) (f :
     → total ≤ length (h ++ r) → content kind.Packet o s (take total (h ++ r)) ≡ fate_given f s (take total (h ++ r))
 packet-given o s total h r f m l e t = packet-content o s total h r m l t ∙ ap (λ g. fate_given g s (take total (h ++ r))) e
 
+-- a packet without a record is entered, by its fate
+pub steps-refused : (old new : Converter) (o : Order) (total : ℕ) (f : Fate) (given : Given) → AtBlock o kind.Packet total old
+    → 28 ≤ length (held_bytes old.window)
+    → fate_by (slice_get (list_of old.interfaces) (number o 4 8 (held_bytes old.window))) o total (held_bytes old.window) ≡ f
+    → ((block : List ℕ) → fate_given f (section_of old) block ≡ given)
+    → ((left : List ℕ) → text_of new left ≡ after (record { order = o; total = total; left = (total - 4) - 28 }) (drop 28 (ahead old left)) given)
+    → work new < work old → new.budget ≡ old.budget → Steps old new step.Moved
+steps-refused old new o total f given at held e is text fewer budget =
+    let least : 32 ≤ total = total-least kind.Packet total at.total_is in
+    steps-entered old new o kind.Packet total 28 ((total - 4) - 28) (λ left. given) at.head at.total_is (omega arith) held refl
+    (λ left t. packet-given o (section_of old) total (held_bytes old.window) (take old.budget left) f held least e t ∙ is (take total (ahead old left)))
+    text fewer budget
+
 -- what a packet gives whose data are held
 pub record-given : (o : Order) (s : Section) (total at len : ℕ) (h r kept : List ℕ) → 28 + len ≤ length h → 32 + len ≤ total
     → fate_by (slice_get s.interfaces (number o 4 8 h)) o total h ≡ fate.Record at len
@@ -187,6 +225,18 @@ pub option-waits : (old new : Converter) (answer : Step) (b : Body) (f : Found) 
 option-waits old new answer b f waits at given few short =
     steps-waits old new answer waits (omega (arith, few, ap length given)) (omega (arith, ap rank at))
     (λ left z. option-cut old.stage (section_of old) (kept_bytes old.window) (held_bytes old.window) left (whole old left) old.budget b f at short z)
+
+-- what is left of an interface's description is passed over
+pub steps-settled : (old new : Converter) (b : Body) (f : Found) (given : Given) → old.stage ≡ stage.Options b f
+    → ((left : List ℕ) → add_interface (section_of old) (found_by b.order f (options b.order (take b.left (ahead old left)))) ≡ given)
+    → ((left : List ℕ) → text_of new left ≡ after b (ahead old left) given) → work new < work old → new.budget ≡ old.budget → Steps old new step.Moved
+steps-settled old new b f given at is text fewer budget = record {
+  text = λ left.
+      text left ∙ ap (after b (ahead old left)) (sym (is left))
+      ∙ sym (text-at_option old.stage (section_of old) (kept_bytes old.window) (ahead old left) (whole old left) b f at);
+  tells = fewer;
+  budget = budget;
+}
 
 -- the bytes of an option with what pads them, as they are counted
 pub option-count : (count left rounded size n : ℕ) → count ≡ min left (4 + rounded) → rounded ≡ padded size → size ≡ n → count ≡ min left (4 + padded n)
@@ -313,6 +363,44 @@ pub option-unformed : (s : Section) (h r value : List ℕ) (b : Body) (f : Found
 option-unformed s h r value b f count m p l e k v w =
     ap (add_interface s)
     (options-next h r value b f count m p l e k v ∙ ap (λ x. then_found b.order x (options b.order (take (b.left - count) (drop count (h ++ r))))) w)
+
+-- an option that is held and formed goes
+pub steps-option : (old new : Converter) (b : Body) (f g : Found) (code size rounded count : ℕ) (seen : List ℕ) → AtOption b f code size old → 4 + size ≤ b.left
+    → count ≤ length (held_bytes old.window) → count ≡ min b.left (4 + rounded) → rounded ≡ padded size → seen ≡ held_bytes old.window
+    → found_with b.order (record { code = code; value = take ((4 + size) - 4) (drop 4 seen) }) f ≡ Some g
+    → ((left : List ℕ) → text_of new left
+    ≡ options_text (record { order = b.order; total = b.total; left = b.left - count }) g (section_of old) (drop count (ahead old left)))
+    → work new < work old → new.budget ≡ old.budget → Steps old new step.Moved
+steps-option old new b f g code size rounded count seen at within held is round same told text fewer budget =
+    let h = held_bytes old.window in
+    let value = take ((4 + size) - 4) (drop 4 seen) in
+    record {
+      text = λ left.
+          text left
+          ∙ option-passed (section_of old) h (take old.budget left) value b f g count at.held (omega (arith, at.code_is, at.some))
+          (omega (arith, at.size_is, within)) (option-count count b.left rounded size (number b.order 2 2 h) is round at.size_is) held
+          (option-value size (number b.order 2 2 h) seen h at.size_is same)
+          (ap (λ n. found_with b.order (record { code = n; value = value }) f) (sym at.code_is) ∙ told)
+          ∙ sym (text-at_option old.stage (section_of old) (kept_bytes old.window) (ahead old left) (whole old left) b f at.stage_is);
+      tells = fewer;
+      budget = budget;
+    }
+
+-- one that isn't formed breaks the description
+pub steps-unformed : (old new : Converter) (b : Body) (f : Found) (code size rounded count : ℕ) (seen : List ℕ) → AtOption b f code size old
+    → 4 + size ≤ b.left
+    → count ≤ length (held_bytes old.window) → count ≡ min b.left (4 + rounded) → rounded ≡ padded size → seen ≡ held_bytes old.window
+    → found_with b.order (record { code = code; value = take ((4 + size) - 4) (drop 4 seen) }) f ≡ None
+    → ((left : List ℕ) → text_of new left ≡ after b (ahead old left) broken) → work new < work old → new.budget ≡ old.budget → Steps old new step.Moved
+steps-unformed old new b f code size rounded count seen at within held is round same told text fewer budget =
+    let h = held_bytes old.window in
+    let value = take ((4 + size) - 4) (drop 4 seen) in
+    steps-settled old new b f broken at.stage_is
+    (λ left. option-unformed (section_of old) h (take old.budget left) value b f count at.held (omega (arith, at.code_is, at.some))
+    (omega (arith, at.size_is, within)) (option-count count b.left rounded size (number b.order 2 2 h) is round at.size_is) held
+    (option-value size (number b.order 2 2 h) seen h at.size_is same)
+    (ap (λ n. found_with b.order (record { code = n; value = value }) f) (sym at.code_is) ∙ told))
+    text fewer budget
 
 -- a step after what was kept is forgotten
 pub steps-after : (old mid new : Converter) (answer : Step) → Steps mid new answer → ((left : List ℕ) → text_of mid left ≡ text_of old left) → work mid

@@ -4,6 +4,8 @@ use Rattle.std.specs.Prelude.{◌≡◌, ◌≤◌, ◌<◌, ℕ, ◌+◌, ◌*�
 use Rattle.pcap_reader.specs.WrittenHeads.{file_head}
 use Rattle.pcapng_reader.specs.declared.block.Order.{Order}
 use Rattle.pcapng_reader.specs.declared.block.Kind.{Kind}
+use Rattle.pcapng_reader.specs.declared.stage.Body.{Body}
+use Rattle.pcapng_reader.specs.declared.stage.Found.{Found}
 use Rattle.pcapng_reader.specs.declared.stage.Stage.{Stage}
 use Rattle.pcapng_reader.specs.declared.stage.Stage.TheVariants as stage
 use Rattle.pcapng_reader.specs.declared.converter.Converter.{Converter}
@@ -11,7 +13,7 @@ use Rattle.pcapng_reader.specs.declared.step.Step.{Step}
 use Rattle.pcapng_reader.specs.declared.step.Step.TheVariants as step
 use Rattle.pcapng_reader.specs.declared.step.Gift.{Gift}
 use Rattle.pcapng_reader.specs.declared.step.Gift.TheVariants as gift
-use Rattle.pcapng_reader.specs.Classic.{Section, begins_section, no_section, blocks, is_length}
+use Rattle.pcapng_reader.specs.Classic.{Section, begins_section, no_section, blocks, is_length, number}
 use Rattle.pcapng_reader.specs.Converting.{content_given, options_text, after, head_text}
 use Rattle.pcapng_reader.specs.Described.{list_of}
 use Rattle.pcapng_reader.specs.Stages.{is_due, rank}
@@ -86,6 +88,17 @@ pub record AtBlock (order : Order) (kind : Kind) (total : ℕ) (c : Converter) :
   pub total_is : is_length kind total ≡ true
   pub stage_is : c.stage ≡ stage.Block
   pub given : kept_bytes c.window ≡ []
+
+-- an option begins among those of an interface's description, with this code and a value of so many bytes, and nothing
+-- is kept
+pub record AtOption (body : Body) (found : Found) (code size : ℕ) (c : Converter) : Type 0 where
+  pub stage_is : c.stage ≡ stage.Options body found
+  pub given : kept_bytes c.window ≡ []
+  pub held : 4 ≤ length (held_bytes c.window)
+  pub left : 4 ≤ body.left
+  pub code_is : code ≡ number body.order 2 0 (held_bytes c.window)
+  pub size_is : size ≡ number body.order 2 2 (held_bytes c.window)
+  pub some : 0 < code
 
 -- bytes of the text are put behind those before `at`, as far as there are any to be given
 pub record Pours (at : ℕ) (before now : List ℕ) (old new : Converter) (count : ℕ) : Type 0 where

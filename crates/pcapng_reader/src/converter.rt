@@ -79,7 +79,7 @@ pub struct Converter {
 }
 
 impl Converter {
-    ghost use Rattle.pcapng_reader.specs.Texts.{section_of, ahead, text_of, work, HasRoom, Steps, Waits, IsHead, AtBlock, Pours, Gives};
+    ghost use Rattle.pcapng_reader.specs.Texts.{section_of, ahead, text_of, work, HasRoom, Steps, Waits, IsHead, AtBlock, AtOption, Pours, Gives};
 
     /// A converter at the start of a file.
     pub fn new(alloc: Global) -> Result<Converter, AllocError>
@@ -351,13 +351,7 @@ impl Converter {
 
     /// Reads an option of this code, which has so many bytes.
     fn option(&mut self, body: Body, found: Found, code: u16, size: u16) -> Step
-        requires stage { self.old.stage ≡ stage.Options body found }
-        requires given { kept_bytes self.old.window ≡ [] }
-        requires held { 4 ≤ length (held_bytes self.old.window) }
-        requires left { 4 ≤ body.left }
-        requires code { code ≡ number body.order 2 0 (held_bytes self.old.window) }
-        requires size { size ≡ number body.order 2 2 (held_bytes self.old.window) }
-        requires some { 0 < code }
+        requires option { AtOption body found code size self.old }
         ensures { Steps self.old self.new result }
     {
         if 4 + u32::from(size) > body.left {

@@ -1,13 +1,14 @@
 -- What a `Schedule` says of the stamps that it was asked for. m is the video, n the packets of one group, `anchor` the
 -- number of the group of read 0, and the schedule is gapped or linear (SMPTE ST 2110-21, read schedules).
-use Rattle.std.specs.Prelude.{◌≡◌, ◌≤◌, ◌<◌, ◌+◌, ◌-◌, ◌%◌, ◌^◌, ◌↔◌, ℕ, ℤ, Bool, false, cond, nat_lt}
+use Rattle.std.specs.Prelude.{◌≡◌, ◌≤◌, ◌<◌, ◌+◌, ◌-◌, ◌*◌, ◌%◌, ◌^◌, ◌↔◌, ℕ, ℤ, Bool, false, cond, nat_lt}
 use Rattle.fraction128.specs.Fractions.{AtMost, at_most, whole}
 use Rattle.timing_base.specs.Media.{Media}
 use Rattle.sender_params.specs.Reads.{AreDue, read_of}
-use Rattle.read_schedule.specs.Parts.{AreAhead, ArePast, IsGridOf}
+use Rattle.read_schedule.specs.Parts.{AreAhead, ArePast, IsGridOf, parts_at}
 use Rattle.read_schedule.specs.declared.schedule.Due.{Due}
 use Rattle.read_schedule.specs.declared.schedule.NextRead.{NextRead}
 use Rattle.read_schedule.specs.declared.schedule.Schedule.{Schedule}
+use Rattle.read_schedule.specs.declared.schedule.Span.{Span}
 
 -- where `count` reads are due at the whole nanosecond `at`, whether the last of them is at that very instant
 abbrev pub is_on_time : Media → ℕ → ℤ → Bool → ℕ → ℕ → Bool
@@ -36,14 +37,26 @@ pub record StandsBy (m : Media) (n : ℕ) (anchor : ℤ) (gapped : Bool) (s : Sc
   pub grid : IsGridOf m n anchor gapped s.grid
   pub passed : (x : ℕ) → x < s.passed → AtMost (read_of m n anchor gapped x) (whole at)
 
+-- the time from the next read of a schedule to the one after it, whose place in its group is this
+pub record LeadsTo (s : Schedule) (place : ℕ) (span : Span) : Type 0 where
+  pub reach : parts_at s.grid (s.passed + 1) ≡ parts_at s.grid s.passed + (span.whole * s.grid.den + span.part)
+  pub left : span.part < s.grid.den
+  pub some : 1 ≤ span.whole
+  pub small : span.whole < 2 ^ 52
+  pub place_is : (s.passed + 1) % s.grid.n ≡ place
+
 -- all reads up to t passed, and no others, where no later one had
 pub record CatchesUp (old new : Schedule) (t : ℕ) : Type 0 where
   pub grid : new.grid ≡ old.grid
   pub due : ArePast old.grid old.passed t → ArePast old.grid new.passed t
   pub ahead : AreAhead old.grid new.passed t
 
--- whatever reads a schedule was of, and whatever stamp no later it stood by, it now stands by this one
-abbrev pub MovesTo : (old new : Schedule) → (at : ℕ) → Type 0
-MovesTo old new at = (m : Media) (n : ℕ) (anchor : ℤ) (gapped : Bool) (before : ℕ)
+-- whatever reads a schedule was of, and whatever stamp no later it stood by, this says so of them at `at`
+abbrev pub Tells : {T : Type 0} → (Says : Media → ℕ → ℤ → Bool → ℕ → T → Type 0) → (old : Schedule) → (at : ℕ) → T → Type 0
+Tells Says old at told = (m : Media) (n : ℕ) (anchor : ℤ) (gapped : Bool) (before : ℕ)
     → before ≤ at → StandsBy m n anchor gapped old before
-    → StandsBy m n anchor gapped new at
+    → Says m n anchor gapped at told
+
+-- and the schedule itself now stands by `at`
+abbrev pub MovesTo : (old new : Schedule) → (at : ℕ) → Type 0
+MovesTo old new at = Tells (λ m n anchor gapped at new. StandsBy m n anchor gapped new at) old at new

@@ -88,7 +88,7 @@ impl Schedule {
     ghost use Rattle.std.specs.Prelude.{ℤ, pos, negsuc, ◌≤ℤ◌, Bool};
     ghost use Rattle.timing_base.specs.Media.{Media};
     ghost use Rattle.read_schedule.specs.Between.{IsFrom, IsUpTo};
-    ghost use Rattle.read_schedule.specs.Stands.{CatchesUp, IsDueAt, IsNextAfter, MovesTo, StandsBy, left_of};
+    ghost use Rattle.read_schedule.specs.Stands.{CatchesUp, IsDueAt, IsNextAfter, LeadsTo, MovesTo, StandsBy, Tells, left_of};
 
     /// The reads of a sender, gapped or linear, where read 0 is of group `n0`. None is due yet.
     pub fn new(params: &Params, gapped: bool, n0: i128) -> Schedule
@@ -105,11 +105,7 @@ impl Schedule {
     #[inline(always)]
     pub fn advance(&mut self, at: u64) -> Due
         requires { at < 2 ^ 62 }
-
-        // Whatever reads these are, and whatever stamp it was asked for before.
-        ensures due { (m : Media) (n : ℕ) (anchor : ℤ) (gapped : Bool) (before : ℕ)
-            → before ≤ at → StandsBy m n anchor gapped self.old before
-            → IsDueAt m n anchor gapped at result }
+        ensures due { Tells IsDueAt self.old at result }
         ensures stands { MovesTo self.old self.new at }
     {
         let t = at + BEFORE;
@@ -127,11 +123,7 @@ impl Schedule {
     #[inline(always)]
     pub fn next_after(&mut self, at: u64) -> NextRead
         requires { at < 2 ^ 62 }
-
-        // Whatever reads these are, and whatever stamp it was asked for before.
-        ensures next { (m : Media) (n : ℕ) (anchor : ℤ) (gapped : Bool) (before : ℕ)
-            → before ≤ at → StandsBy m n anchor gapped self.old before
-            → IsNextAfter m n anchor gapped at result }
+        ensures next { Tells IsNextAfter self.old at result }
         ensures stands { MovesTo self.old self.new at }
     {
         self.catch_up(at + BEFORE);
@@ -229,13 +221,7 @@ impl Schedule {
     fn step_ahead(&self) -> Span
         requires few { self.now.passed < 2 ^ 63 }
         requires within { self.now.place + 1 < self.now.grid.n }
-        ensures reach { parts_at self.now.grid (self.now.passed + 1)
-            ≡ parts_at self.now.grid self.now.passed
-            + (result.whole * self.now.grid.den + result.part) }
-        ensures left { result.part < self.now.grid.den }
-        ensures some { 1 ≤ result.whole }
-        ensures small { result.whole < 2 ^ 52 }
-        ensures place { (self.now.passed + 1) % self.now.grid.n ≡ self.now.place + 1 }
+        ensures { LeadsTo self.now (self.now.place + 1) result }
     {
         self.step
     }
@@ -245,13 +231,7 @@ impl Schedule {
     fn turn_ahead(&self) -> Span
         requires few { self.now.passed < 2 ^ 63 }
         requires last { self.now.place + 1 ≡ self.now.grid.n }
-        ensures reach { parts_at self.now.grid (self.now.passed + 1)
-            ≡ parts_at self.now.grid self.now.passed
-            + (result.whole * self.now.grid.den + result.part) }
-        ensures left { result.part < self.now.grid.den }
-        ensures some { 1 ≤ result.whole }
-        ensures small { result.whole < 2 ^ 52 }
-        ensures place { (self.now.passed + 1) % self.now.grid.n ≡ 0 }
+        ensures { LeadsTo self.now 0 result }
     {
         self.turn
     }

@@ -170,6 +170,19 @@ begins = record {
   ];
 }
 
+-- what was sent and taken stays, where only seats and views change
+reseated : (items : List Entry) (views views' : List View) (h : Delivers items views) (seat' : ℕ → Option ℕ)
+    → ((j : ℕ) (u : View) → get_elem? views' j ≡ some u → Fits h.reader seat' h.sent h.got j u) → Delivers items views'
+reseated items views views' h seat' fits = record {
+  reader = h.reader;
+  seat = seat';
+  sent = h.sent;
+  got = h.got;
+  tells = h.tells;
+  within = h.within;
+  fits = fits;
+}
+
 -- a sender is made, which has sent nothing
 pub makes : (pass made : ℕ) (got : List Entry) (known : List (List Message)) → made < 16
     → Forks Delivers pass (Takes got made known) (Takes got (made + 1) known) (Sends made [])
@@ -194,18 +207,11 @@ makes pass made got known room items views h at =
       | inr there ↦ Fits-elsewhere h.reader h.seat seat' h.sent h.got h.got j u (λ is. there.0 (is ∙ sym me.here))
           (λ f seated. other f (λ is. some-ne-none j (sym seated ∙ ap h.seat is ∙ new.0)) ∙ seated) (h.fits j u there.1)
     ] in
-    record {
-      reader = h.reader;
-      seat = seat';
-      sent = h.sent;
-      got = h.got;
-      tells = h.tells;
-      within = h.within;
-      fits = λ j u e. elim (last_place vs r u j e) as (λ _. Fits h.reader seat' h.sent h.got j u) [
-        | inl before ↦ old j u before
-        | inr last ↦ subst (Fits h.reader seat' h.sent h.got j) last.0 (upd-same h.seat made made (some (length vs)) refl ∙ ap some (sym last.1), sym new.1)
-      ];
-    }
+    reseated items views (vs ++ r ∷ []) h seat'
+    (λ j u e. elim (last_place vs r u j e) as (λ _. Fits h.reader seat' h.sent h.got j u) [
+      | inl before ↦ old j u before
+      | inr last ↦ subst (Fits h.reader seat' h.sent h.got j) last.0 (upd-same h.seat made made (some (length vs)) refl ∙ ap some (sym last.1), sym new.1)
+    ])
 
 -- the taker takes in the next sender, which has ended
 pub takes_in : (pass made : ℕ) (got : List Entry) (known : List (List Message)) (other from : ℕ) (put : List Message) → from ≡ length known
@@ -246,15 +252,8 @@ takes_in pass made got known other from put turn items views h at two at' =
       | inr there ↦ Fits-elsewhere h.reader h.seat seat' h.sent h.got h.got j u (λ is. there.0 (is ∙ sym me.here))
           (λ f seated. upd-other h.seat from f none (λ e. apart (some-injective j other (sym seated ∙ ap h.seat e ∙ theirs.0))) ∙ seated) (h.fits j u there.1)
     ] in
-    record {
-      reader = h.reader;
-      seat = seat';
-      sent = h.sent;
-      got = h.got;
-      tells = h.tells;
-      within = h.within;
-      fits = λ j u e. elim (at_set vs other j Spent u e) as (λ _. Now j u) [
-        | inl here ↦ subst (Now j) here.1 tt
-        | inr there ↦ first j u there.1 there.0
-      ];
-    }
+    reseated items views (set vs other Spent) h seat'
+    (λ j u e. elim (at_set vs other j Spent u e) as (λ _. Now j u) [
+      | inl here ↦ subst (Now j) here.1 tt
+      | inr there ↦ first j u there.1 there.0
+    ])

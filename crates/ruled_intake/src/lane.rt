@@ -68,15 +68,7 @@ impl Model for Lane {
 
 impl Drop for Lane {
     fn drop(self) {
-        let Self {
-            queue,
-            sent: _,
-            taken: _,
-            news: _,
-            working: _,
-            room: _,
-        } = self;
-        queue.destroy();
+        self.into_queue().destroy();
     }
 }
 
@@ -284,6 +276,21 @@ impl Lane {
         }
     }
 
+    /// The queue of a lane that ends.
+    fn into_queue(self) -> LaneQueue
+        ensures { result ≡ self }
+    {
+        let Self {
+            queue,
+            sent: _,
+            taken: _,
+            news: _,
+            working: _,
+            room: _,
+        } = self;
+        queue
+    }
+
     /// Ends the lane, and compares what its passes took and sent: of each sender, what was taken is
     /// the first part of what it sent; where as many were taken as were sent, it is all. Takes no
     /// memory. The call may wait, though no other thread has the lane any more.
@@ -297,14 +304,7 @@ impl Lane {
             → (f : ℕ) → of f taker.taken ≡ sent_of senders.items f }
     {
         let TakePass { mut pass, taken } = taker;
-        let Lane {
-            queue,
-            sent: _,
-            taken: _,
-            news: _,
-            working: _,
-            room: _,
-        } = self;
+        let queue = self.into_queue();
         let sent = take_in(&queue, &mut pass, senders);
         let _left = queue.len_as::<Compares, R>(rt, &mut pass);
         queue.destroy();

@@ -95,52 +95,59 @@ next-of : {S : Type 0} (name : S → List ℕ) (left : S → Option (List ℕ)) 
 next-of name left faults texts [] s rest h = absurd h
 next-of name left faults texts (n ∷ ns) s rest h = record { first = n; others = ns; whole = refl; named = h.0; told = h.1; fetched = h.3 }
 
+-- the next capture is done, whatever comes of it
+reading-moved : {S : Type 0} (name : S → List ℕ) (left : S → Option (List ℕ)) (faults : S → ℕ) (texts : List ℕ → Option (List ℕ))
+    (before mid now : List ℕ → ℕ) (names : List (List ℕ))
+    (s : S) (rest : List S) (was outcome : Result (Unit {0}) Failure) (number next_number : ℕ) (Found Read : List (List ℕ) → Type 0)
+    → (h : Reading name left faults texts before mid names (s ∷ rest) was number Found) → (next : Next name left faults texts h.ahead s rest)
+    → IfOk outcome (λ _. next_number ≡ length (h.done ++ next.first ∷ []))
+    → IfOk outcome (λ _. (read : List (List ℕ)) → AreTold texts (h.done ++ next.first ∷ []) read → Read read)
+    → IfErr outcome (λ e. OnReadFault e (λ i. (number : ℕ) × (i ≡ Capture number) × CaptureRose before now names number))
+    → Reading name left faults texts before now names rest outcome next_number Read
+reading-moved name left faults texts before mid now names s rest was outcome number next_number Found Read h next count told cause = record {
+  done = h.done ++ next.first ∷ [];
+  ahead = next.others;
+  whole = h.whole ∙ ap (λ l. h.done ++ l) next.whole ∙ sym (append_assoc h.done (next.first ∷ []) next.others);
+  fetched = next.fetched;
+  count = count;
+  told = told;
+  cause = cause;
+}
+
 -- the next capture is read, where those before it were
 pub reading-next : {S : Type 0} (name : S → List ℕ) (left : S → Option (List ℕ)) (faults : S → ℕ) (texts : List ℕ → Option (List ℕ))
     (before mid now : List ℕ → ℕ) (names : List (List ℕ))
-    (s : S) (rest : List S) (outcome : Result (Unit {0}) Failure) (number next_number : ℕ) (Found Next : List (List ℕ) → Type 0)
+    (s : S) (rest : List S) (outcome : Result (Unit {0}) Failure) (number next_number : ℕ) (Found Read : List (List ℕ) → Type 0)
     → Reading name left faults texts before mid names (s ∷ rest) (Ok tt) number Found
     → ((n : List ℕ) → before n ≤ mid n)
-    → IfOk outcome (λ _. (read : List (List ℕ)) (text : List ℕ) → left s ≡ Some text → Found read → Next (read ++ text ∷ []))
+    → IfOk outcome (λ _. (read : List (List ℕ)) (text : List ℕ) → left s ≡ Some text → Found read → Read (read ++ text ∷ []))
     → IfOk outcome (λ _. next_number ≡ number + 1)
     → IfErr outcome (λ e. OnReadFault e (λ i. (i ≡ Capture number) × Rose (mid (name s)) (now (name s))))
-    → Reading name left faults texts before now names rest outcome next_number Next
-reading-next name left faults texts before mid now names s rest (Ok u) number next_number Found Next h later found count cause =
+    → Reading name left faults texts before now names rest outcome next_number Read
+reading-next name left faults texts before mid now names s rest (Ok u) number next_number Found Read h later found count cause =
     let next = next-of name left faults texts h.ahead s rest h.fetched in
-    record {
-      done = h.done ++ next.first ∷ [];
-      ahead = next.others;
-      whole = h.whole ∙ ap (λ l. h.done ++ l) next.whole ∙ sym (append_assoc h.done (next.first ∷ []) next.others);
-      fetched = next.fetched;
-      count = omega (arith, count, h.count, length-append h.done (next.first ∷ []));
-      told = λ read told.
-          let last = told-last texts h.done next.first read told in
-          subst Next (sym last.whole) (found last.first last.text (next.told ∙ last.last) (h.told last.first last.told));
-      cause = tt;
-    }
-reading-next name left faults texts before mid now names s rest (Err e) number next_number Found Next h later found count cause =
+    reading-moved name left faults texts before mid now names s rest (Ok tt) (Ok u) number next_number Found Read h next
+    (omega (arith, count, h.count, length-append h.done (next.first ∷ [])))
+    (λ read told.
+    let last = told-last texts h.done next.first read told in
+    subst Read (sym last.whole) (found last.first last.text (next.told ∙ last.last) (h.told last.first last.told)))
+    tt
+reading-next name left faults texts before mid now names s rest (Err e) number next_number Found Read h later found count cause =
     let next = next-of name left faults texts h.ahead s rest h.fetched in
     let all : names ≡ h.done ++ next.first ∷ next.others = h.whole ∙ ap (λ l. h.done ++ l) next.whole in
     let place : slice_index_or names number [] ≡ next.first =
     ap (λ l. slice_index_or l number []) all ∙ ap (λ k. slice_index_or (h.done ++ next.first ∷ next.others) k []) h.count ∙ place-of h.done next.first
     next.others in
-    record {
-      done = h.done ++ next.first ∷ [];
-      ahead = next.others;
-      whole = all ∙ sym (append_assoc h.done (next.first ∷ []) next.others);
-      fetched = next.fetched;
-      count = tt;
-      told = tt;
-      cause = on-map e _ (λ i. (number : ℕ) × (i ≡ Capture number) × CaptureRose before now names number) (λ i c. (
-        number,
-        c.0,
-        record {
-          within = let long : length names ≡ length h.done + length (next.first ∷ next.others) = ap length all ∙ length-append h.done (next.first ∷ next.others)
-              in omega (arith, long, h.count);
-          rose = subst (λ n. Rose (before n) (now n)) (next.named ∙ sym place) (rose-from (before (name s)) (mid (name s)) (now (name s)) (later (name s)) c.1);
-        },
-      )) cause;
-    }
+    reading-moved name left faults texts before mid now names s rest (Ok tt) (Err e) number next_number Found Read h next tt tt
+    (on-map e _ (λ i. (number : ℕ) × (i ≡ Capture number) × CaptureRose before now names number) (λ i c. (
+      number,
+      c.0,
+      record {
+        within = let long : length names ≡ length h.done + length (next.first ∷ next.others) = ap length all ∙ length-append h.done (next.first ∷ next.others)
+            in omega (arith, long, h.count);
+        rose = subst (λ n. Rose (before n) (now n)) (next.named ∙ sym place) (rose-from (before (name s)) (mid (name s)) (now (name s)) (later (name s)) c.1);
+      },
+    )) cause)
 
 -- the next capture is passed over, where one before it couldn't be read
 pub reading-stopped : {S : Type 0} (name : S → List ℕ) (left : S → Option (List ℕ)) (faults : S → ℕ) (texts : List ℕ → Option (List ℕ))
@@ -149,16 +156,8 @@ pub reading-stopped : {S : Type 0} (name : S → List ℕ) (left : S → Option 
     → Reading name left faults texts before mid names (s ∷ rest) (Err e) number Found → ((n : List ℕ) → mid n ≤ now n)
     → Reading name left faults texts before now names rest (Err e) number Found
 reading-stopped name left faults texts before mid now names s rest number Found e h later =
-    let next = next-of name left faults texts h.ahead s rest h.fetched in
-    record {
-      done = h.done ++ next.first ∷ [];
-      ahead = next.others;
-      whole = h.whole ∙ ap (λ l. h.done ++ l) next.whole ∙ sym (append_assoc h.done (next.first ∷ []) next.others);
-      fetched = next.fetched;
-      count = tt;
-      told = tt;
-      cause = on-map e _ _ (capture-later before mid now names later) h.cause;
-    }
+    reading-moved name left faults texts before mid now names s rest (Err e) (Err e) number number Found Found h
+    (next-of name left faults texts h.ahead s rest h.fetched) tt tt (on-map e _ _ (capture-later before mid now names later) h.cause)
 
 -- all were read
 pub reading-all : {S : Type 0} (name : S → List ℕ) (left : S → Option (List ℕ)) (faults : S → ℕ) (texts : List ℕ → Option (List ℕ)) (before now : List ℕ → ℕ)

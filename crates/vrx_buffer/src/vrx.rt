@@ -41,7 +41,7 @@ impl Vrx {
     ghost use Rattle.read_schedule.specs.Stands.{IsDueAt};
     ghost use Rattle.sender_params.specs.declared.params.Params.{Params};
     ghost use Rattle.vrx_buffer.specs.Faults.{BreaksNowhere, fault_at};
-    ghost use Rattle.vrx_buffer.specs.Stands.{StandsFor};
+    ghost use Rattle.vrx_buffer.specs.Stands.{StandsFor, Takes};
     ghost use Rattle.vrx_buffer.specs.Taking.{IsWithin, Took, earlier, fault_by};
 
     /// The empty buffer of a flow, judged as one of this sender type.
@@ -75,12 +75,7 @@ impl Vrx {
             (anchor_of params.now.media (slice_index (stamps ++ at ∷ []) 0))
             (gapped_of self.old.kind) at due
             → result ≡ fault_at params.now.media params.now.n (stamps ++ at ∷ []) self.old.kind packet }
-        ensures stands { (stamps : List ℕ) (at : ℕ) → packet ≡ length stamps
-            → StandsFor params.now self.old stamps
-            → IsDueAt params.now.media params.now.n
-            (anchor_of params.now.media (slice_index (stamps ++ at ∷ []) 0))
-            (gapped_of self.old.kind) at due
-            → StandsFor params.now self.new (stamps ++ at ∷ []) }
+        ensures stands { Takes params.now self.old self.new packet due }
     {
         let late = comes_late(packet, due);
         self.take(params, packet, due.count, late)
@@ -90,14 +85,8 @@ impl Vrx {
     #[inline(always)]
     pub fn pass_due(&mut self, params: &Params, packet: u64, due: Due)
         requires { packet < 2 ^ 41 }
-
         ensures kind { self.new.kind ≡ self.old.kind }
-        ensures stands { (stamps : List ℕ) (at : ℕ) → packet ≡ length stamps
-            → StandsFor params.now self.old stamps
-            → IsDueAt params.now.media params.now.n
-            (anchor_of params.now.media (slice_index (stamps ++ at ∷ []) 0))
-            (gapped_of self.old.kind) at due
-            → StandsFor params.now self.new (stamps ++ at ∷ []) }
+        ensures stands { Takes params.now self.old self.new packet due }
     {
         match self.fault {
             None => {

@@ -3,16 +3,8 @@ use Rattle.sender_params.specs.Ticks.{NeverFall}
 use Rattle.sender_params.specs.Worked.{at_once}
 use Rattle.flow_shaper.specs.Plan.{IsPlan, load}
 use Rattle.flow_shaper.specs.Worked.{burst_shaped, first, narrow}
+use Rattle.flow_shaper.proofs.ByHand.{five}
 use Rattle.flow_shaper.proofs.laws.burst_by_hand.Goals as goal
-
--- what holds of each of five
-five : (P : ℕ → Type 0) → P 0 → P 1 → P 2 → P 3 → P 4 → (i : ℕ) → i < 5 → P i
-five P a b c d e zero few = a
-five P a b c d e (suc zero) few = b
-five P a b c d e (suc (suc zero)) few = c
-five P a b c d e (suc (suc (suc zero))) few = d
-five P a b c d e (suc (suc (suc (suc zero)))) few = e
-five P a b c d e (suc (suc (suc (suc (suc i))))) few = absurd (omega (arith, few))
 
 -- the first four leave when they come
 low : (j : ℕ) → j ≤ 3 → slice_index burst_shaped j ≤ first

@@ -1,11 +1,9 @@
-use Rattle.std.proofs.Common.{rules, ◌≡◌, ◌≤◌, ◌<◌, ◌++◌, ◌∷◌, [], Some, None, true, length, get_or, set, refl, sym, ap, ◌∙◌, subst, inl, inr}
+use Rattle.std.proofs.Common.{rules, ◌≡◌, ◌≤◌, ◌<◌, ◌++◌, ◌∷◌, [], true, length, get_or, sym, ap, ◌∙◌, subst, inl, inr}
 use Rattle.std.specs.Prelude.{is_some}
-use Rattle.std.specs.Vec.{with_item}
 use Rattle.std.proofs.lemmas.List.{get_or_default}
 use Rattle.flow_worker.specs.Messages.{ending}
-use Rattle.flow_worker.specs.declared.joined_files.Joined.{Joined}
 use Rattle.flow_worker.specs.declared.joined_files.Waiting.{Waiting}
-use Rattle.flow_worker.proofs.JoinedFiles.{joined-ended, joined-ended_if, joined-passed_end, tested_end, tested_none, waiting-at}
+use Rattle.flow_worker.proofs.JoinedFiles.{joined-ended_if, joined-passed_end, tested_end, tested_none, waiting-at}
 use Rattle.flow_worker.proofs.joined_files.Joined.end.Goals.{then-file-len-via-then-file-len, then-file-len-via-else-file-len+then-is_some}
 use Rattle.flow_worker.proofs.joined_files.Joined.end.Goals as goal
 
@@ -30,66 +28,33 @@ returns-then-file-len c = record {
       ]) h;
 }
 
+pub note_end-requires-clause-none : goal.note_end-requires-clause-none
+note_end-requires-clause-none c = λ d.
+    let items = c.args.self.now.files.items in
+    let seen = c.index.result.now in
+    let within : c.end.inside.file < length items = search rules in
+    let same : get_or items c.end.inside.file d ≡ seen = get_or_default items c.end.inside.file d seen within ∙ sym c.index.ensures in
+    tested_none (get_or items c.end.inside.file d).end (ap (λ (x : Waiting). is_some x.end) same ∙ sym c.is_some.ensures ∙ c.if-is_some.false)
+
 pub returns : goal.returns
 returns c =
     let end = c.args.end in
-    let joined = c.args.self.now in
-    let items = joined.files.items in
-    let was = c.index_mut.result.now in
-    let seen = c.index.result.now in
-    let w : Waiting = record { batches = was.batches; end = Some end } in
-    let same : c.end.inside.file ≡ end.file = search rules in
-    let within : end.file < length items = search rules in
-    let here : was ≡ get_or items end.file was = c.index_mut.ensures.value ∙ ap (λ n. get_or items n was) same in
-    let first : seen ≡ get_or items end.file was = c.index.ensures ∙ ap (λ n. get_or items n seen) same ∙ get_or_default items end.file seen was within in
-    let none : (get_or items end.file was).end ≡ None =
-    tested_none (get_or items end.file was).end (ap (λ (x : Waiting). is_some x.end) (sym first) ∙ sym c.is_some.ensures ∙ c.if-is_some.false) in
-    let mid : Joined = record {
-      alloc = joined.alloc;
-      judges = joined.judges;
-      files = with_item joined.files c.end.inside.file w;
-      next = joined.next;
-      before =
-          joined.before;
-    } in
     record {
-      stands = joined-ended_if c.advance.result end.file end.note end.records end joined mid c.advance.new.self was w within refl none refl
-          (ap (λ (x : Waiting). x.batches.items) here) refl refl refl
-          (ap (λ n. set items n w) same) c.advance.ensures.stands;
+      stands = joined-ended_if c.advance.result (ending end.file end.note end.records) c.args.self.now c.note_end.new.self c.advance.new.self
+          c.note_end.ensures c.advance.ensures.stands;
     }
 
 pub advance-requires : goal.advance-requires
 advance-requires c =
     let end = c.args.end in
-    let joined = c.args.self.now in
-    let items = joined.files.items in
-    let was = c.index_mut.result.now in
-    let seen = c.index.result.now in
     let few = c.requires.few in
-    let w : Waiting = record { batches = was.batches; end = Some end } in
-    let same : c.end.inside.file ≡ end.file = search rules in
-    let within : end.file < length items = search rules in
-    let here : was ≡ get_or items end.file was = c.index_mut.ensures.value ∙ ap (λ n. get_or items n was) same in
-    let first : seen ≡ get_or items end.file was = c.index.ensures ∙ ap (λ n. get_or items n seen) same ∙ get_or_default items end.file seen was within in
-    let none : (get_or items end.file was).end ≡ None =
-    tested_none (get_or items end.file was).end (ap (λ (x : Waiting). is_some x.end) (sym first) ∙ sym c.is_some.ensures ∙ c.if-is_some.false) in
-    let mid : Joined = record {
-      alloc = joined.alloc;
-      judges = joined.judges;
-      files = with_item joined.files c.end.inside.file w;
-      next = joined.next;
-      before =
-          joined.before;
-    } in
     record {
       few = (
         few.0,
         few.1,
         few.2,
         few.3 ++ ending end.file end.note end.records ∷ [],
-        joined-ended few.0 few.1 few.2 few.3 end.file end.note end.records end joined mid was w within refl none refl
-            (ap (λ (x : Waiting). x.batches.items) here) refl refl refl
-            (ap (λ n. set items n w) same) few.4.at,
+        c.note_end.ensures few.0 few.1 few.2 few.3 few.4.at,
         few.5,
       );
     }

@@ -1,19 +1,13 @@
-use Rattle.std.proofs.Common.{◌≡◌, ◌≤◌, ◌∙◌, ℕ, ◌++◌, length, take, ap, sym, arith, length-append, length-drop, false}
+use Rattle.std.proofs.Common.{◌≤◌, ◌∙◌, ◌++◌, length, take, ap, sym, arith, length-append, length-drop}
 use Rattle.pcapng_reader.specs.Texts.{section_of, ahead, whole}
 use Rattle.pcapng_reader.specs.Windows.{kept_bytes, held_bytes}
 use Rattle.pcapng_reader.specs.Stages.{rank}
-use Rattle.pcapng_reader.specs.Classic.{number, blocks, go_on}
+use Rattle.pcapng_reader.specs.Classic.{blocks, go_on}
 use Rattle.pcapng_reader.specs.Converting.{content_given, after}
-use Rattle.std.specs.Prelude.{◌==◌}
-use Rattle.std.proofs.lemmas.Bool.Decides.{nat_tests}
-use Rattle.pcapng_reader.proofs.Numbers.{number-front}
-use Rattle.pcapng_reader.proofs.Blocks.{after-short, after-end, after-broken}
+use Rattle.pcapng_reader.proofs.Blocks.{after-short, after-end}
 use Rattle.pcapng_reader.proofs.Texts.{text-at_passing}
-use Rattle.pcapng_reader.proofs.Steps.{steps-waits, ahead_end, ahead_pass, kept_few}
+use Rattle.pcapng_reader.proofs.Steps.{closing-number, steps-unclosed, steps-waits, ahead_end, ahead_pass, kept_few}
 use Rattle.pcapng_reader.proofs.converter.Converter.close.Goals as goal
-
-other_number : (m n : ℕ) → (m ≡ n → ⊥) → (m == n) ≡ false
-other_number m n h = grind (arith, nat_tests)
 
 pub returns-then-len-lt4 : goal.returns-then-len-lt4
 returns-then-len-lt4 c =
@@ -46,28 +40,12 @@ returns-then-read_u32-body c =
           ∙ ap (λ y. go_on (λ next. blocks next y) given) (ahead_pass 4 h g r c.pass.ensures.held len)
           ∙ sym (text-at_passing w.stage s (kept_bytes w.window) a (whole w left) b x c.requires.stage
           ∙ after-end b a given c.requires.left (omega (arith, length-append h r))
-          (number-front b.order 4 0 h r len ∙ sym (c.read_u32.ensures ∙ ap (number b.order 4 0) c.peek.ensures) ∙ c.if-read_u32-body.true));
+          (closing-number b c.read_u32.result _ h r c.read_u32.ensures c.peek.ensures len ∙ c.if-read_u32-body.true));
       tells = omega (arith, c.finish.ensures.work, ap rank c.requires.stage, ap length c.pass.ensures.kept, ap length c.pass.ensures.held, length-drop 4 h);
       budget = c.finish.ensures.budget;
     }
 
 pub returns-else-read_u32-body : goal.returns-else-read_u32-body
 returns-else-read_u32-body c =
-    let w = c.args.self.now in
-    let h = held_bytes w.window in
-    let b = c.args.body in
-    let x = c.args.content in
-    let s = section_of w in
-    let len : 4 ≤ length h = omega arith in
-    record {
-      text = λ left.
-          let r = take w.budget left in
-          let a = h ++ r in
-          c.end.ensures.text left
-          ∙ sym (text-at_passing w.stage s (kept_bytes w.window) a (whole w left) b x c.requires.stage
-          ∙ after-broken b a (content_given x b.order (kept_bytes w.window) s) c.requires.left (omega (arith, length-append h r))
-          (ap (λ n. n == b.total) (number-front b.order 4 0 h r len ∙ sym (c.read_u32.ensures ∙ ap (number b.order 4 0) c.peek.ensures)) ∙ other_number
-          c.read_u32.result b.total c.if-read_u32-body.false));
-      tells = omega (arith, c.end.ensures.work, ap rank c.requires.stage);
-      budget = c.end.ensures.budget;
-    }
+    steps-unclosed c.args.self.now c.end.new.self c.args.body c.args.content c.read_u32.result _ c.requires.stage c.requires.left (omega arith)
+    c.read_u32.ensures c.peek.ensures c.if-read_u32-body.false c.end.ensures.text c.end.ensures.work c.end.ensures.budget

@@ -1,76 +1,32 @@
-use Rattle.std.proofs.Common.{◌∙◌, ◌+◌, ◌-◌, ◌++◌, take, drop, ap, sym, arith}
-use Rattle.pcapng_reader.specs.Texts.{section_of, ahead, whole}
-use Rattle.pcapng_reader.specs.Windows.{kept_bytes, held_bytes}
-use Rattle.pcapng_reader.specs.Classic.{number}
-use Rattle.pcapng_reader.specs.Converting.{found_with, after}
-use Rattle.pcapng_reader.proofs.Steps.{option-count, option-value, option-waits, text-at_option, options-broken, option-passed, option-unformed}
+use Rattle.std.proofs.Common.{take, sym, ap, ◌∙◌, arith}
+use Rattle.pcapng_reader.specs.Texts.{section_of}
+use Rattle.pcapng_reader.specs.Windows.{held_bytes}
+use Rattle.pcapng_reader.specs.Classic.{broken}
+use Rattle.pcapng_reader.proofs.Steps.{option-waits, options-broken, steps-option, steps-settled, steps-unformed}
 use Rattle.pcapng_reader.proofs.converter.Converter.option.Goals as goal
 
 pub returns-then-from-body : goal.returns-then-from-body
 returns-then-from-body c =
     let w = c.args.self.now in
-    let h = held_bytes w.window in
-    let b = c.args.body in
-    let f = c.args.found in
-    let s = section_of w in
-    record {
-      text = λ left.
-          let a = ahead w left in
-          c.settle.ensures.text left
-          ∙ sym (text-at_option w.stage s (kept_bytes w.window) a (whole w left) b f c.requires.stage
-          ∙ ap (after b a) (options-broken s h (take w.budget left) b f c.requires.held c.requires.left (omega (arith, c.requires.code))
-          (omega (arith, c.requires.size))));
-      tells = c.settle.ensures.work;
-      budget = c.settle.ensures.budget;
-    }
+    let at = c.requires.option in
+    steps-settled w c.settle.new.self c.args.body c.args.found broken at.stage_is
+    (λ left. options-broken (section_of w) (held_bytes w.window) (take w.budget left) c.args.body c.args.found at.held at.left
+    (omega (arith, at.code_is, at.some)) (omega (arith, at.size_is)))
+    c.settle.ensures.text c.settle.ensures.work c.settle.ensures.budget
 
 pub returns-then-len-count : goal.returns-then-len-count
 returns-then-len-count c =
-    option-waits c.args.self.now c.wait.new.self c.wait.result c.args.body c.args.found c.wait.ensures c.requires.stage c.requires.given (omega arith)
+    option-waits c.args.self.now c.wait.new.self c.wait.result c.args.body c.args.found c.wait.ensures c.requires.option.stage_is c.requires.option.given (omega arith)
     (omega arith)
 
 pub returns-in-Some : goal.returns-in-Some
 returns-in-Some c =
-    let w = c.args.self.now in
-    let h = held_bytes w.window in
-    let b = c.args.body in
-    let f = c.args.found in
-    let s = section_of w in
-    let count = option-count c.min-count.result b.left _ c.args.size (number b.order 2 2 h) c.min-count.ensures c.padded.ensures.value c.requires.size in
-    let value = option-value c.args.size (number b.order 2 2 h) c.peek.result.now h c.requires.size c.peek.ensures in
-    record {
-      text = λ left.
-          let r = take w.budget left in
-          let a = h ++ r in
-          c.pass_option.ensures.text left
-          ∙ option-passed s h r (take ((4 + c.args.size) - 4) (drop 4 c.peek.result.now)) b f c.in-Some.found c.min-count.result c.requires.held
-          (omega (arith, c.requires.code)) (omega arith) count (omega arith) value
-          (ap (λ n. found_with b.order (record { code = n; value = take ((4 + c.args.size) - 4) (drop 4 c.peek.result.now) }) f) (sym c.requires.code) ∙ sym
-          c.with.ensures ∙ c.in-Some.is)
-          ∙ sym (text-at_option w.stage s (kept_bytes w.window) a (whole w left) b f c.requires.stage);
-      tells = c.pass_option.ensures.work;
-      budget = c.pass_option.ensures.budget;
-    }
+    steps-option c.args.self.now c.pass_option.new.self c.args.body c.args.found c.in-Some.found c.args.code c.args.size _ c.min-count.result _ c.requires.option
+    (omega arith) (omega arith) c.min-count.ensures c.padded.ensures.value c.peek.ensures (sym c.with.ensures ∙ c.in-Some.is)
+    c.pass_option.ensures.text c.pass_option.ensures.work c.pass_option.ensures.budget
 
 pub returns-in-None : goal.returns-in-None
 returns-in-None c =
-    let w = c.args.self.now in
-    let h = held_bytes w.window in
-    let b = c.args.body in
-    let f = c.args.found in
-    let s = section_of w in
-    let count = option-count c.min-count.result b.left _ c.args.size (number b.order 2 2 h) c.min-count.ensures c.padded.ensures.value c.requires.size in
-    let value = option-value c.args.size (number b.order 2 2 h) c.peek.result.now h c.requires.size c.peek.ensures in
-    record {
-      text = λ left.
-          let r = take w.budget left in
-          let a = h ++ r in
-          c.settle-in-None.ensures.text left
-          ∙ ap (after b a) (sym (option-unformed s h r (take ((4 + c.args.size) - 4) (drop 4 c.peek.result.now)) b f c.min-count.result c.requires.held
-          (omega (arith, c.requires.code)) (omega arith) count (omega arith) value
-          (ap (λ n. found_with b.order (record { code = n; value = take ((4 + c.args.size) - 4) (drop 4 c.peek.result.now) }) f) (sym c.requires.code) ∙ sym
-          c.with.ensures ∙ c.in-None.is)))
-          ∙ sym (text-at_option w.stage s (kept_bytes w.window) a (whole w left) b f c.requires.stage);
-      tells = c.settle-in-None.ensures.work;
-      budget = c.settle-in-None.ensures.budget;
-    }
+    steps-unformed c.args.self.now c.settle-in-None.new.self c.args.body c.args.found c.args.code c.args.size _ c.min-count.result _ c.requires.option
+    (omega arith) (omega arith) c.min-count.ensures c.padded.ensures.value c.peek.ensures (sym c.with.ensures ∙ c.in-None.is)
+    c.settle-in-None.ensures.text c.settle-in-None.ensures.work c.settle-in-None.ensures.budget
