@@ -3,6 +3,10 @@ use Rattle.std.specs.Prelude.{◌≡◌, ℕ, ◌+◌, List, [], ◌∷◌, ◌+
 use Rattle.pcap_reader.specs.WrittenHeads.{file_head}
 use Rattle.pcapng_reader.specs.Classic.{classic}
 
+-- a text with another byte at a place
+abbrev pub changed : ℕ → ℕ → List ℕ → List ℕ
+changed place byte text = take place text ++ (byte ∷ drop (place + 1) text)
+
 -- a section of 28 bytes: type, total length, byte order, version 1.0, length not told, total length
 abbrev pub little_section : List ℕ
 little_section =
@@ -26,6 +30,10 @@ abbrev pub interface_with : (total : ℕ) → List ℕ → List ℕ
 interface_with total opts =
     1 ∷ 0 ∷ 0 ∷ 0 ∷ total ∷ 0 ∷ 0 ∷ 0 ∷ 1 ∷ 0 ∷ 0 ∷ 0 ∷ 0 ∷ 0 ∷ 4 ∷ 0 ∷ (opts ++ (total ∷ 0 ∷ 0 ∷ 0 ∷ []))
 
+abbrev pub big_interface_with : (total : ℕ) → List ℕ → List ℕ
+big_interface_with total opts =
+    0 ∷ 0 ∷ 0 ∷ 1 ∷ 0 ∷ 0 ∷ 0 ∷ total ∷ 0 ∷ 1 ∷ 0 ∷ 0 ∷ 0 ∷ 4 ∷ 0 ∷ 0 ∷ (opts ++ (0 ∷ 0 ∷ 0 ∷ total ∷ []))
+
 -- options: a resolution, an offset, one of two bytes that is passed over, the end
 abbrev pub resolution : ℕ → List ℕ
 resolution n = 9 ∷ 0 ∷ 1 ∷ 0 ∷ n ∷ 0 ∷ 0 ∷ 0 ∷ []
@@ -39,9 +47,22 @@ comment = 1 ∷ 0 ∷ 2 ∷ 0 ∷ 9 ∷ 0 ∷ 1 ∷ 0 ∷ []
 abbrev pub last_option : List ℕ
 last_option = 0 ∷ 0 ∷ 0 ∷ 0 ∷ []
 
--- an interface of stamps in nanoseconds
+-- the same, big-endian
+abbrev pub big_resolution : ℕ → List ℕ
+big_resolution n = 0 ∷ 9 ∷ 0 ∷ 1 ∷ n ∷ 0 ∷ 0 ∷ 0 ∷ []
+
+abbrev pub big_offset : ℕ → List ℕ
+big_offset n = 0 ∷ 14 ∷ 0 ∷ 8 ∷ 0 ∷ 0 ∷ 0 ∷ 0 ∷ 0 ∷ 0 ∷ 0 ∷ n ∷ []
+
+abbrev pub big_comment : List ℕ
+big_comment = 0 ∷ 1 ∷ 0 ∷ 2 ∷ 9 ∷ 0 ∷ 1 ∷ 0 ∷ []
+
+-- an interface of stamps in nanoseconds, and one in microseconds, which says so
 abbrev pub nano_interface : List ℕ
 nano_interface = interface_with 28 (resolution 9)
+
+abbrev pub micro_interface : List ℕ
+micro_interface = interface_with 28 (resolution 6)
 
 -- a packet of 36 bytes: type, total length, interface, stamp high and low, 3 bytes captured of 60, the
 -- bytes and one that pads, total length
@@ -54,11 +75,29 @@ packet_at high low =
 abbrev pub little_packet : List ℕ
 little_packet = packet_at (0 ∷ 0 ∷ 0 ∷ 0 ∷ []) (0x05 ∷ 0x5e ∷ 0xd0 ∷ 0xb2 ∷ [])
 
--- the same at 3,000,005, big-endian
+-- the same, big-endian
+abbrev pub big_packet_at : (high low : List ℕ) → List ℕ
+big_packet_at high low =
+    0 ∷ 0 ∷ 0 ∷ 6 ∷ 0 ∷ 0 ∷ 0 ∷ 36 ∷ 0 ∷ 0 ∷ 0 ∷ 0 ∷ (high ++ (low ++
+    (0 ∷ 0 ∷ 0 ∷ 3 ∷ 0 ∷ 0 ∷ 0 ∷ 60 ∷ 7 ∷ 8 ∷ 9 ∷ 0 ∷ 0 ∷ 0 ∷ 0 ∷ 36 ∷ [])))
+
+-- at 3,000,005
+abbrev pub micro_packet : List ℕ
+micro_packet = packet_at (0 ∷ 0 ∷ 0 ∷ 0 ∷ []) (0xc5 ∷ 0xc6 ∷ 0x2d ∷ 0x00 ∷ [])
+
 abbrev pub big_packet : List ℕ
-big_packet =
-    0 ∷ 0 ∷ 0 ∷ 6 ∷ 0 ∷ 0 ∷ 0 ∷ 36 ∷ 0 ∷ 0 ∷ 0 ∷ 0 ∷ 0 ∷ 0 ∷ 0 ∷ 0 ∷ 0x00 ∷ 0x2d ∷ 0xc6 ∷ 0xc5
-    ∷ 0 ∷ 0 ∷ 0 ∷ 3 ∷ 0 ∷ 0 ∷ 0 ∷ 60 ∷ 7 ∷ 8 ∷ 9 ∷ 0 ∷ 0 ∷ 0 ∷ 0 ∷ 36 ∷ []
+big_packet = big_packet_at (0 ∷ 0 ∷ 0 ∷ 0 ∷ []) (0x00 ∷ 0x2d ∷ 0xc6 ∷ 0xc5 ∷ [])
+
+-- at 3,000,005,000
+abbrev pub nano_packet : List ℕ
+nano_packet = packet_at (0 ∷ 0 ∷ 0 ∷ 0 ∷ []) (0x88 ∷ 0x71 ∷ 0xd0 ∷ 0xb2 ∷ [])
+
+abbrev pub big_nano_packet : List ℕ
+big_nano_packet = big_packet_at (0 ∷ 0 ∷ 0 ∷ 0 ∷ []) (0xb2 ∷ 0xd0 ∷ 0x71 ∷ 0x88 ∷ [])
+
+-- the same packet, of interface 1
+abbrev pub of_second : List ℕ → List ℕ
+of_second packet = changed 8 1 packet
 
 -- another block, of 16 bytes
 abbrev pub other_block : List ℕ
@@ -71,16 +110,19 @@ nano_record = 3 ∷ 0 ∷ 0 ∷ 0 ∷ 5 ∷ 0 ∷ 0 ∷ 0 ∷ 3 ∷ 0 ∷ 0 ∷ 
 abbrev pub micro_record : List ℕ
 micro_record = 3 ∷ 0 ∷ 0 ∷ 0 ∷ 0x88 ∷ 0x13 ∷ 0 ∷ 0 ∷ 3 ∷ 0 ∷ 0 ∷ 0 ∷ 3 ∷ 0 ∷ 0 ∷ 0 ∷ 7 ∷ 8 ∷ 9 ∷ []
 
+-- the same without a byte, as of a frame that isn't Ethernet's
+abbrev pub bare_nano_record : List ℕ
+bare_nano_record = 3 ∷ 0 ∷ 0 ∷ 0 ∷ 5 ∷ 0 ∷ 0 ∷ 0 ∷ 0 ∷ 0 ∷ 0 ∷ 0 ∷ 0 ∷ 0 ∷ 0 ∷ 0 ∷ []
+
+abbrev pub bare_micro_record : List ℕ
+bare_micro_record = 3 ∷ 0 ∷ 0 ∷ 0 ∷ 0x88 ∷ 0x13 ∷ 0 ∷ 0 ∷ 0 ∷ 0 ∷ 0 ∷ 0 ∷ 0 ∷ 0 ∷ 0 ∷ 0 ∷ []
+
 -- the head of a record with 2^32 - 1 captured bytes, and of one with 2^32 - 1 nanoseconds
 abbrev pub bad : List ℕ
 bad = 0 ∷ 0 ∷ 0 ∷ 0 ∷ 0 ∷ 0 ∷ 0 ∷ 0 ∷ 255 ∷ 255 ∷ 255 ∷ 255 ∷ 0 ∷ 0 ∷ 0 ∷ 0 ∷ []
 
 abbrev pub untold : List ℕ
 untold = 0 ∷ 0 ∷ 0 ∷ 0 ∷ 255 ∷ 255 ∷ 255 ∷ 255 ∷ 0 ∷ 0 ∷ 0 ∷ 0 ∷ 0 ∷ 0 ∷ 0 ∷ 0 ∷ []
-
--- a text with another byte at a place
-abbrev pub changed : ℕ → ℕ → List ℕ → List ℕ
-changed place byte text = take place text ++ (byte ∷ drop (place + 1) text)
 
 -- a pcapng file has this classic text behind the file's head
 abbrev pub Gives : List ℕ → List ℕ → Type 0

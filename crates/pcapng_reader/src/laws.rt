@@ -8,6 +8,8 @@ ghost use Rattle.pcapng_reader.specs.declared.block.Interface.{Interface};
 ghost use Rattle.pcapng_reader.specs.declared.block.Order.TheVariants.{Little};
 ghost use Rattle.pcapng_reader.specs.Bytes.{AreBytes};
 ghost use Rattle.pcapng_reader.specs.Classic.{Section, begins_section, number, broken, gives, add_interface, packet_by, classic, classic_texts};
+ghost use Rattle.pcapng_reader.specs.Examples.{micro_interface, micro_packet, nano_packet, of_second, bare_nano_record, bare_micro_record};
+ghost use Rattle.pcapng_reader.specs.Examples.{big_interface_with, big_resolution, big_offset, big_comment, big_nano_packet};
 ghost use Rattle.pcapng_reader.specs.Examples.{little_section, big_section, little_interface, big_interface, interface_with, resolution, offset, comment, last_option, nano_interface, packet_at, little_packet, big_packet, other_block, nano_record, micro_record, bad, untold, changed, Gives};
 
 /// Worked by hand: whole files.
@@ -111,6 +113,57 @@ pub fn worked_options()
     ensures past { Gives (little_section ++ interface_with 28 (changed 2 5 comment)) bad }
     ensures whole { Gives (little_section ++ interface_with 28 (changed 2 4 comment)) [] }
     ensures last { Gives (little_section ++ interface_with 24 (changed 2 9 last_option)) [] }
+{}
+
+/// Worked by hand: two interfaces in one section, of which each has its own unit and link type. Of one
+/// instant, 3 seconds and 5 microseconds, both give one record.
+pub fn worked_interfaces()
+    ensures units { Gives (little_section ++ (nano_interface ++ (micro_interface
+        ++ (nano_packet ++ of_second micro_packet)))) (micro_record ++ micro_record) }
+    ensures untold_unit { Gives (little_section ++ (nano_interface ++ (little_interface
+        ++ (of_second micro_packet ++ nano_packet)))) (micro_record ++ micro_record) }
+    ensures changed_round { Gives (little_section ++ (micro_interface ++ (nano_interface
+        ++ (micro_packet ++ of_second nano_packet)))) (micro_record ++ micro_record) }
+
+    // A power of two, 2^-10 seconds, can't be told; what comes before it stands.
+    ensures binary { Gives (little_section ++ (nano_interface ++ (interface_with 28 (resolution 0x8a)
+        ++ (nano_packet ++ of_second nano_packet)))) (micro_record ++ untold) }
+
+    // Link type 257 has the low byte of Ethernet's, 1, and isn't Ethernet's; 256 is it in the other order.
+    ensures link { Gives (little_section ++ (changed 9 1 nano_interface ++ little_packet)) bare_nano_record }
+    ensures big_link { Gives (big_section ++ (changed 8 1 big_interface ++ big_packet)) bare_micro_record }
+    ensures swapped_link { Gives (big_section ++ (changed 8 1 (changed 9 0 big_interface) ++ big_packet))
+        bare_micro_record }
+    ensures links { Gives (little_section ++ (changed 9 1 nano_interface ++ (micro_interface
+        ++ (nano_packet ++ of_second micro_packet)))) (bare_micro_record ++ micro_record) }
+{}
+
+/// Worked by hand: the options of an interface in a big-endian section.
+pub fn worked_big_options()
+    ensures resolution { Gives (big_section ++ (big_interface_with 28 (big_resolution 9) ++ big_nano_packet))
+        micro_record }
+    ensures passed { Gives (big_section ++ (big_interface_with 36 (big_comment ++ big_resolution 9)
+        ++ big_nano_packet)) micro_record }
+    ensures ended { Gives (big_section ++ (big_interface_with 32 (big_resolution 9 ++ last_option)
+        ++ big_nano_packet)) micro_record }
+    ensures offset { Gives (big_section ++ (big_interface_with 40 (big_offset 0 ++ big_resolution 9)
+        ++ big_nano_packet)) micro_record }
+    ensures offset_one { Gives (big_section ++ (big_interface_with 40 (big_resolution 9 ++ big_offset 1)
+        ++ big_nano_packet)) untold }
+    ensures length { Gives (big_section ++ big_interface_with 28 (changed 3 2 (big_resolution 9))) bad }
+    ensures little { Gives (big_section ++ big_interface_with 28 (resolution 9)) bad }
+{}
+
+/// Worked by hand: an offset of 2^32 seconds, whose low 32 bits are 0, and one of -1, can't be told.
+pub fn worked_offsets()
+    ensures high { Gives (little_section
+        ++ (interface_with 40 (resolution 9 ++ changed 8 1 (offset 0)) ++ little_packet)) untold }
+    ensures big_high { Gives (big_section
+        ++ (big_interface_with 40 (big_resolution 9 ++ changed 7 1 (big_offset 0)) ++ big_nano_packet)) untold }
+    ensures highest { Gives (little_section
+        ++ (interface_with 40 (resolution 9 ++ changed 11 1 (offset 0)) ++ little_packet)) untold }
+    ensures below { Gives (little_section ++ (interface_with 40 (resolution 9
+        ++ 14 ∷ 0 ∷ 8 ∷ 0 ∷ 255 ∷ 255 ∷ 255 ∷ 255 ∷ 255 ∷ 255 ∷ 255 ∷ 255 ∷ []) ++ little_packet)) untold }
 {}
 
 /// Worked by hand: stamps that can't be told, at both sides of the limits.

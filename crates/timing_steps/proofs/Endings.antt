@@ -1,11 +1,14 @@
 -- What a run's status says of its outcome.
-use Rattle.std.proofs.Common.{◌≡◌, Ok, Err, refl, ap, ◌∙◌, sym, subst, inl, inr}
-use Rattle.std.specs.Prelude.{⊤, Result}
+use Rattle.std.proofs.Common.{◌≡◌, ℕ, List, Option, Some, None, [], true, Ok, Err, refl, ap, ◌∙◌, sym, subst, inl, inr, append-nil}
+use Rattle.std.specs.Prelude.{⊤, Bool, IfOk, Result}
+use Rattle.std.specs.Io.KnownBytes.{Appends, Keeps}
+use Rattle.std.proofs.lemmas.Bool.{false≢true, or_left, or_right}
 use Rattle.timing_report.specs.declared.status.Input.{Input}
 use Rattle.timing_report.specs.declared.status.Input.TheVariants as input
 use Rattle.timing_report.specs.declared.status.Status.{Status}
 use Rattle.timing_report.specs.declared.status.Status.TheVariants as status
 use Rattle.timing_steps.specs.Answers.{Answer}
+use Rattle.timing_steps.specs.Ends.{EndsWith, HasStatus, IsTextBeside, check_ends, is_failure, is_silent, look_ends}
 use Rattle.timing_steps.specs.Ran.{Appended, Broke, HasCause, IsAnswered, Leaves, Output}
 use Rattle.timing_steps.specs.declared.failure.Failure.{Failure}
 use Rattle.timing_steps.specs.declared.failure.Failure.TheVariants as failure
@@ -47,3 +50,62 @@ answered-is o (Ok answer) ends (inr h) cause a = absurd (subst IsAnswered h.0 a)
 answered-is o (Err (failure.ReadFault x)) ends h cause a = absurd (subst IsAnswered h.0 a)
 answered-is o (Err failure.WriteFault) ends h cause a = absurd cause
 answered-is o (Err failure.OutOfMemory) ends h cause a = absurd (subst IsAnswered h.0 a)
+
+-- what stays as it was has nothing appended
+pub kept-none : (old new : Option (List ℕ)) → Keeps old new → Appends old new []
+kept-none None new h = tt
+kept-none (Some xs) None h = absurd h
+kept-none (Some xs) (Some ys) h = h ∙ sym (append-nil xs)
+
+-- an answer that has its end, and was printed whole
+ends-whole : (may : Status → Bool) (o : Output) (answer : Answer) → HasStatus may answer → Appended o answer.text → EndsWith may o answer.status
+ends-whole may o answer has appended = record {
+  status_is = or_left (may answer.status) (is_failure answer.status) has.0;
+  silent = λ s. subst (Appended o) (subst (λ (x : Bool). IsTextBeside x answer.text) s has.1) appended;
+}
+
+-- how a run ends whose answer has one of these statuses
+pub ends-by : (may : Status → Bool) (o : Output) (outcome : Result Answer Failure) (ends : Status) → Leaves o outcome ends → IfOk outcome (HasStatus may)
+    → EndsWith may o ends
+ends-by may o (Ok answer) ends (inl h) has = subst (EndsWith may o) (sym h.0) (ends-whole may o answer has h.1)
+ends-by may o (Ok answer) ends (inr h) has =
+    subst (EndsWith may o) (sym h.0) (record { status_is = or_right (may status.WriteFault) true refl; silent = λ s. absurd (false≢true s) })
+ends-by may o (Err (failure.ReadFault x)) ends h has =
+    subst (EndsWith may o) (sym h.0) (record { status_is = or_right (may (status.ReadFault x)) true refl; silent = λ s. kept-none o.old o.new h.1 })
+ends-by may o (Err failure.WriteFault) ends h has =
+    subst (EndsWith may o) (sym h.0) (record { status_is = or_right (may status.WriteFault) true refl; silent = λ s. absurd (false≢true s) })
+ends-by may o (Err failure.OutOfMemory) ends h has =
+    subst (EndsWith may o) (sym h.0) (record { status_is = or_right (may status.OutOfMemory) true refl; silent = λ s. kept-none o.old o.new h.1 })
+
+-- the statuses of answers are none that a failure has
+look-status : (s : Status) → look_ends s ≡ true → IsAnswered s
+look-status status.Pass h = tt
+look-status status.Fail h = tt
+look-status status.Usage h = tt
+look-status (status.SdpRefused fault) h = tt
+look-status status.NotAllJudged h = tt
+look-status (status.ReadFault input) h = absurd (false≢true h)
+look-status status.WriteFault h = absurd (false≢true h)
+look-status status.OutOfMemory h = absurd (false≢true h)
+look-status status.ReportRefused h = tt
+
+check-status : (s : Status) → check_ends s ≡ true → IsAnswered s
+check-status status.Pass h = tt
+check-status status.Fail h = tt
+check-status status.Usage h = tt
+check-status (status.SdpRefused fault) h = tt
+check-status status.NotAllJudged h = tt
+check-status (status.ReadFault input) h = absurd (false≢true h)
+check-status status.WriteFault h = absurd (false≢true h)
+check-status status.OutOfMemory h = absurd (false≢true h)
+check-status status.ReportRefused h = tt
+
+pub look-answered : (answer : Answer) → HasStatus look_ends answer → IsAnswered answer.status
+look-answered answer h = look-status answer.status h.0
+
+pub check-answered : (answer : Answer) → HasStatus check_ends answer → IsAnswered answer.status
+check-answered answer h = check-status answer.status h.0
+
+-- an answer that is known
+pub status-as : (may : Status → Bool) (a b : Answer) → a ≡ b → HasStatus may b → HasStatus may a
+status-as may a b is h = subst (HasStatus may) (sym is) h

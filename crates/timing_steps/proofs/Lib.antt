@@ -3,5 +3,5 @@ mod Sessions
 pub mod Classics
 pub mod Readings
 pub mod Seeing
-mod Endings
+pub mod Endings
 mod Takings

@@ -6,6 +6,7 @@ ghost use Rattle.timing_json.specs.declared.reading.ReportProof.{ReportProof as 
 ghost use Rattle.timing_outside.specs.Causes.{Rose};
 ghost use Rattle.timing_outside.specs.Shelves.{StaysAs};
 ghost use Rattle.timing_steps.specs.Answers.{Gives, OnReadFault, Yields, seen_of};
+ghost use Rattle.timing_steps.specs.Ends.{EndsWith, HasStatus, report_ends};
 ghost use Rattle.timing_steps.specs.Ran.{HasCause, Ran, output_of};
 ghost use Rattle.timing_verify.specs.Asked.{FollowsReport, HasReported, ReadsNeeded, ReadsReport, ReportInputRose};
 
@@ -56,6 +57,7 @@ fn answer_on<H: Shelf>(
 ) -> Result<Answer, Failure>
     ensures follows { Yields result (ReadsNeeded (seen_of H.Shelf shelf.old shelf.new) result job.now media.now claims.now
         (λ text. Gives result (HasReported job.now media.now claims.now text))) }
+    ensures answers { IfOk result (HasStatus report_ends) }
     ensures cause { HasCause result (ReportInputRose job.now (seen_of H.Shelf shelf.old shelf.new)) }
     ensures stays { StaysAs H.text H.lacks H.faults shelf.old shelf.new }
 {
@@ -72,6 +74,7 @@ fn answer_over<H: Shelf>(
 ) -> Result<Answer, Failure>
     ensures follows { Yields result (ReadsReport (seen_of H.Shelf shelf.old shelf.new) result job.now.report (λ claims. ReadsNeeded (seen_of H.Shelf shelf.old shelf.new) result job.now media.now claims
         (λ text. Gives result (HasReported job.now media.now claims text)))) }
+    ensures answers { IfOk result (HasStatus report_ends) }
     ensures cause { HasCause result (ReportInputRose job.now (seen_of H.Shelf shelf.old shelf.new)) }
     ensures stays { StaysAs H.text H.lacks H.faults shelf.old shelf.new }
 {
@@ -85,6 +88,7 @@ fn answer_over<H: Shelf>(
 /// of its flow are fetched anew; nothing is fetched for one whose flow isn't there.
 fn answer_report<H: Shelf>(alloc: Global, job: &ReportJob, shelf: &mut H) -> Result<Answer, Failure>
     ensures follows { FollowsReport job.now (seen_of H.Shelf shelf.old shelf.new) result }
+    ensures answers { IfOk result (HasStatus report_ends) }
     ensures cause { HasCause result (ReportInputRose job.now (seen_of H.Shelf shelf.old shelf.new)) }
     ensures stays { StaysAs H.text H.lacks H.faults shelf.old shelf.new }
 {
@@ -108,6 +112,7 @@ pub fn verify_all<H: Shelf, K: Sink>(
         (output_of K.Sink out.old out.new)
         (output_of K.Sink err.old err.new)
         result }
+    ensures ends { EndsWith report_ends (output_of K.Sink out.old out.new) result }
     ensures stays { StaysAs H.text H.lacks H.faults shelf.old shelf.new }
 {
     let outcome = answer_report(alloc, job, shelf);

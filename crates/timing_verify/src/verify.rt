@@ -1,8 +1,9 @@
 //! `verify`: one fail, checked from the captures alone.
 
-ghost use Rattle.std.specs.Prelude.{◌≡◌, slice_get};
+ghost use Rattle.std.specs.Prelude.{◌≡◌, IfOk, slice_get};
 ghost use Rattle.timing_outside.specs.Shelves.{StaysAs};
 ghost use Rattle.timing_steps.specs.Answers.{Gives, ReadsCaptures, Yields, seen_of};
+ghost use Rattle.timing_steps.specs.Ends.{EndsWith, HasStatus, check_ends};
 ghost use Rattle.timing_steps.specs.Ran.{HasCause, Ran, output_of};
 ghost use Rattle.timing_verify.specs.Asked.{FollowsVerify, HasVerified, ReadsMedia, VerifyInputRose, claim_of};
 
@@ -38,6 +39,7 @@ fn answer_on<H: Shelf>(
     media: &Media,
 ) -> Result<Answer, Failure>
     ensures follows { Yields result (ReadsCaptures (seen_of H.Shelf shelf.old shelf.new) result job.now.captures (λ texts. Gives result (HasVerified job.now media.now texts))) }
+    ensures answers { IfOk result (HasStatus check_ends) }
     ensures cause { HasCause result (VerifyInputRose job.now (seen_of H.Shelf shelf.old shelf.new)) }
     ensures stays { StaysAs H.text H.lacks H.faults shelf.old shelf.new }
 {
@@ -55,6 +57,7 @@ fn answer_over<H: Shelf>(
     media: &[Media],
 ) -> Result<Answer, Failure>
     ensures follows { Yields result (ReadsMedia (seen_of H.Shelf shelf.old shelf.new) result job.now (slice_get media.now job.now.media)) }
+    ensures answers { IfOk result (HasStatus check_ends) }
     ensures cause { HasCause result (VerifyInputRose job.now (seen_of H.Shelf shelf.old shelf.new)) }
     ensures stays { StaysAs H.text H.lacks H.faults shelf.old shelf.new }
 {
@@ -68,6 +71,7 @@ fn answer_over<H: Shelf>(
 /// confirmed, and no capture is fetched.
 fn answer_verify<H: Shelf>(alloc: Global, job: &VerifyJob, shelf: &mut H) -> Result<Answer, Failure>
     ensures follows { FollowsVerify job.now (seen_of H.Shelf shelf.old shelf.new) result }
+    ensures answers { IfOk result (HasStatus check_ends) }
     ensures cause { HasCause result (VerifyInputRose job.now (seen_of H.Shelf shelf.old shelf.new)) }
     ensures stays { StaysAs H.text H.lacks H.faults shelf.old shelf.new }
 {
@@ -91,6 +95,7 @@ pub fn verify_one<H: Shelf, K: Sink>(
         (output_of K.Sink out.old out.new)
         (output_of K.Sink err.old err.new)
         result }
+    ensures ends { EndsWith check_ends (output_of K.Sink out.old out.new) result }
     ensures stays { StaysAs H.text H.lacks H.faults shelf.old shelf.new }
 {
     let outcome = answer_verify(alloc, job, shelf);
