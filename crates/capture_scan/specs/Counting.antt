@@ -2,6 +2,10 @@
 use Rattle.std.specs.Prelude.{ℕ, ◌+◌, min, max, if◌then◌else◌, ◌||◌, List, [], Option, Some, None}
 use Rattle.timing_base.specs.declared.packet.Rtp.{Rtp}
 use Rattle.capture_scan.specs.Streams.{arrival, goes_back, has_other_type, is_same, lost_in, range_from, size, step, wraps_alone}
+use Rattle.capture_scan.specs.declared.class.Class.{Class}
+use Rattle.capture_scan.specs.declared.class.Class.TheVariants.{Empty, Tags, Ipv6, Other, NotUdp, Fragment, Broken}
+use Rattle.capture_scan.specs.declared.found.PassedOver.{PassedOver}
+use Rattle.capture_scan.specs.declared.found.Span.{Span}
 use Rattle.capture_scan.specs.declared.mark.Mark.{Mark}
 use Rattle.capture_scan.specs.declared.packet.Line.{Line}
 use Rattle.capture_scan.specs.declared.packet.Packet.{Packet}
@@ -76,3 +80,18 @@ stream_next s number mark p = record {
   pace = pace_with s.pace mark (mark_of s.packets p.rtp);
   lines = lines_with s.lines p.line;
 }
+
+-- the stamps of the first record and the last, with one record more
+abbrev pub span_with : Option Span → ℕ → Span
+span_with None at = record { first = at; last = at }
+span_with (Some span) at = record { first = span.first; last = at }
+
+-- the frames that are passed over, with one of this class more
+abbrev pub passed_with : PassedOver → Class → PassedOver
+passed_with n Empty = record n { empty = n.empty + 1 }
+passed_with n Tags = record n { tags = n.tags + 1 }
+passed_with n Ipv6 = record n { ipv6 = n.ipv6 + 1 }
+passed_with n Other = record n { other = n.other + 1 }
+passed_with n NotUdp = record n { not_udp = n.not_udp + 1 }
+passed_with n Fragment = record n { fragment = n.fragment + 1 }
+passed_with n Broken = record n { broken = n.broken + 1 }

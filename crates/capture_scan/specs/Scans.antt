@@ -2,9 +2,12 @@
 -- A stream is the packets of one target and one synchronisation source (RFC 3550, section 3).
 -- This project's profile: at most 1,024 streams are told, and at most 1,024 targets with unread packets.
 use Rattle.std.specs.Prelude.{◌≡◌, ℕ, ◌+◌, ◌==◌, ◌&&◌, Bool, true, false, List, [], ◌∷◌, length, map, filter_map}
-use Rattle.std.specs.Prelude.{Option, Some, None}
+use Rattle.std.specs.Prelude.{Option, Some, None, Result, Ok, Err}
 use Rattle.std.specs.List.{count_by}
 use Rattle.timing_base.specs.Captures.{Record}
+use Rattle.timing_base.specs.declared.packet.FlowPacket.{FlowPacket}
+use Rattle.timing_base.specs.declared.packet.PacketFault.{PacketFault}
+use Rattle.timing_base.specs.declared.packet.Rtp.{Rtp}
 use Rattle.timing_base.specs.declared.target.Target.{Target}
 use Rattle.capture_scan.specs.Frames.{seen}
 use Rattle.capture_scan.specs.Groups.{count_more, items_of, told}
@@ -58,11 +61,13 @@ is_same_key a b = (a.address == b.address) && (a.port == b.port)
 abbrev pub most_told : ℕ
 most_told = 1024
 
+-- the packets of a stream
+abbrev pub packets_of : List Packet → StreamKey → List Packet
+packets_of ps k = items_of is_same_stream stream_key most_told ps k
+
 -- the streams that are told, in the order of their first packets
 abbrev pub streams : List Packet → List Stream
-streams ps =
-    filter_map (λ k. stream_of (items_of is_same_stream stream_key most_told ps k))
-    (told is_same_stream stream_key most_told ps)
+streams ps = filter_map (λ k. stream_of (packets_of ps k)) (told is_same_stream stream_key most_told ps)
 
 -- the packets of the streams that aren't
 abbrev pub more_packets : List Packet → ℕ
@@ -116,6 +121,10 @@ passed_over records = record {
   broken = count_of Broken records;
 }
 
+-- how many they are
+abbrev pub count_passed : Counts → ℕ
+count_passed n = n.empty + n.tags + n.ipv6 + n.other + n.not_udp + n.fragment + n.broken
+
 -- the stamps of the first record and the last
 abbrev pub span_of : List Record → Option Span
 span_of [] = None
@@ -129,3 +138,19 @@ pub record IsFound (records : List Record) (found : Found) : Type 0 where
   pub streams_are : found.streams.items ≡ streams (packets records)
   pub unread_are : found.unread.items ≡ unread_targets (unread records)
   pub more_is : found.more ≡ more_packets (packets records) + more_unread (unread records)
+
+-- the stream of this target and this SSRC
+abbrev pub stream_to : Target → ℕ → StreamKey
+stream_to target ssrc = record { address = target.address; port = target.port; ssrc = ssrc }
+
+-- a packet as one of its flow
+abbrev pub as_flow_packet : Packet → FlowPacket
+as_flow_packet p = record { rec = p.rec; at = p.at; rtp = Ok p.rtp }
+
+-- whether a packet of a flow was read, and has this SSRC
+abbrev pub is_read_from : ℕ → Result Rtp PacketFault → Bool
+is_read_from ssrc (Ok rtp) = rtp.ssrc == ssrc
+is_read_from ssrc (Err fault) = false
+
+abbrev pub is_from : ℕ → FlowPacket → Bool
+is_from ssrc p = is_read_from ssrc p.rtp

@@ -7,12 +7,13 @@ ghost use Rattle.timing_base.specs.Captures.{Record};
 ghost use Rattle.timing_base.specs.Media.{Media};
 ghost use Rattle.timing_base.specs.Targets.{target_of};
 ghost use Rattle.udp_rtp.specs.Examples.{extension, frame_of, frame_with, group, ip, ip_type, macs, packet, plain_ip, rtp, source, tag, udp};
+ghost use Rattle.udp_rtp.specs.Flow.{flow};
 ghost use Rattle.udp_rtp.specs.Frames.{Datagram, datagram_of};
 ghost use Rattle.capture_scan.specs.Classes.{class_of};
 ghost use Rattle.capture_scan.specs.Examples.{arp_type, broken_frame, came, fragment_frame, frame_on, ipv6_type, line_header, one_of_each, order_with, pace_with, plain_at, provider_tag, read_with, records_from, second_header, sender, tcp_frame, ten};
 ghost use Rattle.capture_scan.specs.Frames.{first_line, seen};
 ghost use Rattle.capture_scan.specs.Groups.{count_more, told};
-ghost use Rattle.capture_scan.specs.Scans.{more_packets, packets, passed_over, span_of, streams, unread, unread_targets};
+ghost use Rattle.capture_scan.specs.Scans.{as_flow_packet, count_passed, is_from, more_packets, more_unread, packets, packets_of, passed_over, span_of, stream_to, streams, unread, unread_targets};
 ghost use Rattle.capture_scan.specs.Streams.{lines_of, order_of, pace_of, stream_of};
 ghost use Rattle.capture_scan.specs.declared.class.Class.TheVariants.{Broken, Empty, Fragment, Ipv6, NotUdp, Other, Tags};
 ghost use Rattle.capture_scan.specs.declared.packet.Seen.TheVariants as seen_as;
@@ -214,4 +215,24 @@ pub fn streams_by_hand()
     // Unread packets to two targets.
     ensures unread { unread_targets (group ∷ sender ∷ group ∷ [])
         ≡ record { target = group; packets = 2 } ∷ record { target = sender; packets = 1 } ∷ [] }
+{}
+
+/// A frame that has a target is of none of the classes that stand before the last.
+pub fn targets_are_no_class()
+    ensures { (frame : List ℕ) (d : Datagram) → datagram_of frame ≡ Some d → class_of frame ≡ Broken }
+{}
+
+/// The packets of a stream are those of the flow of a media with its target that are read and have its SSRC.
+pub fn streams_are_flows()
+    ensures { (media : Media) (ssrc : ℕ) (records : List Record)
+        → map as_flow_packet (packets_of (packets records) (stream_to (target_of media) ssrc))
+        ≡ filter (is_from ssrc) (flow records media) }
+{}
+
+/// Each record counts once: in its class, in its stream, at its target, or as one more.
+pub fn records_count_once()
+    ensures { (records : List Record) → count_passed (passed_over records)
+        + (sum_by (λ s. s.packets) (streams (packets records))
+        + (sum_by (λ u. u.packets) (unread_targets (unread records))
+        + (more_packets (packets records) + more_unread (unread records)))) ≡ length records }
 {}

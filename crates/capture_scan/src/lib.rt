@@ -6,14 +6,22 @@
 #![tactic(auto)]
 
 mod class;
+mod counter;
 mod found;
 mod key;
 pub mod laws;
 mod mark;
 mod packet;
+mod scan;
 mod stream;
+mod streams;
+mod unread;
 
 pub use class::Class;
 pub use found::{Found, PassedOver, Span, UnreadTarget};
 pub use packet::{Line, Packet, Seen, look_at};
+pub use scan::Scan;
 pub use stream::{Arrival, Lines, Order, Pace, Range, Rate, Stream};
+
+#[cfg(test)]
+mod tests;
