@@ -14,7 +14,7 @@ use Rattle.capture_scan.specs.Stands.{HaveMissed, HaveTaken, StandsFor}
 use Rattle.capture_scan.specs.Streams.{last_from}
 use Rattle.capture_scan.specs.declared.class.Class.{Class}
 use Rattle.capture_scan.specs.declared.class.Class.TheVariants.{Empty, Tags, Ipv6, Other, NotUdp, Fragment, Broken}
-use Rattle.capture_scan.specs.declared.found.PassedOver.{PassedOver as Counts}
+use Rattle.capture_scan.specs.declared.found.PassedOver.{PassedOver as ClassCounts}
 use Rattle.capture_scan.specs.declared.found.Span.{Span}
 use Rattle.capture_scan.specs.declared.packet.Packet.{Packet}
 use Rattle.capture_scan.specs.declared.packet.Seen.{Seen}
@@ -26,7 +26,7 @@ span-push [] r = refl
 span-push (x ∷ xs) r = λ i. Some (record { first = x.stamp; last = (last_from-push x xs r i).stamp })
 
 -- the frames that are passed over, with what is seen of one record more
-abbrev pub passed_seen : Counts → Seen → Counts
+abbrev pub passed_seen : ClassCounts → Seen → ClassCounts
 passed_seen n (PassedOver class) = passed_with n class
 passed_seen n (Unread target) = n
 passed_seen n (Read packet) = n
@@ -35,7 +35,7 @@ plus_zero : (n : ℕ) → n + 0 ≡ n
 plus_zero n = omega arith
 
 -- each count with one record more
-abbrev counted : Counts → Seen → Counts
+abbrev counted : ClassCounts → Seen → ClassCounts
 counted n s = record {
   empty = n.empty + cond (is_of_class Empty s) 1 0;
   tags = n.tags + cond (is_of_class Tags s) 1 0;
@@ -46,7 +46,7 @@ counted n s = record {
   broken = n.broken + cond (is_of_class Broken s) 1 0;
 }
 
-counted-seen : (n : Counts) (s : Seen) → counted n s ≡ passed_seen n s
+counted-seen : (n : ClassCounts) (s : Seen) → counted n s ≡ passed_seen n s
 counted-seen n (PassedOver Empty) = λ i. record { empty = n.empty + 1; tags = plus_zero n.tags i; ipv6 = plus_zero n.ipv6 i; other = plus_zero n.other i; not_udp = plus_zero n.not_udp i; fragment = plus_zero n.fragment i; broken = plus_zero n.broken i }
 counted-seen n (PassedOver Tags) = λ i. record { empty = plus_zero n.empty i; tags = n.tags + 1; ipv6 = plus_zero n.ipv6 i; other = plus_zero n.other i; not_udp = plus_zero n.not_udp i; fragment = plus_zero n.fragment i; broken = plus_zero n.broken i }
 counted-seen n (PassedOver Ipv6) = λ i. record { empty = plus_zero n.empty i; tags = plus_zero n.tags i; ipv6 = n.ipv6 + 1; other = plus_zero n.other i; not_udp = plus_zero n.not_udp i; fragment = plus_zero n.fragment i; broken = plus_zero n.broken i }
@@ -87,7 +87,7 @@ stands-push old new rs r s is stands records span passed taken missed =
     record {
       records_are = records ∙ (ap (λ (n : ℕ). n + 1) stands.records_are ∙ sym (length_push rs r));
       span_is = span ∙ (ap (λ (o : Option Span). Some (span_with o r.stamp)) stands.span_is ∙ sym (span-push rs r));
-      passed_over_are = passed ∙ (ap (λ (n : Counts). passed_seen n s) stands.passed_over_are
+      passed_over_are = passed ∙ (ap (λ (n : ClassCounts). passed_seen n s) stands.passed_over_are
           ∙ (ap (λ (t : Seen). passed_seen (passed_over rs) t) (sym is) ∙ sym (passed-push rs r)));
       streams_are = subst (λ (ps : List Packet). HaveTaken new.streams ps) (sym read) taken;
       unread_are = subst (λ (ts : List Target). HaveMissed new.unread ts) (sym not_read) missed;

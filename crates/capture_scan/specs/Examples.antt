@@ -1,5 +1,5 @@
 -- Frames, packets and lists of numbers for examples that are worked by hand.
-use Rattle.std.specs.Prelude.{ℕ, ◌+◌, ◌*◌, Bool, false, List, [], ◌∷◌, ◌++◌, None}
+use Rattle.std.specs.Prelude.{ℕ, ◌+◌, ◌*◌, Bool, true, false, List, replicate, [], ◌∷◌, ◌++◌, None}
 use Rattle.timing_base.specs.Captures.{Record}
 use Rattle.timing_base.specs.declared.packet.Rtp.{Rtp}
 use Rattle.timing_base.specs.declared.target.Target.{Target}
@@ -51,7 +51,7 @@ plain_at rec at = record {
   line = None;
 }
 
--- a frame to the group whose RTP payload goes on behind the extended sequence number, up to 255 bytes of UDP
+-- a frame to the group whose RTP payload goes on behind the extended sequence number, with this UDP length, below 256
 abbrev pub frame_on : ℕ → List ℕ → List ℕ
 frame_on stated more = macs ++ (ip_type ++ (plain_ip ++ (udp stated ++ (rtp 0x80 0x60 ++ (extended ++ more)))))
 
@@ -65,6 +65,10 @@ second_header = 0x07 ∷ 0x80 ∷ 0x82 ∷ 0x1b ∷ 0x00 ∷ 0x00 ∷ []
 -- what is read of a packet with this timestamp and marker
 abbrev pub read_with : ℕ → Bool → Rtp
 read_with timestamp marker = record { number = 1; timestamp = timestamp; marker = marker; pt = 96; ssrc = 1 }
+
+-- so many packets with this timestamp, and one more with it and the marker
+abbrev pub frame_of_reads : (unmarked timestamp : ℕ) → List Rtp
+frame_of_reads unmarked timestamp = replicate unmarked (read_with timestamp false) ++ (read_with timestamp true ∷ [])
 
 -- a packet to the group by record, which is also its stamp, SSRC, number and marker
 abbrev pub came : (rec ssrc number : ℕ) → Bool → Packet

@@ -15,7 +15,7 @@ use Rattle.capture_scan.specs.Streams.{last_from, stream_of}
 use Rattle.capture_scan.specs.declared.class.Class.{Class}
 use Rattle.capture_scan.specs.declared.class.Class.TheVariants.{Empty, Tags, Ipv6, Other, NotUdp, Fragment, Broken}
 use Rattle.capture_scan.specs.declared.found.Found.{Found}
-use Rattle.capture_scan.specs.declared.found.PassedOver.{PassedOver as Counts}
+use Rattle.capture_scan.specs.declared.found.PassedOver.{PassedOver as ClassCounts}
 use Rattle.capture_scan.specs.declared.found.Span.{Span}
 use Rattle.capture_scan.specs.declared.found.UnreadTarget.{UnreadTarget}
 use Rattle.capture_scan.specs.declared.key.StreamKey.{StreamKey}
@@ -110,7 +110,7 @@ abbrev pub count_of : Class → List Record → ℕ
 count_of c records = count_by (λ r. is_of_class c (seen r)) records
 
 -- the records that are passed over
-abbrev pub passed_over : List Record → Counts
+abbrev pub passed_over : List Record → ClassCounts
 passed_over records = record {
   empty = count_of Empty records;
   tags = count_of Tags records;
@@ -122,7 +122,7 @@ passed_over records = record {
 }
 
 -- how many they are
-abbrev pub count_passed : Counts → ℕ
+abbrev pub count_passed : ClassCounts → ℕ
 count_passed n = n.empty + n.tags + n.ipv6 + n.other + n.not_udp + n.fragment + n.broken
 
 -- the stamps of the first record and the last

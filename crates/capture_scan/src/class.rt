@@ -24,15 +24,17 @@ pub enum Class {
     Broken,
 }
 
-/// The type field of IPv4 (IEEE 802.3; RFC 894), of IPv6 (RFC 2464), of a tag (IEEE 802.1Q), and of a provider's tag
-/// (IEEE 802.1ad).
+/// The type field of a tag (IEEE 802.1Q).
+pub(crate) const TAG: u16 = 0x8100;
+
+/// The type field of a tag of a provider's bridge (IEEE 802.1Q).
+const PROVIDER_TAG: u16 = 0x88a8;
+
+/// The type field of IPv4 (RFC 894).
 const IPV4: u16 = 0x0800;
 
+/// The type field of IPv6 (RFC 2464, section 3).
 const IPV6: u16 = 0x86dd;
-
-const TAG: u16 = 0x8100;
-
-const PROVIDER_TAG: u16 = 0x88a8;
 
 /// Whether a type field with this number stands at a place.
 fn has_kind(frame: &[u8], place: usize, kind: u16) -> bool

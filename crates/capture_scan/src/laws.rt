@@ -10,7 +10,7 @@ ghost use Rattle.udp_rtp.specs.Examples.{extension, frame_of, frame_with, group,
 ghost use Rattle.udp_rtp.specs.Flow.{flow};
 ghost use Rattle.udp_rtp.specs.Frames.{Datagram, datagram_of};
 ghost use Rattle.capture_scan.specs.Classes.{class_of};
-ghost use Rattle.capture_scan.specs.Examples.{arp_type, broken_frame, came, fragment_frame, frame_on, ipv6_type, line_header, one_of_each, order_with, pace_with, plain_at, provider_tag, read_with, records_from, second_header, sender, tcp_frame, ten};
+ghost use Rattle.capture_scan.specs.Examples.{arp_type, broken_frame, came, fragment_frame, frame_of_reads, frame_on, ipv6_type, line_header, one_of_each, order_with, pace_with, plain_at, provider_tag, read_with, records_from, second_header, sender, tcp_frame, ten};
 ghost use Rattle.capture_scan.specs.Frames.{first_line, seen};
 ghost use Rattle.capture_scan.specs.Groups.{count_more, told};
 ghost use Rattle.capture_scan.specs.Scans.{as_flow_packet, count_passed, is_from, more_packets, more_unread, packets, packets_of, passed_over, span_of, stream_to, streams, unread, unread_targets};
@@ -148,6 +148,12 @@ pub fn paces_by_hand()
     ensures behind { pace_of (read_with 100 false ∷ read_with 100 true ∷ read_with 200 true
         ∷ read_with 300 false ∷ []) ≡ Some (pace_with 1 1 100 100 100 1) }
     ensures one { pace_of (read_with 100 false ∷ read_with 100 true ∷ read_with 200 false ∷ []) ≡ None }
+
+    // Two frames of 20 packets behind a marked one, at 50 frames a second; and the same with one packet lost.
+    ensures plain { pace_of (read_with 0 true ∷ frame_of_reads 19 1800 ++ frame_of_reads 19 3600)
+        ≡ Some (pace_with 20 20 1800 1800 3600 2) }
+    ensures gap { pace_of (read_with 0 true ∷ frame_of_reads 19 1800 ++ frame_of_reads 18 3600)
+        ≡ Some (pace_with 19 20 1800 1800 3600 2) }
 
     // The timestamp wraps, and stays.
     ensures wraps { pace_of (read_with 4294967196 true ∷ read_with 200 true ∷ read_with 200 true ∷ [])

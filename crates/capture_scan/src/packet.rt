@@ -6,7 +6,7 @@ ghost use Rattle.udp_rtp.specs.Reading.{payload_place, reading};
 ghost use Rattle.timing_base.specs.declared.packet.Rtp.{Rtp as Fields};
 ghost use Rattle.capture_scan.specs.Frames.{first_line, header_place, line_at, packet_in, seen, source_at};
 
-use crate::class::{Class, class_of};
+use crate::class::{Class, TAG, class_of};
 use byteorder::{BigEndian, ByteOrder};
 use timing_base::{Rtp, Target};
 use udp_rtp::{Datagram, datagram, read_rtp};
@@ -48,9 +48,6 @@ pub enum Seen {
     /// A packet of RTP.
     Read(Packet),
 }
-
-/// The type field of a tag (IEEE 802.1Q).
-const TAG: u16 = 0x8100;
 
 /// Where the IPv4 header stands in a frame that has a target.
 #[inline(always)]
