@@ -1,6 +1,6 @@
 -- A frame with a target is of none of the classes that stand before the last.
-use Rattle.std.proofs.Common.{◌≡◌, ◌≤◌, ℕ, ◌+◌, ◌/◌, ◌%◌, ◌^◌, ◌==◌, ◌&&◌, ◌||◌, Bool, true, false, cond, nat_le, slice_index, if◌then◌else◌, List, length, Some, None, ◌⊎◌, inl, inr, refl, sym, ap, subst, ◌∙◌, arith, eq-eqb, eqb-true, le-leb, true≢false}
-use Rattle.std.proofs.lemmas.Bool.{and_from, and_left, and_parts, and_right, ne_eqb, or_from}
+use Rattle.std.proofs.Common.{◌≡◌, ◌≤◌, ℕ, ◌+◌, ◌/◌, ◌%◌, ◌^◌, ◌==◌, ◌&&◌, Bool, true, false, nat_le, slice_index, if◌then◌else◌, List, length, Some, None, ◌⊎◌, inl, inr, refl, sym, ap, subst, ◌∙◌, arith, eq-eqb, eqb-true, le-leb, true≢false}
+use Rattle.std.proofs.lemmas.Bool.{and_from, and_left, and_right, ne_eqb, or_from}
 use Rattle.udp_rtp.specs.Frames.{Datagram, datagram_of, is_udp_at}
 use Rattle.udp_rtp.specs.Numbers.{number16}
 use Rattle.capture_scan.proofs.Frames.{reaches, udp-parts}

@@ -1,5 +1,5 @@
 -- The numbers of a stream with one packet more are its numbers before, and that packet.
-use Rattle.std.proofs.Common.{◌≡◌, ℕ, ◌+◌, min, max, Bool, true, false, cond, ◌||◌, List, [], ◌∷◌, ◌++◌, map, filter_map, length, Option, Some, None, option_to_list, refl, sym, ap, subst, ◌∙◌, arith, sum_by, count_by, fold}
+use Rattle.std.proofs.Common.{◌≡◌, ℕ, ◌+◌, min, max, Bool, true, false, cond, ◌||◌, List, [], ◌∷◌, ◌++◌, map, filter_map, length, Option, Some, None, option_to_list, refl, sym, ap, ◌∙◌, arith, sum_by, count_by, fold}
 use Rattle.std.specs.List.{cons_option, last_or, list_any}
 use Rattle.std.proofs.lemmas.List.{append-nil, length-map, length_push, map_push}
 use Rattle.std.proofs.lemmas.List.Elements.{filter_map-append}
@@ -12,8 +12,6 @@ use Rattle.capture_scan.specs.declared.mark.Mark.{Mark}
 use Rattle.capture_scan.specs.declared.packet.Line.{Line}
 use Rattle.capture_scan.specs.declared.packet.Packet.{Packet}
 use Rattle.capture_scan.specs.declared.stream.Lines.{Lines}
-use Rattle.capture_scan.specs.declared.stream.Pace.{Pace}
-use Rattle.capture_scan.specs.declared.stream.Range.{Range}
 
 module _ {X : Type 0} where
   -- the last item

@@ -1,5 +1,5 @@
 -- The entries of a map whose keys are told apart by a test.
-use Rattle.std.proofs.Common.{◌≡◌, ℕ, zero, suc, ◌+◌, ◌≤◌, ◌<◌, Bool, true, false, cond, List, [], ◌∷◌, ◌++◌, map, filter_map, length, set, get_or, slice_get, position, All, Option, Some, None, Bor, refl, sym, ap, subst, ◌∙◌, arith, eqb-true, eq-eqb}
+use Rattle.std.proofs.Common.{◌≡◌, ℕ, zero, suc, ◌+◌, ◌≤◌, ◌<◌, Bool, cond, List, [], ◌∷◌, ◌++◌, map, filter_map, length, set, get_or, slice_get, position, All, Option, Some, None, Bor, refl, sym, ap, subst, ◌∙◌, arith, eqb-true, eq-eqb}
 use Rattle.std.specs.List.{cons_option}
 use Rattle.std.specs.Map.{keys_of, lookup, values_of}
 use Rattle.std.specs.Map.Iter.{deref_pair}
@@ -17,8 +17,6 @@ use Rattle.capture_scan.proofs.Counting.{none_some, some_same}
 use Rattle.capture_scan.proofs.Groups.{TellsApart, equivalence, stand-found, stand-full, stand-new}
 use Rattle.capture_scan.specs.Groups.{HaveItems, items_of, told}
 use Rattle.capture_scan.specs.Scans.{is_same_key, is_same_stream}
-use Rattle.capture_scan.specs.declared.key.StreamKey.{StreamKey}
-use Rattle.capture_scan.specs.declared.key.TargetKey.{TargetKey}
 
 -- streams and targets are told apart by their keys
 pub streams_apart : TellsApart is_same_stream

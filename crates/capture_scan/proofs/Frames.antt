@@ -1,5 +1,5 @@
 -- How far a frame with a target reaches, and a payload that was read.
-use Rattle.std.proofs.Common.{◌≡◌, ◌≤◌, ℕ, ◌+◌, ◌*◌, ◌/◌, ◌%◌, ◌^◌, ◌==◌, ◌&&◌, Bool, true, false, cond, nat_le, nat_lt, slice_index, if◌then◌else◌, List, length, Option, Some, None, Result, Ok, Err, refl, sym, ap, subst, ◌∙◌, arith, leb-true, ltb-false, eqb-true}
+use Rattle.std.proofs.Common.{◌≡◌, ◌≤◌, ℕ, ◌+◌, ◌/◌, ◌%◌, ◌^◌, ◌==◌, ◌&&◌, Bool, true, false, nat_le, nat_lt, slice_index, if◌then◌else◌, List, length, Option, Some, None, Ok, Err, refl, sym, ap, subst, ◌∙◌, arith, leb-true, ltb-false, eqb-true}
 use Rattle.std.proofs.lemmas.Bool.{and_parts}
 use Rattle.timing_base.specs.declared.packet.PacketFault.{PacketFault}
 use Rattle.timing_base.specs.declared.packet.PacketFault.TheVariants.{Short, Version}

@@ -1,12 +1,11 @@
 -- Items by their keys, with one item more.
-use Rattle.std.proofs.Common.{◌≡◌, ℕ, zero, suc, ◌+◌, ◌≤◌, ◌<◌, Bool, true, false, Some, None, cond, not, ◌||◌, List, [], ◌∷◌, ◌++◌, map, length, take, filter, count_by, sum_by, refl, sym, ap, subst, ◌∙◌, arith, inl, inr, true≢false}
+use Rattle.std.proofs.Common.{◌≡◌, ℕ, zero, suc, ◌+◌, ◌≤◌, ◌<◌, Bool, true, false, Some, None, cond, not, ◌||◌, List, [], ◌∷◌, ◌++◌, map, length, take, filter, count_by, refl, sym, ap, subst, ◌∙◌, arith, true≢false}
 use Rattle.std.specs.List.{list_any}
 use Rattle.std.specs.Cmp.{IsEquivalence}
 use Rattle.std.specs.Map.{keys_of, lookup}
 use Rattle.std.proofs.lemmas.Bool.{or_parts, or_right}
 use Rattle.std.proofs.lemmas.List.{append-nil, length_push, map_push, length-take, take-append-le, take_all}
 use Rattle.std.proofs.lemmas.List.Elements.{filter-append}
-use Rattle.std.proofs.lemmas.List.Folds.{list_any-append}
 use Rattle.std.proofs.lemmas.List.Sums.{sum_by-cons, sum_by_push}
 use Rattle.capture_scan.proofs.Counting.{none_some, some_same}
 use Rattle.capture_scan.specs.Groups.{HaveItems, count_more, distinct, is_among, items_of, told}

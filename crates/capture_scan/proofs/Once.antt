@@ -1,9 +1,8 @@
 -- Each item is among the items of one key that is told, or is one more.
-use Rattle.std.proofs.Common.{◌≡◌, ℕ, zero, suc, ◌+◌, ◌≤◌, Bool, true, false, cond, not, ◌||◌, List, [], ◌∷◌, map, filter, filter_map, length, take, count_by, sum_by, Option, Some, None, refl, sym, ap, subst, ◌∙◌, arith, true≢false}
-use Rattle.std.specs.List.{cons_option, list_any}
+use Rattle.std.proofs.Common.{◌≡◌, ℕ, zero, suc, ◌+◌, ◌≤◌, Bool, true, false, cond, not, ◌||◌, List, [], ◌∷◌, map, filter, filter_map, length, take, count_by, sum_by, Option, Some, None, refl, sym, ap, ◌∙◌, arith, true≢false}
+use Rattle.std.specs.List.{cons_option}
 use Rattle.std.proofs.lemmas.Bool.{or_parts}
 use Rattle.std.proofs.lemmas.List.Sums.{sum_by-cons}
-use Rattle.timing_base.specs.declared.target.Target.{Target}
 use Rattle.capture_scan.proofs.Groups.{TellsApart, flips, one_of}
 use Rattle.capture_scan.specs.Groups.{count_more, distinct, is_among, items_of, told}
 

@@ -1,5 +1,5 @@
 -- A scan that was given some records was given one more.
-use Rattle.std.proofs.Common.{◌≡◌, ℕ, ◌+◌, Bool, cond, List, [], ◌∷◌, ◌++◌, length, count_by, Option, Some, None, Result, Ok, Err, IfOk, OnOk, refl, sym, ap, subst, ◌∙◌, arith}
+use Rattle.std.proofs.Common.{◌≡◌, ℕ, ◌+◌, cond, List, [], ◌∷◌, ◌++◌, Option, Some, Result, Ok, Err, IfOk, OnOk, refl, sym, ap, subst, ◌∙◌, arith}
 use Rattle.std.specs.List.{cons_option}
 use Rattle.std.proofs.lemmas.List.{append-nil, length_push}
 use Rattle.std.proofs.lemmas.List.Elements.{filter_map-append}
@@ -11,7 +11,6 @@ use Rattle.capture_scan.specs.Counting.{passed_with, span_with}
 use Rattle.capture_scan.specs.Frames.{seen}
 use Rattle.capture_scan.specs.Scans.{count_of, is_of_class, packet_seen, packets, passed_over, span_of, unread, unread_seen}
 use Rattle.capture_scan.specs.Stands.{HaveMissed, HaveTaken, StandsFor}
-use Rattle.capture_scan.specs.Streams.{last_from}
 use Rattle.capture_scan.specs.declared.class.Class.{Class}
 use Rattle.capture_scan.specs.declared.class.Class.TheVariants.{Empty, Tags, Ipv6, Other, NotUdp, Fragment, Broken}
 use Rattle.capture_scan.specs.declared.found.PassedOver.{PassedOver as ClassCounts}

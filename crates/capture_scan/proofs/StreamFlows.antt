@@ -8,10 +8,10 @@ use Rattle.timing_base.specs.Targets.{target_of}
 use Rattle.timing_base.specs.declared.packet.FlowPacket.{FlowPacket}
 use Rattle.timing_base.specs.declared.packet.PacketFault.{PacketFault}
 use Rattle.timing_base.specs.declared.packet.Rtp.{Rtp}
-use Rattle.udp_rtp.specs.Flow.{datagram_packet, flow, flow_packet, is_same_target}
+use Rattle.udp_rtp.specs.Flow.{datagram_packet, flow, is_same_target}
 use Rattle.udp_rtp.specs.Frames.{Datagram, datagram_of}
 use Rattle.udp_rtp.specs.Reading.{reading}
-use Rattle.capture_scan.specs.Frames.{packet_in, read_in, seen, seen_in}
+use Rattle.capture_scan.specs.Frames.{packet_in, read_in, seen_in}
 use Rattle.capture_scan.specs.Groups.{items_of}
 use Rattle.capture_scan.specs.Scans.{as_flow_packet, is_from, is_read_from, is_same_stream, most_told, packet_seen, packets, stream_key, stream_to}
 use Rattle.capture_scan.specs.declared.packet.Packet.{Packet}

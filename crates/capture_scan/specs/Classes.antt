@@ -4,7 +4,7 @@
 -- This project's profile: which class is the first of several, and that one tag of type 0x8100 may stand before the
 -- type and no other; what has a target is said by `datagram_of` of udp_rtp.
 use Rattle.std.specs.Prelude.{ℕ, ◌+◌, ◌/◌, ◌%◌, ◌^◌, ◌==◌, ◌&&◌, ◌||◌, nat_le, Bool, if◌then◌else◌, List, length}
-use Rattle.std.specs.Prelude.{slice_index, Option, Some, None}
+use Rattle.std.specs.Prelude.{slice_index}
 use Rattle.udp_rtp.specs.Numbers.{number16}
 use Rattle.capture_scan.specs.declared.class.Class.{Class}
 use Rattle.capture_scan.specs.declared.class.Class.TheVariants.{Empty, Tags, Ipv6, Other, NotUdp, Fragment, Broken}

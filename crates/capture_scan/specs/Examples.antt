@@ -4,10 +4,7 @@ use Rattle.timing_base.specs.Captures.{Record}
 use Rattle.timing_base.specs.declared.packet.Rtp.{Rtp}
 use Rattle.timing_base.specs.declared.target.Target.{Target}
 use Rattle.udp_rtp.specs.Examples.{extended, frame_of, group, ip, ip_type, macs, plain_ip, rtp, tag, udp}
-use Rattle.capture_scan.specs.declared.found.PassedOver.{PassedOver}
-use Rattle.capture_scan.specs.declared.packet.Line.{Line}
 use Rattle.capture_scan.specs.declared.packet.Packet.{Packet}
-use Rattle.capture_scan.specs.declared.stream.Arrival.{Arrival}
 use Rattle.capture_scan.specs.declared.stream.Order.{Order}
 use Rattle.capture_scan.specs.declared.stream.Pace.{Pace}
 

@@ -4,7 +4,6 @@ use Rattle.std.specs.Option.{ForSome}
 use Rattle.capture_scan.specs.declared.found.PassedOver.{PassedOver}
 use Rattle.capture_scan.specs.declared.mark.Mark.{Mark}
 use Rattle.capture_scan.specs.declared.stream.Order.{Order}
-use Rattle.capture_scan.specs.declared.stream.Pace.{Pace}
 use Rattle.capture_scan.specs.declared.stream.Rate.{Rate}
 use Rattle.capture_scan.specs.declared.stream.Stream.{Stream}
 

@@ -3,7 +3,7 @@
 -- source), RFC 768 (UDP: the source's port) and RFC 4175, section 4.3 (the line headers: length, the field bit F with
 -- the line number, and the bit C with the offset, 16 bits each).
 -- This project's profile: the first line header of a packet alone is looked at, and only in the payload that UDP has.
-use Rattle.std.specs.Prelude.{ℕ, ◌+◌, ◌%◌, ◌^◌, ◌==◌, nat_le, nat_lt, Bool, if◌then◌else◌, List, length}
+use Rattle.std.specs.Prelude.{ℕ, ◌+◌, ◌%◌, ◌^◌, ◌==◌, nat_le, nat_lt, if◌then◌else◌, List, length}
 use Rattle.std.specs.Prelude.{Option, Some, None, Result, Ok, Err}
 use Rattle.timing_base.specs.Captures.{Record}
 use Rattle.timing_base.specs.declared.packet.PacketFault.{PacketFault}

@@ -1,5 +1,5 @@
 -- What a scan says of the records that were taken: it holds what is told of them.
-use Rattle.std.specs.Prelude.{◌≡◌, ◌≤◌, ◌+◌, ◌^◌, ℕ, List, [], ◌∷◌, ◌++◌, length, map, Some, None}
+use Rattle.std.specs.Prelude.{◌≡◌, ◌≤◌, ◌+◌, ◌^◌, ℕ, List, [], ◌++◌, length, map, Some, None}
 use Rattle.std.specs.List.{last_or}
 use Rattle.std.proofs.Common.{arith, subst, sym, append_assoc, append-nil}
 use Rattle.timing_base.specs.Captures.{Record}

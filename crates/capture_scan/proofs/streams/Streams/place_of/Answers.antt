@@ -1,4 +1,4 @@
-use Rattle.std.proofs.Common.{◌≡◌, ℕ, Option, Some, None, IfSome, position, sym}
+use Rattle.std.proofs.Common.{◌≡◌, ℕ, Option, Some, None, IfSome, position}
 use Rattle.std.specs.Map.{keys_of}
 use Rattle.capture_scan.proofs.Entries.{entry-found, streams_apart}
 use Rattle.capture_scan.specs.Places.{HasStream}

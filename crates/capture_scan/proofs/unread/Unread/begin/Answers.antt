@@ -1,9 +1,7 @@
 use Rattle.std.proofs.Common.{◌≡◌, ◌≤◌, length, refl, subst, sym, ◌∙◌, arith}
-use Rattle.std.proofs.lemmas.List.Elements.{All-weaker}
 use Rattle.std.specs.Map.{values_of}
 use Rattle.std.specs.List.{All}
 use Rattle.indexmap.proofs.CallerLemmas.{insert_entry-new}
-use Rattle.timing_base.specs.declared.target.Target.{Target}
 use Rattle.capture_scan.proofs.Entries.{all-push, have-full, have-pushed, targets_apart}
 use Rattle.capture_scan.specs.Scans.{is_same_key, most_told, target_key}
 use Rattle.capture_scan.proofs.unread.Unread.begin.Goals as goal
