@@ -1,5 +1,6 @@
 -- The numbers of a stream with one packet more are its numbers before, and that packet.
-use Rattle.std.proofs.Common.{◌≡◌, ℕ, ◌+◌, min, max, Bool, true, false, cond, ◌||◌, List, [], ◌∷◌, ◌++◌, map, filter_map, length, Option, Some, None, option_to_list, refl, sym, ap, ◌∙◌, arith, sum_by, count_by, fold}
+use Rattle.std.proofs.Common.{◌≡◌, ℕ, ◌+◌, min, max, Bool, true, false, cond, ◌||◌, List, [], ◌∷◌, ◌++◌, map, filter_map, length, Option, Some, None}
+use Rattle.std.proofs.Common.{option_to_list, refl, sym, ap, ◌∙◌, arith, sum_by, count_by, fold}
 use Rattle.std.specs.List.{cons_option, last_or, list_any}
 use Rattle.std.proofs.lemmas.List.{append-nil, length-map, length_push, map_push}
 use Rattle.std.proofs.lemmas.List.Elements.{filter_map-append}
@@ -7,7 +8,8 @@ use Rattle.std.proofs.lemmas.List.Folds.{list_any-append}
 use Rattle.std.proofs.lemmas.List.Sums.{fold_push, sum_by_push}
 use Rattle.timing_base.specs.declared.packet.Rtp.{Rtp}
 use Rattle.capture_scan.specs.Counting.{lines_with, mark_next, mark_of, order_next, pace_next, pace_with, range_next, stream_next}
-use Rattle.capture_scan.specs.Streams.{arrival, goes_back, has_other_type, is_same, last_from, lines_of, lost_in, marks_from, neighbours, order_of, pace_between, pairs_from, range_from, size, step, stream_from, wraps_alone}
+use Rattle.capture_scan.specs.Streams.{arrival, goes_back, has_other_type, is_same, last_from, lines_of, lost_in, marks_from, neighbours, order_of}
+use Rattle.capture_scan.specs.Streams.{pace_between, pairs_from, range_from, size, step, stream_from, wraps_alone}
 use Rattle.capture_scan.specs.declared.mark.Mark.{Mark}
 use Rattle.capture_scan.specs.declared.packet.Line.{Line}
 use Rattle.capture_scan.specs.declared.packet.Packet.{Packet}
@@ -124,7 +126,8 @@ lines_of-push ls None = ap lines_of (append-nil ls) ∙ lines_same (lines_of ls)
 lines_of-push [] (Some l) = λ i. Some (record { greatest = l.number; second_field = or_false l.second_field i })
 lines_of-push (k ∷ ks) (Some l) =
     let numbers = ap (fold max k.number) (map_push (λ x. x.number) ks l) ∙ fold_push max k.number (map (λ x. x.number) ks) l.number in
-    let fields = list_any-append (λ x. x.second_field) (k ∷ ks) (l ∷ []) ∙ ap (λ (b : Bool). list_any (λ x. x.second_field) (k ∷ ks) || b) (or_false l.second_field) in
+    let fields = list_any-append (λ x. x.second_field) (k ∷ ks) (l ∷ [])
+    ∙ ap (λ (b : Bool). list_any (λ x. x.second_field) (k ∷ ks) || b) (or_false l.second_field) in
     λ i. Some (record { greatest = numbers i; second_field = fields i })
 
 -- one packet more

@@ -1,5 +1,6 @@
 -- The entries of a map whose keys are told apart by a test.
-use Rattle.std.proofs.Common.{◌≡◌, ℕ, zero, suc, ◌+◌, ◌≤◌, ◌<◌, Bool, cond, List, [], ◌∷◌, ◌++◌, map, filter_map, length, set, get_or, slice_get, position, All, Option, Some, None, Bor, refl, sym, ap, subst, ◌∙◌, arith, eqb-true, eq-eqb}
+use Rattle.std.proofs.Common.{◌≡◌, ℕ, zero, suc, ◌+◌, ◌≤◌, ◌<◌, Bool, cond, List, [], ◌∷◌, ◌++◌, map, filter_map, length, set, get_or, slice_get, position, All}
+use Rattle.std.proofs.Common.{Option, Some, None, Bor, refl, sym, ap, subst, ◌∙◌, arith, eqb-true, eq-eqb}
 use Rattle.std.specs.List.{cons_option}
 use Rattle.std.specs.Map.{keys_of, lookup, values_of}
 use Rattle.std.specs.Map.Iter.{deref_pair}
@@ -88,7 +89,8 @@ module _ {K V : Type 0} where
   pub all-push : (P : V → Type 0) (es : List (K × V)) (k : K) (w : V) → P w → All P (values_of es) → All P (values_of (es ++ (k, w) ∷ []))
   all-push P es k w here all = subst (All P) (sym (map_push (λ (e : K × V). e.1) es (k, w))) (All-push P (values_of es) w all here)
 
-module _ {K V S X : Type 0} {same : K → K → Bool} (laws : TellsApart same) (key : X → K) (most : ℕ) (For : V → List X → Type 0) (m : IndexMap K V S) (more : ℕ) (xs : List X) (x : X)
+module _ {K V S X : Type 0} {same : K → K → Bool} (laws : TellsApart same) (key : X → K) (most : ℕ) (For : V → List X → Type 0)
+    (m : IndexMap K V S) (more : ℕ) (xs : List X) (x : X)
     (s : HaveItems same key most For m.entries more xs) where
   -- a value was written that takes the item
   pub have-written : (i : ℕ) (k : K) (v w : V) → IsUnique same m → slice_get m.entries i ≡ Some (k, v) → k ≡ key x
@@ -133,7 +135,8 @@ module _ {K V Y : Type 0} where
       ap (λ (l : List Y). f e ∷ l) (filter_map-keys f g es (λ j k v at. h (suc j) k v at))
       ∙ ap (λ (o : Option Y). cons_option o (filter_map g (keys_of es))) (h 0 e.0 e.1 refl)
 
-module _ {K V S X : Type 0} {same : K → K → Bool} (laws : TellsApart same) (key : X → K) (most : ℕ) (For : V → List X → Type 0) (m : IndexMap K V S) (more : ℕ) (xs : List X)
+module _ {K V S X : Type 0} {same : K → K → Bool} (laws : TellsApart same) (key : X → K) (most : ℕ) (For : V → List X → Type 0)
+    (m : IndexMap K V S) (more : ℕ) (xs : List X)
     (s : HaveItems same key most For m.entries more xs) (unique : IsUnique same m) where
   each-at : (i : ℕ) (k : K) (v : V) → slice_get m.entries i ≡ Some (k, v) → For v (items_of same key most xs k)
   each-at i k v at = s.each k v (lookup_from_place (equivalence laws) m.entries i k v unique at)

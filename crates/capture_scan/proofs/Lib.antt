@@ -2,7 +2,6 @@ pub mod Classes
 pub mod Counters
 pub mod Counting
 pub mod Entries
-pub mod Frames
 pub mod Groups
 pub mod Once
 pub mod Parts

@@ -1,5 +1,6 @@
 -- Each item is among the items of one key that is told, or is one more.
-use Rattle.std.proofs.Common.{◌≡◌, ℕ, zero, suc, ◌+◌, ◌≤◌, Bool, true, false, cond, not, ◌||◌, List, [], ◌∷◌, map, filter, filter_map, length, take, count_by, sum_by, Option, Some, None, refl, sym, ap, ◌∙◌, arith, true≢false}
+use Rattle.std.proofs.Common.{◌≡◌, ℕ, zero, suc, ◌+◌, ◌≤◌, Bool, true, false, cond, not, ◌||◌, List, [], ◌∷◌, map, filter, filter_map, length, take, count_by}
+use Rattle.std.proofs.Common.{sum_by, Option, Some, None, refl, sym, ap, ◌∙◌, arith, true≢false}
 use Rattle.std.specs.List.{cons_option}
 use Rattle.std.proofs.lemmas.Bool.{or_parts}
 use Rattle.std.proofs.lemmas.List.Sums.{sum_by-cons}
@@ -26,7 +27,8 @@ count-none p q (x ∷ xs) h = by (count-none p q xs h) (q x) refl (p x) refl
     by rest true e true f = absurd (true≢false (sym e ∙ h x f))
     by rest true e false f =
         let one : one_of (p x) ≡ 0 = ap one_of f in
-        ap (λ (t : Bool). count_by p (cond t (x ∷ filter q xs) (filter q xs))) e ∙ (sum_by-cons (λ y. cond (p y) 1 0) x (filter q xs) ∙ omega (arith, one, rest))
+        ap (λ (t : Bool). count_by p (cond t (x ∷ filter q xs) (filter q xs))) e
+        ∙ (sum_by-cons (λ y. cond (p y) 1 0) x (filter q xs) ∙ omega (arith, one, rest))
 
 count-filter : {X : Type 0} (p q : X → Bool) (xs : List X) → count_by p (filter q xs) ≤ count_by p xs
 count-filter p q [] = omega arith
@@ -64,7 +66,8 @@ module _ {K : Type 0} {same : K → K → Bool} (laws : TellsApart same) where
   distinct-once [] k = omega arith
   distinct-once (x ∷ xs) k = by (distinct-once xs k) (same x k) refl
     where
-      all : count_by (λ j. same j k) (distinct same (x ∷ xs)) ≡ cond (same x k) 1 0 + count_by (λ j. same j k) (filter (λ other. not (same x other)) (distinct same xs))
+      all : count_by (λ j. same j k) (distinct same (x ∷ xs))
+          ≡ cond (same x k) 1 0 + count_by (λ j. same j k) (filter (λ other. not (same x other)) (distinct same xs))
       all = sum_by-cons (λ j. cond (same j k) 1 0) x (filter (λ other. not (same x other)) (distinct same xs))
 
       by : count_by (λ j. same j k) (distinct same xs) ≤ 1 → (b : Bool) → same x k ≡ b → count_by (λ j. same j k) (distinct same (x ∷ xs)) ≤ 1
@@ -164,7 +167,8 @@ sum-filter_map {Y = Y} f h g (x ∷ xs) e = by (sum-filter_map f h g xs e) (h x)
     all = sum_by-cons g x xs
 
     by : sum_by f (filter_map h xs) ≡ sum_by g xs → (o : Option Y) → h x ≡ o → sum_by f (filter_map h (x ∷ xs)) ≡ sum_by g (x ∷ xs)
-    by rest None p = at _ _ _ _ (ap (λ (o : Option Y). sum_by f (cons_option o (filter_map h xs))) p ∙ rest) (sym (ap (λ (o : Option Y). sum_by f (cons_option o [])) p) ∙ e x) all
+    by rest None p = at _ _ _ _ (ap (λ (o : Option Y). sum_by f (cons_option o (filter_map h xs))) p ∙ rest)
+        (sym (ap (λ (o : Option Y). sum_by f (cons_option o [])) p) ∙ e x) all
       where
         at : (a b c d : ℕ) → a ≡ b → 0 ≡ c → d ≡ c + b → a ≡ d
         at a b c d p q r = omega arith

@@ -10,7 +10,8 @@ use Rattle.capture_scan.proofs.Once.{sum-filter_map, told-once}
 use Rattle.capture_scan.specs.Frames.{seen}
 use Rattle.capture_scan.specs.Groups.{told}
 use Rattle.capture_scan.specs.Scans.{count_of, count_passed, is_of_class, is_same_key, is_same_stream, more_packets, more_unread, most_told}
-use Rattle.capture_scan.specs.Scans.{packet_seen, packets, packets_of, passed_over, stream_key, streams, target_key, unread, unread_of, unread_seen, unread_targets}
+use Rattle.capture_scan.specs.Scans.{packet_seen, packets, packets_of, passed_over, stream_key, streams, target_key, unread, unread_of, unread_seen}
+use Rattle.capture_scan.specs.Scans.{unread_targets}
 use Rattle.capture_scan.specs.Streams.{stream_from, stream_of}
 use Rattle.capture_scan.specs.declared.class.Class.TheVariants.{Empty, Tags, Ipv6, Other, NotUdp, Fragment, Broken}
 use Rattle.capture_scan.specs.declared.packet.Packet.{Packet}

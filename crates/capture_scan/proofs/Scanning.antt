@@ -30,9 +30,6 @@ passed_seen n (PassedOver class) = passed_with n class
 passed_seen n (Unread target) = n
 passed_seen n (Read packet) = n
 
-plus_zero : (n : ℕ) → n + 0 ≡ n
-plus_zero n = omega arith
-
 -- each count with one record more
 abbrev counted : ClassCounts → Seen → ClassCounts
 counted n s = record {
@@ -45,16 +42,43 @@ counted n s = record {
   broken = n.broken + cond (is_of_class Broken s) 1 0;
 }
 
+-- where nothing is added to most of them
+same_counts : (m n : ClassCounts) → m.empty ≡ n.empty → m.tags ≡ n.tags → m.ipv6 ≡ n.ipv6 → m.other ≡ n.other → m.not_udp ≡ n.not_udp
+    → m.fragment ≡ n.fragment → m.broken ≡ n.broken → m ≡ n
+same_counts m n a b c d e f g = λ i. record {
+  empty = a i;
+  tags = b i;
+  ipv6 = c i;
+  other = d i;
+  not_udp = e i;
+  fragment = f i;
+  broken = g i;
+}
+
+none_more : (n : ℕ) → n + 0 ≡ n
+none_more n = omega arith
+
 counted-seen : (n : ClassCounts) (s : Seen) → counted n s ≡ passed_seen n s
-counted-seen n (PassedOver Empty) = λ i. record { empty = n.empty + 1; tags = plus_zero n.tags i; ipv6 = plus_zero n.ipv6 i; other = plus_zero n.other i; not_udp = plus_zero n.not_udp i; fragment = plus_zero n.fragment i; broken = plus_zero n.broken i }
-counted-seen n (PassedOver Tags) = λ i. record { empty = plus_zero n.empty i; tags = n.tags + 1; ipv6 = plus_zero n.ipv6 i; other = plus_zero n.other i; not_udp = plus_zero n.not_udp i; fragment = plus_zero n.fragment i; broken = plus_zero n.broken i }
-counted-seen n (PassedOver Ipv6) = λ i. record { empty = plus_zero n.empty i; tags = plus_zero n.tags i; ipv6 = n.ipv6 + 1; other = plus_zero n.other i; not_udp = plus_zero n.not_udp i; fragment = plus_zero n.fragment i; broken = plus_zero n.broken i }
-counted-seen n (PassedOver Other) = λ i. record { empty = plus_zero n.empty i; tags = plus_zero n.tags i; ipv6 = plus_zero n.ipv6 i; other = n.other + 1; not_udp = plus_zero n.not_udp i; fragment = plus_zero n.fragment i; broken = plus_zero n.broken i }
-counted-seen n (PassedOver NotUdp) = λ i. record { empty = plus_zero n.empty i; tags = plus_zero n.tags i; ipv6 = plus_zero n.ipv6 i; other = plus_zero n.other i; not_udp = n.not_udp + 1; fragment = plus_zero n.fragment i; broken = plus_zero n.broken i }
-counted-seen n (PassedOver Fragment) = λ i. record { empty = plus_zero n.empty i; tags = plus_zero n.tags i; ipv6 = plus_zero n.ipv6 i; other = plus_zero n.other i; not_udp = plus_zero n.not_udp i; fragment = n.fragment + 1; broken = plus_zero n.broken i }
-counted-seen n (PassedOver Broken) = λ i. record { empty = plus_zero n.empty i; tags = plus_zero n.tags i; ipv6 = plus_zero n.ipv6 i; other = plus_zero n.other i; not_udp = plus_zero n.not_udp i; fragment = plus_zero n.fragment i; broken = n.broken + 1 }
-counted-seen n (Unread target) = λ i. record { empty = plus_zero n.empty i; tags = plus_zero n.tags i; ipv6 = plus_zero n.ipv6 i; other = plus_zero n.other i; not_udp = plus_zero n.not_udp i; fragment = plus_zero n.fragment i; broken = plus_zero n.broken i }
-counted-seen n (Read packet) = λ i. record { empty = plus_zero n.empty i; tags = plus_zero n.tags i; ipv6 = plus_zero n.ipv6 i; other = plus_zero n.other i; not_udp = plus_zero n.not_udp i; fragment = plus_zero n.fragment i; broken = plus_zero n.broken i }
+counted-seen n (PassedOver Empty) =
+    same_counts _ _ refl (none_more n.tags) (none_more n.ipv6) (none_more n.other) (none_more n.not_udp) (none_more n.fragment) (none_more n.broken)
+counted-seen n (PassedOver Tags) =
+    same_counts _ _ (none_more n.empty) refl (none_more n.ipv6) (none_more n.other) (none_more n.not_udp) (none_more n.fragment) (none_more n.broken)
+counted-seen n (PassedOver Ipv6) =
+    same_counts _ _ (none_more n.empty) (none_more n.tags) refl (none_more n.other) (none_more n.not_udp) (none_more n.fragment) (none_more n.broken)
+counted-seen n (PassedOver Other) =
+    same_counts _ _ (none_more n.empty) (none_more n.tags) (none_more n.ipv6) refl (none_more n.not_udp) (none_more n.fragment) (none_more n.broken)
+counted-seen n (PassedOver NotUdp) =
+    same_counts _ _ (none_more n.empty) (none_more n.tags) (none_more n.ipv6) (none_more n.other) refl (none_more n.fragment) (none_more n.broken)
+counted-seen n (PassedOver Fragment) =
+    same_counts _ _ (none_more n.empty) (none_more n.tags) (none_more n.ipv6) (none_more n.other) (none_more n.not_udp) refl (none_more n.broken)
+counted-seen n (PassedOver Broken) =
+    same_counts _ _ (none_more n.empty) (none_more n.tags) (none_more n.ipv6) (none_more n.other) (none_more n.not_udp) (none_more n.fragment) refl
+counted-seen n (Unread target) =
+    same_counts _ _ (none_more n.empty) (none_more n.tags) (none_more n.ipv6) (none_more n.other) (none_more n.not_udp)
+    (none_more n.fragment) (none_more n.broken)
+counted-seen n (Read packet) =
+    same_counts _ _ (none_more n.empty) (none_more n.tags) (none_more n.ipv6) (none_more n.other) (none_more n.not_udp)
+    (none_more n.fragment) (none_more n.broken)
 
 passed-push : (rs : List Record) (r : Record) → passed_over (rs ++ r ∷ []) ≡ passed_seen (passed_over rs) (seen r)
 passed-push rs r = all ∙ counted-seen (passed_over rs) (seen r)

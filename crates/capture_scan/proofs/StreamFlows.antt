@@ -1,5 +1,6 @@
 -- The packets of a stream are those of the flow of a media with its target that have its SSRC.
-use Rattle.std.proofs.Common.{◌≡◌, ℕ, ◌==◌, ◌&&◌, Bool, true, false, cond, if◌then◌else◌, List, [], ◌∷◌, map, filter, Option, Some, None, Result, Ok, Err, refl, sym, ap, ◌∙◌}
+use Rattle.std.proofs.Common.{◌≡◌, ℕ, ◌==◌, ◌&&◌, Bool, true, false, cond, if◌then◌else◌, List, [], ◌∷◌, map, filter, Option, Some, None, Result, Ok, Err}
+use Rattle.std.proofs.Common.{refl, sym, ap, ◌∙◌}
 use Rattle.std.specs.Cmp.{nat_eq_equiv}
 use Rattle.std.specs.List.{cons_option}
 use Rattle.timing_base.specs.Captures.{Record}
@@ -12,9 +13,16 @@ use Rattle.udp_rtp.specs.Flow.{datagram_packet, flow, is_same_target}
 use Rattle.udp_rtp.specs.Frames.{Datagram, datagram_of}
 use Rattle.udp_rtp.specs.Reading.{reading}
 use Rattle.capture_scan.specs.Frames.{packet_in, read_in, seen_in}
-use Rattle.capture_scan.specs.Groups.{items_of}
-use Rattle.capture_scan.specs.Scans.{as_flow_packet, is_from, is_read_from, is_same_stream, most_told, packet_seen, packets, stream_key, stream_to}
+use Rattle.capture_scan.specs.Scans.{as_flow_packet, is_from, is_read_from, packet_seen, packets, packets_of, stream_to}
 use Rattle.capture_scan.specs.declared.packet.Packet.{Packet}
+
+-- the packets of the stream of this SSRC to the media's target, as packets of a flow
+abbrev own_of : Media → ℕ → List Packet → List FlowPacket
+own_of media ssrc ps = map as_flow_packet (packets_of ps (stream_to (target_of media) ssrc))
+
+-- the packet of a record with a target, as one of its flow
+abbrev flow_of : Record → Datagram → FlowPacket
+flow_of r d = record { rec = r.number; at = r.stamp; rtp = reading d.payload }
 
 module _ (media : Media) (ssrc : ℕ) where
   -- one packet more, by whether its address, its port and its SSRC are those
@@ -36,30 +44,31 @@ module _ (media : Media) (ssrc : ℕ) where
 
   -- one record more
   record_more : (r : Record) (o : Option Datagram) (ps : List Packet) (fs : List FlowPacket)
-      → map as_flow_packet (items_of is_same_stream stream_key most_told ps (stream_to (target_of media) ssrc)) ≡ filter (is_from ssrc) fs
-      → map as_flow_packet (items_of is_same_stream stream_key most_told (cons_option (packet_seen (seen_in r o)) ps) (stream_to (target_of media) ssrc))
+      → own_of media ssrc ps ≡ filter (is_from ssrc) fs
+      → own_of media ssrc (cons_option (packet_seen (seen_in r o)) ps)
       ≡ filter (is_from ssrc) (cons_option (datagram_packet media r.number r.stamp o) fs)
   record_more r None ps fs rest = rest
   record_more r (Some d) ps fs rest = by (reading d.payload) refl
     where
       by : (res : Result Rtp PacketFault) → reading d.payload ≡ res
-          → map as_flow_packet (items_of is_same_stream stream_key most_told (cons_option (packet_seen (read_in r d (reading d.payload))) ps) (stream_to (target_of media) ssrc))
+          → own_of media ssrc (cons_option (packet_seen (read_in r d (reading d.payload))) ps)
           ≡ filter (is_from ssrc) (cons_option (datagram_packet media r.number r.stamp (Some d)) fs)
       by (Err fault) e =
-          ap (λ (res : Result Rtp PacketFault). map as_flow_packet (items_of is_same_stream stream_key most_told (cons_option (packet_seen (read_in r d res)) ps) (stream_to (target_of media) ssrc))) e
-          ∙ (rest ∙ skip (is_same_target d.target (target_of media)) (record { rec = r.number; at = r.stamp; rtp = reading d.payload }) fs (ap (is_read_from ssrc) e))
+          ap (λ (res : Result Rtp PacketFault). own_of media ssrc (cons_option (packet_seen (read_in r d res)) ps)) e
+          ∙ (rest ∙ skip (is_same_target d.target (target_of media)) (flow_of r d) fs (ap (is_read_from ssrc) e))
       by (Ok rtp) e =
-          ap (λ (res : Result Rtp PacketFault). map as_flow_packet (items_of is_same_stream stream_key most_told (cons_option (packet_seen (read_in r d res)) ps) (stream_to (target_of media) ssrc))) e
-          ∙ (step (media.address == d.target.address) (media.port == d.target.port) (ssrc == rtp.ssrc) (packet_in r d rtp) (record { rec = r.number; at = r.stamp; rtp = reading d.payload })
-          (items_of is_same_stream stream_key most_told ps (stream_to (target_of media) ssrc)) fs
+          ap (λ (res : Result Rtp PacketFault). own_of media ssrc (cons_option (packet_seen (read_in r d res)) ps)) e
+          ∙ (step (media.address == d.target.address) (media.port == d.target.port) (ssrc == rtp.ssrc) (packet_in r d rtp) (flow_of r d)
+          (packets_of ps (stream_to (target_of media) ssrc)) fs
           (λ i. record { rec = r.number; at = r.stamp; rtp = sym e i })
           (ap (is_read_from ssrc) e ∙ nat_eq_equiv.symm rtp.ssrc ssrc)
           rest
-          ∙ (λ i. filter (is_from ssrc) (cons_option (if nat_eq_equiv.symm media.address d.target.address i && nat_eq_equiv.symm media.port d.target.port i
-          then Some (record { rec = r.number; at = r.stamp; rtp = reading d.payload }) else None) fs)))
+          ∙ ap (λ (t : Bool). filter (is_from ssrc) (cons_option (if t then Some (flow_of r d) else None) fs)) same_target)
+        where
+          same_target : (media.address == d.target.address) && (media.port == d.target.port) ≡ is_same_target d.target (target_of media)
+          same_target = λ i. nat_eq_equiv.symm media.address d.target.address i && nat_eq_equiv.symm media.port d.target.port i
 
   pub stream-flow : (records : List Record)
-      → map as_flow_packet (items_of is_same_stream stream_key most_told (packets records) (stream_to (target_of media) ssrc))
-      ≡ filter (is_from ssrc) (flow records media)
+      → own_of media ssrc (packets records) ≡ filter (is_from ssrc) (flow records media)
   stream-flow [] = refl
   stream-flow (r ∷ rs) = record_more r (datagram_of r.bytes) (packets rs) (flow rs media) (stream-flow rs)

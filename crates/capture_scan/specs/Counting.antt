@@ -1,7 +1,8 @@
 -- The numbers of a stream with one packet more, by its numbers, its last packet number and its last mark.
 use Rattle.std.specs.Prelude.{ℕ, ◌+◌, min, max, if◌then◌else◌, ◌||◌, [], Option, Some, None}
 use Rattle.timing_base.specs.declared.packet.Rtp.{Rtp}
-use Rattle.capture_scan.specs.Streams.{arrival, goes_back, has_other_type, is_same, lost_in, range_from, size, step, wraps_alone}
+use Rattle.capture_scan.specs.Streams.{arrival, goes_back, has_other_type, is_same, lost_in, range_from, size, step}
+use Rattle.capture_scan.specs.Streams.{wraps_alone}
 use Rattle.capture_scan.specs.declared.class.Class.{Class}
 use Rattle.capture_scan.specs.declared.class.Class.TheVariants.{Empty, Tags, Ipv6, Other, NotUdp, Fragment, Broken}
 use Rattle.capture_scan.specs.declared.found.PassedOver.{PassedOver}

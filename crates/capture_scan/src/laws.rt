@@ -1,21 +1,29 @@
 //! What holds of the definitions themselves, and the definitions on frames and lists worked by hand. Each function
 //! is a theorem: it does nothing, and its clauses are proved.
 
-ghost use Rattle.std.specs.Prelude.{◌≡◌, nat_eq, [], ◌∷◌, ◌++◌, ◌*◌, ◌+◌, ◌-◌, ◌^◌, true, false, ℕ, List, Some, None, Ok, length, map, filter, take, drop};
+ghost use Rattle.std.specs.Prelude.{◌≡◌, nat_eq, [], ◌∷◌, ◌++◌, ◌*◌, ◌+◌, ◌-◌, ◌^◌, true, false, ℕ, List, Some, None};
+ghost use Rattle.std.specs.Prelude.{Ok, length, map, filter, take, drop};
 ghost use Rattle.std.specs.List.{sum_by};
 ghost use Rattle.timing_base.specs.Captures.{Record};
 ghost use Rattle.timing_base.specs.Media.{Media};
 ghost use Rattle.timing_base.specs.Targets.{target_of};
-ghost use Rattle.udp_rtp.specs.Examples.{extension, frame_of, frame_with, group, ip, ip_type, macs, packet, plain_ip, rtp, source, tag, udp};
+ghost use Rattle.udp_rtp.specs.Examples.{extension, frame_of, frame_with, group, ip, ip_type, macs, packet, plain_ip};
+ghost use Rattle.udp_rtp.specs.Examples.{rtp, source, tag, udp};
 ghost use Rattle.udp_rtp.specs.Flow.{flow};
 ghost use Rattle.udp_rtp.specs.Frames.{Datagram, datagram_of};
 ghost use Rattle.capture_scan.specs.Classes.{class_of};
-ghost use Rattle.capture_scan.specs.Examples.{arp_type, broken_frame, came, fragment_frame, frame_of_reads, frame_on, ipv6_type, line_header, one_of_each, order_with, pace_with, plain_at, provider_tag, read_with, records_from, second_header, sender, tcp_frame, ten};
+ghost use Rattle.capture_scan.specs.Examples.{arp_type, broken_frame, came, fragment_frame, frame_of_reads, frame_on};
+ghost use Rattle.capture_scan.specs.Examples.{ipv6_type, line_header, one_of_each, order_with, pace_with, plain_at};
+ghost use Rattle.capture_scan.specs.Examples.{provider_tag, read_with, records_from, second_header, sender, tcp_frame};
+ghost use Rattle.capture_scan.specs.Examples.{ten};
 ghost use Rattle.capture_scan.specs.Frames.{first_line, seen};
 ghost use Rattle.capture_scan.specs.Groups.{count_more, told};
-ghost use Rattle.capture_scan.specs.Scans.{as_flow_packet, count_passed, is_from, more_packets, more_unread, packets, packets_of, passed_over, span_of, stream_to, streams, unread, unread_targets};
+ghost use Rattle.capture_scan.specs.Scans.{as_flow_packet, count_passed, is_from, more_packets, more_unread, packets};
+ghost use Rattle.capture_scan.specs.Scans.{packets_of, passed_over, span_of, stream_to, streams, unread};
+ghost use Rattle.capture_scan.specs.Scans.{unread_targets};
 ghost use Rattle.capture_scan.specs.Streams.{lines_of, order_of, pace_of, stream_of};
-ghost use Rattle.capture_scan.specs.declared.class.Class.TheVariants.{Broken, Empty, Fragment, Ipv6, NotUdp, Other, Tags};
+ghost use Rattle.capture_scan.specs.declared.class.Class.TheVariants.{Broken, Empty, Fragment, Ipv6, NotUdp, Other};
+ghost use Rattle.capture_scan.specs.declared.class.Class.TheVariants.{Tags};
 ghost use Rattle.capture_scan.specs.declared.packet.Seen.TheVariants as seen_as;
 
 /// Frames worked by hand that have no target: each class, at both sides of where it begins.

@@ -1,6 +1,7 @@
 //! The streams of a capture.
 
-ghost use Rattle.std.specs.Prelude.{◌≡◌, ◌≤◌, ◌<◌, ◌+◌, ◌^◌, ◌++◌, ◌∷◌, [], ℕ, All, List, None, Some, IfOk, IfSome, OnOk, true};
+ghost use Rattle.std.specs.Prelude.{◌≡◌, ◌≤◌, ◌<◌, ◌+◌, ◌^◌, ◌++◌, ◌∷◌, [], ℕ, All, List, None, Some, IfOk, IfSome};
+ghost use Rattle.std.specs.Prelude.{OnOk, true};
 ghost use Rattle.indexmap.specs.IndexMap.{get, values};
 ghost use Rattle.capture_scan.specs.Scans.{is_same_stream, stream_key};
 

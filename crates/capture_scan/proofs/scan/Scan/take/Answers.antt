@@ -11,7 +11,8 @@ use Rattle.capture_scan.proofs.scan.Scan.take.Goals as goal
 -- a packet goes to its stream
 pub returns-in-Read-clause-takes : goal.returns-in-Read-clause-takes
 returns-in-Read-clause-takes c =
-    on_ok-more c.take.result ((ps : List Packet) → HaveTaken c.args.self.now.streams ps → HaveTaken c.take.new.self (ps ++ c.in-Read.packet ∷ [])) _
+    on_ok-more c.take.result
+    ((ps : List Packet) → HaveTaken c.args.self.now.streams ps → HaveTaken c.take.new.self (ps ++ c.in-Read.packet ∷ [])) _
     (λ stands rs h. stands-push c.args.self.now _ rs (record { number = c.args.number; stamp = c.args.at; bytes = c.args.frame.now })
     (Read c.in-Read.packet) (sym c.in-Read.ensures) h refl (ap (λ (s : Span). Some s) c.with.ensures) refl
     (stands (packets rs) h.streams_are) (same-missed c.args.self.now (unread rs) h.unread_are))
@@ -20,7 +21,8 @@ returns-in-Read-clause-takes c =
 -- an unread packet goes to its target
 pub returns-in-Unread-clause-takes : goal.returns-in-Unread-clause-takes
 returns-in-Unread-clause-takes c =
-    on_ok-more c.take-in-Unread.result ((ts : List Target) → HaveMissed c.args.self.now.unread ts → HaveMissed c.take-in-Unread.new.self (ts ++ c.in-Unread.target ∷ [])) _
+    on_ok-more c.take-in-Unread.result
+    ((ts : List Target) → HaveMissed c.args.self.now.unread ts → HaveMissed c.take-in-Unread.new.self (ts ++ c.in-Unread.target ∷ [])) _
     (λ stands rs h. stands-push c.args.self.now _ rs (record { number = c.args.number; stamp = c.args.at; bytes = c.args.frame.now })
     (Unread c.in-Unread.target) (sym c.in-Unread.ensures) h refl (ap (λ (s : Span). Some s) c.with.ensures) refl
     (same-taken c.args.self.now (packets rs) h.streams_are) (stands (unread rs) h.unread_are))

@@ -9,16 +9,20 @@ use Rattle.capture_scan.proofs.streams.Streams.take.Goals as goal
 -- no stream has more packets than were taken
 pub take-requires : goal.take-requires
 take-requires c =
-    let few = all-at (λ v. v.stream.packets ≤ c.args.self.now.taken) c.args.self.now.counters.entries _ _ _ c.pair_mut-counter.ensures.value c.args.self.now.few in
+    let few = all-at (λ v. v.stream.packets ≤ c.args.self.now.taken) c.args.self.now.counters.entries _ _ _ c.pair_mut-counter.ensures.value
+    c.args.self.now.few in
     record { few = omega (arith, few, c.requires.few) }
 
 pub invariant_of-self-in-Some : goal.invariant_of-self-in-Some
 invariant_of-self-in-Some c =
     let taken = c.args.self.now.taken in
-    let few = all-at (λ v. v.stream.packets ≤ taken) c.args.self.now.counters.entries _ _ _ c.pair_mut-counter.ensures.value c.args.self.now.few in
+    let few = all-at (λ v. v.stream.packets ≤ taken) c.args.self.now.counters.entries _ _ _ c.pair_mut-counter.ensures.value
+    c.args.self.now.few in
     record {
-      few = all-set (λ v. v.stream.packets ≤ taken + 1) c.args.self.now.counters.entries c.in-Some.place c.take.new.self (omega (arith, few, c.take.ensures.packets))
-          (All-weaker (λ v. v.stream.packets ≤ taken) (λ v. v.stream.packets ≤ taken + 1) (λ v h. omega (arith, h)) (values_of c.args.self.now.counters.entries) c.args.self.now.few);
+      few = all-set (λ v. v.stream.packets ≤ taken + 1) c.args.self.now.counters.entries c.in-Some.place c.take.new.self
+          (omega (arith, few, c.take.ensures.packets))
+          (All-weaker (λ v. v.stream.packets ≤ taken) (λ v. v.stream.packets ≤ taken + 1) (λ v h. omega (arith, h))
+          (values_of c.args.self.now.counters.entries) c.args.self.now.few);
       few_more = omega (arith, c.args.self.now.few_more);
     }
 
