@@ -1,0 +1,9 @@
+pub mod Classes
+pub mod Counters
+pub mod Counting
+pub mod Entries
+pub mod Groups
+pub mod Once
+pub mod Parts
+pub mod Scanning
+pub mod StreamFlows

@@ -1,0 +1,105 @@
+-- Frames, packets and lists of numbers for examples that are worked by hand.
+use Rattle.std.specs.Prelude.{ℕ, ◌+◌, ◌*◌, Bool, true, false, List, replicate, [], ◌∷◌, ◌++◌, None}
+use Rattle.timing_base.specs.Captures.{Record}
+use Rattle.timing_base.specs.declared.packet.Rtp.{Rtp}
+use Rattle.timing_base.specs.declared.target.Target.{Target}
+use Rattle.udp_rtp.specs.Examples.{extended, frame_of, group, ip, ip_type, macs, plain_ip, rtp, tag, udp}
+use Rattle.capture_scan.specs.declared.packet.Packet.{Packet}
+use Rattle.capture_scan.specs.declared.stream.Order.{Order}
+use Rattle.capture_scan.specs.declared.stream.Pace.{Pace}
+
+-- the types of IPv6, of ARP, and of a tag of a provider's bridge with VLAN 5
+abbrev pub ipv6_type : List ℕ
+ipv6_type = 0x86 ∷ 0xdd ∷ []
+
+abbrev pub arp_type : List ℕ
+arp_type = 0x08 ∷ 0x06 ∷ []
+
+abbrev pub provider_tag : List ℕ
+provider_tag = 0x88 ∷ 0xa8 ∷ 0x00 ∷ 0x05 ∷ []
+
+-- what may follow a type
+abbrev pub ten : List ℕ
+ten = 0 ∷ 0 ∷ 0 ∷ 0 ∷ 0 ∷ 0 ∷ 0 ∷ 0 ∷ 0 ∷ 0 ∷ []
+
+-- a frame of TCP, the first fragment of a datagram, and a frame with the version 6 in a header of IPv4
+abbrev pub tcp_frame : List ℕ
+tcp_frame = frame_of (ip 0x45 0x40 0 6)
+
+abbrev pub fragment_frame : List ℕ
+fragment_frame = frame_of (ip 0x45 0x20 0 17)
+
+abbrev pub broken_frame : List ℕ
+broken_frame = frame_of (ip 0x65 0x40 0 17)
+
+-- 192.0.2.1, port 50000
+abbrev pub sender : Target
+sender = record { address = 0xc0000201; port = 50000 }
+
+-- the packet of `frame_of plain_ip` in a record with this number and stamp
+abbrev pub plain_at : ℕ → ℕ → Packet
+plain_at rec at = record {
+  rec = rec;
+  at = at;
+  source = sender;
+  target = group;
+  length = 42;
+  rtp = record { number = 65544; timestamp = 1800; marker = false; pt = 96; ssrc = 1 };
+  line = None;
+}
+
+-- a frame to the group whose RTP payload goes on behind the extended sequence number, with this UDP length, below 256
+abbrev pub frame_on : ℕ → List ℕ → List ℕ
+frame_on stated more = macs ++ (ip_type ++ (plain_ip ++ (udp stated ++ (rtp 0x80 0x60 ++ (extended ++ more)))))
+
+-- a line header of 1,920 bytes: line 1,079 of the first field, and line 539 of the second
+abbrev pub line_header : List ℕ
+line_header = 0x07 ∷ 0x80 ∷ 0x04 ∷ 0x37 ∷ 0x00 ∷ 0x00 ∷ []
+
+abbrev pub second_header : List ℕ
+second_header = 0x07 ∷ 0x80 ∷ 0x82 ∷ 0x1b ∷ 0x00 ∷ 0x00 ∷ []
+
+-- what is read of a packet with this timestamp and marker
+abbrev pub read_with : ℕ → Bool → Rtp
+read_with timestamp marker = record { number = 1; timestamp = timestamp; marker = marker; pt = 96; ssrc = 1 }
+
+-- so many packets with this timestamp, and one more with it and the marker
+abbrev pub frame_of_reads : (unmarked timestamp : ℕ) → List Rtp
+frame_of_reads unmarked timestamp = replicate unmarked (read_with timestamp false) ++ (read_with timestamp true ∷ [])
+
+-- a packet to the group by record, which is also its stamp, SSRC, number and marker
+abbrev pub came : (rec ssrc number : ℕ) → Bool → Packet
+came rec ssrc number marker = record {
+  rec = rec;
+  at = rec;
+  source = sender;
+  target = group;
+  length = 42;
+  rtp = record { number = number; timestamp = 1800; marker = marker; pt = 96; ssrc = ssrc };
+  line = None;
+}
+
+-- an order of lost, back, same and wraps
+abbrev pub order_with : ℕ → ℕ → ℕ → ℕ → Order
+order_with lost back same wraps = record { lost = lost; back = back; same = same; wraps = wraps }
+
+-- a pace by its frames' and steps' extremes, and its rate
+abbrev pub pace_with : ℕ → ℕ → ℕ → ℕ → ℕ → ℕ → Pace
+pace_with least_frame greatest_frame least_step greatest_step ticks steps = record {
+  frame = record { least = least_frame; greatest = greatest_frame };
+  step = record { least = least_step; greatest = greatest_step };
+  rate = record { ticks = ticks; steps = steps };
+}
+
+-- records of these frames, numbered on, with stamps that rise by 10
+abbrev pub records_from : ℕ → List (List ℕ) → List Record
+records_from number [] = []
+records_from number (frame ∷ frames) =
+    record { number = number; stamp = number * 10; bytes = frame } ∷ records_from (number + 1) frames
+
+-- a frame of each class, and one with a packet
+abbrev pub one_of_each : ℕ → List Record
+one_of_each number =
+    records_from number
+    ([] ∷ (macs ++ (tag ++ (tag ++ ip_type))) ∷ (macs ++ (ipv6_type ++ ten)) ∷ (macs ++ (arp_type ++ ten)) ∷ tcp_frame
+    ∷ fragment_frame ∷ broken_frame ∷ frame_of plain_ip ∷ [])

@@ -1,0 +1,234 @@
+//! What is counted of a stream, packet by packet.
+
+ghost use Rattle.std.specs.Prelude.{◌≡◌, ◌<◌, ◌+◌, ◌^◌, ◌++◌, ◌∷◌, [], ℕ, Bool, List, Some, IfSome, if◌then◌else◌};
+ghost use Rattle.capture_scan.specs.Counting.{lines_with, order_next, pace_next, pace_with, range_next};
+ghost use Rattle.capture_scan.specs.Few.{IsFew};
+ghost use Rattle.capture_scan.specs.Streams.{arrival, goes_back, is_same, jump, range_from, size, step, wraps_alone};
+
+use crate::mark::Mark;
+use crate::packet::{Line, Packet};
+use crate::stream::{Arrival, Lines, Order, Pace, Range, Rate, Stream};
+
+/// 1 where the test holds, and else 0.
+#[inline(always)]
+fn one_if(test: bool) -> u64
+    ensures { result ≡ (if test then 1 else 0) }
+{
+    if test { 1 } else { 0 }
+}
+
+/// How many sequence numbers stand between that of a packet number and that of the next, going on.
+#[inline(always)]
+fn jump(before: u32, number: u32) -> u32
+    ensures jump { result ≡ jump (before, number) }
+    ensures short { result < 2 ^ 16 }
+{
+    (number % 65_536 + 65_536 - (before % 65_536 + 1)) % 65_536
+}
+
+/// Whether the sequence number wraps, and the extended sequence number isn't counted on.
+#[inline(always)]
+fn wraps_alone(before: u32, number: u32) -> bool
+    ensures { result ≡ wraps_alone (before, number) }
+{
+    before % 65_536 == 65_535 && number % 65_536 == 0 && before / 65_536 == number / 65_536
+}
+
+impl Order {
+    /// The order with one packet number more, which comes after `before`.
+    #[inline(always)]
+    fn next(self, before: u32, number: u32) -> Order
+        requires lost { self.lost < 2 ^ 63 }
+        requires back { self.back < 2 ^ 63 }
+        requires same { self.same < 2 ^ 63 }
+        requires wraps { self.wraps < 2 ^ 63 }
+        ensures { result ≡ order_next self (before, number) }
+    {
+        let jump = jump(before, number);
+        let lost = if jump < 32_768 { jump } else { 0 };
+        Order {
+            lost: self.lost + u64::from(lost),
+            back: self.back + one_if(32_767 < jump && jump < 65_535),
+            same: self.same + one_if(jump == 65_535),
+            wraps: self.wraps + one_if(wraps_alone(before, number)),
+        }
+    }
+}
+
+impl Range {
+    /// The range of one number.
+    fn of(x: u64) -> Range
+        ensures { result ≡ range_from x [] }
+    {
+        Range {
+            least: x,
+            greatest: x,
+        }
+    }
+
+    /// The range with one number more.
+    fn next(self, x: u64) -> Range
+        ensures { result ≡ range_next self x }
+    {
+        Range {
+            least: self.least.min(x),
+            greatest: self.greatest.max(x),
+        }
+    }
+}
+
+/// How far the RTP timestamp goes on from one mark to the next, in ticks.
+fn step(before: Mark, mark: Mark) -> u64
+    ensures step { result ≡ step (before, mark) }
+    ensures short { result < 2 ^ 32 }
+{
+    (u64::from(mark.timestamp) + 0x1_0000_0000 - u64::from(before.timestamp)) % 0x1_0000_0000
+}
+
+impl Pace {
+    /// The pace with one mark more, which comes after `before`.
+    fn next(pace: Option<Pace>, before: Mark, mark: Mark) -> Pace
+        requires later { before.place < mark.place }
+        requires few { IfSome pace (λ p. p.rate.steps < 2 ^ 63) }
+        requires ticks { IfSome pace (λ p. p.rate.ticks < 2 ^ 127) }
+        ensures { result ≡ pace_next pace (before, mark) }
+    {
+        let size = mark.place - before.place;
+        let step = step(before, mark);
+        match pace {
+            Some(pace) => Pace {
+                frame: pace.frame.next(size),
+                step: pace.step.next(step),
+                rate: Rate {
+                    ticks: pace.rate.ticks + u128::from(step),
+                    steps: pace.rate.steps + 1,
+                },
+            },
+            None => Pace {
+                frame: Range::of(size),
+                step: Range::of(step),
+                rate: Rate {
+                    ticks: u128::from(step),
+                    steps: 1,
+                },
+            },
+        }
+    }
+
+    /// The pace with one packet more, which may have the marker, and the last mark before it.
+    #[inline(always)]
+    fn with(pace: Option<Pace>, before: Option<Mark>, mark: Option<Mark>) -> Option<Pace>
+        requires later { IfSome before (λ b. IfSome mark (λ m. b.place < m.place)) }
+        requires few { IfSome pace (λ p. p.rate.steps < 2 ^ 63) }
+        requires ticks { IfSome pace (λ p. p.rate.ticks < 2 ^ 127) }
+        ensures { result ≡ pace_with pace before mark }
+    {
+        match (before, mark) {
+            (Some(before), Some(mark)) => Some(Pace::next(pace, before, mark)),
+            _ => pace,
+        }
+    }
+}
+
+impl Lines {
+    /// The lines with one packet more, which may have a line header.
+    #[inline(always)]
+    fn with(lines: Option<Lines>, line: Option<Line>) -> Option<Lines>
+        ensures { result ≡ lines_with lines line }
+    {
+        match (lines, line) {
+            (Some(lines), Some(line)) => Some(Lines {
+                greatest: lines.greatest.max(line.number),
+                second_field: lines.second_field || line.second_field,
+            }),
+            (None, Some(line)) => Some(Lines {
+                greatest: line.number,
+                second_field: line.second_field,
+            }),
+            (lines, None) => lines,
+        }
+    }
+}
+
+impl Arrival {
+    /// When a packet came.
+    #[inline(always)]
+    fn of(packet: &Packet) -> Arrival
+        ensures { result ≡ arrival packet.now }
+    {
+        Arrival {
+            rec: packet.rec,
+            at: packet.at,
+        }
+    }
+}
+
+/// The numbers of a stream, and what the next packet is compared with.
+#[derive(Clone, Copy, Debug)]
+pub struct Counter {
+    pub stream: Stream,
+    /// The number of the last packet.
+    number: u32,
+    /// The last packet that has the marker.
+    mark: Option<Mark>,
+    ghost few: { IsFew stream mark },
+}
+
+impl Counter {
+    ghost use Rattle.capture_scan.specs.Stands.{Counts};
+    ghost use Rattle.capture_scan.specs.declared.packet.Packet.{Packet as Counted};
+
+    /// A stream whose first packet this is.
+    pub fn first(packet: &Packet) -> Counter
+        ensures counts { Counts result (packet.now ∷ []) }
+        ensures one { result.stream.packets ≡ 1 }
+    {
+        let rtp = packet.rtp;
+        Counter {
+            stream: Stream {
+                source: packet.source,
+                target: packet.target,
+                ssrc: rtp.ssrc,
+                pt: rtp.pt,
+                pts: 0,
+                packets: 1,
+                markers: one_if(rtp.marker),
+                first: Arrival::of(packet),
+                last: Arrival::of(packet),
+                bytes: u64::from(packet.length),
+                order: Order {
+                    lost: 0,
+                    back: 0,
+                    same: 0,
+                    wraps: 0,
+                },
+                pace: None,
+                lines: Lines::with(None, packet.line),
+            },
+            number: rtp.number,
+            mark: Mark::of(0, rtp),
+        }
+    }
+
+    /// Counts one packet more.
+    pub fn take(&mut self, packet: &Packet)
+        requires few { self.old.stream.packets < 2 ^ 41 }
+        ensures counts { (ps : List Counted) → Counts self.old ps
+            → Counts self.new (ps ++ packet.now ∷ []) }
+        ensures packets { self.new.stream.packets ≡ self.old.stream.packets + 1 }
+    {
+        let rtp = packet.rtp;
+        let stream = &mut self.stream;
+        let mark = Mark::of(stream.packets, rtp);
+        stream.pts += one_if(rtp.pt != stream.pt);
+        stream.packets += 1;
+        stream.markers += one_if(rtp.marker);
+        stream.last = Arrival::of(packet);
+        stream.bytes += u64::from(packet.length);
+        stream.order = stream.order.next(self.number, rtp.number);
+        stream.pace = Pace::with(stream.pace, self.mark, mark);
+        stream.lines = Lines::with(stream.lines, packet.line);
+        self.number = rtp.number;
+        self.mark = Mark::last(self.mark, mark);
+    }
+}

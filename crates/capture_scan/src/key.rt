@@ -1,0 +1,49 @@
+//! What packets are told apart by.
+
+ghost use Rattle.std.specs.Prelude.{◌≡◌};
+ghost use Rattle.capture_scan.specs.Scans.{stream_key, target_key};
+
+use crate::packet::Packet;
+use timing_base::Target;
+
+/// A stream: the address and the port that its packets go to, and their synchronisation source.
+#[derive(Clone, Copy, Debug, PartialEq, Eq, Hash)]
+pub struct StreamKey {
+    pub address: u32,
+    pub port: u16,
+    pub ssrc: u32,
+}
+
+/// A target: an address and a port.
+#[derive(Clone, Copy, Debug, PartialEq, Eq, Hash)]
+pub struct TargetKey {
+    pub address: u32,
+    pub port: u16,
+}
+
+impl StreamKey {
+    /// The stream of a packet.
+    #[inline(always)]
+    pub fn of(packet: &Packet) -> StreamKey
+        ensures { result ≡ stream_key packet.now }
+    {
+        StreamKey {
+            address: packet.target.address,
+            port: packet.target.port,
+            ssrc: packet.rtp.ssrc,
+        }
+    }
+}
+
+impl TargetKey {
+    /// The key of a target.
+    #[inline(always)]
+    pub fn of(target: Target) -> TargetKey
+        ensures { result ≡ target_key target }
+    {
+        TargetKey {
+            address: target.address,
+            port: target.port,
+        }
+    }
+}

@@ -1,0 +1,252 @@
+//! What holds of the definitions themselves, and the definitions on frames and lists worked by hand. Each function
+//! is a theorem: it does nothing, and its clauses are proved.
+
+ghost use Rattle.std.specs.Prelude.{◌≡◌, nat_eq, [], ◌∷◌, ◌++◌, ◌*◌, ◌+◌, ◌-◌, ◌^◌, true, false, ℕ, List, Some, None};
+ghost use Rattle.std.specs.Prelude.{Ok, length, map, filter, take, drop};
+ghost use Rattle.std.specs.List.{sum_by};
+ghost use Rattle.timing_base.specs.Captures.{Record};
+ghost use Rattle.timing_base.specs.Media.{Media};
+ghost use Rattle.timing_base.specs.Targets.{target_of};
+ghost use Rattle.udp_rtp.specs.Examples.{extension, frame_of, frame_with, group, ip, ip_type, macs, packet, plain_ip};
+ghost use Rattle.udp_rtp.specs.Examples.{rtp, source, tag, udp};
+ghost use Rattle.udp_rtp.specs.Flow.{flow};
+ghost use Rattle.udp_rtp.specs.Frames.{Datagram, datagram_of};
+ghost use Rattle.capture_scan.specs.Classes.{class_of};
+ghost use Rattle.capture_scan.specs.Examples.{arp_type, broken_frame, came, fragment_frame, frame_of_reads, frame_on};
+ghost use Rattle.capture_scan.specs.Examples.{ipv6_type, line_header, one_of_each, order_with, pace_with, plain_at};
+ghost use Rattle.capture_scan.specs.Examples.{provider_tag, read_with, records_from, second_header, sender, tcp_frame};
+ghost use Rattle.capture_scan.specs.Examples.{ten};
+ghost use Rattle.capture_scan.specs.Frames.{first_line, seen};
+ghost use Rattle.capture_scan.specs.Groups.{count_more, told};
+ghost use Rattle.capture_scan.specs.Scans.{as_flow_packet, count_passed, is_from, more_packets, more_unread, packets};
+ghost use Rattle.capture_scan.specs.Scans.{packets_of, passed_over, span_of, stream_to, streams, unread};
+ghost use Rattle.capture_scan.specs.Scans.{unread_targets};
+ghost use Rattle.capture_scan.specs.Streams.{lines_of, order_of, pace_of, stream_of};
+ghost use Rattle.capture_scan.specs.declared.class.Class.TheVariants.{Broken, Empty, Fragment, Ipv6, NotUdp, Other};
+ghost use Rattle.capture_scan.specs.declared.class.Class.TheVariants.{Tags};
+ghost use Rattle.capture_scan.specs.declared.packet.Seen.TheVariants as seen_as;
+
+/// Frames worked by hand that have no target: each class, at both sides of where it begins.
+pub fn classes_by_hand()
+    ensures empty { class_of [] ≡ Empty }
+
+    // Two tags, and a tag of a provider's bridge, alone and behind another.
+    ensures two_tags { class_of (macs ++ tag ++ tag ++ ip_type ++ plain_ip) ≡ Tags }
+    ensures provider { class_of (macs ++ provider_tag ++ ip_type ++ plain_ip) ≡ Tags }
+    ensures behind { class_of (macs ++ tag ++ provider_tag ++ ipv6_type) ≡ Tags }
+
+    // IPv6, also behind a tag, and where nothing follows its type.
+    ensures ipv6 { class_of (macs ++ ipv6_type ++ ten) ≡ Ipv6 }
+    ensures tagged_ipv6 { class_of (macs ++ tag ++ ipv6_type ++ ten) ≡ Ipv6 }
+    ensures type_alone { class_of (macs ++ ipv6_type) ≡ Ipv6 }
+
+    // Another type, also behind a tag; a frame that ends in its type, or in the type behind a tag.
+    ensures arp { class_of (macs ++ arp_type ++ ten) ≡ Other }
+    ensures tagged_arp { class_of (macs ++ tag ++ arp_type ++ ten) ≡ Other }
+    ensures short { class_of (take 13 (frame_of plain_ip)) ≡ Other }
+    ensures tagged_short { class_of (take 17 (macs ++ tag ++ ip_type)) ≡ Other }
+
+    // TCP; a header of which 19 bytes are there tells nothing.
+    ensures tcp { class_of tcp_frame ≡ NotUdp }
+    ensures tagged_tcp { class_of (macs ++ tag ++ ip_type ++ ip 0x45 0x40 0 6) ≡ NotUdp }
+    ensures tcp_header { class_of (take 34 tcp_frame) ≡ NotUdp }
+    ensures tcp_cut { class_of (take 33 tcp_frame) ≡ Broken }
+
+    // The first fragment of several, a later one, and one of TCP, which is no UDP.
+    ensures first { class_of fragment_frame ≡ Fragment }
+    ensures later { class_of (frame_of (ip 0x45 0x00 1 17)) ≡ Fragment }
+    ensures tcp_fragment { class_of (frame_of (ip 0x45 0x20 0 6)) ≡ NotUdp }
+
+    // Version 6 in a header of IPv4, a header of four words, and a frame that ends before its ports.
+    ensures version { class_of broken_frame ≡ Broken }
+    ensures words { class_of (frame_of (ip 0x44 0x40 0 17)) ≡ Broken }
+    ensures cut { class_of (take 37 (frame_of plain_ip)) ≡ Broken }
+{}
+
+/// What a record is counted as, worked by hand: a packet, one whose payload ends too early, and a frame without
+/// a target.
+pub fn seen_by_hand()
+    ensures read { seen (record { number = 7; stamp = 100; bytes = frame_of plain_ip })
+        ≡ seen_as.Read (plain_at 7 100) }
+    ensures tagged { seen (record {
+      number = 7;
+      stamp = 100;
+      bytes = macs ++ tag ++ ip_type ++ plain_ip ++ udp 22 ++ packet;
+    }) ≡ seen_as.Read (plain_at 7 100) }
+    ensures options { seen (record {
+      number = 7;
+      stamp = 100;
+      bytes = frame_of (ip 0x46 0x40 0 17 ++ source);
+    }) ≡ seen_as.Read (plain_at 7 100) }
+    ensures short { seen (record { number = 7; stamp = 100; bytes = take 55 (frame_of plain_ip) })
+        ≡ seen_as.Unread group }
+    ensures version { seen (record {
+      number = 7;
+      stamp = 100;
+      bytes = frame_with plain_ip (udp 22) (rtp 0x40 0x60 ++ 0 ∷ 1 ∷ []);
+    }) ≡ seen_as.Unread group }
+    ensures tcp { seen (record { number = 7; stamp = 100; bytes = tcp_frame })
+        ≡ seen_as.PassedOver NotUdp }
+
+    // The sender's port is another one, 5000.
+    ensures sender { seen (record {
+      number = 7;
+      stamp = 100;
+      bytes = frame_with plain_ip (0x13 ∷ 0x88 ∷ drop 2 (udp 22)) packet;
+    }) ≡ seen_as.Read (record (plain_at 7 100) {
+      source = record { address = 0xc0000201; port = 5000 };
+    }) }
+{}
+
+/// Line headers worked by hand: line 1,079 of the first field and line 539 of the second; one of which a byte is
+/// missing, in the frame or by the UDP length; and one behind a header extension.
+pub fn lines_by_hand()
+    ensures first { first_line (packet ++ line_header)
+        ≡ Some (record { number = 1079; second_field = false }) }
+    ensures second { first_line (packet ++ second_header)
+        ≡ Some (record { number = 539; second_field = true }) }
+    ensures first_alone { first_line (packet ++ line_header ++ second_header)
+        ≡ Some (record { number = 1079; second_field = false }) }
+    ensures cut { first_line (packet ++ take 5 line_header) ≡ None }
+    ensures none { first_line packet ≡ None }
+    ensures extension { first_line (rtp 0x90 0x60 ++ extension ++ 0 ∷ 1 ∷ [] ++ second_header)
+        ≡ Some (record { number = 539; second_field = true }) }
+    ensures frame { seen (record { number = 1; stamp = 10; bytes = frame_on 28 line_header })
+        ≡ seen_as.Read (record (plain_at 1 10) {
+          line = Some (record { number = 1079; second_field = false });
+        }) }
+    ensures stated { seen (record { number = 1; stamp = 10; bytes = frame_on 27 line_header })
+        ≡ seen_as.Read (plain_at 1 10) }
+
+    // The greatest line, and any of the second field.
+    ensures lines { lines_of (record { number = 3; second_field = false }
+        ∷ record { number = 9; second_field = true } ∷ record { number = 5; second_field = false } ∷ [])
+        ≡ Some (record { greatest = 9; second_field = true }) }
+    ensures no_lines { lines_of [] ≡ None }
+{}
+
+/// Orders of sequence numbers, worked by hand.
+pub fn orders_by_hand()
+    ensures one { order_of (7 ∷ []) ≡ order_with 0 0 0 0 }
+    ensures in_order { order_of (7 ∷ 8 ∷ 9 ∷ []) ≡ order_with 0 0 0 0 }
+
+    // The extended sequence number is counted on, and isn't.
+    ensures carried { order_of (65534 ∷ 65535 ∷ 65536 ∷ []) ≡ order_with 0 0 0 0 }
+    ensures not_carried { order_of (65534 ∷ 65535 ∷ 0 ∷ 1 ∷ []) ≡ order_with 0 0 0 1 }
+    ensures passed { order_of (65535 ∷ 1 ∷ []) ≡ order_with 1 0 0 0 }
+
+    // One is missing; two come in turned order; one comes twice.
+    ensures lost { order_of (7 ∷ 9 ∷ 10 ∷ []) ≡ order_with 1 0 0 0 }
+    ensures turned { order_of (7 ∷ 9 ∷ 8 ∷ 10 ∷ []) ≡ order_with 2 1 0 0 }
+    ensures twice { order_of (7 ∷ 7 ∷ 8 ∷ []) ≡ order_with 0 0 1 0 }
+
+    // The last jump that is a loss, the first that goes back, and the last.
+    ensures farthest { order_of (0 ∷ 32768 ∷ []) ≡ order_with 32767 0 0 0 }
+    ensures too_far { order_of (0 ∷ 32769 ∷ []) ≡ order_with 0 1 0 0 }
+    ensures one_back { order_of (1 ∷ 0 ∷ []) ≡ order_with 0 1 0 0 }
+
+    // The extended sequence number doesn't count.
+    ensures other_high { order_of (7 ∷ 65544 ∷ []) ≡ order_with 0 0 0 0 }
+{}
+
+/// Paces worked by hand: three marked packets, with two others between the first and the second.
+pub fn paces_by_hand()
+    ensures three { pace_of (read_with 100 true ∷ read_with 200 false ∷ read_with 200 false
+        ∷ read_with 200 true ∷ read_with 500 true ∷ []) ≡ Some (pace_with 1 3 100 300 400 2) }
+    ensures behind { pace_of (read_with 100 false ∷ read_with 100 true ∷ read_with 200 true
+        ∷ read_with 300 false ∷ []) ≡ Some (pace_with 1 1 100 100 100 1) }
+    ensures one { pace_of (read_with 100 false ∷ read_with 100 true ∷ read_with 200 false ∷ []) ≡ None }
+
+    // Two frames of 20 packets behind a marked one, at 50 frames a second; and the same with one packet lost.
+    ensures plain { pace_of (read_with 0 true ∷ frame_of_reads 19 1800 ++ frame_of_reads 19 3600)
+        ≡ Some (pace_with 20 20 1800 1800 3600 2) }
+    ensures gap { pace_of (read_with 0 true ∷ frame_of_reads 19 1800 ++ frame_of_reads 18 3600)
+        ≡ Some (pace_with 19 20 1800 1800 3600 2) }
+
+    // The timestamp wraps, and stays.
+    ensures wraps { pace_of (read_with 4294967196 true ∷ read_with 200 true ∷ read_with 200 true ∷ [])
+        ≡ Some (pace_with 1 1 0 300 300 2) }
+{}
+
+/// Eight records worked by hand, one of each class and one packet.
+pub fn records_by_hand()
+    ensures passed_over { passed_over (one_of_each 1)
+        ≡ record { empty = 1; tags = 1; ipv6 = 1; other = 1; not_udp = 1; fragment = 1; broken = 1 } }
+    ensures packets { packets (one_of_each 1) ≡ plain_at 8 80 ∷ [] }
+    ensures unread { unread (one_of_each 1) ≡ [] }
+    ensures span { span_of (one_of_each 1) ≡ Some (record { first = 10; last = 80 }) }
+    ensures none { span_of [] ≡ None }
+
+    // An unread one between two packets.
+    ensures short { packets (records_from 1 (frame_of plain_ip ∷ take 55 (frame_of plain_ip)
+        ∷ frame_of plain_ip ∷ [])) ≡ plain_at 1 10 ∷ plain_at 3 30 ∷ [] }
+    ensures unread_one { unread (records_from 1 (frame_of plain_ip ∷ take 55 (frame_of plain_ip)
+        ∷ frame_of plain_ip ∷ [])) ≡ group ∷ [] }
+{}
+
+/// Streams worked by hand: two senders to one target, of which the second begins first.
+pub fn streams_by_hand()
+    ensures two { streams (came 1 2 7 false ∷ came 2 1 7 true ∷ came 3 2 8 true ∷ came 4 2 10 true ∷ [])
+        ≡ record {
+          source = sender;
+          target = group;
+          ssrc = 2;
+          pt = 96;
+          pts = 0;
+          packets = 3;
+          markers = 2;
+          first = record { rec = 1; at = 1 };
+          last = record { rec = 4; at = 4 };
+          bytes = 126;
+          order = order_with 1 0 0 0;
+          pace = Some (pace_with 1 1 0 0 0 1);
+          lines = None;
+        }
+        ∷ record {
+          source = sender;
+          target = group;
+          ssrc = 1;
+          pt = 96;
+          pts = 0;
+          packets = 1;
+          markers = 1;
+          first = record { rec = 2; at = 2 };
+          last = record { rec = 2; at = 2 };
+          bytes = 42;
+          order = order_with 0 0 0 0;
+          pace = None;
+          lines = None;
+        } ∷ [] }
+    ensures no_more { more_packets (came 1 2 7 false ∷ came 2 1 7 true ∷ []) ≡ 0 }
+    ensures none { streams [] ≡ [] }
+
+    // Where one key is told, the items of the second and the third count as more.
+    ensures told { told nat_eq (λ k. k) 1 (5 ∷ 6 ∷ 5 ∷ 7 ∷ 6 ∷ []) ≡ 5 ∷ [] }
+    ensures more { count_more nat_eq (λ k. k) 1 (5 ∷ 6 ∷ 5 ∷ 7 ∷ 6 ∷ []) ≡ 3 }
+    ensures two_told { told nat_eq (λ k. k) 2 (5 ∷ 6 ∷ 5 ∷ 7 ∷ 6 ∷ []) ≡ 5 ∷ 6 ∷ [] }
+    ensures two_more { count_more nat_eq (λ k. k) 2 (5 ∷ 6 ∷ 5 ∷ 7 ∷ 6 ∷ []) ≡ 1 }
+
+    // Unread packets to two targets.
+    ensures unread { unread_targets (group ∷ sender ∷ group ∷ [])
+        ≡ record { target = group; packets = 2 } ∷ record { target = sender; packets = 1 } ∷ [] }
+{}
+
+/// A frame that has a target is of none of the classes that stand before the last.
+pub fn targets_are_no_class()
+    ensures { (frame : List ℕ) (d : Datagram) → datagram_of frame ≡ Some d → class_of frame ≡ Broken }
+{}
+
+/// The packets of a stream are those of the flow of a media with its target that are read and have its SSRC.
+pub fn streams_are_flows()
+    ensures { (media : Media) (ssrc : ℕ) (records : List Record)
+        → map as_flow_packet (packets_of (packets records) (stream_to (target_of media) ssrc))
+        ≡ filter (is_from ssrc) (flow records media) }
+{}
+
+/// Each record counts once: in its class, in its stream, at its target, or as one more.
+pub fn records_count_once()
+    ensures { (records : List Record) → count_passed (passed_over records)
+        + (sum_by (λ s. s.packets) (streams (packets records))
+        + (sum_by (λ u. u.packets) (unread_targets (unread records))
+        + (more_packets (packets records) + more_unread (unread records)))) ≡ length records }
+{}

@@ -1,0 +1,137 @@
+//! The packets of a capture that aren't read as RTP.
+
+ghost use Rattle.std.specs.Prelude.{◌≡◌, ◌≤◌, ◌<◌, ◌+◌, ◌^◌, ◌++◌, ◌∷◌, [], ℕ, All, List, None, Some, IfOk, IfSome};
+ghost use Rattle.std.specs.Prelude.{OnOk, true};
+ghost use Rattle.indexmap.specs.IndexMap.{get, values};
+ghost use Rattle.capture_scan.specs.Scans.{is_same_key, target_key};
+
+use crate::found::UnreadTarget;
+use crate::key::TargetKey;
+use indexmap::IndexMap;
+use std::alloc::{AllocError as OutOfMemory, Global};
+use timing_base::Target;
+
+/// The most targets that are told.
+const MOST: usize = 1024;
+
+/// The targets of some unread packets, in the order of their first ones.
+#[derive(Drop)]
+pub struct Unread {
+    counts: IndexMap<TargetKey, u64>,
+    /// The place of the target of the last packet.
+    near: usize,
+    /// The packets that were taken.
+    pub taken: u64,
+    /// Those of them that go to further targets.
+    pub more: u64,
+    ghost few: { All (λ n. n ≤ taken) (values counts) },
+    ghost few_more: { more ≤ taken },
+}
+
+impl Unread {
+    ghost use Rattle.capture_scan.specs.Places.{HasTarget};
+    ghost use Rattle.capture_scan.specs.Scans.{unread_targets};
+    ghost use Rattle.capture_scan.specs.Stands.{HaveMissed};
+    ghost use Rattle.timing_base.specs.declared.target.Target.{Target as Address};
+
+    /// No unread packet.
+    pub fn new(alloc: Global) -> Unread
+        ensures none { HaveMissed result [] }
+        ensures taken { result.taken ≡ 0 }
+    {
+        Unread {
+            counts: IndexMap::new(alloc),
+            near: 0,
+            taken: 0,
+            more: 0,
+        }
+    }
+
+    /// Whether this target stands at the place of the last packet's.
+    #[inline(always)]
+    fn is_near(&self, key: TargetKey) -> bool
+        ensures { result ≡ true → HasTarget self.now key self.now.near }
+    {
+        match self.counts.get_index(self.near) {
+            Some((&other, _)) => other == key,
+            None => false,
+        }
+    }
+
+    /// The place of a target.
+    #[inline(always)]
+    fn place_of(&self, key: TargetKey) -> Option<usize>
+        ensures some { IfSome result (HasTarget self.now key) }
+        ensures none { result ≡ None → get is_same_key self.now.counts key ≡ None }
+    {
+        if self.is_near(key) {
+            return Some(self.near);
+        }
+        self.counts.get_index_of(&key)
+    }
+
+    /// Begins a target with its first packet, where there is room for one more.
+    ///
+    /// `Err` is want of memory.
+    #[cold]
+    #[inline(never)]
+    fn begin(&mut self, key: TargetKey) -> Result<(), OutOfMemory>
+        requires absent { get is_same_key self.old.counts key ≡ None }
+        requires few { self.old.more < self.old.taken }
+        requires room { self.old.taken ≤ 2 ^ 41 }
+        ensures taken { self.new.taken ≡ self.old.taken }
+        ensures stands { OnOk result ((target : Address) (ts : List Address) → key ≡ target_key target
+            → HaveMissed self.old ts → HaveMissed self.new (ts ++ target ∷ [])) }
+    {
+        if self.counts.len() >= MOST {
+            self.more += 1;
+            return Ok(());
+        }
+        let place = self.counts.len();
+        self.counts.insert(key, 1)?;
+        self.near = place;
+        Ok(())
+    }
+
+    /// Takes an unread packet to a target.
+    ///
+    /// `Err` is want of memory; what was taken isn't known from then on.
+    pub fn take(&mut self, target: Target) -> Result<(), OutOfMemory>
+        requires few { self.old.taken < 2 ^ 41 }
+        ensures taken { self.new.taken ≡ self.old.taken + 1 }
+        ensures stands { OnOk result ((ts : List Address) → HaveMissed self.old ts
+            → HaveMissed self.new (ts ++ target ∷ [])) }
+    {
+        self.taken += 1;
+        let key = TargetKey::of(target);
+        match self.place_of(key) {
+            Some(place) => {
+                self.near = place;
+                let (_, count) = self.counts.pair_mut(place);
+                *count += 1;
+                Ok(())
+            }
+            None => self.begin(key),
+        }
+    }
+
+    /// The targets, in the order of their first unread packets.
+    ///
+    /// `Err` is want of memory.
+    pub fn finish(&self, alloc: Global) -> Result<Vec<UnreadTarget>, OutOfMemory>
+        ensures { IfOk result (λ list. (ts : List Address) → HaveMissed self.now ts
+            → list.items ≡ unread_targets ts) }
+    {
+        let mut targets = Vec::new(alloc);
+        for (key, count) in self.counts.iter() {
+            targets.push(UnreadTarget {
+                target: Target {
+                    address: key.address,
+                    port: key.port,
+                },
+                packets: *count,
+            })?;
+        }
+        Ok(targets)
+    }
+}
