@@ -1,0 +1,86 @@
+-- The least and the greatest of numbers, with one number more.
+use Rattle.std.proofs.Common.{◌≡◌, ℕ, ℤ, ◌≤ℤ◌, ◌⊎◌, inl, inr, ◌∙◌, sym, ap, arith}
+use Rattle.std.proofs.lemmas.Int.{clamps, ints}
+use Rattle.std.proofs.lemmas.Bool.{cases_cond}
+use Rattle.std.specs.Int.{int_max, int_min}
+use Rattle.std.specs.Prelude.{int_lt}
+use Rattle.flow_measure.specs.Columns.{AreExtremes}
+use Rattle.flow_measure.specs.Summary.{IsGreatest, IsLeast}
+use Rattle.flow_measure.specs.declared.columns.Extremes.{Extremes}
+
+-- the least, with the number at one place more
+pub IsLeast-more : (numbers : ℕ → ℤ) (before after : ℕ → Type 0) (new : ℕ) (x y : ℤ)
+    → IsLeast numbers before x
+    → ((i : ℕ) → before i → after i)
+    → after new
+    → ((i : ℕ) → after i → before i ⊎ (i ≡ new))
+    → y ≡ int_min x (numbers new)
+    → IsLeast numbers after y
+IsLeast-more numbers before after new x y h keeps here split e =
+    record {
+      least = λ i p. elim (split i p) as (λ _. y ≤ℤ numbers i) [
+        | inl old ↦ omega (arith, ints, clamps, h.least i old, e)
+        | inr same ↦ omega (arith, ints, clamps, ap numbers same, e)
+      ];
+      reached = elim (cases_cond (int_lt (numbers new) x) (numbers new) x y e) as (λ _. (i : ℕ) × (after i) × (numbers i ≡ y)) [
+        | inl lower ↦ (new, here, sym lower)
+        | inr kept ↦ (h.reached.0, keeps h.reached.0 h.reached.1, h.reached.2 ∙ sym kept)
+      ];
+    }
+
+-- the greatest, with the number at one place more
+pub IsGreatest-more : (numbers : ℕ → ℤ) (before after : ℕ → Type 0) (new : ℕ) (x y : ℤ)
+    → IsGreatest numbers before x
+    → ((i : ℕ) → before i → after i)
+    → after new
+    → ((i : ℕ) → after i → before i ⊎ (i ≡ new))
+    → y ≡ int_max x (numbers new)
+    → IsGreatest numbers after y
+IsGreatest-more numbers before after new x y h keeps here split e =
+    record {
+      greatest = λ i p. elim (split i p) as (λ _. numbers i ≤ℤ y) [
+        | inl old ↦ omega (arith, ints, clamps, h.greatest i old, e)
+        | inr same ↦ omega (arith, ints, clamps, ap numbers same, e)
+      ];
+      reached = elim (cases_cond (int_lt (numbers new) x) x (numbers new) y e) as (λ _. (i : ℕ) × (after i) × (numbers i ≡ y)) [
+        | inl kept ↦ (h.reached.0, keeps h.reached.0 h.reached.1, h.reached.2 ∙ sym kept)
+        | inr higher ↦ (new, here, sym higher)
+      ];
+    }
+
+-- the extremes of one place
+pub AreExtremes-one : (numbers : ℕ → ℤ) (after : ℕ → Type 0) (new : ℕ) (e : Extremes)
+    → after new
+    → ((i : ℕ) → after i → i ≡ new)
+    → e.least ≡ numbers new
+    → e.greatest ≡ numbers new
+    → AreExtremes numbers after e
+AreExtremes-one numbers after new e here alone el eg =
+    record {
+      least = record {
+        least = λ i p. omega (arith, ints, ap numbers (alone i p), el);
+        reached = (new, here, sym el);
+      };
+      greatest = record {
+        greatest = λ i p. omega (arith, ints, ap numbers (alone i p), eg);
+        reached = (new, here, sym eg);
+      };
+    }
+
+-- the same numbers at the same places
+pub AreExtremes-same : (numbers : ℕ → ℤ) (before after : ℕ → Type 0) (e : Extremes)
+    → ((i : ℕ) → before i → after i)
+    → ((i : ℕ) → after i → before i)
+    → AreExtremes numbers before e
+    → AreExtremes numbers after e
+AreExtremes-same numbers before after e to from h =
+    record {
+      least = record {
+        least = λ i p. h.least.least i (from i p);
+        reached = (h.least.reached.0, to h.least.reached.0 h.least.reached.1, h.least.reached.2);
+      };
+      greatest = record {
+        greatest = λ i p. h.greatest.greatest i (from i p);
+        reached = (h.greatest.reached.0, to h.greatest.reached.0 h.greatest.reached.1, h.greatest.reached.2);
+      };
+    }

@@ -1,0 +1,10 @@
+use Rattle.std.proofs.Common.{refl}
+use Rattle.flow_measure.proofs.Counted.{replicate-at}
+use Rattle.flow_measure.proofs.bins.Bins.new.Goals as goal
+
+pub returns-clause-stands : goal.returns-clause-stands
+returns-clause-stands c = λ numbers. record {
+  each = λ bin few. replicate-at 0 64 bin;
+  above = refl;
+  below = refl;
+}

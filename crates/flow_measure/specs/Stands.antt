@@ -1,0 +1,36 @@
+-- What the meters of plain numbers say of the numbers that they were fed: `numbers` gives the number at each place, and
+-- the first `seen` of them were fed.
+use Rattle.std.specs.Prelude.{◌≡◌, ◌<◌, ◌≤◌, ◌+◌, ◌/◌, ◌%◌, ℕ, ℤ, slice_index}
+use Rattle.flow_measure.specs.Bins.{above_limit, below_zero, in_bin}
+use Rattle.flow_measure.specs.Classes.{in_class}
+use Rattle.flow_measure.specs.Columns.{AreExtremes, column_at, places_in}
+use Rattle.flow_measure.specs.Summary.{IsSummary}
+use Rattle.flow_measure.specs.declared.bins.Bins.{Bins}
+use Rattle.flow_measure.specs.declared.classes.Classes.{Classes}
+use Rattle.flow_measure.specs.declared.columns.Columns.{Columns}
+use Rattle.flow_measure.specs.declared.summary.SummaryMeter.{SummaryMeter}
+
+-- the meter was fed these numbers
+abbrev pub Summarizes : SummaryMeter → (numbers : ℕ → ℤ) → Type 0
+Summarizes m numbers = 0 < m.seen → IsSummary numbers m.seen m.so_far
+
+-- the bins were fed these numbers
+pub record Counts (b : Bins) (numbers : ℕ → ℤ) : Type 0 where
+  pub each : (bin : ℕ) → bin < 64 → slice_index b.counts bin ≡ in_bin b.limit bin numbers b.seen
+  pub above : b.above ≡ above_limit b.limit numbers b.seen
+  pub below : b.below ≡ below_zero numbers b.seen
+
+-- the classes were fed these numbers
+pub record Classifies (c : Classes) (numbers : ℕ → ℕ) : Type 0 where
+  pub each : (class : ℕ) → class < 64 → slice_index c.counts class ≡ in_class class numbers c.seen
+  pub rest : (class : ℕ) → c.length ≤ class → in_class class numbers c.seen ≡ 0
+  pub ends : (last : ℕ) → c.length ≡ last + 1 → 0 < in_class last numbers c.seen
+
+-- the column to which the number at place i belongs
+abbrev pub column_of : Columns → ℕ → ℕ
+column_of c i = (i % c.group) / c.width
+
+-- the columns were fed these numbers
+pub record Draws (c : Columns) (numbers : ℕ → ℤ) : Type 0 where
+  pub within : (i : ℕ) → i < c.seen → column_of c i < c.begun
+  pub each : (k : ℕ) → k < c.begun → AreExtremes numbers (places_in (column_of c) c.seen k) (column_at c.columns.items k)

@@ -1,0 +1,79 @@
+//! How often numbers come, in classes that double.
+
+ghost use Rattle.std.specs.Prelude.{◌≡◌, ◌<◌, ◌≤◌, ◌+◌, ◌^◌, ℕ, sum, true};
+ghost use Rattle.flow_measure.specs.Classes.{is_in_class};
+
+/// The classes of the numbers below 2^63.
+const MOST: usize = 64;
+
+/// How many of the numbers so far belong to each class: class 0 has the zeros, and class c, from 1 on, the
+/// numbers from 2^(c - 1) to 2^c - 1.
+#[derive(Clone, Copy, Debug, PartialEq, Eq)]
+pub struct Classes {
+    counts: [u64; MOST],
+    /// The classes up to the last one that has a number.
+    length: usize,
+    /// The numbers fed.
+    pub seen: u64,
+    ghost within: { length ≤ 64 },
+    ghost few: { seen ≤ 2 ^ 41 },
+    ghost all_counted: { sum counts ≡ seen },
+}
+
+impl Classes {
+    ghost use Rattle.flow_measure.specs.Classes.{AreClasses};
+    ghost use Rattle.flow_measure.specs.Stands.{Classifies};
+
+    /// The classes before the first number.
+    pub fn new() -> Classes
+        ensures seen { result.seen ≡ 0 }
+        ensures stands { (numbers : ℕ → ℕ) → Classifies result numbers }
+    {
+        Classes {
+            counts: [0; MOST],
+            length: 0,
+            seen: 0,
+        }
+    }
+
+    /// Counts the next number.
+    #[inline(always)]
+    pub fn feed(&mut self, number: u64)
+        requires small { number < 2 ^ 63 }
+        requires few { self.old.seen < 2 ^ 41 }
+        ensures seen { self.new.seen ≡ self.old.seen + 1 }
+
+        // Whatever numbers the classes were fed, they were now fed this one, too.
+        ensures stands { (numbers : ℕ → ℕ) → Classifies self.old numbers
+            → numbers self.old.seen ≡ number → Classifies self.new numbers }
+    {
+        let class = class_of(number);
+        self.counts[class] += 1;
+        self.length = self.length.max(class + 1);
+        self.seen += 1;
+    }
+
+    /// How many numbers each class has, in order, up to the last one that has a number.
+    pub fn counts(&self) -> &[u64]
+        ensures classes { (numbers : ℕ → ℕ) → Classifies self.now numbers
+            → AreClasses numbers self.now.seen result.now }
+
+        // Each number is counted once.
+        ensures all { (numbers : ℕ → ℕ) → Classifies self.now numbers
+            → sum result.now ≡ self.now.seen }
+    {
+        &self.counts[..self.length]
+    }
+}
+
+/// The class of a number.
+fn class_of(number: u64) -> usize
+    requires { number < 2 ^ 63 }
+    ensures class { is_in_class result number ≡ true }
+    ensures within { result < 64 }
+{
+    match number {
+        0 => 0,
+        _ => number.ilog2() as usize + 1,
+    }
+}
