@@ -14,24 +14,6 @@ use std::thread::{self, Threads};
 use timing_outside::Gate;
 use verdict_book::Book;
 
-/// Runs the worker of a job.
-fn work_one<R: Wait, G: Gate>(
-    rt: &R,
-    alloc: Global,
-    run: &RunSetting<'_>,
-    book: &Book,
-    halt: &Halt,
-    gate: &G,
-    job: WorkJob,
-) -> WorkDone
-    requires run { IsRun run.now }
-    requires job { IsWorkJob run.now.lanes.now job }
-    ensures { HasWorked (setting_of run.now) run.now.files book.now job result }
-{
-    let WorkJob { worker, pass } = job;
-    work(rt, alloc, run, worker, pass, book, halt, gate)
-}
-
 /// Runs the workers, each on a thread of its own where one can be made. `Err` is want of memory.
 pub fn run_workers<R: Threads + Wait + Sync, G: Gate>(
     rt: &R,
@@ -50,6 +32,9 @@ pub fn run_workers<R: Threads + Wait + Sync, G: Gate>(
     let one = |job: WorkJob| -> WorkDone
         requires { IsRun run.now × IsWorkJob run.now.lanes.now job }
         ensures { HasWorked (setting_of run.entry.now) run.entry.now.files book.entry.now job result }
-    { work_one(rt, alloc, run, book, halt, gate, job) };
+    {
+        let WorkJob { worker, pass } = job;
+        work(rt, alloc, run, worker, pass, book, halt, gate)
+    };
     thread::map_vec(rt, jobs, &one)
 }

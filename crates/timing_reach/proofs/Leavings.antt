@@ -70,13 +70,13 @@ pub shapes-late : (params : Params) (old new : Shaper) (arrivals departures : Li
     → Shapes params old new arrivals departures at (turn.Late late)
 shapes-late params old new arrivals departures at stamp late e h = subst (λ x. Shapes params old new arrivals departures x (turn.Late late)) e h
 
--- a packet beside the judged ones
-given-beside : (w : Part) (old new : Leaver) (packets : List FlowPacket) (p : FlowPacket) (departures : List ℕ)
-    → stamps_in w (packets ++ p ∷ []) ≡ stamps_in w packets
-    → Stays old new → new.shaper ≡ old.shaper → new.last ≡ old.last → new.ahead ≡ w.head - length (packets ++ p ∷ [])
+-- a packet more, after which these departures were given
+given-more : (w : Part) (old new : Leaver) (packets : List FlowPacket) (p : FlowPacket) (departures given : List ℕ)
+    → Stays old new → new.ahead ≡ w.head - length (packets ++ p ∷ [])
     → new.due ≡ w.count - (length (packets ++ p ∷ []) - w.head)
-    → HasGiven w old packets departures → HasGiven w new (packets ++ p ∷ []) departures
-given-beside w old new packets p departures same stays shaper end_last ahead due h = record {
+    → IsLast (stamps_in w (packets ++ p ∷ [])) new.last → StandsFor old.params new.shaper (stamps_in w (packets ++ p ∷ [])) given
+    → HasGiven w old packets departures → HasGiven w new (packets ++ p ∷ []) given
+given-more w old new packets p departures given stays ahead due end_last stands h = record {
   media = ap (λ (x : Params). x.media) stays.params ∙ h.media;
   group = ap (λ (x : Params). x.n) stays.params ∙ h.group;
   kind = stays.kind ∙ h.kind;
@@ -85,11 +85,22 @@ given-beside w old new packets p departures same stays shaper end_last ahead due
   added = stays.added ∙ h.added;
   ahead = ahead;
   due = due;
-  last = subst (λ l. IsLast l new.last) (sym same) (subst (IsLast (stamps_in w packets)) (sym end_last) h.last);
-  stands = subst (λ l. StandsFor new.params new.shaper l departures) (sym same)
-      (subst (λ (x : Params). StandsFor x new.shaper (stamps_in w packets) departures) (sym stays.params)
-      (subst (λ (x : Shaper). StandsFor old.params x (stamps_in w packets) departures) (sym shaper) h.stands));
+  last = end_last;
+  stands = subst (λ (x : Params). StandsFor x new.shaper (stamps_in w (packets ++ p ∷ [])) given) (sym stays.params) stands;
 }
+
+-- a packet beside the judged ones
+given-beside : (w : Part) (old new : Leaver) (packets : List FlowPacket) (p : FlowPacket) (departures : List ℕ)
+    → stamps_in w (packets ++ p ∷ []) ≡ stamps_in w packets
+    → Stays old new → new.shaper ≡ old.shaper → new.last ≡ old.last → new.ahead ≡ w.head - length (packets ++ p ∷ [])
+    → new.due ≡ w.count - (length (packets ++ p ∷ []) - w.head)
+    → HasGiven w old packets departures → HasGiven w new (packets ++ p ∷ []) departures
+given-beside w old new packets p departures same stays shaper end_last ahead due h =
+    given-more w old new packets p departures departures stays ahead due
+    (subst (λ l. IsLast l new.last) (sym same) (subst (IsLast (stamps_in w packets)) (sym end_last) h.last))
+    (subst (λ l. StandsFor old.params new.shaper l departures) (sym same)
+    (subst (λ (x : Shaper). StandsFor old.params x (stamps_in w packets) departures) (sym shaper) h.stands))
+    h
 
 pub takes-behind : (at : ℕ) (old : Leaver) → old.ahead ≡ 0 → old.due ≡ 0 → Takes at old old turn.Beside
 takes-behind at old none done = λ w packets p departures is fit h.
@@ -141,19 +152,10 @@ judged-turn w old new packets p departures a (turn.Leaves packet stamp d) stays 
         place = omega (arith, s.0, size, none, h.ahead, due, h.due);
         bound = subst (λ x. BoundAt w.media w.n w.kind (stamps ++ x ∷ []) (departures ++ d.at ∷ []) (length stamps) d.bound) (sym s.1) bound;
       },
-      record {
-        media = ap (λ (x : Params). x.media) stays.params ∙ h.media;
-        group = ap (λ (x : Params). x.n) stays.params ∙ h.group;
-        kind = stays.kind ∙ h.kind;
-        origin = stays.origin ∙ h.origin;
-        end = stays.end ∙ h.end;
-        added = stays.added ∙ h.added;
-        ahead = omega (arith, long, ahead, none, h.ahead);
-        due = omega (arith, long, due, none, h.ahead, h.due);
-        last = subst (λ l. IsLast l new.last) (sym more) (λ i count. is ∙ sym (last stamps a i (omega (arith, count, length-append stamps (a ∷ [])))));
-        stands = subst (λ l. StandsFor new.params new.shaper l (departures ++ d.at ∷ [])) (sym more)
-            (subst (λ (x : Params). StandsFor x new.shaper (stamps ++ a ∷ []) (departures ++ d.at ∷ [])) (sym stays.params) s.3);
-      },
+      given-more w old new packets p departures (departures ++ d.at ∷ []) stays (omega (arith, long, ahead, none, h.ahead))
+          (omega (arith, long, due, none, h.ahead, h.due))
+          (subst (λ l. IsLast l new.last) (sym more) (λ i count. is ∙ sym (last stamps a i (omega (arith, count, length-append stamps (a ∷ []))))))
+          (subst (λ l. StandsFor old.params new.shaper l (departures ++ d.at ∷ [])) (sym more) s.3) h,
     )
 judged-turn w old new packets p departures a (turn.Late late) stays ahead due none more is s h =
     let stamps = stamps_in w packets in

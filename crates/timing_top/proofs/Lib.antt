@@ -1,6 +1,7 @@
 mod Answering
 mod Asking
 mod Begun
+mod Captured
 mod Confirming
 mod Crewing
 mod Exact

@@ -9,10 +9,14 @@ use Rattle.timing_base.specs.Media.{Media}
 use Rattle.timing_base.specs.declared.capture.FileNote.{FileNote}
 use Rattle.timing_base.specs.declared.row.Row.{Row}
 use Rattle.timing_outside.specs.Causes.{Rose}
+use Rattle.timing_outside.specs.SteadyShelves.{left_of, name_of}
+use Rattle.timing_outside.specs.declared.steady_shelf.SteadySource.{SteadySource}
 use Rattle.sdp_reader.specs.Session.{session}
 use Rattle.sdp_reader.specs.declared.fault.SdpFault.{SdpFault}
 use Rattle.pcapng_reader.specs.Classic.{begins_section, blocks, classic, classic_texts, no_section, number as number_at}
+use Rattle.pcapng_reader.specs.Sources.{faults_of as classic_faults, left_of as classic_left, name_of as classic_name}
 use Rattle.pcapng_reader.specs.declared.block.Order.TheVariants.{Big}
+use Rattle.pcapng_reader.specs.declared.source.Classic.{Classic}
 use Rattle.pcap_reader.specs.Header.{header}
 use Rattle.pcap_reader.specs.Records.{AreRecords, Records}
 use Rattle.pcap_reader.proofs.Lists.{only_by, some_by}
@@ -151,28 +155,38 @@ no-fault fault h = let plain : session sdp_text ≡ Ok (plain_media ∷ []) = se
 pub session-is : (media : List Media) → session sdp_text ≡ Ok media → media ≡ plain_media ∷ []
 session-is media h = let plain : session sdp_text ≡ Ok (plain_media ∷ []) = session-plain in cc
 
+-- what a shelf of made texts tells of its sources
+abbrev pub steady_name : Classic SteadySource → List ℕ
+steady_name = classic_name name_of
+
+abbrev pub steady_left : Classic SteadySource → Option (List ℕ)
+steady_left = classic_left (λ s. Some (left_of s))
+
+abbrev pub steady_faults : Classic SteadySource → ℕ
+steady_faults = classic_faults (λ s. 0)
+
 -- what was found in a made capture, by what a shelf told before and after each of two steps
-pub found-made : {S : Type 0} (name : S → List ℕ) (left : S → Option (List ℕ)) (faults : S → ℕ) (frames flaw : ℕ) (bytes mid last : List ℕ → List ℕ)
-    (asked : List ℕ) (sources : List S)
+pub found-made : (frames flaw : ℕ) (bytes mid last : List ℕ → List ℕ)
+    (asked : List ℕ) (sources : List (Classic SteadySource))
     (media listed : List Media) (notes : List FileNote) (found : List Row)
     → bytes (codes "made.pcap") ≡ capture frames frames flaw
     → asked ≡ codes "made.pcap"
     → ((n : List ℕ) → Some (mid n) ≡ Some (bytes n))
     → ((n : List ℕ) → Some (last n) ≡ Some (mid n))
-    → AreFetched name left faults (classic_texts (λ n. Some (mid n))) (asked ∷ []) sources
+    → AreFetched steady_name steady_left steady_faults (classic_texts (λ n. Some (mid n))) (asked ∷ []) sources
     → session sdp_text ≡ Ok media
     → listed ≡ media
-    → ((names texts : List (List ℕ)) → AreFetched name left faults (classic_texts (λ n. Some (last n))) names sources
+    → ((names texts : List (List ℕ)) → AreFetched steady_name steady_left steady_faults (classic_texts (λ n. Some (last n))) names sources
     → AreTold (classic_texts (λ n. Some (last n))) names texts
     → AreFound texts (rows_over false 0 listed) notes found)
     → AreFound (capture frames frames flaw ∷ []) (rows_of_files 0 0 (plain_media ∷ [])) notes found
-found-made name left faults frames flaw bytes mid last asked sources media listed notes found made named early late fetched plain same told =
+found-made frames flaw bytes mid last asked sources media listed notes found made named early late fetched plain same told =
     let whole : Some (last asked) ≡ Some (capture frames frames flaw) = late asked ∙ early asked ∙ ap (λ n. Some (bytes n)) named ∙ ap Some made in
     let text : classic_texts (λ n. Some (last n)) asked ≡ Some (capture frames frames flaw) = ap (option_map classic) whole ∙ ap Some
     (classic-capture frames frames flaw) in
     subst (λ (m : List Media). AreFound (capture frames frames flaw ∷ []) (rows_over false 0 m) notes found) (same ∙ session-is media plain)
     (told (asked ∷ []) (capture frames frames flaw ∷ [])
-    (fetched-same name left faults (classic_texts (λ n. Some (mid n))) (classic_texts (λ n. Some (last n))) (asked ∷ []) sources
+    (fetched-same steady_name steady_left steady_faults (classic_texts (λ n. Some (mid n))) (classic_texts (λ n. Some (last n))) (asked ∷ []) sources
     (λ n. ap (option_map classic) (late n)) fetched)
     (text, tt))
 

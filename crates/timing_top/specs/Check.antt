@@ -3,8 +3,10 @@ use Rattle.std.specs.Prelude.{ℕ, List, Result}
 use Rattle.timing_base.specs.Jobs.{CheckJob}
 use Rattle.timing_report.specs.declared.status.Input.{Input}
 use Rattle.timing_report.specs.declared.status.Input.TheVariants as input
+use Rattle.timing_report.specs.declared.status.Status.{Status}
 use Rattle.timing_steps.specs.Answers.{Answer, CaptureRose, Gives, HasRisen, Inputs, ReadsCaptures, ReadsSession}
 use Rattle.timing_steps.specs.Answers.{Yields}
+use Rattle.timing_steps.specs.Ran.{Output, Ran}
 use Rattle.timing_steps.specs.declared.failure.Failure.{Failure}
 use Rattle.timing_top.specs.Report.{HasReport}
 
@@ -18,3 +20,7 @@ abbrev pub CheckInputRose : CheckJob → Inputs → Input → Type 0
 CheckInputRose job i input.Sdp = HasRisen i job.sdp
 CheckInputRose job i input.Report = ⊥
 CheckInputRose job i (input.Capture number) = CaptureRose i.before i.now job.captures number
+
+-- a run of `check`, over what it saw of its shelf
+abbrev pub RanCheck : CheckJob → Inputs → (out err : Output) → Status → Type 0
+RanCheck job i out err ends = Ran (FollowsCheck job i) (CheckInputRose job i) out err ends

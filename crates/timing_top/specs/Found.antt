@@ -8,7 +8,11 @@ use Rattle.timing_base.specs.Targets.{HaveOwnTargets}
 use Rattle.timing_base.specs.declared.capture.FileNote.{FileNote}
 use Rattle.timing_base.specs.declared.row.Row.{Row}
 use Rattle.pcap_reader.specs.Records.{AreRecords, Records}
+use Rattle.timing_outside.specs.declared.shelf.Shelf as shelf
+use Rattle.timing_outside.specs.declared.source.Source as source
 use Rattle.pcapng_reader.specs.Classic.{classic_texts}
+use Rattle.pcapng_reader.specs.Sources.{faults_of, left_of, name_of}
+use Rattle.pcapng_reader.specs.declared.source.Classic.{Classic}
 use Rattle.sdp_reader.specs.Session.{session}
 use Rattle.fail_interval.specs.Found.{AreFound}
 use Rattle.fail_interval.specs.Rows.{rows_of}
@@ -17,7 +21,7 @@ use Rattle.fail_interval.specs.declared.bank.Bank.{Bank}
 use Rattle.pcap_reader.specs.declared.records.Taken.{Taken}
 use Rattle.timing_report.specs.Outcomes.{AreOfSession}
 use Rattle.timing_report.specs.declared.status.Input.TheVariants as input
-use Rattle.timing_steps.specs.Answers.{AreThere, AreTold, CaptureRose, Inputs, OnReadFault}
+use Rattle.timing_steps.specs.Answers.{AreThere, AreTold, CaptureRose, Inputs, OnReadFault, seen_of}
 use Rattle.timing_steps.specs.Fetched.{AreFetched}
 use Rattle.timing_steps.specs.Taken.{TakesText}
 use Rattle.timing_steps.specs.declared.failure.Failure.{Failure}
@@ -36,6 +40,12 @@ pub record IsOpened {S : Type 0} (name : S → List ℕ) (left : S → Option (L
   pub count : length sources ≡ length job.captures
   pub fresh : All (λ source. faults source ≡ 0) sources
 
+-- the same of a shelf, before and after
+abbrev pub Opens : {H S : Type 0} → CheckJob → shelf.Ghosts H S → source.Ghosts S → (old new : H) → List Media
+    → List (Classic S) → Type 0
+Opens job tells from old new media sources =
+    IsOpened (name_of from.name) (left_of from.left) (faults_of from.faults) job (seen_of tells old new) media sources
+
 -- what the judging of captures comes to. Where their texts are told, what was found has these rows; there is a note for
 -- each capture, and the rows are of the session's media. Where nothing was found, memory ran out, or the count of a
 -- capture's name rose
@@ -50,6 +60,19 @@ pub record IsJudged {S : Type 0} (name : S → List ℕ) (left : S → Option (L
   pub cause : (names : List (List ℕ)) → AreFetched name left faults (classic_texts i.texts) names sources
       → IfErr outcome (λ e.
       OnReadFault e (λ x. (number : ℕ) × (x ≡ input.Capture number) × CaptureRose i.before i.now names number))
+
+-- the same of the captures of a shelf, before and after
+abbrev pub Judges : {H S : Type 0} → (rows : List (List Record) → List Row) → List Media → shelf.Ghosts H S → source.Ghosts S
+    → (old new : H) → List (Classic S) → Result Found Failure → Type 0
+Judges rows media tells from old new sources outcome =
+    IsJudged (name_of from.name) (left_of from.left) (faults_of from.faults) (seen_of tells old new) sources rows media outcome
+
+-- captures that may be judged: they and the media are few, no read of them has failed, and few seconds are added
+pub record AreReady {S : Type 0} (faults : S → ℕ) (sources : List S) (media : List Media) (tai : ℕ) : Type 0 where
+  pub few : length sources ≤ 16
+  pub fresh : All (λ source. faults source ≡ 0) sources
+  pub few_media : length media ≤ 64
+  pub few_seconds : tai ≤ 1000
 
 -- one capture more was judged by itself: its note and its rows stand at the ends
 pub record FindsNext (text : List ℕ) (media : List Media) (tai file : ℕ) (old_notes new_notes : List FileNote)

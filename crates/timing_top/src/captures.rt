@@ -1,14 +1,15 @@
 //! The captures of a job, judged one after the other, each by itself.
 
-ghost use Rattle.std.specs.Prelude.{◌≡◌, ◌≤◌, ◌<◌, ◌+◌, ℕ, List, Some, IfOk, IfErr, length, All};
+ghost use Rattle.std.specs.Prelude.{◌≡◌, ◌≤◌, ◌<◌, ◌+◌, ℕ, List, Some, IfOk, IfErr, length};
 ghost use Rattle.timing_outside.specs.Causes.{Rose};
 ghost use Rattle.timing_outside.specs.Shelves.{StaysAs};
 ghost use Rattle.timing_report.specs.Outcomes.{AreOfSession};
 ghost use Rattle.pcapng_reader.specs.Sources.{faults_of, left_of, name_of};
-ghost use Rattle.timing_steps.specs.Answers.{OnReadFault, seen_of};
+ghost use Rattle.timing_steps.specs.Answers.{OnReadFault};
 ghost use Rattle.fail_interval.specs.Rows.{rows_of_files};
-ghost use Rattle.timing_top.specs.Found.{FindsNext, IsJudged};
+ghost use Rattle.timing_top.specs.Found.{AreReady, FindsNext, Judges};
 
+use crate::alone::Alone;
 use fail_interval::Bank;
 use pcapng_reader::Classic;
 use std::alloc::Global;
@@ -65,37 +66,34 @@ fn judge_next<H: Shelf>(
     Ok(())
 }
 
-/// Judges the media in each capture by itself. After a capture that couldn't be read the sources of
-/// the others go back to the shelf.
-pub fn judge_each<H: Shelf>(
-    alloc: Global,
-    shelf: &mut H,
-    sources: Vec<Classic<H::Source>>,
-    media: &[Media],
-    tai: u64,
-) -> Result<Found, Failure>
-    requires few { length sources.items ≤ 16 }
-    requires fresh { All (λ source. faults_of H.Source.faults source ≡ 0) sources.items }
-    requires few_media { length media.now ≤ 64 }
-    requires tai { tai ≤ 1000 }
-    ensures judged { IsJudged (name_of H.Source.name) (left_of H.Source.left) (faults_of H.Source.faults)
-        (seen_of H.Shelf shelf.old shelf.new) sources.items (rows_of_files tai 0 media.now) media.now result }
-    ensures stays { StaysAs H.text H.lacks H.faults shelf.old shelf.new }
-{
-    let mut found = Found {
-        notes: Vec::new(alloc),
-        rows: Vec::new(alloc),
-    };
-    let mut outcome = Ok(());
-    for source in sources {
-        outcome = match outcome {
-            Ok(()) => judge_next(alloc, shelf, source, media, tai, &mut found),
-            Err(failure) => {
-                give_back(shelf, source);
-                Err(failure)
-            }
+impl Alone<'_> {
+    /// Judges the media in each capture by itself. After a capture that couldn't be read the sources of
+    /// the others go back to the shelf.
+    pub fn judge_each<H: Shelf>(
+        &self,
+        shelf: &mut H,
+        sources: Vec<Classic<H::Source>>,
+    ) -> Result<Found, Failure>
+        requires ready { AreReady (faults_of H.Source.faults) sources.items self.now.media.now self.now.tai }
+        ensures judged { Judges (rows_of_files self.now.tai 0 self.now.media.now) self.now.media.now
+            H.Shelf H.Source.Source shelf.old shelf.new sources.items result }
+        ensures stays { StaysAs H.text H.lacks H.faults shelf.old shelf.new }
+    {
+        let mut found = Found {
+            notes: Vec::new(self.alloc),
+            rows: Vec::new(self.alloc),
         };
+        let mut outcome = Ok(());
+        for source in sources {
+            outcome = match outcome {
+                Ok(()) => judge_next(self.alloc, shelf, source, self.media, self.tai, &mut found),
+                Err(failure) => {
+                    give_back(shelf, source);
+                    Err(failure)
+                }
+            };
+        }
+        outcome?;
+        Ok(found)
     }
-    outcome?;
-    Ok(found)
 }

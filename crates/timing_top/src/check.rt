@@ -4,14 +4,13 @@
 ghost use Rattle.std.specs.Prelude.{◌≡◌, ◌≤◌, Err, IfErr, IfOk, Ok, string_bytes};
 ghost use Rattle.timing_outside.specs.Shelves.{StaysAs};
 ghost use Rattle.timing_report.specs.Outcomes.{AreOfSession, status_of};
-ghost use Rattle.pcapng_reader.specs.Sources.{faults_of, left_of, name_of};
 ghost use Rattle.timing_steps.specs.Answers.{OnReadFault, seen_of};
-ghost use Rattle.timing_steps.specs.Ran.{HasCause, IsAnswered, Ran, output_of};
-ghost use Rattle.timing_top.specs.Check.{CheckInputRose, FollowsCheck};
-ghost use Rattle.timing_top.specs.Found.{IsOpened};
+ghost use Rattle.timing_steps.specs.Ran.{HasCause, IsAnswered, output_of};
+ghost use Rattle.timing_top.specs.Check.{CheckInputRose, FollowsCheck, RanCheck};
+ghost use Rattle.timing_top.specs.Found.{Opens};
 ghost use Rattle.timing_top.specs.Report.{printed};
 
-use crate::alone::judge_alone;
+use crate::alone::Alone;
 use crate::captures::Found;
 use crate::many::judge_many;
 use pcapng_reader::Classic;
@@ -78,8 +77,7 @@ fn open<H: Shelf>(
     shelf: &mut H,
 ) -> Result<Result<Opened<H::Source>, Answer>, Failure>
     ensures opened { IfOk result (λ read. IfOk read (λ opened.
-        IsOpened (name_of H.Source.name) (left_of H.Source.left) (faults_of H.Source.faults) job.now
-        (seen_of H.Shelf shelf.old shelf.new) opened.session opened.sources.items)) }
+        Opens job.now H.Shelf H.Source.Source shelf.old shelf.new opened.session opened.sources.items)) }
     ensures refused { IfOk result (λ read. IfErr read (λ answer.
         FollowsCheck job.now (seen_of H.Shelf shelf.old shelf.new) (Ok answer)
         × IsAnswered answer.status)) }
@@ -105,8 +103,13 @@ fn answer_check<H: Shelf>(alloc: Global, job: &CheckJob, shelf: &mut H) -> Resul
 {
     match open(alloc, job, shelf)? {
         Ok(Opened { session, sources }) => {
-            let media = session.media.as_slice();
-            let found = judge_alone(alloc, shelf, sources, media, job.joined, job.tai)?;
+            let alone = Alone {
+                alloc,
+                media: session.media.as_slice(),
+                joined: job.joined,
+                tai: job.tai,
+            };
+            let found = alone.judge(shelf, sources)?;
             report_on(alloc, job, &session, &found)
         }
         Err(answer) => Ok(answer),
@@ -122,12 +125,8 @@ pub fn check_one<H: Shelf, K: Sink>(
     out: &mut K,
     err: &mut K,
 ) -> Status
-    ensures ran { Ran
-        (FollowsCheck job.now (seen_of H.Shelf shelf.old shelf.new))
-        (CheckInputRose job.now (seen_of H.Shelf shelf.old shelf.new))
-        (output_of K.Sink out.old out.new)
-        (output_of K.Sink err.old err.new)
-        result }
+    ensures ran { RanCheck job.now (seen_of H.Shelf shelf.old shelf.new)
+        (output_of K.Sink out.old out.new) (output_of K.Sink err.old err.new) result }
     ensures stays { StaysAs H.text H.lacks H.faults shelf.old shelf.new }
 {
     let outcome = answer_check(alloc, job, shelf);
@@ -170,12 +169,8 @@ pub fn check_many<R: Threads + Wait + Sync, H: Shelf, K: Sink, G: Gate>(
     gate: &G,
 ) -> Status
     requires some { 1 ≤ job.now.workers }
-    ensures ran { Ran
-        (FollowsCheck job.now (seen_of H.Shelf shelf.old shelf.new))
-        (CheckInputRose job.now (seen_of H.Shelf shelf.old shelf.new))
-        (output_of K.Sink out.old out.new)
-        (output_of K.Sink err.old err.new)
-        result }
+    ensures ran { RanCheck job.now (seen_of H.Shelf shelf.old shelf.new)
+        (output_of K.Sink out.old out.new) (output_of K.Sink err.old err.new) result }
     ensures stays { StaysAs H.text H.lacks H.faults shelf.old shelf.new }
 {
     let outcome = answer_many(rt, alloc, job, shelf, gate);

@@ -6,14 +6,13 @@ ghost use Rattle.timing_steps.specs.Answers.{seen_of};
 ghost use Rattle.timing_steps.specs.Ran.{Ran, output_of};
 ghost use Rattle.timing_words.specs.Request.{request};
 ghost use Rattle.timing_top.specs.Asked.{Follows, InputRose};
-ghost use Rattle.timing_top.specs.Check.{CheckInputRose, FollowsCheck};
 
 use crate::check::{check_many, check_one};
 use crate::self_tests::self_test;
 use std::alloc::Global;
 use std::sync::Wait;
 use std::thread::Threads;
-use timing_base::{CheckJob, Request};
+use timing_base::Request;
 use timing_outside::{Gate, Shelf, Sink};
 use timing_reach::{shape_one, skew_one, window_one};
 use timing_report::Status;
@@ -21,31 +20,7 @@ use timing_steps::{Answer, Failure, conclude};
 use timing_verify::{verify_all, verify_one};
 use timing_words::{WordFault, read_words};
 
-/// `check`: on this thread where the job has no workers, else with as many as it says.
-fn check<R: Threads + Wait + Sync, H: Shelf, K: Sink, G: Gate>(
-    rt: &R,
-    alloc: Global,
-    job: &CheckJob,
-    shelf: &mut H,
-    out: &mut K,
-    err: &mut K,
-    gate: &G,
-) -> Status
-    ensures ran { Ran (FollowsCheck job.now (seen_of H.Shelf shelf.old shelf.new))
-        (CheckInputRose job.now (seen_of H.Shelf shelf.old shelf.new))
-        (output_of K.Sink out.old out.new)
-        (output_of K.Sink err.old err.new)
-        result }
-    ensures stays { StaysAs H.text H.lacks H.faults shelf.old shelf.new }
-{
-    if job.workers == 0 {
-        check_one(alloc, job, shelf, out, err)
-    } else {
-        check_many(rt, alloc, job, shelf, out, err, gate)
-    }
-}
-
-/// Does what a request asks for, by the call of its command.
+/// Does what a request asks for, by the call of its command: `check` on this thread where the job has no workers.
 fn serve<R: Threads + Wait + Sync, H: Shelf, K: Sink, G: Gate>(
     rt: &R,
     alloc: Global,
@@ -63,7 +38,13 @@ fn serve<R: Threads + Wait + Sync, H: Shelf, K: Sink, G: Gate>(
     ensures stays { StaysAs H.text H.lacks H.faults shelf.old shelf.new }
 {
     match request {
-        Request::Check(job) => check(rt, alloc, &job, shelf, out, err, gate),
+        Request::Check(job) => {
+            if job.workers == 0 {
+                check_one(alloc, &job, shelf, out, err)
+            } else {
+                check_many(rt, alloc, &job, shelf, out, err, gate)
+            }
+        }
         Request::Verify(job) => verify_one(alloc, &job, shelf, out, err),
         Request::VerifyReport(job) => verify_all(alloc, &job, shelf, out, err),
         Request::SelfTest(job) => self_test(rt, alloc, &job, out, err, gate),

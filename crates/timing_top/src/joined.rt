@@ -1,20 +1,21 @@
 //! The captures of a job, judged as one capture.
 
-ghost use Rattle.std.specs.Prelude.{◌≡◌, ◌≤◌, ◌<◌, ◌+◌, ◌*◌, ◌^◌, ℕ, List, Some, IfOk, IfErr, length, All};
+ghost use Rattle.std.specs.Prelude.{◌≡◌, ◌≤◌, ◌<◌, ◌+◌, ◌*◌, ◌^◌, ℕ, List, Some, IfOk, IfErr, length};
 ghost use Rattle.timing_base.specs.Captures.{joined};
 ghost use Rattle.timing_outside.specs.Causes.{Rose};
 ghost use Rattle.timing_outside.specs.Shelves.{StaysAs};
 ghost use Rattle.pcapng_reader.specs.Sources.{faults_of, left_of, name_of};
-ghost use Rattle.timing_steps.specs.Answers.{OnReadFault, seen_of};
+ghost use Rattle.timing_steps.specs.Answers.{OnReadFault};
 ghost use Rattle.fail_interval.specs.Rows.{rows_of};
 ghost use Rattle.fail_interval.specs.BankStands.{IsFed, records};
-ghost use Rattle.timing_top.specs.Found.{IsJudged, JoinsNext};
+ghost use Rattle.timing_top.specs.Found.{AreReady, JoinsNext, Judges};
 
+use crate::alone::Alone;
 use crate::captures::Found;
 use fail_interval::Bank;
 use pcapng_reader::Classic;
 use std::alloc::Global;
-use timing_base::{FileNote, Media};
+use timing_base::FileNote;
 use timing_outside::{Shelf, Source};
 use timing_report::Input;
 use timing_steps::{Failure, give_back, give_back_all, take_source};
@@ -63,53 +64,50 @@ fn join_next<H: Shelf>(
     Ok(())
 }
 
-/// Takes the captures in order, the records of each numbered on from those before, and judges the
-/// media in all of them as in one. After a capture that couldn't be read the sources of the others go
-/// back to the shelf.
-pub fn judge_joined<H: Shelf>(
-    alloc: Global,
-    shelf: &mut H,
-    sources: Vec<Classic<H::Source>>,
-    media: &[Media],
-    tai: u64,
-) -> Result<Found, Failure>
-    requires few { length sources.items ≤ 16 }
-    requires fresh { All (λ source. faults_of H.Source.faults source ≡ 0) sources.items }
-    requires few_media { length media.now ≤ 64 }
-    requires tai { tai ≤ 1000 }
-    ensures judged { IsJudged (name_of H.Source.name) (left_of H.Source.left) (faults_of H.Source.faults)
-        (seen_of H.Shelf shelf.old shelf.new) sources.items (λ files. rows_of tai 0 media.now (joined files)) media.now result }
-    ensures stays { StaysAs H.text H.lacks H.faults shelf.old shelf.new }
-{
-    let bank = match Bank::new(alloc, media, 0, tai) {
-        Ok(bank) => bank,
-        Err(_) => {
-            give_back_all(shelf, sources);
-            return Err(Failure::OutOfMemory);
-        }
-    };
-    let mut joined = Joined {
-        notes: Vec::new(alloc),
-        records: 0,
-        bank,
-    };
-    let mut outcome = Ok(());
-    for source in sources {
-        outcome = match outcome {
-            Ok(()) => join_next(alloc, shelf, source, &mut joined),
-            Err(failure) => {
-                give_back(shelf, source);
-                Err(failure)
+impl Alone<'_> {
+    /// Takes the captures in order, the records of each numbered on from those before, and judges the
+    /// media in all of them as in one. After a capture that couldn't be read the sources of the others go
+    /// back to the shelf.
+    pub fn judge_joined<H: Shelf>(
+        &self,
+        shelf: &mut H,
+        sources: Vec<Classic<H::Source>>,
+    ) -> Result<Found, Failure>
+        requires ready { AreReady (faults_of H.Source.faults) sources.items self.now.media.now self.now.tai }
+        ensures judged { Judges (λ files. rows_of self.now.tai 0 self.now.media.now (joined files)) self.now.media.now
+            H.Shelf H.Source.Source shelf.old shelf.new sources.items result }
+        ensures stays { StaysAs H.text H.lacks H.faults shelf.old shelf.new }
+    {
+        let bank = match Bank::new(self.alloc, self.media, 0, self.tai) {
+            Ok(bank) => bank,
+            Err(_) => {
+                give_back_all(shelf, sources);
+                return Err(Failure::OutOfMemory);
             }
         };
+        let mut joined = Joined {
+            notes: Vec::new(self.alloc),
+            records: 0,
+            bank,
+        };
+        let mut outcome = Ok(());
+        for source in sources {
+            outcome = match outcome {
+                Ok(()) => join_next(self.alloc, shelf, source, &mut joined),
+                Err(failure) => {
+                    give_back(shelf, source);
+                    Err(failure)
+                }
+            };
+        }
+        outcome?;
+        let Joined {
+            notes,
+            records: _,
+            bank,
+        } = joined;
+        let mut rows = Vec::new(self.alloc);
+        bank.finish(&mut rows)?;
+        Ok(Found { notes, rows })
     }
-    outcome?;
-    let Joined {
-        notes,
-        records: _,
-        bank,
-    } = joined;
-    let mut rows = Vec::new(alloc);
-    bank.finish(&mut rows)?;
-    Ok(Found { notes, rows })
 }

@@ -1,14 +1,13 @@
 //! The captures of a job, judged by intakes and workers beside each other.
 
-ghost use Rattle.std.specs.Prelude.{◌≡◌, ◌≤◌, ◌<◌, IfSome, All, length, slice_index_or};
+ghost use Rattle.std.specs.Prelude.{◌≡◌, ◌≤◌, ◌<◌, IfSome, length, slice_index_or};
 ghost use Rattle.timing_base.specs.Targets.{HaveOwnTargets};
 ghost use Rattle.timing_base.specs.declared.capture.FileNote.TheVariants as file_note;
 ghost use Rattle.timing_base.specs.declared.capture.PcapFault.TheVariants as fault;
 ghost use Rattle.timing_outside.specs.Shelves.{StaysAs};
 ghost use Rattle.fail_interval.specs.Rows.{rows_over};
-ghost use Rattle.pcapng_reader.specs.Sources.{faults_of, left_of, name_of};
-ghost use Rattle.timing_steps.specs.Answers.{seen_of};
-ghost use Rattle.timing_top.specs.Found.{IsJudged};
+ghost use Rattle.pcapng_reader.specs.Sources.{faults_of};
+ghost use Rattle.timing_top.specs.Found.{AreReady, Judges};
 
 use crate::captures::Found;
 use flow_crew::{Judged, judge_files};
@@ -49,17 +48,14 @@ pub fn judge_many<R: Threads + Wait + Sync, H: Shelf, G: Gate>(
     workers: u32,
     gate: &G,
 ) -> Result<Found, Failure>
+    requires ready { AreReady (faults_of H.Source.faults) sources.items media.now tai }
     requires some { 1 ≤ length sources.items }
-    requires few { length sources.items ≤ 16 }
-    requires fresh { All (λ source. faults_of H.Source.faults source ≡ 0) sources.items }
     requires some_media { 1 ≤ length media.now }
-    requires few_media { length media.now ≤ 64 }
     requires targets { HaveOwnTargets media.now }
-    requires tai { tai ≤ 1000 }
     requires some_workers { 1 ≤ workers }
     requires few_workers { workers ≤ 16 }
-    ensures judged { IsJudged (name_of H.Source.name) (left_of H.Source.left) (faults_of H.Source.faults)
-        (seen_of H.Shelf shelf.old shelf.new) sources.items (rows_over joined tai media.now) media.now result }
+    ensures judged { Judges (rows_over joined tai media.now) media.now
+        H.Shelf H.Source.Source shelf.old shelf.new sources.items result }
     ensures stays { StaysAs H.text H.lacks H.faults shelf.old shelf.new }
 {
     let Judged {

@@ -1,6 +1,6 @@
 //! `selftest`: captures that are made here, judged as those of `check` are.
 
-ghost use Rattle.std.specs.Prelude.{◌≡◌, ◌≤◌, ◌<◌, [], ◌∷◌, All, IfOk, IfErr, codes, false, length, string_bytes};
+ghost use Rattle.std.specs.Prelude.{◌≡◌, ◌≤◌, ◌<◌, [], ◌∷◌, IfOk, IfErr, codes, false, length, string_bytes};
 ghost use Rattle.timing_base.specs.Media.{Media as MediaValue};
 ghost use Rattle.timing_base.specs.declared.capture.FileNote.{FileNote as Note};
 ghost use Rattle.timing_base.specs.declared.row.Row.{Row as RowValue};
@@ -8,17 +8,16 @@ ghost use Rattle.timing_base.specs.Targets.{HaveOwnTargets};
 ghost use Rattle.timing_outside.specs.Shelves.{StaysAs};
 ghost use Rattle.timing_outside.specs.SteadyShelves.{bytes_of};
 ghost use Rattle.fail_interval.specs.Rows.{rows_over};
-ghost use Rattle.pcapng_reader.specs.Sources.{faults_of, left_of, name_of};
-ghost use Rattle.timing_steps.specs.Answers.{seen_of};
+ghost use Rattle.pcapng_reader.specs.Sources.{faults_of};
 ghost use Rattle.timing_steps.specs.Ran.{Ran, output_of};
 ghost use Rattle.capture_gen.specs.Capture.{capture};
 ghost use Rattle.capture_gen.specs.Sdp.{sdp_text};
 ghost use Rattle.timing_report.specs.Outcomes.{AreOfSession};
 ghost use Rattle.timing_top.specs.Asked.{FollowsSelfTest};
-ghost use Rattle.timing_top.specs.Found.{IsJudged};
+ghost use Rattle.timing_top.specs.Found.{AreReady, Judges};
 ghost use Rattle.timing_top.specs.SelfTest.{HasLine, flaw_line};
 
-use crate::alone::judge_alone;
+use crate::alone::Alone;
 use crate::captures::Found;
 use crate::many::judge_many;
 use capture_gen::{capture_len, sdp_bytes, write_capture};
@@ -78,19 +77,23 @@ fn judge_made<R: Threads + Wait + Sync, H: Shelf, G: Gate>(
     workers: u32,
     gate: &G,
 ) -> Result<Found, Failure>
+    requires ready { AreReady (faults_of H.Source.faults) sources.items media.now 0 }
     requires some { 1 ≤ length sources.items }
-    requires few { length sources.items ≤ 16 }
-    requires fresh { All (λ source. faults_of H.Source.faults source ≡ 0) sources.items }
     requires some_media { 1 ≤ length media.now }
-    requires few_media { length media.now ≤ 64 }
     requires targets { HaveOwnTargets media.now }
     requires few_workers { workers ≤ 16 }
-    ensures judged { IsJudged (name_of H.Source.name) (left_of H.Source.left) (faults_of H.Source.faults)
-        (seen_of H.Shelf shelf.old shelf.new) sources.items (rows_over false 0 media.now) media.now result }
+    ensures judged { Judges (rows_over false 0 media.now) media.now
+        H.Shelf H.Source.Source shelf.old shelf.new sources.items result }
     ensures stays { StaysAs H.text H.lacks H.faults shelf.old shelf.new }
 {
     if workers == 0 {
-        judge_alone(alloc, shelf, sources, media, false, 0)
+        let alone = Alone {
+            alloc,
+            media,
+            joined: false,
+            tai: 0,
+        };
+        alone.judge(shelf, sources)
     } else {
         judge_many(rt, alloc, shelf, sources, media, false, 0, workers, gate)
     }

@@ -3,13 +3,16 @@ use Rattle.std.proofs.Common.{◌≡◌, ◌≤◌, ◌<◌, ◌+◌, ◌^◌, �
 use Rattle.std.proofs.Common.{arith}
 use Rattle.std.proofs.lemmas.List.{length-take-le, take_more}
 use Rattle.std.proofs.lemmas.List.Elements.{All-contains, All-contains_itself, All-get_or, All-nil, All-push, All-weaker}
+use Rattle.std.specs.Option.{option_map}
 use Rattle.std.specs.Prelude.{All, Bool, true, false, if◌then◌else◌, nat_lt, Contains, IfErr, Result, Ok, Err, map, slice_get, slice_index_or}
 use Rattle.timing_base.specs.Captures.{Record}
 use Rattle.timing_base.specs.Jobs.{ReportJob}
 use Rattle.timing_base.specs.Media.{Media}
 use Rattle.timing_base.specs.declared.key.FlowKey.{FlowKey}
 use Rattle.timing_base.specs.declared.row.Unjudged.{Unjudged}
+use Rattle.timing_outside.specs.Shelves.{StaysAs}
 use Rattle.pcap_reader.specs.Records.{AreRecords}
+use Rattle.pcapng_reader.specs.Classic.{classic, classic_texts}
 use Rattle.interval_checker.specs.Asking.{AsksNoLess}
 use Rattle.interval_checker.specs.Readings.{AreSame, HasRead, HaveRead, HaveRoom, asked_by, count_taken, media_of, tai_of}
 use Rattle.interval_checker.specs.declared.asked.Asked.{Asked}
@@ -129,7 +132,7 @@ serves-finds job media claims text read claim m finding s same reported there fi
     }
 
 -- a file that was read over a shelf that is seen later
-pub served-since : (texts also : List ℕ → Option (List ℕ)) (lacks later : List ℕ → Type 0) (job : ReportJob) (media : List Media) (claims : List ReportProof)
+served-since : (texts also : List ℕ → Option (List ℕ)) (lacks later : List ℕ → Type 0) (job : ReportJob) (media : List Media) (claims : List ReportProof)
     (read : FileRead) → ((n : List ℕ) → also n ≡ texts n) → ((n : List ℕ) → lacks n → later n) → IsServed also later job media claims read
     → IsServed texts lacks job media claims read
 served-since texts also lacks later job media claims read same kept h = record {
@@ -138,7 +141,7 @@ served-since texts also lacks later job media claims read same kept h = record {
 }
 
 -- a file that was just read
-pub served-new : (texts : List ℕ → Option (List ℕ)) (lacks : List ℕ → Type 0) (job : ReportJob) (media : List Media) (claims : List ReportProof)
+served-new : (texts : List ℕ → Option (List ℕ)) (lacks : List ℕ → Type 0) (job : ReportJob) (media : List Media) (claims : List ReportProof)
     (file : ℕ) (read : FileRead) → read.file ≡ file → AreThere lacks (captures_of job (key_at file))
     → ((text : List ℕ → List ℕ) → AreTexts texts text (captures_of job (key_at file)) → Serves job media claims text read)
     → IsServed texts lacks job media claims read
@@ -148,6 +151,17 @@ served-new texts lacks job media claims file read same there serves =
       there = subst (AreThere lacks) names there;
       serves = λ text told. serves text (subst (AreTexts texts text) (sym names) told);
     }
+
+-- and over one that is seen later
+pub served-read : {H : Type 0} (text : H → List ℕ → Option (List ℕ)) (lacks : H → List ℕ → Type 0) (faults : H → List ℕ → ℕ) (first now : H)
+    (job : ReportJob) (media : List Media) (claims : List ReportProof) (file : ℕ) (read : FileRead) → StaysAs text lacks faults first now
+    → read.file ≡ file → AreThere (lacks now) (captures_of job (key_at file))
+    → ((x : List ℕ → List ℕ) → AreTexts (classic_texts (text now)) x (captures_of job (key_at file)) → Serves job media claims x read)
+    → IsServed (classic_texts (text first)) (lacks first) job media claims read
+served-read text lacks faults first now job media claims file read stays same there serves =
+    served-since (classic_texts (text first)) (classic_texts (text now)) (lacks first) (lacks now) job media claims read
+    (λ n. ap (option_map classic) (stays.texts n)) stays.lacks
+    (served-new (classic_texts (text now)) (lacks now) job media claims file read same there serves)
 
 -- one file more that was read
 pub served-push : (texts : List ℕ → Option (List ℕ)) (lacks : List ℕ → Type 0) (job : ReportJob) (media : List Media) (claims : List ReportProof)

@@ -3,4 +3,5 @@ pub mod Asked
 pub mod Findings
 pub mod Verified
 -- these only serve proofs
+pub mod Claims
 pub mod Found

@@ -56,97 +56,75 @@ fn answer(read: &FileRead, claim: &ReportProof) -> Finding
     answer_of(&read.readings, claim.key.media as usize, claim)
 }
 
-/// What the captures of a claim's file say of it, which are read for all claims where they weren't yet.
-fn find_there<H: Shelf>(
+/// The claims of a report, and what they are about.
+#[derive(Clone, Copy)]
+struct Claims<'a> {
     alloc: Global,
-    job: &ReportJob,
-    shelf: &mut H,
-    media: &[Media],
-    claims: &[ReportProof],
-    reads: &mut Vec<FileRead>,
-    claim: &ReportProof,
-) -> Result<Finding, Failure>
-    requires within { claim.now.key.file < file_count job.now }
-    requires reported { Contains claims.now claim.now }
-    ensures found { (first : _) (m : MediaValue) → StaysAs H.text H.lacks H.faults first shelf.old
-        → AreServed (classic_texts (H.text first)) (H.lacks first) job.now media.now claims.now reads.old.items
-        → slice_get media.now claim.now.key.media ≡ Some m
-        → IfOk result (IsFound (classic_texts (H.text first)) (H.lacks first) job.now m claim.now) }
-    ensures served { (first : _) → StaysAs H.text H.lacks H.faults first shelf.old
-        → AreServed (classic_texts (H.text first)) (H.lacks first) job.now media.now claims.now reads.old.items
-        → IfOk result (λ _. AreServed (classic_texts (H.text first)) (H.lacks first) job.now media.now claims.now
-        reads.new.items) }
-    ensures cause { IfErr result (FailedNeeded (H.faults shelf.old) (H.faults shelf.new) job.now
-        (captures_of job.now claim.now.key)) }
-    ensures stays { StaysAs H.text H.lacks H.faults shelf.old shelf.new }
-{
-    if let Some(read) = read_of(reads, claim.key.file) {
-        return Ok(answer(read, claim));
-    }
-    let read = read_file(alloc, job, shelf, media, claims, claim.key.file)?;
-    let finding = answer(&read, claim);
-    reads.push(read)?;
-    Ok(finding)
+    job: &'a ReportJob,
+    media: &'a [Media],
+    list: &'a [ReportProof],
 }
 
-/// What the captures that a claim needs say of it. One whose flow isn't there is not confirmed, and
-/// nothing is read for it.
-fn find_needed<H: Shelf>(
-    alloc: Global,
-    job: &ReportJob,
-    shelf: &mut H,
-    media: &[Media],
-    claims: &[ReportProof],
-    reads: &mut Vec<FileRead>,
-    claim: &ReportProof,
-) -> Result<Finding, Failure>
-    requires reported { Contains claims.now claim.now }
-    ensures found { (first : _) → StaysAs H.text H.lacks H.faults first shelf.old
-        → AreServed (classic_texts (H.text first)) (H.lacks first) job.now media.now claims.now reads.old.items
-        → IfOk result (λ finding. IsChecked (classic_texts (H.text first)) (H.lacks first) job.now media.now
-        (record { claim = claim.now; finding = finding })) }
-    ensures served { (first : _) → StaysAs H.text H.lacks H.faults first shelf.old
-        → AreServed (classic_texts (H.text first)) (H.lacks first) job.now media.now claims.now reads.old.items
-        → IfOk result (λ _. AreServed (classic_texts (H.text first)) (H.lacks first) job.now media.now claims.now
-        reads.new.items) }
-    ensures cause { IfErr result (FailedNeeded (H.faults shelf.old) (H.faults shelf.new) job.now
-        (needed job.now media.now claim.now)) }
-    ensures stays { StaysAs H.text H.lacks H.faults shelf.old shelf.new }
-{
-    match media_for(job, media, claim.key) {
-        Some(_) => find_there(alloc, job, shelf, media, claims, reads, claim),
-        None => Ok(Ok(false)),
-    }
-}
+impl Claims<'_> {
+    ghost use Rattle.timing_verify.specs.Claims.{AreServedFor, Since};
 
-/// Checks a claim.
-fn check_claim<H: Shelf>(
-    alloc: Global,
-    job: &ReportJob,
-    shelf: &mut H,
-    media: &[Media],
-    claims: &[ReportProof],
-    reads: &mut Vec<FileRead>,
-    claim: &ReportProof,
-) -> Result<Checked, Failure>
-    requires reported { Contains claims.now claim.now }
-    ensures checked { (first : _) → StaysAs H.text H.lacks H.faults first shelf.old
-        → AreServed (classic_texts (H.text first)) (H.lacks first) job.now media.now claims.now reads.old.items
-        → IfOk result (IsChecked (classic_texts (H.text first)) (H.lacks first) job.now media.now) }
-    ensures served { (first : _) → StaysAs H.text H.lacks H.faults first shelf.old
-        → AreServed (classic_texts (H.text first)) (H.lacks first) job.now media.now claims.now reads.old.items
-        → IfOk result (λ _. AreServed (classic_texts (H.text first)) (H.lacks first) job.now media.now claims.now
-        reads.new.items) }
-    ensures claim { IfOk result (λ checked. checked.claim ≡ claim.now) }
-    ensures cause { IfErr result (FailedNeeded (H.faults shelf.old) (H.faults shelf.new) job.now
-        (needed job.now media.now claim.now)) }
-    ensures stays { StaysAs H.text H.lacks H.faults shelf.old shelf.new }
-{
-    let finding = find_needed(alloc, job, shelf, media, claims, reads, claim)?;
-    Ok(Checked {
-        claim: *claim,
-        finding,
-    })
+    /// What the captures of a claim's file say of it, which are read for all claims where they weren't yet.
+    fn find_there<H: Shelf>(
+        &self,
+        shelf: &mut H,
+        reads: &mut Vec<FileRead>,
+        claim: &ReportProof,
+    ) -> Result<Finding, Failure>
+        requires within { claim.now.key.file < file_count self.now.job.now }
+        requires reported { Contains self.now.list.now claim.now }
+        ensures found { (m : MediaValue) → slice_get self.now.media.now claim.now.key.media ≡ Some m
+            → Since H.text H.lacks H.faults shelf.old self.now reads.old.items
+            (λ texts lacks. IfOk result (IsFound texts lacks self.now.job.now m claim.now)) }
+        ensures served { Since H.text H.lacks H.faults shelf.old self.now reads.old.items
+            (λ texts lacks. IfOk result (λ _. AreServedFor texts lacks self.now reads.new.items)) }
+        ensures cause { IfErr result (FailedNeeded (H.faults shelf.old) (H.faults shelf.new) self.now.job.now
+            (captures_of self.now.job.now claim.now.key)) }
+        ensures stays { StaysAs H.text H.lacks H.faults shelf.old shelf.new }
+    {
+        if let Some(read) = read_of(reads, claim.key.file) {
+            return Ok(answer(read, claim));
+        }
+        let read = read_file(
+            self.alloc,
+            self.job,
+            shelf,
+            self.media,
+            self.list,
+            claim.key.file,
+        )?;
+        let finding = answer(&read, claim);
+        reads.push(read)?;
+        Ok(finding)
+    }
+
+    /// What the captures that a claim needs say of it. One whose flow isn't there is not confirmed, and
+    /// nothing is read for it.
+    fn find<H: Shelf>(
+        &self,
+        shelf: &mut H,
+        reads: &mut Vec<FileRead>,
+        claim: &ReportProof,
+    ) -> Result<Finding, Failure>
+        requires reported { Contains self.now.list.now claim.now }
+        ensures found { Since H.text H.lacks H.faults shelf.old self.now reads.old.items
+            (λ texts lacks. IfOk result (λ finding. IsChecked texts lacks self.now.job.now self.now.media.now
+            (record { claim = claim.now; finding = finding }))) }
+        ensures served { Since H.text H.lacks H.faults shelf.old self.now reads.old.items
+            (λ texts lacks. IfOk result (λ _. AreServedFor texts lacks self.now reads.new.items)) }
+        ensures cause { IfErr result (FailedNeeded (H.faults shelf.old) (H.faults shelf.new) self.now.job.now
+            (needed self.now.job.now self.now.media.now claim.now)) }
+        ensures stays { StaysAs H.text H.lacks H.faults shelf.old shelf.new }
+    {
+        match media_for(self.job, self.media, claim.key) {
+            Some(_) => self.find_there(shelf, reads, claim),
+            None => Ok(Ok(false)),
+        }
+    }
 }
 
 /// Checks the claims of a report, one after the other. Each file is read once, for the first claim that
@@ -165,10 +143,20 @@ pub fn check_each<H: Shelf>(
         × NeededRose (seen_of H.Shelf shelf.old shelf.new) job.now media.now claims.now number)) }
     ensures stays { StaysAs H.text H.lacks H.faults shelf.old shelf.new }
 {
+    let all = Claims {
+        alloc,
+        job,
+        media,
+        list: claims,
+    };
     let mut reads = Vec::new(alloc);
     let mut checked = Vec::new(alloc);
     for claim in claims {
-        checked.push(check_claim(alloc, job, shelf, media, claims, &mut reads, claim)?)?;
+        let finding = all.find(shelf, &mut reads, claim)?;
+        checked.push(Checked {
+            claim: *claim,
+            finding,
+        })?;
     }
     Ok(checked)
 }

@@ -90,31 +90,6 @@ fn numbered(number: u32, failure: Failure) -> Failure
     }
 }
 
-/// Reads one capture of a job.
-fn read_alone<H: Shelf>(
-    alloc: Global,
-    job: &ReportJob,
-    shelf: &mut H,
-    file: u32,
-    readings: Vec<Reading>,
-) -> Result<Vec<Reading>, Failure>
-    requires apart { job.now.joined ≡ false }
-    requires within { file < length job.now.captures }
-    requires none { HaveRead readings.items [] }
-    requires room { HaveRoom (2 ^ 40) readings.items }
-    ensures tells { Tells (seen_of H.Shelf shelf.old shelf.new) job.now (captures_of job.now (key_at file))
-        (λ text read. ReadAs read.items (map text (captures_of job.now (key_at file)))) result }
-    ensures same { IfOk result (λ read. AreSame readings.items read.items) }
-    ensures stays { StaysAs H.text H.lacks H.faults shelf.old shelf.new }
-{
-    let number = file as usize;
-    let names = &job.captures.as_slice()[number..number + 1];
-    match read_captures(alloc, shelf, names, readings) {
-        Ok(read) => Ok(read),
-        Err(failure) => Err(numbered(file, failure)),
-    }
-}
-
 /// Reads a file of a job: one capture, or all where they are joined.
 fn read_there<H: Shelf>(
     alloc: Global,
@@ -131,10 +106,15 @@ fn read_there<H: Shelf>(
     ensures same { IfOk result (λ read. AreSame readings.items read.items) }
     ensures stays { StaysAs H.text H.lacks H.faults shelf.old shelf.new }
 {
-    if !job.joined {
-        return read_alone(alloc, job, shelf, file, readings);
+    let captures = job.captures.as_slice();
+    if job.joined {
+        return read_captures(alloc, shelf, captures, readings);
     }
-    read_captures(alloc, shelf, job.captures.as_slice(), readings)
+    let number = file as usize;
+    match read_captures(alloc, shelf, &captures[number..number + 1], readings) {
+        Ok(read) => Ok(read),
+        Err(failure) => Err(numbered(file, failure)),
+    }
 }
 
 /// A file of a job that was read, for all claims of a report.

@@ -18,7 +18,7 @@ first_unread-requires g c = record {
   few =
       let long = back-length (name_of g.H.Source.Source.name) (faults_of g.H.Source.Source.faults) c.args.sources.items c.in_ok-sources.field-0.notes.items
       c.in_ok-sources.field-0.sources.items c.in_ok-sources.ensures.back in
-      omega (arith, long, c.requires.few, ap length c.deref.ensures.value);
+      omega (arith, long, c.requires.ready.few, ap length c.deref.ensures.value);
 }
 
 pub returns-in-Some-clause-judged : goal.returns-in-Some-clause-judged
@@ -53,7 +53,7 @@ returns-in-Some-rows-clause-judged g c = record {
       back-length (name_of g.H.Source.Source.name) (faults_of g.H.Source.Source.faults) c.args.sources.items c.in_ok-sources.field-0.notes.items
       c.in_ok-sources.field-0.sources.items c.in_ok-sources.ensures.back;
   of_session =
-      keys-of_session c.args.joined (length c.args.sources.items) c.args.media.now c.in-Some-rows.rows.items c.requires.few
+      keys-of_session c.args.joined (length c.args.sources.items) c.args.media.now c.in-Some-rows.rows.items c.requires.ready.few
       (some-at c.in_ok-sources.field-0.rows c.in-Some-rows.rows
       (λ rows. map (λ (r : Row). r.key) rows.items ≡ keys_of c.args.joined (length c.args.sources.items) (length c.args.media.now))
       c.in-Some-rows.is c.in_ok-sources.ensures.keys);

@@ -17,17 +17,17 @@ loop-claim-preserved g c =
     record {
       checked =
           subst (All (IsChecked texts lacks c.args.job.now c.args.media.now)) (sym c.in_ok-push.ensures.items)
-          (All-push (IsChecked texts lacks c.args.job.now c.args.media.now) c.loop-claim.checked.items c.in_ok-check_claim.field-0 i.checked
-          (c.in_ok-check_claim.ensures.checked c.args.shelf.now i.stays i.served));
-      claims = grind (arith, common_steps, c.in_ok-check_claim.ensures.claim, c.in_ok-push.ensures.items, i.claims);
-      served = c.in_ok-check_claim.ensures.served c.args.shelf.now i.stays i.served;
-      stays = stays-then g.H.Shelf.text g.H.Shelf.lacks g.H.Shelf.faults _ _ _ i.stays c.check_claim.ensures.stays;
+          (All-push (IsChecked texts lacks c.args.job.now c.args.media.now) c.loop-claim.checked.items (record { claim = _; finding = c.in_ok-finding.finding }) i.checked
+          (c.in_ok-finding.ensures.found c.args.shelf.now i.stays i.served));
+      claims = grind (arith, common_steps, c.in_ok-push.ensures.items, i.claims);
+      served = c.in_ok-finding.ensures.served c.args.shelf.now i.stays i.served;
+      stays = stays-then g.H.Shelf.text g.H.Shelf.lacks g.H.Shelf.faults _ _ _ i.stays c.find.ensures.stays;
     }
 
-pub returns-in_err-check_claim-clause-cause : goal.returns-in_err-check_claim-clause-cause
-returns-in_err-check_claim-clause-cause g c =
-    let failed : c.from_residual.result ≡ Err c.in_err-check_claim.field-0.0 = search rules in
+pub returns-in_err-finding-clause-cause : goal.returns-in_err-finding-clause-cause
+returns-in_err-finding-clause-cause g c =
+    let failed : c.from_residual.result ≡ Err c.in_err-finding.field-0.0 = search rules in
     let within : c.loop-claim.claim-index < length c.args.claims.now = search rules in
-    needed-rose (seen_of g.H.Shelf c.args.shelf.now c.check_claim.new.shelf) (g.H.Shelf.faults c.loop-claim.shelf) c.args.job.now c.args.media.now
-    c.args.claims.now c.loop-claim.claim-index _ c.in_err-check_claim.field-0.0 c.from_residual.result failed within
-    c.loop-claim.invariant.stays.later c.in_err-check_claim.ensures.cause
+    needed-rose (seen_of g.H.Shelf c.args.shelf.now c.find.new.shelf) (g.H.Shelf.faults c.loop-claim.shelf) c.args.job.now c.args.media.now
+    c.args.claims.now c.loop-claim.claim-index _ c.in_err-finding.field-0.0 c.from_residual.result failed within
+    c.loop-claim.invariant.stays.later c.in_err-finding.ensures.cause

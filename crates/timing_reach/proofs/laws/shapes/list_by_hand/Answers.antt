@@ -1,6 +1,7 @@
 use Rattle.std.proofs.Common.{◌≡◌, ◌<◌, ◌++◌, ℕ, zero, suc, true, List, [], ◌∷◌, length, refl, ap, ◌∙◌, arith, inl}
 use Rattle.std.specs.Prelude.{codes, slice_index, slice_index_or, nat_lt}
 use Rattle.std.specs.List.{count_by}
+use Rattle.flow_shaper.proofs.ByHand.{five}
 use Rattle.flow_shaper.specs.Bounds.{BoundAt}
 use Rattle.flow_shaper.specs.Plan.{Shaped}
 use Rattle.flow_shaper.specs.Worked.{burst_shaped}
@@ -15,15 +16,6 @@ use Rattle.timing_reach.specs.Shapes.{AreBounds, HasShape, delays, delays_line, 
 use Rattle.timing_reach.specs.WorkedShapes.{run_of_stamps}
 use Rattle.timing_reach.proofs.OneShape.{shape-once}
 use Rattle.timing_reach.proofs.laws.shapes.list_by_hand.Goals as goal
-
--- what holds of each of five
-five : (P : ℕ → Type 0) → P 0 → P 1 → P 2 → P 3 → P 4 → (i : ℕ) → i < 5 → P i
-five P a b c d e zero few = a
-five P a b c d e (suc zero) few = b
-five P a b c d e (suc (suc zero)) few = c
-five P a b c d e (suc (suc (suc zero))) few = d
-five P a b c d e (suc (suc (suc (suc zero)))) few = e
-five P a b c d e (suc (suc (suc (suc (suc i))))) few = absurd (omega (arith, few))
 
 bounds : List Bound
 bounds = Arrival ∷ Arrival ∷ Arrival ∷ Arrival ∷ Bucket 0 ∷ []
