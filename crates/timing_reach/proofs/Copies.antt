@@ -36,7 +36,7 @@ records-same leaves also k (x ∷ xs) same =
     (records-same leaves also (k + 1) xs (λ j stamp few. same j stamp (omega (arith, few))))
 
 -- when a packet leaves, by what its place is
-leaves-by : (tai head : ℕ) (departures : List ℕ) (k stamp : ℕ) (b c : Bool) → nat_lt k head ≡ b → nat_lt k (head + length departures) ≡ c
+pub leaves-by : (tai head : ℕ) (departures : List ℕ) (k stamp : ℕ) (b c : Bool) → nat_lt k head ≡ b → nat_lt k (head + length departures) ≡ c
     → leaves_at tai head departures k stamp
     ≡ (if b then stamp else if c then slice_index departures (k - head) - tai * 10 ^ 9
     else max (stamp + tai * 10 ^ 9) (slice_index departures (length departures - 1)) - tai * 10 ^ 9)
@@ -46,7 +46,7 @@ leaves-by tai head departures k stamp b c first second =
     ap (λ (x : Bool). if x then stamp else if nat_lt k (head + length departures) then judged else behind) first
     ∙ ap (λ (x : Bool). if b then stamp else if x then judged else behind) second
 
-leaves-judged : (tai head : ℕ) (departures : List ℕ) (k stamp : ℕ) → head ≤ k → k < head + length departures
+pub leaves-judged : (tai head : ℕ) (departures : List ℕ) (k stamp : ℕ) → head ≤ k → k < head + length departures
     → leaves_at tai head departures k stamp ≡ slice_index departures (k - head) - tai * 10 ^ 9
 leaves-judged tai head departures k stamp low few =
     leaves-by tai head departures k stamp false true (grind (arith, nat_tests)) (grind (arith, nat_tests))

@@ -11,9 +11,11 @@ use Rattle.sdp_reader.specs.Session.{session}
 use Rattle.timing_report.specs.declared.status.Input.{Input}
 use Rattle.timing_report.specs.declared.status.Input.TheVariants as input
 use Rattle.timing_steps.specs.Answers.{Answer, Gives, Inputs, OnReadFault, ReadsSession, Yields}
-use Rattle.timing_steps.specs.Ran.{HasCause, IsAnswered}
+use Rattle.timing_steps.specs.Ends.{HasStatus, look_ends}
+use Rattle.timing_steps.specs.Ran.{HasCause}
 use Rattle.timing_steps.specs.declared.failure.Failure.{Failure}
 use Rattle.timing_steps.specs.declared.failure.Failure.TheVariants as failure
+use Rattle.timing_steps.proofs.Endings.{look-answered}
 use Rattle.timing_steps.proofs.Seeing.{Sees, follows-session, risen-seen, rose-within, yields-on}
 use Rattle.timing_reach.specs.Asked.{FlowInputRose, ReadsCapture, ReadsFlow, no_such_media}
 
@@ -28,9 +30,9 @@ reads-capture i (Err failure.WriteFault) name next told there cause = absurd cau
 reads-capture i (Err failure.OutOfMemory) name next told there cause = inl refl
 
 -- the capture is the one input that couldn't be read
-pub capture-cause : (i : Inputs) (job : FlowJob) (outcome : Result Answer Failure) → IfOk outcome (λ answer. IsAnswered answer.status)
+pub capture-cause : (i : Inputs) (job : FlowJob) (outcome : Result Answer Failure) → IfOk outcome (HasStatus look_ends)
     → IfErr outcome (λ e. OnReadFault e (λ x. (x ≡ input.Capture 0) × Rose (i.before job.capture) (i.now job.capture))) → HasCause outcome (FlowInputRose job i)
-capture-cause i job (Ok answer) answers cause = answers
+capture-cause i job (Ok answer) answers cause = look-answered answer answers
 capture-cause i job (Err (failure.ReadFault x)) answers cause = subst (FlowInputRose job i) (sym cause.0) (refl, cause.1)
 capture-cause i job (Err failure.WriteFault) answers cause = cause
 capture-cause i job (Err failure.OutOfMemory) answers cause = tt

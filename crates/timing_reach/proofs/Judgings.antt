@@ -161,7 +161,7 @@ pub record IsWithin (packets : List FlowPacket) (tai : ℕ) (run : JudgedRun) : 
   pub few : length run.stamps ≤ length packets - run.head
   pub gauged_is : gauged tai run.head (length run.stamps) packets ≡ run.stamps
 
-head-some : (marks : List ℕ) (to : ℕ) → 2 ≤ length marks → head_len marks 0 to ≡ slice_index marks 0 + 1
+pub head-some : (marks : List ℕ) (to : ℕ) → 2 ≤ length marks → head_len marks 0 to ≡ slice_index marks 0 + 1
 head-some marks to h =
     let some : (length marks == 0) ≡ false = grind (arith, nat_tests) in
     ap (λ b. if b then to - 0 else slice_index marks 0 + 1 - 0) some ∙ omega arith

@@ -11,6 +11,8 @@ mod Following
 pub mod Unique
 mod Listings
 mod Copies
+mod Resent
+mod Rejudged
 pub mod OneShape
 mod Leavings
 mod ShapeFronts

@@ -4,6 +4,7 @@ pub mod Windows
 pub mod Skewed
 pub mod Shapes
 pub mod Shaped
+pub mod ShapedAgain
 -- what is worked by hand
 pub mod Worked
 pub mod WorkedShapes

@@ -6,8 +6,10 @@ mod leaver;
 mod shaping;
 mod words;
 
+ghost use Rattle.std.specs.Prelude.{IfOk};
 ghost use Rattle.timing_outside.specs.Shelves.{StaysAs};
 ghost use Rattle.timing_steps.specs.Answers.{seen_of};
+ghost use Rattle.timing_steps.specs.Ends.{EndsWith, HasStatus, look_ends};
 ghost use Rattle.timing_steps.specs.Ran.{HasCause, Ran, output_of};
 ghost use Rattle.timing_reach.specs.Asked.{FlowInputRose};
 ghost use Rattle.timing_reach.specs.Shaped.{FollowsShape};
@@ -67,6 +69,7 @@ impl Look for ShapeLook {
 /// The answer of a job, or why there is none.
 fn answer_shape<H: Shelf>(alloc: Global, job: &ShapeJob, shelf: &mut H) -> Result<Answer, Failure>
     ensures follows { FollowsShape job.now (seen_of H.Shelf shelf.old shelf.new) result }
+    ensures answers { IfOk result (HasStatus look_ends) }
     ensures cause { HasCause result
         (FlowInputRose job.now.flow (seen_of H.Shelf shelf.old shelf.new)) }
     ensures stays { StaysAs H.text H.lacks H.faults shelf.old shelf.new }
@@ -92,6 +95,7 @@ pub fn shape_one<H: Shelf, K: Sink>(
         (output_of K.Sink out.old out.new)
         (output_of K.Sink err.old err.new)
         result }
+    ensures ends { EndsWith look_ends (output_of K.Sink out.old out.new) result }
     ensures stays { StaysAs H.text H.lacks H.faults shelf.old shelf.new }
 {
     let outcome = answer_shape(alloc, job, shelf);

@@ -4,9 +4,10 @@ mod compare;
 mod pairing;
 mod words;
 
-ghost use Rattle.std.specs.Prelude.{Some, slice_get};
+ghost use Rattle.std.specs.Prelude.{IfOk, Some, slice_get};
 ghost use Rattle.timing_outside.specs.Shelves.{StaysAs};
 ghost use Rattle.timing_steps.specs.Answers.{Gives, ReadsCaptures, Yields, seen_of};
+ghost use Rattle.timing_steps.specs.Ends.{EndsWith, HasStatus, look_ends};
 ghost use Rattle.timing_steps.specs.Ran.{HasCause, Ran, output_of};
 ghost use Rattle.timing_reach.specs.Skewed.{FollowsSkew, HasSkew, ReadsPair, SkewInputRose};
 
@@ -30,6 +31,7 @@ fn answer_pair<H: Shelf>(
     ensures follows { Yields result (ReadsCaptures (seen_of H.Shelf shelf.old shelf.new)
         result job.now.captures
         (λ texts. Gives result (HasSkew job.now first.now second.now texts))) }
+    ensures answers { IfOk result (HasStatus look_ends) }
     ensures cause { HasCause result (SkewInputRose job.now (seen_of H.Shelf shelf.old shelf.new)) }
     ensures stays { StaysAs H.text H.lacks H.faults shelf.old shelf.new }
 {
@@ -47,6 +49,7 @@ fn answer_second<H: Shelf>(
 ) -> Result<Answer, Failure>
     ensures follows { Yields result (ReadsPair (seen_of H.Shelf shelf.old shelf.new)
         result job.now (Some first.now) (slice_get media.now job.now.pair)) }
+    ensures answers { IfOk result (HasStatus look_ends) }
     ensures cause { HasCause result (SkewInputRose job.now (seen_of H.Shelf shelf.old shelf.new)) }
     ensures stays { StaysAs H.text H.lacks H.faults shelf.old shelf.new }
 {
@@ -66,6 +69,7 @@ fn answer_over<H: Shelf>(
     ensures follows { Yields result (ReadsPair (seen_of H.Shelf shelf.old shelf.new)
         result job.now (slice_get media.now job.now.media)
         (slice_get media.now job.now.pair)) }
+    ensures answers { IfOk result (HasStatus look_ends) }
     ensures cause { HasCause result (SkewInputRose job.now (seen_of H.Shelf shelf.old shelf.new)) }
     ensures stays { StaysAs H.text H.lacks H.faults shelf.old shelf.new }
 {
@@ -79,6 +83,7 @@ fn answer_over<H: Shelf>(
 /// is fetched. The captures are fetched in order and then read in order.
 fn answer_skew<H: Shelf>(alloc: Global, job: &SkewJob, shelf: &mut H) -> Result<Answer, Failure>
     ensures follows { FollowsSkew job.now (seen_of H.Shelf shelf.old shelf.new) result }
+    ensures answers { IfOk result (HasStatus look_ends) }
     ensures cause { HasCause result (SkewInputRose job.now (seen_of H.Shelf shelf.old shelf.new)) }
     ensures stays { StaysAs H.text H.lacks H.faults shelf.old shelf.new }
 {
@@ -101,6 +106,7 @@ pub fn skew_one<H: Shelf, K: Sink>(
         (output_of K.Sink out.old out.new)
         (output_of K.Sink err.old err.new)
         result }
+    ensures ends { EndsWith look_ends (output_of K.Sink out.old out.new) result }
     ensures stays { StaysAs H.text H.lacks H.faults shelf.old shelf.new }
 {
     let outcome = answer_skew(alloc, job, shelf);

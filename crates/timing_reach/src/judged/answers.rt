@@ -10,7 +10,8 @@ ghost use Rattle.pcapng_reader.specs.Classic.{classic_texts};
 ghost use Rattle.timing_outside.specs.Causes.{Rose};
 ghost use Rattle.timing_outside.specs.Shelves.{StaysAs};
 ghost use Rattle.timing_steps.specs.Answers.{Gives, OnReadFault, ReadsSession, Yields, seen_of};
-ghost use Rattle.timing_steps.specs.Ran.{HasCause, IsAnswered};
+ghost use Rattle.timing_steps.specs.Ends.{HasStatus, look_ends};
+ghost use Rattle.timing_steps.specs.Ran.{HasCause};
 ghost use Rattle.timing_reach.specs.Asked.{FlowInputRose, OnFlow, ReadsCapture, ReadsFlow};
 ghost use Rattle.timing_reach.specs.judged.Readings.{IsJudgmentIn};
 ghost use Rattle.timing_reach.specs.judged.Runs.{IsRunOf};
@@ -52,7 +53,7 @@ fn look_again<L: Look, H: Shelf>(
     ensures some { IfOk result (λ answer. AnswersSome
         (L.answers look.now job.now.tai media.now) media.now job.now.tai judgment.now.first
         judged.now answer) }
-    ensures answers { IfOk result (λ answer. IsAnswered answer.status) }
+    ensures answers { IfOk result (HasStatus look_ends) }
     ensures cause { IfErr result (λ e. OnReadFault e (λ i. (i ≡ Input.Capture 0)
         × Rose (H.faults shelf.old job.now.capture) (H.faults shelf.new job.now.capture))) }
     ensures stays { StaysAs H.text H.lacks H.faults shelf.old shelf.new }
@@ -87,7 +88,7 @@ fn answer_seen<L: Look, H: Shelf>(
         → classic_texts (H.text shelf.old) job.now.capture ≡ Some text
         → IsJudgmentIn media.now job.now.tai text judgment.now
         → OnFlow job.now.tai media.now (L.answers look.now job.now.tai media.now) text answer) }
-    ensures answers { IfOk result (λ answer. IsAnswered answer.status) }
+    ensures answers { IfOk result (HasStatus look_ends) }
     ensures cause { IfErr result (λ e. OnReadFault e (λ i. (i ≡ Input.Capture 0)
         × Rose (H.faults shelf.old job.now.capture) (H.faults shelf.new job.now.capture))) }
     ensures stays { StaysAs H.text H.lacks H.faults shelf.old shelf.new }
@@ -109,6 +110,7 @@ fn answer_on<L: Look, H: Shelf>(
     ensures follows { Yields result (ReadsCapture (seen_of H.Shelf shelf.old shelf.new)
         result job.now.capture (λ text. Gives result
         (OnFlow job.now.tai media.now (L.answers look.now job.now.tai media.now) text))) }
+    ensures answers { IfOk result (HasStatus look_ends) }
     ensures cause { HasCause result
         (FlowInputRose job.now (seen_of H.Shelf shelf.old shelf.new)) }
     ensures stays { StaysAs H.text H.lacks H.faults shelf.old shelf.new }
@@ -128,6 +130,7 @@ fn answer_over<L: Look, H: Shelf>(
     ensures follows { Yields result (ReadsFlow (seen_of H.Shelf shelf.old shelf.new)
         result job.now (λ m. OnFlow job.now.tai m (L.answers look.now job.now.tai m))
         (slice_get media.now job.now.media)) }
+    ensures answers { IfOk result (HasStatus look_ends) }
     ensures cause { HasCause result
         (FlowInputRose job.now (seen_of H.Shelf shelf.old shelf.new)) }
     ensures stays { StaysAs H.text H.lacks H.faults shelf.old shelf.new }
@@ -152,6 +155,7 @@ pub fn answer_flow<L: Look, H: Shelf>(
         ReadsFlow (seen_of H.Shelf shelf.old shelf.new) result job.now
         (λ m. OnFlow job.now.tai m (L.answers look.now job.now.tai m))
         (slice_get media job.now.media))) }
+    ensures answers { IfOk result (HasStatus look_ends) }
     ensures cause { HasCause result
         (FlowInputRose job.now (seen_of H.Shelf shelf.old shelf.new)) }
     ensures stays { StaysAs H.text H.lacks H.faults shelf.old shelf.new }

@@ -6,7 +6,7 @@ ghost use Rattle.timing_base.specs.Judged.{JudgedRun};
 ghost use Rattle.timing_base.specs.Media.{Media as MediaValue};
 ghost use Rattle.timing_base.specs.Verdicts.{Judged as JudgedValue};
 ghost use Rattle.timing_steps.specs.Answers.{Answer as AnswerValue};
-ghost use Rattle.timing_steps.specs.Ran.{IsAnswered};
+ghost use Rattle.timing_steps.specs.Ends.{HasStatus, look_ends};
 ghost use Rattle.timing_reach.specs.judged.Runs.{IsRunOf};
 
 use pcap_reader::Taker;
@@ -52,7 +52,7 @@ pub trait Look {
         judged: &Judged,
         meter: Self::Meter,
     ) -> Result<Answer, OutOfMemory>
-        ensures answered { IfOk result (λ answer. IsAnswered answer.status) }
+        ensures answered { IfOk result (HasStatus look_ends) }
         ensures answers { IfOk result (λ answer. (tai : ℕ) (media : MediaValue) (first : ℕ)
             (begun : Self.Meter) (items : List Record) (run : JudgedRun)
             → fresh self.now tai media judged.now first begun → Self.Meter.takes begun meter items

@@ -1,8 +1,8 @@
 //! What holds of the definitions of `shape` themselves.
 
-ghost use Rattle.std.specs.Prelude.{◌≡◌, ◌≤◌, ◌++◌, ◌∷◌, [], ℕ, List, Bool, true, false, codes};
+ghost use Rattle.std.specs.Prelude.{◌≡◌, ◌≤◌, ◌^◌, ◌++◌, ◌∷◌, [], ℕ, List, All, Bool, true, false, codes, length};
 ghost use Rattle.timing_base.specs.Captures.{Record};
-ghost use Rattle.timing_base.specs.Judged.{JudgedRun};
+ghost use Rattle.timing_base.specs.Judged.{JudgedRun, in_one_run, judged, whole_frames};
 ghost use Rattle.timing_base.specs.Media.{IsMedia, Media};
 ghost use Rattle.timing_base.specs.declared.media.Kind.{Kind};
 ghost use Rattle.timing_base.specs.declared.media.Kind.TheVariants.{N};
@@ -10,7 +10,9 @@ ghost use Rattle.pcap_reader.specs.WrittenHeads.{file_head};
 ghost use Rattle.sender_params.specs.Worked.{at_once, hd_50};
 ghost use Rattle.timing_report.specs.declared.status.Status.TheVariants as status;
 ghost use Rattle.timing_steps.specs.Answers.{Answer};
-ghost use Rattle.timing_reach.specs.Shapes.{HasShape, shaped_capture};
+ghost use Rattle.udp_rtp.specs.Flow.{flow};
+ghost use Rattle.timing_reach.specs.ShapedAgain.{CanBeHeld, IsJudgedAs, came_at};
+ghost use Rattle.timing_reach.specs.Shapes.{HasPlan, HasShape, shaped_capture};
 ghost use Rattle.timing_reach.specs.WorkedShapes.{five_records, last_nanosecond, run_of_stamps, two_departures};
 
 use flow_shaper::laws::burst_by_hand;
@@ -23,6 +25,16 @@ pub fn one_shape_answer()
     ensures once { (list : Bool) (tai : ℕ) (kind : Kind) (m : Media) (items : List Record)
         (run : JudgedRun) (a b : Answer) → HasShape list tai kind m items run a
         → HasShape list tai kind m items run b → a ≡ b }
+{}
+
+/// The capture that `shape` writes, of at most 2^40 bytes, read again with the same seconds: it is whole, and the flow is
+/// judged in one run, of the same groups between the same packets, whose judged packets came as the plan lets them leave.
+pub fn shaped_is_read_back()
+    ensures { (tai : ℕ) (kind : Kind) (m : Media) (items : List Record) (run : JudgedRun)
+        (answer : Answer) → All CanBeHeld items
+        → judged (flow items m) m.pt tai ≡ in_one_run (whole_frames run)
+        → (plan : HasPlan false tai kind m items run answer) → length answer.text ≤ 2 ^ 40
+        → IsJudgedAs tai m answer.text (came_at run plan.departures) }
 {}
 
 /// Of five packets at once the last one is delayed, at 50 frames per second with 20 packets per frame.

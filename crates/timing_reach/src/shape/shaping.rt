@@ -3,7 +3,7 @@
 ghost use Rattle.std.specs.Prelude.{◌≡◌, ◌≤◌, ◌<◌, ◌+◌, ◌*◌, ◌^◌, [], List, None, Some, IfOk, length};
 ghost use Rattle.timing_base.specs.Captures.{IsStamp, Record};
 ghost use Rattle.timing_base.specs.Judged.{JudgedRun};
-ghost use Rattle.timing_steps.specs.Ran.{IsAnswered};
+ghost use Rattle.timing_steps.specs.Ends.{HasStatus, look_ends};
 ghost use Rattle.timing_reach.specs.shape.Leaving.{HasGiven, Part};
 ghost use Rattle.timing_reach.specs.Shapes.{HasShape};
 
@@ -135,7 +135,7 @@ impl Shaping {
 
     /// The answer on so many judged packets.
     pub fn finish(mut self, alloc: Global, packets: u64) -> Result<Answer, OutOfMemory>
-        ensures answers { IfOk result (λ answer. IsAnswered answer.status) }
+        ensures answers { IfOk result (HasStatus look_ends) }
         ensures shape { IfOk result (λ answer. (w : Part) (list : _) (passed : List _)
             (items : List Record) (run : JudgedRun) → Ends w list self passed items run packets
             → HasShape list w.tai w.kind w.media items run answer) }

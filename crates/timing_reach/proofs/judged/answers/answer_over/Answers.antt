@@ -3,6 +3,7 @@ use Rattle.std.proofs.lemmas.Option.{slice_get_past, slice_get_read}
 use Rattle.std.specs.Prelude.{slice_get}
 use Rattle.timing_base.specs.Jobs.{FlowJob}
 use Rattle.timing_steps.specs.Answers.{Answer, seen_of}
+use Rattle.timing_steps.specs.Ends.{HasStatus, look_ends}
 use Rattle.timing_steps.specs.Ran.{IsAnswered}
 use Rattle.timing_reach.specs.Asked.{FlowInputRose, OnFlow}
 use Rattle.timing_reach.proofs.Following.{cause-out, ran-out, reads-none, reads-some}
@@ -47,6 +48,9 @@ returns-in_ok-no_such_media-in-None-clause-follows g c =
 
 pub returns-in_ok-no_such_media-in-None-clause-cause : goal.returns-in_ok-no_such_media-in-None-clause-cause
 returns-in_ok-no_such_media-in-None-clause-cause g c = subst (λ (a : Answer). IsAnswered a.status) (sym c.in_ok-no_such_media-in-None.ensures) tt
+
+pub returns-in_ok-no_such_media-in-None-clause-answers : goal.returns-in_ok-no_such_media-in-None-clause-answers
+returns-in_ok-no_such_media-in-None-clause-answers g c = subst (HasStatus look_ends) (sym c.in_ok-no_such_media-in-None.ensures) (refl, tt)
 
 pub returns-in_ok-no_such_media-in-None-clause-stays : goal.returns-in_ok-no_such_media-in-None-clause-stays
 returns-in_ok-no_such_media-in-None-clause-stays g c = record { lacks = λ n h. h; texts = λ n. refl; later = λ n. omega arith }

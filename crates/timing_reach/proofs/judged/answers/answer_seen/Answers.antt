@@ -1,6 +1,5 @@
 use Rattle.std.proofs.Common.{sym, subst, refl, arith}
-use Rattle.timing_steps.specs.Ran.{IsAnswered}
-use Rattle.timing_steps.specs.Answers.{Answer}
+use Rattle.timing_steps.specs.Ends.{HasStatus, look_ends}
 use Rattle.timing_reach.proofs.Judgments.{run-on, told-on}
 use Rattle.timing_reach.proofs.Takings.{if-ok}
 use Rattle.timing_reach.proofs.judged.answers.answer_seen.Goals as goal
@@ -18,7 +17,7 @@ returns-in_ok-not_judged-in_default g c = record {
   told = λ text whole s.
       told-on text c.args.media.now c.args.job.now.tai (g.L.Look.answers c.args.look.now c.args.job.now.tai c.args.media.now) c.args.judgment.now
       c.args.judgment.now.verdict c.in_ok-not_judged-in_default.field-0 refl (λ j e. c.in_default.not-Judged j e) s c.in_ok-not_judged-in_default.ensures;
-  answers = subst (λ (a : Answer). IsAnswered a.status) (sym c.in_ok-not_judged-in_default.ensures) tt;
+  answers = subst (HasStatus look_ends) (sym c.in_ok-not_judged-in_default.ensures) (refl, tt);
   cause = tt;
   stays = record { lacks = λ n h. h; texts = λ n. refl; later = λ n. omega arith };
 }
