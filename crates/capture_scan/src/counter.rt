@@ -115,17 +115,16 @@ impl Pace {
         }
     }
 
-    /// The pace with one packet more, which may have the marker, and the last mark before it.
+    /// Counts one packet more, which may have the marker, behind the last mark before it.
     #[inline(always)]
-    fn with(pace: Option<Pace>, before: Option<Mark>, mark: Option<Mark>) -> Option<Pace>
+    fn count(pace: &mut Option<Pace>, before: Option<Mark>, mark: Option<Mark>)
         requires later { IfSome before (λ b. IfSome mark (λ m. b.place < m.place)) }
-        requires few { IfSome pace (λ p. p.rate.steps < 2 ^ 63) }
-        requires ticks { IfSome pace (λ p. p.rate.ticks < 2 ^ 127) }
-        ensures { result ≡ pace_with pace before mark }
+        requires few { IfSome pace.old (λ p. p.rate.steps < 2 ^ 63) }
+        requires ticks { IfSome pace.old (λ p. p.rate.ticks < 2 ^ 127) }
+        ensures { pace.new ≡ pace_with pace.old before mark }
     {
-        match (before, mark) {
-            (Some(before), Some(mark)) => Some(Pace::next(pace, before, mark)),
-            _ => pace,
+        if let (Some(before), Some(mark)) = (before, mark) {
+            *pace = Some(Pace::next(*pace, before, mark));
         }
     }
 }
@@ -226,7 +225,7 @@ impl Counter {
         stream.last = Arrival::of(packet);
         stream.bytes += u64::from(packet.length);
         stream.order = stream.order.next(self.number, rtp.number);
-        stream.pace = Pace::with(stream.pace, self.mark, mark);
+        Pace::count(&mut stream.pace, self.mark, mark);
         stream.lines = Lines::with(stream.lines, packet.line);
         self.number = rtp.number;
         self.mark = Mark::last(self.mark, mark);

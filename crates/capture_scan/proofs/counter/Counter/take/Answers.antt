@@ -20,8 +20,8 @@ returns-clause-counts c = λ ps h.
       last = c.of-stream.ensures i;
       bytes = s.bytes + c.from.ensures i;
       order = c.next-stream.ensures i;
-      pace = (c.with-stream.ensures ∙ ap (pace_with s.pace c.args.self.now.mark) c.of-mark.ensures) i;
-      lines = c.with-stream-2.ensures i;
+      pace = (c.count.ensures ∙ ap (pace_with s.pace c.args.self.now.mark) c.of-mark.ensures) i;
+      lines = c.with-stream.ensures i;
     })
     refl
     (c.last-self.ensures ∙ ap (mark_next c.args.self.now.mark) c.of-mark.ensures)
