@@ -84,3 +84,22 @@ AreExtremes-same numbers before after e to from h =
         reached = (h.greatest.reached.0, to h.greatest.reached.0 h.greatest.reached.1, h.greatest.reached.2);
       };
     }
+
+-- the least and the greatest of numbers that are the same at those places
+pub IsLeast-same : (numbers others : ℕ → ℤ) (places : ℕ → Type 0) (x : ℤ)
+    → ((i : ℕ) → places i → others i ≡ numbers i)
+    → IsLeast numbers places x
+    → IsLeast others places x
+IsLeast-same numbers others places x same h = record {
+  least = λ i p. omega (arith, ints, same i p, h.least i p);
+  reached = (h.reached.0, h.reached.1, same h.reached.0 h.reached.1 ∙ h.reached.2);
+}
+
+pub IsGreatest-same : (numbers others : ℕ → ℤ) (places : ℕ → Type 0) (x : ℤ)
+    → ((i : ℕ) → places i → others i ≡ numbers i)
+    → IsGreatest numbers places x
+    → IsGreatest others places x
+IsGreatest-same numbers others places x same h = record {
+  greatest = λ i p. omega (arith, ints, same i p, h.greatest i p);
+  reached = (h.reached.0, h.reached.1, same h.reached.0 h.reached.1 ∙ h.reached.2);
+}

@@ -3,6 +3,7 @@ use Rattle.std.proofs.Common.{◌≡◌, ◌<◌, ◌≤◌, ◌+◌, ℕ, zero,
 use Rattle.std.proofs.lemmas.Bool.{cases_Bool, cases_eq, cond-false, cond-true, le-ltb, ltb-false}
 use Rattle.std.proofs.lemmas.Int.{ints}
 use Rattle.std.proofs.lemmas.List.Sums.{sum_by-cons}
+use Rattle.std.specs.Int.{from_bool}
 use Rattle.flow_measure.specs.Bins.{above_limit, below_zero, is_above, is_below}
 use Rattle.flow_measure.specs.Counts.{count_of}
 
@@ -115,3 +116,15 @@ pub replicate-at : (x n k : ℕ) → get_or (replicate n x) k x ≡ x
 replicate-at x zero k = refl
 replicate-at x (suc n) zero = refl
 replicate-at x (suc n) (suc k) = replicate-at x n k
+
+-- a count of tests that are the same at those places
+pub count_of-same : (test other : ℕ → Bool) (count : ℕ) → ((i : ℕ) → i < count → other i ≡ test i) → count_of other count ≡ count_of test count
+count_of-same test other zero same = refl
+count_of-same test other (suc count) same =
+    let before = count_of-same test other count (λ i few. same i (omega (arith, few))) in
+    ap (λ k. k + cond (other count) 1 0) before ∙ ap (λ (b : Bool). count_of test count + cond b 1 0) (same count (omega arith))
+
+-- a test as a number
+pub number-of : (b : Bool) → from_bool b ≡ cond b 1 0
+number-of true = refl
+number-of false = refl

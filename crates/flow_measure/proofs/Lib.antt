@@ -1,8 +1,14 @@
+pub mod Agrees
 pub mod Binned
 pub mod Bounds
+pub mod Breaks
 pub mod ByHand
 pub mod Counted
 pub mod Drawn
+pub mod Epoch
+pub mod Floors
+pub mod Lateness
+pub mod Passes
 pub mod Summarized
 pub mod Unique
 pub mod Widths

@@ -4,8 +4,13 @@ pub mod Columns
 pub mod Counts
 pub mod Bins
 pub mod Classes
+pub mod Occupancy
+pub mod Frames
+pub mod Broken
 pub mod Stands
 -- numbers that are worked by hand
 pub mod Worked
--- this only serves proofs
+-- these only serve proofs
 pub mod Places
+pub mod Parts
+pub mod Own

@@ -1,10 +1,27 @@
 //! The definitions on numbers worked by hand, and what holds of them for all numbers. Each function is a theorem:
 //! it does nothing, and its clauses are proved.
 
-ghost use Rattle.std.specs.Prelude.{◌≡◌, ◌<◌, ◌≤◌, ◌+◌, ◌∷◌, [], ◌↔◌, ℕ, ℤ, pos, negsuc, ◌≤ℤ◌, List, length};
+ghost use Rattle.std.specs.Prelude.{◌≡◌, ◌<◌, ◌≤◌, ◌+◌, ◌∷◌, [], ◌↔◌, ℕ, ℤ, pos, negsuc, ◌≤ℤ◌, Bool, List, length, true, false, ◌==◌, ◌||◌};
 ghost use Rattle.flow_measure.specs.Bins.{above_limit, below_zero, bin_count, bin_width, in_bin};
 ghost use Rattle.flow_measure.specs.Classes.{in_class};
 ghost use Rattle.flow_measure.specs.Columns.{AreColumns, AreCurve, AreEye, column_at, greatest_at, least_at, width_of};
+ghost use Rattle.std.specs.Int.{int_max};
+ghost use Rattle.timing_base.specs.Media.{IsMedia, Media};
+ghost use Rattle.timing_base.specs.declared.media.Kind.{Kind};
+ghost use Rattle.sender_params.specs.Keeps.{KeepsBuffer, held_at};
+ghost use Rattle.sender_params.specs.Limits.{c_max_of, gapped_of, vrx_full_of};
+ghost use Rattle.sender_params.specs.Ticks.{KeepsBucket, NeverFall};
+ghost use Rattle.drain_bucket.specs.Word.{bucket_of};
+ghost use Rattle.sender_params.specs.Worked.{hd_50, hd_59_94, linear_two};
+ghost use Rattle.flow_measure.specs.Broken.{broken_groups};
+ghost use Rattle.flow_measure.specs.Frames.{after_start, timestamp_latency, timestamp_offset, timestamp_step};
+ghost use Rattle.flow_measure.specs.Occupancy.{AreOccupancies, IsOccupancy, IsPeak, buckets_of, late_of, margin_of};
+ghost use Rattle.flow_measure.specs.Stands.{Classifies, Counts, CountsBroken, Draws, Summarizes};
+ghost use Rattle.flow_measure.specs.declared.bins.Bins.{Bins};
+ghost use Rattle.flow_measure.specs.declared.broken.BrokenGroups.{BrokenGroups};
+ghost use Rattle.flow_measure.specs.declared.classes.Classes.{Classes};
+ghost use Rattle.flow_measure.specs.declared.columns.Columns.{Columns};
+ghost use Rattle.flow_measure.specs.declared.summary.SummaryMeter.{SummaryMeter};
 ghost use Rattle.flow_measure.specs.Summary.{IsGreatest, IsLeast, IsSummary};
 ghost use Rattle.flow_measure.specs.Worked.{column, listed, naturals, summary};
 ghost use Rattle.flow_measure.specs.declared.summary.Summary.{Summary};
@@ -91,4 +108,95 @@ pub fn none_above_is_none()
         ↔ ((i : ℕ) → i < count → numbers i ≤ℤ pos limit) }
     ensures below { (numbers : ℕ → ℤ) (count : ℕ) → (below_zero numbers count ≡ 0)
         ↔ ((i : ℕ) → i < count → pos 0 ≤ℤ numbers i) }
+{}
+
+/// A frame at 50 frames per second, whose group is 80,000,000,000: packets 764,000 and 19,004,000 ns after it begins, and
+/// one that comes a nanosecond before the next frame.
+pub fn frames_by_hand()
+    ensures first { after_start hd_50 (pos 80000000000) 0 1600000000000764000 ≡ pos 764000 }
+    ensures last { after_start hd_50 (pos 80000000000) 0 1600000000019004000 ≡ pos 19004000 }
+    ensures next { after_start hd_50 (pos 80000000000) 1 1600000000020764000 ≡ pos 764000 }
+    ensures early { after_start hd_50 (pos 80000000000) 1 1600000000019999999 ≡ negsuc 0 }
+    ensures whole { after_start hd_59_94 (pos 1) 0 16683334 ≡ pos 0 }
+    ensures part { after_start hd_59_94 (pos 1) 0 16683333 ≡ negsuc 0 }
+{}
+
+/// The media clock at that frame is 2,631,467,008 modulo 2^32. Timestamps 1800 and 3600 are of it and of the next frame.
+pub fn timestamps_by_hand()
+    ensures offset { timestamp_offset hd_50 (pos 80000000000) 0 1800 ≡ pos 1663502088 }
+    ensures next { timestamp_offset hd_50 (pos 80000000000) 1 3600 ≡ pos 1663502088 }
+    ensures own { timestamp_offset hd_50 (pos 80000000000) 0 2631467008 ≡ pos 0 }
+    ensures behind { timestamp_offset hd_50 (pos 80000000000) 0 2631467007 ≡ negsuc 0 }
+    ensures latency { timestamp_latency 1600000000000764000 1800 ≡ negsuc 1663502019 }
+    ensures late { timestamp_latency 1600000000000764000 2631467008 ≡ pos 68 }
+    ensures step { timestamp_step 1800 3600 ≡ 1800 }
+    ensures turn { timestamp_step 4294967295 1 ≡ 2 }
+{}
+
+/// Packet 0 comes 444 4/9 ns before its read. Packet 1 of a linear sender comes 39,555 5/9 ns after its gapped read, and
+/// 444 4/9 ns before its linear one.
+pub fn margins_by_hand()
+    ensures first { margin_of hd_50 20 linear_two true 0 ≡ pos 444 }
+    ensures late { margin_of hd_50 20 linear_two true 1 ≡ negsuc 39555 }
+    ensures linear { margin_of hd_50 20 linear_two false 1 ≡ pos 444 }
+    ensures late_count { late_of hd_50 20 linear_two true ≡ 1 }
+    ensures none { late_of hd_50 20 linear_two false ≡ 0 }
+{}
+
+/// Of three groups of two packets the first has two broken packets and the last has one.
+pub fn broken_by_hand()
+    ensures three { broken_groups 2 (λ i. i == 0 || (i == 1 || i == 5)) 3 ≡ 2 }
+    ensures two { broken_groups 2 (λ i. i == 0 || (i == 1 || i == 5)) 2 ≡ 1 }
+{}
+
+/// The bucket of a sender type keeps C_MAX exactly where no count is above it.
+pub fn bucket_passes()
+    ensures { (m : Media) (n : ℕ) (stamps : List ℕ) (kind : Kind) → NeverFall stamps
+        → KeepsBucket m n stamps kind
+        ↔ (above_limit (c_max_of m n kind) (buckets_of m n stamps) (length stamps) ≡ 0) }
+{}
+
+/// Its buffer holds between nothing and VRX_FULL at every instant exactly where no occupancy is above VRX_FULL and no
+/// packet is late.
+pub fn buffer_passes()
+    ensures { (m : Media) (n : ℕ) (stamps : List ℕ) (kind : Kind) (occupancy : ℕ → ℤ)
+        → IsMedia m → 1 ≤ n → NeverFall stamps
+        → AreOccupancies m n stamps (gapped_of kind) occupancy
+        → KeepsBuffer m n stamps kind
+        ↔ ((above_limit (vrx_full_of m n kind) occupancy (length stamps) ≡ 0)
+        × (late_of m n stamps (gapped_of kind) ≡ 0)) }
+{}
+
+/// The greatest count of the bucket is the peak that a row has of it, and the greatest occupancy is the peak of the
+/// buffer, where it isn't below 0; else that peak is 0.
+pub fn peaks_are_the_rows()
+    ensures bucket { (m : Media) (n : ℕ) (stamps : List ℕ) (s : Summary) (p : ℕ)
+        → IsSummary (buckets_of m n stamps) (length stamps) s
+        → IsPeak (bucket_of m n stamps) (length stamps) p → s.greatest ≡ pos p }
+    ensures buffer { (m : Media) (n : ℕ) (stamps : List ℕ) (gapped : Bool) (occupancy : ℕ → ℤ)
+        (s : Summary) (p : ℕ)
+        → AreOccupancies m n stamps gapped occupancy → IsSummary occupancy (length stamps) s
+        → IsPeak (held_at m n stamps gapped) (length stamps) p → int_max (pos 0) s.greatest ≡ pos p }
+{}
+
+/// Each packet has one occupancy.
+pub fn one_occupancy()
+    ensures some { (m : Media) (n : ℕ) (stamps : List ℕ) (gapped : Bool) (i : ℕ) → IsMedia m → 1 ≤ n
+        → (x : ℤ) × IsOccupancy m n stamps gapped i x }
+    ensures once { (m : Media) (n : ℕ) (stamps : List ℕ) (gapped : Bool) (i : ℕ) (x other : ℤ)
+        → IsOccupancy m n stamps gapped i x → IsOccupancy m n stamps gapped i other → x ≡ other }
+{}
+
+/// A meter knows no more than what it was fed: it stands for all numbers that are the same there.
+pub fn what_was_fed_decides()
+    ensures summary { (m : SummaryMeter) (numbers others : ℕ → ℤ)
+        → ((i : ℕ) → i < m.seen → others i ≡ numbers i) → Summarizes m numbers → Summarizes m others }
+    ensures bins { (b : Bins) (numbers others : ℕ → ℤ)
+        → ((i : ℕ) → i < b.seen → others i ≡ numbers i) → Counts b numbers → Counts b others }
+    ensures classes { (c : Classes) (numbers others : ℕ → ℕ)
+        → ((i : ℕ) → i < c.seen → others i ≡ numbers i) → Classifies c numbers → Classifies c others }
+    ensures columns { (c : Columns) (numbers others : ℕ → ℤ)
+        → ((i : ℕ) → i < c.seen → others i ≡ numbers i) → Draws c numbers → Draws c others }
+    ensures broken { (b : BrokenGroups) (broken others : ℕ → Bool)
+        → ((i : ℕ) → i < b.seen → others i ≡ broken i) → CountsBroken b broken → CountsBroken b others }
 {}

@@ -5,12 +5,21 @@
 #![tactic(auto)]
 
 mod bins;
+mod broken;
 mod classes;
 mod columns;
+mod frames;
+mod groups;
 pub mod laws;
+mod margin;
+mod occupancy;
 mod summary;
 
 pub use bins::Bins;
+pub use broken::BrokenGroups;
 pub use classes::Classes;
 pub use columns::{Columns, Extremes};
+pub use frames::{latency_of, offset_of, since_start, step_of};
+pub use margin::{MarginMeter, Margins};
+pub use occupancy::occupancy_of;
 pub use summary::{Summary, SummaryMeter};

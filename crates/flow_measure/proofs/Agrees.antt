@@ -1,0 +1,105 @@
+-- A meter knows no more than what it was fed: it stands for all numbers that are the same there.
+use Rattle.std.proofs.Common.{◌≡◌, ◌<◌, ◌+◌, ◌-◌, ◌*◌, ◌/◌, ◌%◌, ℕ, zero, suc, ℤ, ◌+ℤ◌, Bool, false, ◌||◌, ap, ◌∙◌, sym, refl, arith}
+use Rattle.std.proofs.lemmas.Nat.{div-add-mod', mul-add-lt}
+use Rattle.flow_measure.specs.Bins.{is_above, is_below, is_in_bin}
+use Rattle.flow_measure.specs.Broken.{any_of, group_breaks}
+use Rattle.flow_measure.specs.Classes.{is_in_class}
+use Rattle.flow_measure.specs.Columns.{places_in}
+use Rattle.flow_measure.specs.Stands.{Classifies, Counts, CountsBroken, Draws, Summarizes, column_of}
+use Rattle.flow_measure.specs.Summary.{sum_of}
+use Rattle.flow_measure.specs.declared.bins.Bins.{Bins}
+use Rattle.flow_measure.specs.declared.broken.BrokenGroups.{BrokenGroups}
+use Rattle.flow_measure.specs.declared.classes.Classes.{Classes}
+use Rattle.flow_measure.specs.declared.columns.Columns.{Columns}
+use Rattle.flow_measure.specs.declared.summary.SummaryMeter.{SummaryMeter}
+use Rattle.flow_measure.proofs.Bounds.{IsGreatest-same, IsLeast-same}
+use Rattle.flow_measure.proofs.Counted.{count_of-same}
+
+-- the sum of numbers that are the same at those places
+sum_of-same : (numbers others : ℕ → ℤ) (count : ℕ) → ((i : ℕ) → i < count → others i ≡ numbers i) → sum_of others count ≡ sum_of numbers count
+sum_of-same numbers others zero same = refl
+sum_of-same numbers others (suc count) same =
+    let before = sum_of-same numbers others count (λ i few. same i (omega (arith, few))) in
+    ap (λ s. s +ℤ others count) before ∙ ap (λ x. sum_of numbers count +ℤ x) (same count (omega arith))
+
+pub summary-agrees : (m : SummaryMeter) (numbers others : ℕ → ℤ)
+    → ((i : ℕ) → i < m.seen → others i ≡ numbers i)
+    → Summarizes m numbers
+    → Summarizes m others
+summary-agrees m numbers others same h = λ some.
+    let s = h some in
+    record {
+      some = some;
+      least = IsLeast-same numbers others (λ i. i < m.seen) m.so_far.least same s.least;
+      greatest = IsGreatest-same numbers others (λ i. i < m.seen) m.so_far.greatest same s.greatest;
+      sum_is = s.sum_is ∙ sym (sum_of-same numbers others m.seen same);
+      first = s.first ∙ sym (same 0 some);
+      last = s.last ∙ sym (same (m.seen - 1) (omega (arith, some)));
+    }
+
+pub bins-agree : (b : Bins) (numbers others : ℕ → ℤ)
+    → ((i : ℕ) → i < b.seen → others i ≡ numbers i)
+    → Counts b numbers
+    → Counts b others
+bins-agree b numbers others same h = record {
+  each = λ bin few. h.each bin few
+      ∙ sym (count_of-same (λ i. is_in_bin b.limit bin (numbers i)) (λ i. is_in_bin b.limit bin (others i)) b.seen
+      (λ i inside. ap (is_in_bin b.limit bin) (same i inside)));
+  above = h.above
+      ∙ sym (count_of-same (λ i. is_above b.limit (numbers i)) (λ i. is_above b.limit (others i)) b.seen
+      (λ i inside. ap (is_above b.limit) (same i inside)));
+  below = h.below
+      ∙ sym (count_of-same (λ i. is_below (numbers i)) (λ i. is_below (others i)) b.seen (λ i inside. ap is_below (same i inside)));
+}
+
+pub classes-agree : (c : Classes) (numbers others : ℕ → ℕ)
+    → ((i : ℕ) → i < c.seen → others i ≡ numbers i)
+    → Classifies c numbers
+    → Classifies c others
+classes-agree c numbers others same h =
+    let kept = λ (class : ℕ). count_of-same (λ i. is_in_class class (numbers i)) (λ i. is_in_class class (others i)) c.seen
+    (λ i inside. ap (is_in_class class) (same i inside)) in
+    record {
+      each = λ class few. h.each class few ∙ sym (kept class);
+      rest = λ class past. kept class ∙ h.rest class past;
+      ends = λ last e. omega (arith, kept last, h.ends last e);
+    }
+
+pub columns-agree : (c : Columns) (numbers others : ℕ → ℤ)
+    → ((i : ℕ) → i < c.seen → others i ≡ numbers i)
+    → Draws c numbers
+    → Draws c others
+columns-agree c numbers others same h = record {
+  within = h.within;
+  each = λ k few.
+      let e = h.each k few in
+      record {
+        least = IsLeast-same numbers others (places_in (column_of c) c.seen k) _ (λ i p. same i p.0) e.least;
+        greatest = IsGreatest-same numbers others (places_in (column_of c) c.seen k) _ (λ i p. same i p.0) e.greatest;
+      };
+}
+
+-- whether one passes, of tests that are the same at those places
+any_of-same : (test other : ℕ → Bool) (count : ℕ) → ((i : ℕ) → i < count → other i ≡ test i) → any_of other count ≡ any_of test count
+any_of-same test other zero same = refl
+any_of-same test other (suc count) same =
+    let before = any_of-same test other count (λ i few. same i (omega (arith, few))) in
+    ap (λ (b : Bool). b || other count) before ∙ ap (λ (b : Bool). any_of test count || b) (same count (omega arith))
+
+pub broken-agrees : (b : BrokenGroups) (broken others : ℕ → Bool)
+    → ((i : ℕ) → i < b.seen → others i ≡ broken i)
+    → CountsBroken b broken
+    → CountsBroken b others
+broken-agrees b broken others same h =
+    let split = div-add-mod' b.seen b.n in
+    let groups = b.seen / b.n in
+    record {
+      before = h.before
+          ∙ sym (count_of-same (group_breaks b.n broken) (group_breaks b.n others) groups
+          (λ k few. any_of-same (λ j. broken (k * b.n + j)) (λ j. others (k * b.n + j)) b.n
+          (λ j inside. same (k * b.n + j)
+          (omega (arith, mul-add-lt k b.n j groups few inside, split)))));
+      here = h.here
+          ∙ sym (any_of-same (λ j. broken (groups * b.n + j)) (λ j. others (groups * b.n + j)) b.place
+          (λ j inside. same (groups * b.n + j) (omega (arith, inside, split, b.place_is))));
+    }

@@ -1,0 +1,96 @@
+//! Groups against the frames of their epoch, and RTP timestamps against the media clock.
+
+ghost use Rattle.std.specs.Prelude.{◌≡◌, ◌<◌, ◌≤◌, ◌^◌, pos, negsuc, neg_ℤ, ◌≤ℤ◌, ◌<ℤ◌, ◌-ℤ◌};
+ghost use Rattle.fraction128.specs.Fractions.{floor_of_signed};
+ghost use Rattle.flow_measure.specs.Frames.{after_start, timestamp_latency, timestamp_offset};
+ghost use Rattle.flow_measure.specs.Frames.{timestamp_step, wrapped};
+
+use crate::groups::{GROUPS_BEFORE, lifted};
+use fraction128::floor_signed;
+use sender_params::Params;
+
+/// An RTP timestamp counts modulo so many ticks.
+const TURN: i128 = 1 << 32;
+
+/// Half of that.
+const HALF_TURN: i128 = 1 << 31;
+
+/// The ticks of the media clock in `NANOS` nanoseconds.
+const TICKS: u128 = 9;
+
+/// The nanoseconds in which the media clock ticks `TICKS` times.
+const NANOS: u128 = 100_000;
+
+/// By how many nanoseconds `at`, in nanoseconds of TAI, is after the instant with which the k-th judged group
+/// begins, rounded down, where the first packet is of group `n0`; below 0 where it is before.
+pub fn since_start(params: &Params, n0: i128, k: u64, at: u64) -> i128
+    requires low { negsuc 479 ≤ℤ n0 }
+    requires high { n0 ≤ℤ pos (2 ^ 42) }
+    requires few { k < 2 ^ 41 }
+    requires in_time { at < 2 ^ 62 }
+    ensures value { result ≡ after_start params.now.media n0 k at }
+    ensures low { neg_ℤ (pos (2 ^ 84)) ≤ℤ result }
+    ensures high { result ≤ℤ pos (2 ^ 84) }
+{
+    let (num, den) = params.group();
+    let reached = u128::from(at) * den + u128::from(GROUPS_BEFORE) * num;
+    let start = (lifted(n0) + u128::from(k)) * num;
+    floor_difference(reached, start, den)
+}
+
+/// By how many ticks of 90 kHz the timestamp of the k-th judged group is after that of the instant with which
+/// the group begins, where the first packet is of group `n0`: -2^31 to 2^31 - 1.
+pub fn offset_of(params: &Params, n0: i128, k: u64, timestamp: u32) -> i128
+    requires low { negsuc 479 ≤ℤ n0 }
+    requires high { n0 ≤ℤ pos (2 ^ 42) }
+    requires few { k < 2 ^ 41 }
+    ensures value { result ≡ timestamp_offset params.now.media n0 k timestamp }
+    ensures low { neg_ℤ (pos (2 ^ 31)) ≤ℤ result }
+    ensures high { result <ℤ pos (2 ^ 31) }
+{
+    let (num, den) = params.group();
+    let start = (lifted(n0) + u128::from(k)) * num;
+    let before = u128::from(GROUPS_BEFORE) * num;
+    wrap(i128::from(timestamp) - floor_difference(start * TICKS, before * TICKS, den * NANOS))
+}
+
+/// By how many ticks of 90 kHz a first packet at `at`, in nanoseconds of TAI, comes after its timestamp: -2^31 to
+/// 2^31 - 1.
+pub fn latency_of(at: u64, timestamp: u32) -> i128
+    requires { at < 2 ^ 62 }
+    ensures value { result ≡ timestamp_latency at timestamp }
+    ensures low { neg_ℤ (pos (2 ^ 31)) ≤ℤ result }
+    ensures high { result <ℤ pos (2 ^ 31) }
+{
+    wrap((u128::from(at) * TICKS / NANOS) as i128 - i128::from(timestamp))
+}
+
+/// The ticks of 90 kHz from the timestamp of one group to that of the next.
+pub fn step_of(before: u32, timestamp: u32) -> u32
+    ensures { result ≡ timestamp_step before timestamp }
+{
+    timestamp.wrapping_sub(before)
+}
+
+/// `(up - down) / den`, rounded towards minus infinity.
+fn floor_difference(up: u128, down: u128, den: u128) -> i128
+    requires some { 1 ≤ den }
+    requires up_small { up < 2 ^ 100 }
+    requires down_small { down < 2 ^ 100 }
+    ensures value { result ≡ floor_of_signed (pos up -ℤ pos down) den }
+    ensures low { neg_ℤ (pos down) ≤ℤ result }
+    ensures high { result ≤ℤ pos up }
+{
+    floor_signed(up as i128 - down as i128, den)
+}
+
+/// A difference of timestamps, from -2^31 to 2^31 - 1.
+fn wrap(difference: i128) -> i128
+    requires low { neg_ℤ (pos (2 ^ 100)) ≤ℤ difference }
+    requires high { difference ≤ℤ pos (2 ^ 100) }
+    ensures value { result ≡ wrapped difference }
+    ensures low { neg_ℤ (pos (2 ^ 31)) ≤ℤ result }
+    ensures high { result <ℤ pos (2 ^ 31) }
+{
+    (difference + HALF_TURN).rem_euclid(TURN) - HALF_TURN
+}
