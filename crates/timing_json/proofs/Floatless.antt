@@ -1,4 +1,4 @@
--- No value of the report has a float.
+-- No value of the report has a float; how that is shown of an object and of a list.
 use Rattle.std.proofs.Common.{◌≡◌, ℕ, List, [], ◌∷◌, ◌++◌, Bool, true, false, Ordering, Less, Equal, Greater, refl, nat_cmp}
 use Rattle.std.specs.Prelude.{◌||◌, map, Some, None}
 use Rattle.std.specs.Cmp.Lexicographic.{slice_cmp}
@@ -27,16 +27,18 @@ use Rattle.timing_json.specs.Json.{Member, with_members, list_of, type_members, 
 use Rattle.timing_json.specs.Json.{expected_members, run_verdict_members, run_members, whole_run_members, run_data, verdict_members, flow_members, flow_data}
 use Rattle.timing_json.specs.Json.{files_data, type_data, types_data}
 
-neither : (a b : Bool) → a ≡ false → b ≡ false → (a || b) ≡ false
+-- neither of two
+pub neither : (a b : Bool) → a ≡ false → b ≡ false → (a || b) ≡ false
 neither true b e f = e
 neither false b e f = f
 
 -- whether one of the members has a float
-abbrev any_float : List Member → Bool
+abbrev pub any_float : List Member → Bool
 any_float [] = false
 any_float (m ∷ ms) = has_float m.1 || any_float ms
 
-any_float-append : (xs ys : List Member) → any_float xs ≡ false → any_float ys ≡ false → any_float (xs ++ ys) ≡ false
+-- in neither of two lists
+pub any_float-append : (xs ys : List Member) → any_float xs ≡ false → any_float ys ≡ false → any_float (xs ++ ys) ≡ false
 any_float-append [] ys e f = f
 any_float-append (x ∷ xs) ys e f = let p = or_parts (has_float x.1) _ e in neither (has_float x.1) _ p.0 (any_float-append xs ys p.1 f)
 
@@ -60,10 +62,11 @@ with_members-floatless (m ∷ ms) found e f =
     let p = or_parts (has_float m.1) _ e in with_members-floatless ms (put m.0 m.1 found) p.1 (put-floatless m.0 m.1 found p.0 f)
 
 -- an object has a float only in a member
-object-floatless : (ms : List Member) → any_float ms ≡ false → members_have_float (with_members ms no_members) ≡ false
+pub object-floatless : (ms : List Member) → any_float ms ≡ false → members_have_float (with_members ms no_members) ≡ false
 object-floatless ms e = with_members-floatless ms no_members e refl
 
-list-floatless : {X : Type 0} (f : X → Data) → ((x : X) → has_float (f x) ≡ false) → (xs : List X) → items_have_float (items_of (map f xs)) ≡ false
+-- a list has a float only in an item
+pub list-floatless : {X : Type 0} (f : X → Data) → ((x : X) → has_float (f x) ≡ false) → (xs : List X) → items_have_float (items_of (map f xs)) ≡ false
 list-floatless f each [] = refl
 list-floatless f each (x ∷ xs) = neither (has_float (f x)) _ (each x) (list-floatless f each xs)
 

@@ -6,5 +6,6 @@ mod object;
 mod reading;
 mod written;
 
+pub use object::Object;
 pub use reading::{ReportError, ReportProof, read_json};
 pub use written::json_of;

@@ -1,0 +1,56 @@
+-- The contents of a capture that are worked by hand: 41 packets of one sender, 2 frames of 20 packets after a packet
+-- with the marker, at 50 frames per second.
+use Rattle.std.specs.Prelude.{[], ◌∷◌, Some, None}
+use Rattle.timing_base.specs.declared.target.Target.{Target}
+use Rattle.capture_scan.specs.Examples.{order_with, pace_with, sender}
+use Rattle.capture_scan.specs.declared.found.PassedOver.{PassedOver}
+use Rattle.capture_scan.specs.declared.stream.Stream.{Stream}
+use Rattle.scan_text.specs.Contents.{Contents}
+
+-- 239.0.0.1, port 50000
+abbrev pub group : Target
+group = record { address = 0xef000001; port = 50000 }
+
+-- no frame was passed over
+abbrev pub none_passed : PassedOver
+none_passed = record { empty = 0; tags = 0; ipv6 = 0; other = 0; not_udp = 0; fragment = 0; broken = 0 }
+
+-- the stream; no packet has a line header
+abbrev pub plain_stream : Stream
+plain_stream = record {
+  source = sender;
+  target = group;
+  ssrc = 1;
+  pt = 96;
+  pts = 0;
+  packets = 41;
+  markers = 3;
+  first = record { rec = 1; at = 1599999999999000000 };
+  last = record { rec = 41; at = 1600000000039004000 };
+  bytes = 1722;
+  order = order_with 0 0 0 0;
+  pace = Some (pace_with 20 20 1800 1800 3600 2);
+  lines = None;
+}
+
+-- a capture of so many records with this stream alone
+abbrev pub plain_contents : Contents
+plain_contents = record {
+  records = 41;
+  span = Some (record { first = 1599999999999000000; last = 1600000000039004000 });
+  passed_over = none_passed;
+  streams = plain_stream ∷ [];
+  unread = [];
+  more = 0;
+}
+
+-- a capture without a record
+abbrev pub empty_contents : Contents
+empty_contents = record {
+  records = 0;
+  span = None;
+  passed_over = none_passed;
+  streams = [];
+  unread = [];
+  more = 0;
+}

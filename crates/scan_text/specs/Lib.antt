@@ -1,0 +1,5 @@
+-- what is promised
+pub mod Contents
+pub mod Json
+-- streams that are worked by hand
+pub mod Examples
