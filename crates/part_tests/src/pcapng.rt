@@ -1,6 +1,8 @@
 //! Captures as pcapng files, in pieces, with reads that fail, and with long blocks.
 
-use capture_gen::examples::{MICROS, NANOS, SECTION, as_pcapng, push_number, push_packet};
+use capture_gen::examples::{
+    MICROS, NANOS, SECTION, as_pcapng, push_number, push_packet, without_interface,
+};
 use capture_gen::{capture_len, write_capture};
 use pcapng_reader::Classic;
 use std::alloc::{AllocError, Global};
@@ -124,9 +126,7 @@ fn pcapng_cut(rt: HostRuntime) -> Result<(), Fail> {
 #[test]
 fn pcapng_no_interface(rt: HostRuntime) -> Result<(), Fail> {
     let alloc = rt.alloc();
-    let mut file = Vec::from_slice(alloc, &SECTION)?;
-    file.extend_from_slice(&NANOS)?;
-    push_packet(&mut file, 1, 3_000_000_005, &[1, 2, 3, 4], 0)?;
+    let file = without_interface(alloc)?;
     let mut expected = Vec::from_slice(alloc, &capture_gen::file_head())?;
     expected.extend_from_slice(&BAD)?;
     gives(&rt, alloc, &file, &expected)

@@ -4,9 +4,10 @@ use std::alloc::{AllocError, Global};
 use std::test::Fail;
 use timing_base::worked::{LINEAR, NARROW, PLAIN, check_of, plain_session};
 use timing_base::{
-    FileNote, FlowKey, Items, Judged, PcapFault, Row, Run, RunVerdict, Runs, Unjudged, Verdict,
+    FileName, FileNote, FlowKey, Items, Judged, PcapFault, Row, Run, RunVerdict, Runs, Unjudged,
+    Verdict,
 };
-use timing_report::{Status, file_line, status_of, text_of, verdict_of};
+use timing_report::{Status, add_files, status_of, text_of, verdict_of};
 
 // The text of a report of one capture that ends whole, with this verdict on its flow.
 fn report(alloc: Global, verdict: Verdict) -> Result<String, AllocError> {
@@ -83,8 +84,11 @@ fn verify_burst(rt: HostRuntime) -> Result<(), Fail> {
 
 #[test]
 fn cut_capture(rt: HostRuntime) -> Result<(), Fail> {
-    let line = file_line(rt.alloc(), 0, &FileNote::Cut { at: 2904 }, "a.pcap")?;
-    assert_eq!(rt; line.as_str(), "file 1 cut at 2904 a.pcap\n");
+    let alloc = rt.alloc();
+    let names = [FileName::from_text(String::from_str(alloc, "a.pcap")?)];
+    let mut text = String::new(alloc);
+    add_files(&mut text, &names, &[FileNote::Cut { at: 2904 }])?;
+    assert_eq!(rt; text.as_str(), "file 1 cut at 2904 a.pcap\n");
     Ok(())
 }
 

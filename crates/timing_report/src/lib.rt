@@ -14,6 +14,6 @@ mod words;
 
 pub use outcomes::{any_refused, buffer_peak, first_passing, media_of, status_of, verdict_on};
 pub use status::{Input, Status};
-pub use text::{add_files, file_line, text_of};
+pub use text::{add_files, text_of};
 pub use verdict::verdict_of;
 pub use words::{NoteText, PacketFaultText, class_name, declared_name, kind_name, model_name};

@@ -12,20 +12,7 @@ use crate::words::NoteText;
 use std::alloc::{AllocError as OutOfMemory, Global};
 use timing_base::{CheckJob, FileName, FileNote, FlowKey, Media, Row, Session, Target, Verdict};
 
-/// The line of a capture, counted from 0, with the end of the line. `Err` is want of memory.
-pub fn file_line(
-    alloc: Global,
-    file: u32,
-    note: &FileNote,
-    name: &str,
-) -> Result<String, OutOfMemory>
-    ensures { IfOk result (λ s. string_bytes s ≡ ended (file_text file note.now name.now)) }
-{
-    let mut text = String::new(alloc);
-    add_file(&mut text, u64::from(file), note, name)?;
-    Ok(text)
-}
-
+/// Adds the line of a capture, counted from 0.
 fn add_file(text: &mut String, file: u64, note: &FileNote, name: &str) -> Result<(), OutOfMemory>
     requires { file + 1 < 2 ^ 64 }
     ensures { IfOk result (λ _. string_bytes text.new

@@ -57,6 +57,14 @@ fn little(bytes: &[u8]) -> u32 {
     number
 }
 
+/// A section with one interface, and a packet of another.
+pub fn without_interface(alloc: Global) -> Result<Vec<u8>, AllocError> {
+    let mut file = Vec::from_slice(alloc, &SECTION)?;
+    file.extend_from_slice(&NANOS)?;
+    push_packet(&mut file, 1, 3_000_000_005, &[1, 2, 3, 4], 0)?;
+    Ok(file)
+}
+
 /// A made capture, whose records have 72 bytes, as a pcapng file with one interface. Its stamps are
 /// divided by `unit` nanoseconds.
 pub fn as_pcapng(
