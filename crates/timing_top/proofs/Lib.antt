@@ -3,6 +3,7 @@ mod Asking
 mod Begun
 mod Confirming
 mod Crewing
+mod Ending
 mod Exact
 mod Finding
 mod Following
