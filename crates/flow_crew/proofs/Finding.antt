@@ -354,10 +354,10 @@ pub read_on : {S : Type 0} (name : S → List ℕ) (left : S → Option (List �
     → news ≡ lanes → AreRead name left faults s news jobs dones → AreRead name left faults s lanes jobs dones
 read_on name left faults s lanes news jobs dones e read = subst (λ (l : List LaneId). AreRead name left faults s l jobs dones) e read
 
--- what follows of two things that hold of a value
-pub if_both : {T : Type 0} (o : Option T) (P Q R : T → Type 0) → IfSome o P → IfSome o Q → ((x : T) → P x → Q x → R x) → IfSome o R
-if_both None P Q R a b more = a
-if_both (Some x) P Q R a b more = more x a b
+-- what follows of three things that hold of a value
+pub if_all : {T : Type 0} (o : Option T) (P Q R S : T → Type 0) → IfSome o P → IfSome o Q → IfSome o R → ((x : T) → P x → Q x → R x → S x) → IfSome o S
+if_all None P Q R S a b c more = a
+if_all (Some x) P Q R S a b c more = more x a b c
 
 -- lanes of a run that are so many
 pub made_on : (files workers : ℕ) (lanes news : List LaneId) (jobs : List WorkJob) (columns : List (List Sender)) → news ≡ lanes

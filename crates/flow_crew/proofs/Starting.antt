@@ -161,9 +161,13 @@ rows_are {S} name left faults s lanes columns sources jobs dones rows are read e
 abbrev pub AreNotes : {S : Type 0} → List FileNote → List (IntakeDone S) → Type 0
 AreNotes {S} notes dones = map Some notes ≡ map (λ (d : IntakeDone S). d.note) dones
 
+-- as far as they have any
+abbrev pub AreEnds : {S : Type 0} → List (Option FileNote) → List (IntakeDone S) → Type 0
+AreEnds {S} ends dones = ends ≡ map (λ (d : IntakeDone S). d.note) dones
+
 -- the sources come back
 back_by : {S : Type 0} (name : S → List ℕ) (left : S → Option (List ℕ)) (faults : S → ℕ) (s : Setting) (lanes : List LaneId)
-    (jobs : List (IntakeJob S)) (notes : List FileNote) (dones : List (IntakeDone S)) → length dones ≡ length jobs → AreNotes notes dones
+    (jobs : List (IntakeJob S)) (notes : List (Option FileNote)) (dones : List (IntakeDone S)) → length dones ≡ length jobs → AreEnds notes dones
     → ((f : ℕ) (j : IntakeJob S) (d : IntakeDone S) → f < length jobs → HasRead name left faults s lanes (slice_index_or jobs f j) (slice_index_or dones f d))
     → AreBack name faults (map (λ j. j.source) jobs) notes (map (λ d. d.source) dones)
 back_by name left faults s lanes [] [] [] long are each = tt
@@ -173,17 +177,17 @@ back_by name left faults s lanes (j ∷ js) ns [] long are each = absurd (omega 
 back_by name left faults s lanes (j ∷ js) [] (d ∷ ds) long are each = absurd (omega (arith, ap length are))
 back_by name left faults s lanes (j ∷ js) (n ∷ ns) (d ∷ ds) long are each =
     let has = each 0 j d (omega arith) in
-    let here : Some n ≡ d.note = ap (λ (l : List (Option FileNote)). slice_index_or l 0 None) are in
-    let later : AreNotes ns ds = ap (λ (l : List (Option FileNote)). drop 1 l) are in (
+    let here : n ≡ d.note = ap (λ (l : List (Option FileNote)). slice_index_or l 0 None) are in
+    let later : AreEnds ns ds = ap (λ (l : List (Option FileNote)). drop 1 l) are in (
       has.name_is,
       has.later,
-      λ is. has.failed (sym here ∙ ap (λ (m : FileNote). Some m) is),
+      λ is. has.failed (sym here ∙ is),
       back_by name left faults s lanes js ns ds (omega (arith, long)) later (λ f k e h. each (suc f) k e (omega (arith, h))),
     )
 
 pub sources_back : {S : Type 0} (name : S → List ℕ) (left : S → Option (List ℕ)) (faults : S → ℕ) (s : Setting) (lanes : List LaneId)
-    (columns : List (List Sender)) (olds news : List S) (notes : List FileNote) (jobs : List (IntakeJob S)) (dones : List (IntakeDone S))
-    → AreIntakes olds columns jobs → AreRead name left faults s lanes jobs dones → AreNotes notes dones → news ≡ map (λ d. d.source) dones
+    (columns : List (List Sender)) (olds news : List S) (notes : List (Option FileNote)) (jobs : List (IntakeJob S)) (dones : List (IntakeDone S))
+    → AreIntakes olds columns jobs → AreRead name left faults s lanes jobs dones → AreEnds notes dones → news ≡ map (λ d. d.source) dones
     → AreBack name faults olds notes news
 sources_back {S} name left faults s lanes columns olds news notes jobs dones are read a b =
     subst (λ (l : List S). AreBack name faults l notes news) are.file_sources

@@ -12,12 +12,13 @@ AreTexts left [] [] = ⊤
 AreTexts left (t ∷ ts) (s ∷ ss) = (left s ≡ Some t) × AreTexts left ts ss
 AreTexts left ts ss = ⊥
 
--- the sources came back, in order; the count of one whose read failed rose
-abbrev pub AreBack : {S : Type 0} → (name : S → List ℕ) → (faults : S → ℕ) → (olds : List S) → List FileNote
+-- the sources came back, in order, with how each file ends, or nothing where memory ran out in its intake; the count of
+-- one whose read failed rose
+abbrev pub AreBack : {S : Type 0} → (name : S → List ℕ) → (faults : S → ℕ) → (olds : List S) → List (Option FileNote)
     → (news : List S) → Type 0
 AreBack name faults [] [] [] = ⊤
 AreBack name faults (o ∷ os) (note ∷ notes) (n ∷ ns) =
-    (name n ≡ name o) × (faults o ≤ faults n) × (note ≡ Refused ReadFault → Rose (faults o) (faults n))
+    (name n ≡ name o) × (faults o ≤ faults n) × (note ≡ Some (Refused ReadFault) → Rose (faults o) (faults n))
     × AreBack name faults os notes ns
 AreBack name faults os notes ns = ⊥
 

@@ -1,6 +1,6 @@
 //! All files of a job, by intakes and workers.
 
-ghost use Rattle.std.specs.Prelude.{◌≡◌, ◌≤◌, if◌then◌else◌, ℕ, List, IfOk, IfSome, All, length, map};
+ghost use Rattle.std.specs.Prelude.{◌≡◌, ◌≤◌, if◌then◌else◌, ℕ, List, Some, IfOk, IfSome, All, length, map};
 ghost use Rattle.timing_base.specs.Keys.{keys_of};
 ghost use Rattle.timing_base.specs.Targets.{HaveOwnTargets};
 ghost use Rattle.flow_crew.specs.Gathering.{AreGathered, CanGather};
@@ -28,15 +28,41 @@ use timing_base::{FileNote, Media, PcapFault, Row};
 use timing_outside::{Gate, Source};
 use verdict_book::{Book, Receipt};
 
+/// What is found in files that are whole.
+#[derive(Drop)]
+pub struct FoundWhole {
+    /// How each file ends.
+    pub notes: Vec<FileNote>,
+    /// By rising file and then media.
+    pub rows: Vec<Row>,
+}
+
 /// What a run leaves.
 #[derive(Drop)]
 pub struct Judged<S: Source> {
     /// In the order in which they came.
     pub sources: Vec<S>,
-    /// How each file ends.
-    pub notes: Vec<FileNote>,
-    /// By rising file and then media. `None` where a read failed or memory ran out.
-    pub rows: Option<Vec<Row>>,
+    /// How each file ends; nothing where memory ran out in its intake.
+    pub notes: Vec<Option<FileNote>>,
+    /// What was found; nothing where a read failed or memory ran out.
+    pub found: Option<FoundWhole>,
+}
+
+impl<S: Source> Judged<S> {
+    ghost use Rattle.std.specs.Prelude.{None};
+
+    /// Memory ran out after the intakes.
+    fn unfound(sources: Vec<S>, notes: Vec<Option<FileNote>>) -> Judged<S>
+        ensures sources { result.sources.items ≡ sources.items }
+        ensures notes { result.notes.items ≡ notes.items }
+        ensures found { result.found ≡ None }
+    {
+        Judged {
+            sources,
+            notes,
+            found: None,
+        }
+    }
 }
 
 /// Whether a file was read to its end, or to where it is refused.
@@ -135,30 +161,63 @@ fn rows_on(
     gather(alloc, book, &keys, media, run.lanes.len() as u32, queues)
 }
 
-/// The rows, where each file was read to its end, or to where it is refused. `None` is also want of
-/// memory.
-fn rows_if_whole(
+/// How the files end. `Err` is want of memory: also where a file wasn't read to its end, or to where it is
+/// refused.
+fn whole_notes(alloc: Global, ended: &[Option<FileNote>]) -> Result<Vec<FileNote>, OutOfMemory>
+    ensures notes { IfOk result (λ notes. map Some notes.items ≡ ended.now) }
+    ensures whole { IfOk result (λ notes. All IsWhole notes.items) }
+{
+    let mut notes = Vec::new(alloc);
+    for end in ended.iter() {
+        match *end {
+            Some(note) if is_whole(note) => notes.push(note)?,
+            _ => return Err(OutOfMemory),
+        }
+    }
+    Ok(notes)
+}
+
+/// What is found in the files. `Err` is want of memory, as of the notes and of the rows.
+fn find_whole(
     alloc: Global,
     run: &RunSetting<'_>,
     book: &Book,
-    notes: &[FileNote],
+    ended: &[Option<FileNote>],
     posted: Vec<Option<Vec<Receipt>>>,
-) -> Option<Vec<Row>>
+) -> Result<FoundWhole, OutOfMemory>
     requires { CanGather book.now run.now posted.items }
-    ensures whole { IfSome result (λ rows. All IsWhole notes.now) }
-    ensures rows { IfSome result (λ rows. AreGathered book.now run.now posted.items rows.items) }
+    ensures notes { IfOk result (λ found. map Some found.notes.items ≡ ended.now) }
+    ensures whole { IfOk result (λ found. All IsWhole found.notes.items) }
+    ensures rows { IfOk result (λ found. AreGathered book.now run.now posted.items found.rows.items) }
 {
-    if !notes.iter().all(|note| is_whole(*note)) {
-        return None;
-    }
-    rows_on(alloc, run, book, posted).ok()
+    let notes = whole_notes(alloc, ended)?;
+    let rows = rows_on(alloc, run, book, posted)?;
+    Ok(FoundWhole { notes, rows })
+}
+
+/// What is found in files of which each was read to its end, or to where it is refused. `None` is also
+/// want of memory.
+fn found_whole(
+    alloc: Global,
+    run: &RunSetting<'_>,
+    book: &Book,
+    ended: &[Option<FileNote>],
+    posted: Vec<Option<Vec<Receipt>>>,
+) -> Option<FoundWhole>
+    requires { CanGather book.now run.now posted.items }
+    ensures notes { IfSome result (λ found. map Some found.notes.items ≡ ended.now) }
+    ensures whole { IfSome result (λ found. All IsWhole found.notes.items) }
+    ensures rows { IfSome result (λ found. AreGathered book.now run.now posted.items found.rows.items) }
+{
+    find_whole(alloc, run, book, ended, posted).ok()
 }
 
 /// Judges the media in files, each by itself, or in all of them as in one where they are `joined`. The
 /// files are read by an intake each, and the flows are dealt out to so many workers, all beside each
 /// other. `tai` seconds are added to the stamps.
 ///
-/// After a read that failed the other files are read to their ends. `Err` is want of memory, and the
+/// After a read that failed the other files are read to their ends. Where memory runs out in an intake, or
+/// after the intakes, the sources come back, and nothing is found. `Err` is want of memory before; then the
 /// sources are gone. The call may wait, and promises if it returns.
 pub fn judge_files<R: Threads + Wait + Sync, S: Source, G: Gate>(
     rt: &R,
@@ -180,12 +239,14 @@ pub fn judge_files<R: Threads + Wait + Sync, S: Source, G: Gate>(
     requires few_workers { workers ≤ 16 }
     ensures back { IfOk result (λ judged. AreBack S.name S.faults sources.items judged.notes.items
         judged.sources.items) }
-    ensures whole { IfOk result (λ judged. IfSome judged.rows (λ rows. All IsWhole judged.notes.items)) }
-    ensures keys { IfOk result (λ judged. IfSome judged.rows (λ rows. map (λ r. r.key) rows.items
+    ensures notes { IfOk result (λ judged. IfSome judged.found (λ found.
+        map Some found.notes.items ≡ judged.notes.items)) }
+    ensures whole { IfOk result (λ judged. IfSome judged.found (λ found. All IsWhole found.notes.items)) }
+    ensures keys { IfOk result (λ judged. IfSome judged.found (λ found. map (λ r. r.key) found.rows.items
         ≡ keys_of joined (length sources.items) (length media.now))) }
-    ensures told { IfOk result (λ judged. IfSome judged.rows (λ rows. (texts : List (List ℕ))
+    ensures told { IfOk result (λ judged. IfSome judged.found (λ found. (texts : List (List ℕ))
         → AreTexts S.left texts sources.items
-        → AreFound texts (rows_over joined tai media.now) judged.notes.items rows.items)) }
+        → AreFound texts (rows_over joined tai media.now) found.notes.items found.rows.items)) }
 {
     let files = sources.len() as u32;
     let Made {
@@ -210,13 +271,17 @@ pub fn judge_files<R: Threads + Wait + Sync, S: Source, G: Gate>(
         notes,
         rows,
     } = take_read(alloc, read)?;
-    let Worked { takers, posted } = take_worked(alloc, worked)?;
-    let senders = deal_all(alloc, run.lanes.len(), rows)?;
-    let rows = rows_if_whole(alloc, &run, &book, &notes, posted);
+    let Ok(Worked { takers, posted }) = take_worked(alloc, worked) else {
+        return Ok(Judged::unfound(sources, notes));
+    };
+    let Ok(senders) = deal_all(alloc, run.lanes.len(), rows) else {
+        return Ok(Judged::unfound(sources, notes));
+    };
+    let found = found_whole(alloc, &run, &book, &notes, posted);
     close_all(rt, lanes, senders, takers);
     Ok(Judged {
         sources,
         notes,
-        rows,
+        found,
     })
 }

@@ -11,4 +11,4 @@ mod reading;
 mod reads;
 mod threads;
 
-pub use judge::{Judged, judge_files};
+pub use judge::{FoundWhole, Judged, judge_files};

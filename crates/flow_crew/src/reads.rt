@@ -1,6 +1,6 @@
 //! What the intakes of a run left, in order.
 
-ghost use Rattle.std.specs.Prelude.{◌≡◌, Some, IfOk, map};
+ghost use Rattle.std.specs.Prelude.{◌≡◌, IfOk, map};
 
 use flow_worker::IntakeDone;
 use ruled_intake::SendPass;
@@ -12,18 +12,19 @@ use timing_outside::Source;
 #[derive(Drop)]
 pub struct Read<S: Source> {
     pub sources: Vec<S>,
-    pub notes: Vec<FileNote>,
+    /// How each file ends; nothing where memory ran out in its intake.
+    pub notes: Vec<Option<FileNote>>,
     /// The passes of each file.
     pub rows: Vec<Vec<SendPass>>,
 }
 
-/// Takes apart what the intakes left. `Err` is want of memory: also where an intake has no note.
+/// Takes apart what the intakes left. `Err` is want of memory.
 pub fn take_read<S: Source>(
     alloc: Global,
     dones: Vec<IntakeDone<S>>,
 ) -> Result<Read<S>, OutOfMemory>
     ensures sources { IfOk result (λ read. read.sources.items ≡ map (λ d. d.source) dones.items) }
-    ensures notes { IfOk result (λ read. map Some read.notes.items ≡ map (λ d. d.note) dones.items) }
+    ensures notes { IfOk result (λ read. read.notes.items ≡ map (λ d. d.note) dones.items) }
     ensures rows { IfOk result (λ read. read.rows.items ≡ map (λ d. d.passes) dones.items) }
 {
     let mut read = Read {
@@ -32,11 +33,8 @@ pub fn take_read<S: Source>(
         rows: Vec::new(alloc),
     };
     for done in dones {
-        let Some(note) = done.note else {
-            return Err(OutOfMemory);
-        };
         read.sources.push(done.source)?;
-        read.notes.push(note)?;
+        read.notes.push(done.note)?;
         read.rows.push(done.passes)?;
     }
     Ok(read)

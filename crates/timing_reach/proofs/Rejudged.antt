@@ -1,16 +1,16 @@
 -- Packets that leave as a plan has it are judged as they were, but for their stamps.
 use Rattle.std.proofs.Common.{◌≡◌, ◌≤◌, ◌<◌, ◌+◌, ◌-◌, ◌*◌, ◌^◌, ℕ, zero, suc, Bool, true, false, if◌then◌else◌, nat_lt, List, [], ◌∷◌, length, map, take, drop, min, Option}
-use Rattle.std.proofs.Common.{Some, None, Ok, Err, refl, arith, ap, ◌∙◌, sym, subst, inl, inr}
+use Rattle.std.proofs.Common.{Some, None, refl, arith, ap, ◌∙◌, sym, subst, inl, inr}
 use Rattle.std.specs.Prelude.{All, Result, ⊤, not, ◌==◌, ◌&&◌, ◌||◌, nat_le, max, slice_index}
-use Rattle.std.proofs.lemmas.Bool.{cases_lt, eqb-true}
+use Rattle.std.proofs.lemmas.Bool.{cases_lt}
 use Rattle.std.proofs.lemmas.Bool.Decides.{nat_tests}
 use Rattle.std.proofs.lemmas.List.{get_or-drop, get_or-map, get_or-take, length-drop, length-map, length-take}
 use Rattle.std.proofs.lemmas.Grind.{same_number_lists}
-use Rattle.timing_base.specs.Flows.{FirstFault, cuts, earlier_or, expected_number, fault, fault_if, first_fault, first_fault_below, first_of, group_len, is_cut_too_many}
-use Rattle.timing_base.specs.Flows.{is_stamp_back, lacks_marker, last_place, markers, next_number, no_packet, order_fault, packet, place_in_group, places}
-use Rattle.timing_base.specs.Flows.{read_or_zeros, reading_fault, repeats_timestamp, rtp, sender_fault, size_fault}
-use Rattle.timing_base.specs.Judged.{FlowRun, FlowVerdict, JudgedRun, RunOutcome, absent, gap, head_len, in_one_run, in_runs, judged, judged_run, judged_runs}
-use Rattle.timing_base.specs.Judged.{no_whole_frame, refusal, refused, refused_or, run_outcome, runs, stamp_of, whole_frames}
+use Rattle.timing_base.specs.Flows.{FirstFault, cuts, earlier_or, expected_number, fault, fault_if, first_fault, first_fault_below, first_of, group_len}
+use Rattle.timing_base.specs.Flows.{is_stamp_back, last_place, markers, next_number, no_packet, order_fault, packet, place_in_group, places}
+use Rattle.timing_base.specs.Flows.{read_or_zeros, reading_fault, rtp, sender_fault, size_fault}
+use Rattle.timing_base.specs.Judged.{FlowRun, FlowVerdict, JudgedRun, RunOutcome, absent, head_len, in_one_run, in_runs, judged, judged_run, judged_runs}
+use Rattle.timing_base.specs.Judged.{no_whole_frame, refusal, refused_or, run_outcome, runs, stamp_of, whole_frames}
 use Rattle.timing_base.specs.declared.packet.FlowPacket.{FlowPacket}
 use Rattle.timing_base.specs.declared.packet.PacketFault.{PacketFault}
 use Rattle.timing_base.specs.declared.packet.PacketFault.TheVariants.{FrameSize, FrameTooLarge, NoMarker, Number, PayloadType, SameStamp, SecondSource, StampBack}

@@ -1,11 +1,11 @@
 -- The capture that is written of a flow, read as records, and the flow of these.
-use Rattle.std.proofs.Common.{◌≡◌, ◌≤◌, ◌<◌, ◌+◌, ◌-◌, ◌*◌, ◌^◌, ℕ, zero, suc, Bool, true, false, if◌then◌else◌, nat_lt, List, [], ◌∷◌, ◌++◌, length, drop, take, refl, arith, ap, ◌∙◌, sym, subst}
+use Rattle.std.proofs.Common.{◌≡◌, ◌≤◌, ◌<◌, ◌+◌, ◌*◌, ◌^◌, ℕ, zero, suc, Bool, true, false, if◌then◌else◌, List, [], ◌∷◌, ◌++◌, length, drop, take, refl, arith, ap, ◌∙◌, sym, subst}
 use Rattle.std.proofs.Common.{Some, None, Ok, Option, length-append, drop-drop, drop_at, take_at}
 use Rattle.std.specs.Prelude.{All, Result, cond, filter_map, ◌/◌, ◌%◌, is_some}
 use Rattle.std.proofs.lemmas.Bool.Decides.{nat_tests}
 use Rattle.std.proofs.lemmas.List.Elements.{All-cons, All-head, All-nil, All-tail, filter_map-append}
 use Rattle.pcap_reader.specs.Header.{header}
-use Rattle.pcap_reader.specs.Records.{Records, RecordsBy, RecordsFrom, captured, fraction, note_at, note_by, record_of, stamp}
+use Rattle.pcap_reader.specs.Records.{Records, RecordsBy, RecordsFrom, captured, fraction, note_at, note_by, stamp}
 use Rattle.pcap_reader.specs.WrittenHeads.{file_head, record_head}
 use Rattle.pcap_reader.specs.declared.layout.Fraction.TheVariants.{Nanos}
 use Rattle.pcap_reader.specs.declared.layout.Layout.{Layout}

@@ -19,7 +19,7 @@ pub some-at : {T : Type 0} (o : Option T) (x : T) (P : T → Type 0) → o ≡ S
 some-at o x P e h = subst (λ v. IfSome v P) e h
 
 -- there is a note for each source
-pub back-length : {S : Type 0} (name : S → List ℕ) (faults : S → ℕ) (olds : List S) (notes : List FileNote) (news : List S)
+pub back-length : {S : Type 0} (name : S → List ℕ) (faults : S → ℕ) (olds : List S) (notes : List (Option FileNote)) (news : List S)
     → AreBack name faults olds notes news → length notes ≡ length olds
 back-length name faults [] [] [] h = refl
 back-length name faults (o ∷ os) (note ∷ notes) (n ∷ ns) h = ap suc (back-length name faults os notes ns h.3)
@@ -45,9 +45,9 @@ some-rose a b e h = omega (arith, e, h)
 
 -- the count of the name of a capture that couldn't be read rose
 pub unread-rose : {S : Type 0} (name : S → List ℕ) (left : S → Option (List ℕ)) (faults : S → ℕ) (texts : List ℕ → Option (List ℕ)) (before now : List ℕ → ℕ)
-    (names : List (List ℕ)) (olds : List S) (notes : List FileNote) (news : List S) (number : ℕ)
+    (names : List (List ℕ)) (olds : List S) (notes : List (Option FileNote)) (news : List S) (number : ℕ)
     → AreFetched name left faults texts names olds → AreBack name faults olds notes news → All (λ s. 0 < faults s → Rose (before (name s)) (now (name s))) news
-    → number < length notes → ((d : FileNote) → slice_index_or notes number d ≡ Refused ReadFault) → CaptureRose before now names number
+    → number < length notes → ((d : Option FileNote) → slice_index_or notes number d ≡ Some (Refused ReadFault)) → CaptureRose before now names number
 unread-rose name left faults texts before now [] [] [] [] number f b raised m is = absurd (omega (arith, m))
 unread-rose name left faults texts before now (x ∷ xs) (o ∷ os) (note ∷ notes) (n ∷ ns) zero f b raised m is = record {
   within = omega arith;

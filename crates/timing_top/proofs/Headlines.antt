@@ -105,7 +105,7 @@ printed-whole job sdp captures i o ends (Err fault) answer e is status appended 
 printed-whole job sdp captures i o ends (Ok media) answer e is status appended = reported media answer e is status appended
 
 -- one of which a front was: it isn't empty
-none-broke : (o : Output) → Broke o [] → ⊥
+pub none-broke : (o : Output) → Broke o [] → ⊥
 none-broke o h = omega (arith, h.1.1)
 
 printed-front : (job : CheckJob) (sdp : List ℕ) (captures : List (List ℕ)) (i : Inputs) (o : Output) (ends : Status)

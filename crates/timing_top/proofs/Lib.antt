@@ -4,6 +4,7 @@ mod Begun
 mod Captured
 mod Confirming
 mod Crewing
+mod Ending
 mod Exact
 mod Finding
 mod Following

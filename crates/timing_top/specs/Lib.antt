@@ -1,6 +1,7 @@
 -- what is promised
 pub mod Asked
 pub mod Check
+pub mod Ends
 pub mod Report
 pub mod SelfTest
 -- what the laws say of reports

@@ -5,7 +5,8 @@ ghost use Rattle.std.specs.Prelude.{◌≡◌, ◌≤◌, Err, IfErr, IfOk, Ok, 
 ghost use Rattle.timing_outside.specs.Shelves.{StaysAs};
 ghost use Rattle.timing_report.specs.Outcomes.{AreOfSession, status_of};
 ghost use Rattle.timing_steps.specs.Answers.{OnReadFault, seen_of};
-ghost use Rattle.timing_steps.specs.Ran.{HasCause, IsAnswered, output_of};
+ghost use Rattle.timing_steps.specs.Ends.{EndsWith, HasStatus, check_ends};
+ghost use Rattle.timing_steps.specs.Ran.{HasCause, output_of};
 ghost use Rattle.timing_top.specs.Check.{CheckInputRose, FollowsCheck, RanCheck};
 ghost use Rattle.timing_top.specs.Found.{Opens};
 ghost use Rattle.timing_top.specs.Report.{printed};
@@ -54,7 +55,7 @@ fn report_on(
     ensures status { IfOk result (λ answer. answer.status
         ≡ status_of session.now found.now.notes.items found.now.rows.items) }
     ensures memory { IfErr result (λ e. e ≡ Failure.OutOfMemory) }
-    ensures answers { IfOk result (λ answer. IsAnswered answer.status) }
+    ensures answers { IfOk result (HasStatus check_ends) }
 {
     Ok(Answer {
         text: text_on(alloc, job, session, found)?.into_bytes(),
@@ -80,7 +81,7 @@ fn open<H: Shelf>(
         Opens job.now H.Shelf H.Source.Source shelf.old shelf.new opened.session opened.sources.items)) }
     ensures refused { IfOk result (λ read. IfErr read (λ answer.
         FollowsCheck job.now (seen_of H.Shelf shelf.old shelf.new) (Ok answer)
-        × IsAnswered answer.status)) }
+        × HasStatus check_ends answer)) }
     ensures failed { IfErr result (λ e.
         FollowsCheck job.now (seen_of H.Shelf shelf.old shelf.new) (Err e)
         × OnReadFault e (CheckInputRose job.now (seen_of H.Shelf shelf.old shelf.new))) }
@@ -98,6 +99,7 @@ fn open<H: Shelf>(
 /// The answer of a job on one thread, or why there is none.
 fn answer_check<H: Shelf>(alloc: Global, job: &CheckJob, shelf: &mut H) -> Result<Answer, Failure>
     ensures follows { FollowsCheck job.now (seen_of H.Shelf shelf.old shelf.new) result }
+    ensures answers { IfOk result (HasStatus check_ends) }
     ensures cause { HasCause result (CheckInputRose job.now (seen_of H.Shelf shelf.old shelf.new)) }
     ensures stays { StaysAs H.text H.lacks H.faults shelf.old shelf.new }
 {
@@ -127,6 +129,7 @@ pub fn check_one<H: Shelf, K: Sink>(
 ) -> Status
     ensures ran { RanCheck job.now (seen_of H.Shelf shelf.old shelf.new)
         (output_of K.Sink out.old out.new) (output_of K.Sink err.old err.new) result }
+    ensures ends { EndsWith check_ends (output_of K.Sink out.old out.new) result }
     ensures stays { StaysAs H.text H.lacks H.faults shelf.old shelf.new }
 {
     let outcome = answer_check(alloc, job, shelf);
@@ -143,6 +146,7 @@ fn answer_many<R: Threads + Wait + Sync, H: Shelf, G: Gate>(
 ) -> Result<Answer, Failure>
     requires some { 1 ≤ job.now.workers }
     ensures follows { FollowsCheck job.now (seen_of H.Shelf shelf.old shelf.new) result }
+    ensures answers { IfOk result (HasStatus check_ends) }
     ensures cause { HasCause result (CheckInputRose job.now (seen_of H.Shelf shelf.old shelf.new)) }
     ensures stays { StaysAs H.text H.lacks H.faults shelf.old shelf.new }
 {
@@ -171,6 +175,7 @@ pub fn check_many<R: Threads + Wait + Sync, H: Shelf, K: Sink, G: Gate>(
     requires some { 1 ≤ job.now.workers }
     ensures ran { RanCheck job.now (seen_of H.Shelf shelf.old shelf.new)
         (output_of K.Sink out.old out.new) (output_of K.Sink err.old err.new) result }
+    ensures ends { EndsWith check_ends (output_of K.Sink out.old out.new) result }
     ensures stays { StaysAs H.text H.lacks H.faults shelf.old shelf.new }
 {
     let outcome = answer_many(rt, alloc, job, shelf, gate);

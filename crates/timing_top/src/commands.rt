@@ -6,6 +6,7 @@ ghost use Rattle.timing_steps.specs.Answers.{seen_of};
 ghost use Rattle.timing_steps.specs.Ran.{Ran, output_of};
 ghost use Rattle.timing_words.specs.Request.{request};
 ghost use Rattle.timing_top.specs.Asked.{Follows, InputRose};
+ghost use Rattle.timing_top.specs.Ends.{Ends};
 
 use crate::check::{check_many, check_one};
 use crate::self_tests::self_test;
@@ -35,6 +36,7 @@ fn serve<R: Threads + Wait + Sync, H: Shelf, K: Sink, G: Gate>(
         (output_of K.Sink out.old out.new)
         (output_of K.Sink err.old err.new)
         result }
+    ensures ends { Ends (Some request) (output_of K.Sink out.old out.new) result }
     ensures stays { StaysAs H.text H.lacks H.faults shelf.old shelf.new }
 {
     match request {
@@ -79,6 +81,10 @@ pub fn run<R: Wait + Threads + Sync, H: Shelf, K: Sink, G: Gate>(
         (output_of K.Sink out.old out.new)
         (output_of K.Sink err.old err.new)
         result }
+
+    // Whether a text is told or not: the request may end with this status, and with 2, 3, 5, 7 and 9 nothing was
+    // printed.
+    ensures ends { Ends (request (map string_bytes words.now)) (output_of K.Sink out.old out.new) result }
     ensures stays { StaysAs H.text H.lacks H.faults shelf.old shelf.new }
 {
     match read_words(alloc, words) {

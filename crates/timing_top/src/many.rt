@@ -1,6 +1,6 @@
 //! The captures of a job, judged by intakes and workers beside each other.
 
-ghost use Rattle.std.specs.Prelude.{◌≡◌, ◌≤◌, ◌<◌, IfSome, length, slice_index_or};
+ghost use Rattle.std.specs.Prelude.{◌≡◌, ◌≤◌, ◌<◌, IfSome, Some, length, slice_index_or};
 ghost use Rattle.timing_base.specs.Targets.{HaveOwnTargets};
 ghost use Rattle.timing_base.specs.declared.capture.FileNote.TheVariants as file_note;
 ghost use Rattle.timing_base.specs.declared.capture.PcapFault.TheVariants as fault;
@@ -20,23 +20,25 @@ use timing_outside::{Gate, Shelf};
 use timing_report::Input;
 use timing_steps::{Failure, give_back_all};
 
-/// The first capture that couldn't be read, counted from 0.
-fn first_unread(notes: &[FileNote]) -> Option<u32>
+/// The first capture that couldn't be read, counted from 0, where memory served for those before it.
+fn first_unread(notes: &[Option<FileNote>]) -> Option<u32>
     requires few { length notes.now ≤ 16 }
     ensures { IfSome result (λ number. (number < length notes.now) × ((d : _)
-        → slice_index_or notes.now number d ≡ file_note.Refused fault.ReadFault)) }
+        → slice_index_or notes.now number d ≡ Some (file_note.Refused fault.ReadFault))) }
 {
     for number in 0..notes.len() {
-        if let FileNote::Refused(PcapFault::ReadFault) = notes[number] {
-            return Some(number as u32);
+        match notes[number] {
+            Some(FileNote::Refused(PcapFault::ReadFault)) => return Some(number as u32),
+            Some(_) => {}
+            None => return None,
         }
     }
     None
 }
 
 /// Judges the media in the captures, in each by itself or in all of them as in one, with so many
-/// workers. Where captures couldn't be read, the first of them is named; all sources go back to the
-/// shelf before.
+/// workers. Where captures couldn't be read, the first of them is named. The sources go back to the shelf
+/// before, also where memory ran out in an intake.
 pub fn judge_many<R: Threads + Wait + Sync, H: Shelf, G: Gate>(
     rt: &R,
     alloc: Global,
@@ -61,14 +63,17 @@ pub fn judge_many<R: Threads + Wait + Sync, H: Shelf, G: Gate>(
     let Judged {
         sources,
         notes,
-        rows,
+        found,
     } = judge_files(rt, alloc, sources, media, joined, tai, workers, gate)?;
     give_back_all(shelf, sources);
     if let Some(number) = first_unread(&notes) {
         return Err(Failure::ReadFault(Input::Capture(number)));
     }
-    match rows {
-        Some(rows) => Ok(Found { notes, rows }),
+    match found {
+        Some(found) => Ok(Found {
+            notes: found.notes,
+            rows: found.rows,
+        }),
         None => Err(Failure::OutOfMemory),
     }
 }

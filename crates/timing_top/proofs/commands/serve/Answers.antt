@@ -1,3 +1,4 @@
+use Rattle.timing_top.proofs.Ending.{ends-check, ends-report, ends-self-test, ends-shape, ends-skew, ends-verify, ends-window}
 use Rattle.timing_top.proofs.Serving.{serves-check, serves-report, serves-shape, serves-skew, serves-verify, serves-window}
 use Rattle.timing_top.proofs.commands.serve.Goals as goal
 
@@ -19,5 +20,29 @@ returns-in-Window-clause-ran g c = serves-window _ _ _ _ _ _ c.in-Window.is c.wi
 pub returns-in-Shape-clause-ran : goal.returns-in-Shape-clause-ran
 returns-in-Shape-clause-ran g c = serves-shape _ _ _ _ _ _ c.in-Shape.is c.shape_one.ensures.ran
 
-pub returns-clause-ran : goal.returns-clause-ran
-returns-clause-ran g c = serves-skew _ _ _ _ _ _ c.in-Skew.is c.skew_one.ensures.ran
+pub returns-in-Skew-clause-ran : goal.returns-in-Skew-clause-ran
+returns-in-Skew-clause-ran g c = serves-skew _ _ _ _ _ _ c.in-Skew.is c.skew_one.ensures.ran
+
+pub returns-then-job-eq0-clause-ends : goal.returns-then-job-eq0-clause-ends
+returns-then-job-eq0-clause-ends g c = ends-check _ _ _ _ c.in-Check.is c.check_one.ensures.ends
+
+pub returns-in-Check-clause-ends : goal.returns-in-Check-clause-ends
+returns-in-Check-clause-ends g c = ends-check _ _ _ _ c.in-Check.is c.check_many.ensures.ends
+
+pub returns-in-Verify-clause-ends : goal.returns-in-Verify-clause-ends
+returns-in-Verify-clause-ends g c = ends-verify _ _ _ _ c.in-Verify.is c.verify_one.ensures.ends
+
+pub returns-in-VerifyReport-clause-ends : goal.returns-in-VerifyReport-clause-ends
+returns-in-VerifyReport-clause-ends g c = ends-report _ _ _ _ c.in-VerifyReport.is c.verify_all.ensures.ends
+
+pub returns-in-Window-clause-ends : goal.returns-in-Window-clause-ends
+returns-in-Window-clause-ends g c = ends-window _ _ _ _ c.in-Window.is c.window_one.ensures.ends
+
+pub returns-in-Shape-clause-ends : goal.returns-in-Shape-clause-ends
+returns-in-Shape-clause-ends g c = ends-shape _ _ _ _ c.in-Shape.is c.shape_one.ensures.ends
+
+pub returns-in-Skew-clause-ends : goal.returns-in-Skew-clause-ends
+returns-in-Skew-clause-ends g c = ends-skew _ _ _ _ c.in-Skew.is c.skew_one.ensures.ends
+
+pub returns-in-SelfTest-clause-ends : goal.returns-in-SelfTest-clause-ends
+returns-in-SelfTest-clause-ends g c = ends-self-test _ _ _ _ _ c.in-SelfTest.is c.self_test.ensures.ran

@@ -1,5 +1,5 @@
-use Rattle.std.proofs.Common.{◌≡◌, ◌<◌, ℕ, List, length, map, slice_index_or, sym, ap, subst, ◌∙◌, refl, arith}
-use Rattle.std.specs.Prelude.{All}
+use Rattle.std.proofs.Common.{◌≡◌, ◌<◌, ℕ, List, length, map, slice_index_or, sym, ap, subst, ◌∙◌, refl, arith, Option, Some}
+use Rattle.std.proofs.lemmas.List.{length-map}
 use Rattle.timing_base.specs.Keys.{keys_of}
 use Rattle.timing_base.specs.declared.capture.FileNote.{FileNote}
 use Rattle.timing_base.specs.declared.capture.FileNote.TheVariants.{Refused}
@@ -28,8 +28,8 @@ returns-in-Some-clause-judged g c = record {
   of_session = tt;
   cause = λ names fetched.
       let notes = c.in_ok-sources.field-0.notes.items in
-      let unread : (c.in-Some.number < length notes) × ((d : FileNote) → slice_index_or notes c.in-Some.number d ≡ Refused ReadFault) =
-      subst (λ (l : List FileNote). (c.in-Some.number < length l) × ((d : FileNote) → slice_index_or l c.in-Some.number d ≡ Refused ReadFault))
+      let unread : (c.in-Some.number < length notes) × ((d : Option FileNote) → slice_index_or notes c.in-Some.number d ≡ Some (Refused ReadFault)) =
+      subst (λ (l : List (Option FileNote)). (c.in-Some.number < length l) × ((d : Option FileNote) → slice_index_or l c.in-Some.number d ≡ Some (Refused ReadFault)))
       c.deref.ensures.value c.in-Some.ensures in (
         c.in-Some.number,
         refl,
@@ -40,22 +40,27 @@ returns-in-Some-clause-judged g c = record {
       );
 }
 
-pub returns-in-Some-rows-clause-judged : goal.returns-in-Some-rows-clause-judged
-returns-in-Some-rows-clause-judged g c = record {
+pub returns-in-Some-found-clause-judged : goal.returns-in-Some-found-clause-judged
+returns-in-Some-found-clause-judged g c = record {
   told = λ names texts fetched told.
-      some-at c.in_ok-sources.field-0.rows c.in-Some-rows.rows
-      (λ rows. (read : List (List ℕ)) → AreTexts (left_of g.H.Source.Source.left) read c.args.sources.items
-      → AreFound read (rows_over c.args.joined c.args.tai c.args.media.now) c.in_ok-sources.field-0.notes.items rows.items)
-      c.in-Some-rows.is c.in_ok-sources.ensures.told texts
+      some-at c.in_ok-sources.field-0.found c.in-Some-found.found
+      (λ found. (read : List (List ℕ)) → AreTexts (left_of g.H.Source.Source.left) read c.args.sources.items
+      → AreFound read (rows_over c.args.joined c.args.tai c.args.media.now) found.notes.items found.rows.items)
+      c.in-Some-found.is c.in_ok-sources.ensures.told texts
       (fetched-texts (name_of g.H.Source.Source.name) (left_of g.H.Source.Source.left) (faults_of g.H.Source.Source.faults)
       (classic_texts (g.H.Shelf.text c.args.shelf.now)) names texts c.args.sources.items fetched told);
   count =
-      back-length (name_of g.H.Source.Source.name) (faults_of g.H.Source.Source.faults) c.args.sources.items c.in_ok-sources.field-0.notes.items
-      c.in_ok-sources.field-0.sources.items c.in_ok-sources.ensures.back;
+      let notes = c.in-Some-found.found.notes.items in
+      let ends = c.in_ok-sources.field-0.notes.items in
+      sym (length-map notes (λ (n : FileNote). Some n))
+      ∙ ap (λ (l : List (Option FileNote)). length l)
+      (some-at c.in_ok-sources.field-0.found c.in-Some-found.found (λ found. map Some found.notes.items ≡ ends) c.in-Some-found.is c.in_ok-sources.ensures.notes)
+      ∙ back-length (name_of g.H.Source.Source.name) (faults_of g.H.Source.Source.faults) c.args.sources.items ends c.in_ok-sources.field-0.sources.items
+      c.in_ok-sources.ensures.back;
   of_session =
-      keys-of_session c.args.joined (length c.args.sources.items) c.args.media.now c.in-Some-rows.rows.items c.requires.ready.few
-      (some-at c.in_ok-sources.field-0.rows c.in-Some-rows.rows
-      (λ rows. map (λ (r : Row). r.key) rows.items ≡ keys_of c.args.joined (length c.args.sources.items) (length c.args.media.now))
-      c.in-Some-rows.is c.in_ok-sources.ensures.keys);
+      keys-of_session c.args.joined (length c.args.sources.items) c.args.media.now c.in-Some-found.found.rows.items c.requires.ready.few
+      (some-at c.in_ok-sources.field-0.found c.in-Some-found.found
+      (λ found. map (λ (r : Row). r.key) found.rows.items ≡ keys_of c.args.joined (length c.args.sources.items) (length c.args.media.now))
+      c.in-Some-found.is c.in_ok-sources.ensures.keys);
   cause = λ names fetched. tt;
 }

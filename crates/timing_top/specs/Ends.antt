@@ -1,0 +1,48 @@
+-- With which statuses a run of a request may end, whatever the texts are that it reads, and when nothing is printed.
+use Rattle.std.specs.Prelude.{◌≡◌, Bool, true, false, not, Option, Some, None, []}
+use Rattle.timing_base.specs.declared.job.Request.{Request}
+use Rattle.timing_base.specs.declared.job.Request.TheVariants as request
+use Rattle.timing_report.specs.declared.status.Status.{Status}
+use Rattle.timing_report.specs.declared.status.Status.TheVariants as status
+use Rattle.timing_steps.specs.Ends.{is_silent}
+use Rattle.timing_steps.specs.Ran.{Appended, Output}
+
+-- the words are a request
+abbrev pub is_request : Option Request → Bool
+is_request (Some asked) = true
+is_request None = false
+
+-- inputs are read: of all requests but `selftest`
+abbrev pub reads_inputs : Option Request → Bool
+reads_inputs (Some (request.SelfTest job)) = false
+reads_inputs asked = is_request asked
+
+-- limits or fails are checked, and may be not kept or not confirmed: of `check`, `verify` and `verify-report`
+abbrev pub checks : Option Request → Bool
+checks (Some (request.Check job)) = true
+checks (Some (request.Verify job)) = true
+checks (Some (request.VerifyReport job)) = true
+checks asked = false
+
+-- a report is read: of `verify-report`
+abbrev pub reads_report : Option Request → Bool
+reads_report (Some (request.VerifyReport job)) = true
+reads_report asked = false
+
+-- a run may end with this status
+abbrev pub may_end : Option Request → Status → Bool
+may_end asked status.Pass = is_request asked
+may_end asked status.Fail = checks asked
+may_end asked status.Usage = not (is_request asked)
+may_end asked (status.SdpRefused fault) = reads_inputs asked
+may_end asked status.NotAllJudged = reads_inputs asked
+may_end asked (status.ReadFault input) = reads_inputs asked
+may_end asked status.WriteFault = is_request asked
+may_end asked status.OutOfMemory = true
+may_end asked status.ReportRefused = reads_report asked
+
+-- a run of a request, by its status and its output: it has one of the statuses that it may end with, and where that is
+-- silent nothing was printed
+pub record Ends (asked : Option Request) (o : Output) (ends : Status) : Type 0 where
+  pub status_is : may_end asked ends ≡ true
+  pub silent : is_silent ends ≡ true → Appended o []
