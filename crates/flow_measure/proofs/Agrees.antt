@@ -1,5 +1,5 @@
 -- A meter knows no more than what it was fed: it stands for all numbers that are the same there.
-use Rattle.std.proofs.Common.{◌≡◌, ◌<◌, ◌+◌, ◌-◌, ◌*◌, ◌/◌, ◌%◌, ℕ, zero, suc, ℤ, ◌+ℤ◌, Bool, false, ◌||◌, ap, ◌∙◌, sym, refl, arith}
+use Rattle.std.proofs.Common.{◌≡◌, ◌<◌, ◌+◌, ◌-◌, ◌*◌, ◌/◌, ℕ, zero, suc, ℤ, ◌+ℤ◌, Bool, ◌||◌, ap, ◌∙◌, sym, refl, arith}
 use Rattle.std.proofs.lemmas.Nat.{div-add-mod', mul-add-lt}
 use Rattle.flow_measure.specs.Bins.{is_above, is_below, is_in_bin}
 use Rattle.flow_measure.specs.Broken.{any_of, group_breaks}

@@ -3,7 +3,6 @@ use Rattle.std.proofs.Common.{◌≡◌, ◌<◌, ◌+◌, ◌*◌, ◌/◌, ◌
 use Rattle.std.proofs.lemmas.Nat.{div-add-mod'}
 use Rattle.sender_params.proofs.Turns.{next_group, same_group}
 use Rattle.flow_measure.specs.Broken.{any_of, broken_groups, group_breaks}
-use Rattle.flow_measure.specs.Counts.{count_of}
 use Rattle.flow_measure.proofs.Counted.{count_of-more}
 
 -- the packet in its group

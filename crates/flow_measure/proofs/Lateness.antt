@@ -1,5 +1,5 @@
 -- The margin of a packet by its parts.
-use Rattle.std.proofs.Common.{◌≡◌, ◌≤◌, ◌<◌, ◌+◌, ◌*◌, ◌/◌, ◌%◌, ◌^◌, ◌++◌, ◌∷◌, [], ℕ, zero, suc, ℤ, Bool, true, false, cond, not, List, length, slice_index, pos, ◌+ℤ◌, ◌-ℤ◌, ◌*ℤ◌, ◌<ℤ◌, ◌≤ℤ◌, ◌⊎◌, inl, inr, ap, ◌∙◌, sym, subst, refl, arith, length-append}
+use Rattle.std.proofs.Common.{◌≡◌, ◌≤◌, ◌<◌, ◌+◌, ◌*◌, ◌/◌, ◌%◌, ◌^◌, ◌++◌, ◌∷◌, [], ℕ, ℤ, Bool, true, false, cond, not, List, length, slice_index, pos, ◌-ℤ◌, ◌*ℤ◌, ◌<ℤ◌, ◌≤ℤ◌, inl, inr, ap, ◌∙◌, sym, subst, refl, arith, length-append}
 use Rattle.std.specs.Prelude.{int_lt}
 use Rattle.std.specs.Int.{int_min}
 use Rattle.std.proofs.Math.Seq.{get_or-append_seam}
@@ -154,6 +154,8 @@ times-more m n anchor gapped b c stamps at margin t h =
     let before : (i : ℕ) → i < count → margin_in_parts r new i ≡ margin_in_parts r stamps i =
     λ i few. ap (λ a. pos (parts_of_read r.start r.n r.group r.step i) -ℤ pos (a * r.den + 480 * r.group)) (kept i few) in
     let late = λ (list : List ℕ) (i : ℕ). below (read_of m n anchor gapped i) (whole (slice_index list i)) in
+    let late_kept : (i : ℕ) → i < count → late new i ≡ late stamps i =
+    λ i few. ap (λ a. below (read_of m n anchor gapped i) (whole a)) (kept i few) in
     let late_last : late new count ≡ int_lt margin (pos 0) =
     late-is m n anchor gapped r count (slice_index new count) margin h.reads (sym here) in
     let least : IsLeast (margin_in_parts r new) (λ i. i < count + 1) c.least =
@@ -177,7 +179,7 @@ times-more m n anchor gapped b c stamps at margin t h =
           subst (λ rr. IsLeast (margin_in_parts rr new) (λ i. i < length new) c.least) (sym t.reads)
           (subst (λ k. IsLeast (margin_in_parts r new) (λ i. i < k) c.least) (sym long) least);
       late = t.late
-          ∙ ap (λ k. k + cond (int_lt margin (pos 0)) 1 0) (h.late ∙ sym (count_of-same (late stamps) (late new) count (λ i few. ap (λ a. below (read_of m n anchor gapped i) (whole a)) (kept i few))))
+          ∙ ap (λ k. k + cond (int_lt margin (pos 0)) 1 0) (h.late ∙ sym (count_of-same (late stamps) (late new) count late_kept))
           ∙ ap (λ (q : Bool). count_of (late new) count + cond q 1 0) (sym late_last)
           ∙ sym (count_of-more (late new) count)
           ∙ sym (ap (count_of (late new)) long);

@@ -7,6 +7,7 @@ pub mod Counted
 pub mod Drawn
 pub mod Epoch
 pub mod Floors
+pub mod Followed
 pub mod Lateness
 pub mod Passes
 pub mod Summarized

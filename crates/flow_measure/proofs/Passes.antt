@@ -1,21 +1,19 @@
 -- A type passes exactly where nothing is counted above its limits and no packet is late; and the peaks of a row.
-use Rattle.std.proofs.Common.{◌≡◌, ◌≤◌, ◌<◌, ◌+◌, ◌-◌, ◌↔◌, ℕ, ℤ, pos, ◌≤ℤ◌, ◌-ℤ◌, Bool, true, false, nat_lt, List, length, slice_index, inl, inr, ap, ◌∙◌, sym, refl, arith}
+use Rattle.std.proofs.Common.{◌≡◌, ◌≤◌, ◌<◌, ◌+◌, ◌↔◌, ℕ, ℤ, pos, ◌-ℤ◌, Bool, List, length, slice_index, inl, inr, refl, arith}
 use Rattle.std.specs.Int.{int_max}
 use Rattle.std.proofs.lemmas.Bool.{cases_lt, le-ltb, ltb-false}
 use Rattle.std.proofs.lemmas.Int.{clamps, ints}
 use Rattle.fraction128.specs.Fractions.{whole}
 use Rattle.timing_base.specs.Media.{IsMedia, Media}
 use Rattle.timing_base.specs.declared.media.Kind.{Kind}
-use Rattle.sender_params.specs.Keeps.{KeepsBuffer, held_at, is_empty, is_over}
+use Rattle.sender_params.specs.Keeps.{KeepsBuffer, held_at}
 use Rattle.sender_params.specs.Limits.{c_max_of, gapped_of, vrx_full_of}
 use Rattle.sender_params.specs.Reads.{anchor_of}
 use Rattle.sender_params.specs.Ticks.{KeepsBucket, NeverFall, load_of}
-use Rattle.drain_bucket.specs.Reich.{IsGreatestLoad}
 use Rattle.drain_bucket.specs.Word.{bucket_of}
 use Rattle.drain_bucket.proofs.Reich.{count_is_load}
 use Rattle.read_schedule.proofs.Held.{held_at-is}
 use Rattle.read_schedule.proofs.Rising.{due-once, due-some}
-use Rattle.vrx_buffer.specs.Faults.{BreaksNowhere}
 use Rattle.vrx_buffer.proofs.Instants.{keep-packets, packets-keep}
 use Rattle.flow_measure.specs.Bins.{above_limit}
 use Rattle.flow_measure.specs.Occupancy.{AreOccupancies, IsOccupancy, IsPeak, buckets_of, is_late, late_of}

@@ -1,5 +1,5 @@
--- How often whole numbers come, up to a limit, and how many are above it or below 0. `numbers` gives the number at each
--- place, counted from 0, and `count` says how many there are; bins are counted from 0. This project's own.
+-- How often whole numbers come, up to a limit, and how many are above it or below 0. `numbers` gives the number at
+-- each place, counted from 0, and `count` says how many there are; bins are counted from 0. This project's own.
 use Rattle.std.specs.Prelude.{◌≡◌, ◌+◌, ◌/◌, ◌<◌, ℕ, ℤ, pos, negsuc, Bool, true, false, ◌&&◌, ◌==◌, nat_le, nat_lt}
 use Rattle.std.specs.Prelude.{List, length, slice_index}
 use Rattle.std.specs.Int.{div_ceil}

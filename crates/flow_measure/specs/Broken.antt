@@ -1,5 +1,5 @@
--- The groups that have a broken packet. `broken` says of each packet, counted from 0, whether it is broken, and n is the
--- number of packets in a group. This project's own.
+-- The groups that have a broken packet. `broken` says of each packet, counted from 0, whether it is broken, and n is
+-- the number of packets in a group. This project's own.
 use Rattle.std.specs.Prelude.{◌+◌, ◌*◌, ℕ, zero, suc, Bool, false, ◌||◌}
 use Rattle.flow_measure.specs.Counts.{count_of}
 

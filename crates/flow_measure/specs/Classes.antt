@@ -1,6 +1,6 @@
--- How often whole numbers come, such as nanoseconds, in classes that double: class 0 has the zeros, class 1 the ones, class
--- 2 has 2 and 3, class 3 has 4 to 7, and so on. `numbers` gives the number at each place, counted from 0, and `count` says
--- how many there are. This project's own.
+-- How often whole numbers come, such as nanoseconds, in classes that double: class 0 has the zeros, class 1 the ones,
+-- class 2 has 2 and 3, class 3 has 4 to 7, and so on. `numbers` gives the number at each place, counted from 0, and
+-- `count` says how many there are. This project's own.
 use Rattle.std.specs.Prelude.{◌≡◌, ◌^◌, ◌<◌, ◌≤◌, ◌+◌, ℕ, zero, suc, Bool, ◌&&◌, ◌==◌, nat_le, nat_lt, List, length}
 use Rattle.std.specs.Prelude.{slice_index}
 use Rattle.flow_measure.specs.Counts.{count_of}

@@ -1,6 +1,6 @@
 -- The columns of a picture of whole numbers: each has the least and the greatest of its numbers, so that no peak is
--- hidden, however many there are. `numbers` gives the number at each place, counted from 0, and `count` says how many there
--- are; columns are counted from 0. This project's own.
+-- hidden, however many there are. `numbers` gives the number at each place, counted from 0, and `count` says how many
+-- there are; columns are counted from 0. This project's own.
 use Rattle.std.specs.Prelude.{◌≡◌, ◌<◌, ◌/◌, ◌%◌, ℕ, ℤ, pos, List, length}
 use Rattle.std.specs.Int.{div_ceil}
 use Rattle.std.specs.List.{slice_index_or}
@@ -27,8 +27,8 @@ least_at columns c = (column_at columns c).least
 abbrev pub greatest_at : List Extremes → ℕ → ℤ
 greatest_at columns c = (column_at columns c).greatest
 
--- these are the columns of the first `count` numbers, where the number at place i belongs to column `column_of i`: each has
--- a number at least, and each number has a column
+-- these are the columns of the first `count` numbers, where the number at place i belongs to column `column_of i`:
+-- each has a number at least, and each number has a column
 pub record AreColumns (column_of : ℕ → ℕ) (numbers : ℕ → ℤ) (count : ℕ) (columns : List Extremes) : Type 0 where
   pub within : (i : ℕ) → i < count → column_of i < length columns
   pub each : (c : ℕ) → c < length columns → AreExtremes numbers (places_in column_of count c) (column_at columns c)

@@ -1,7 +1,8 @@
--- The groups of a flow against the frames of their epoch, and their RTP timestamps against the media clock. m is the video,
--- and `anchor` the number of the group of the epoch to which the first packet belongs; the k-th judged group, from 0 on, is
--- group anchor + k. Groups of an interlaced picture are fields. Instants are nanoseconds of TAI, RTP timestamps are ticks of
--- 90 kHz (RFC 4175, section 4.1; SMPTE ST 2110-10, media clock). That group 0 begins with the epoch is the standard's.
+-- The groups of a flow against the frames of their epoch, and their RTP timestamps against the media clock. m is the
+-- video, and `anchor` the number of the group of the epoch to which the first packet belongs; the k-th judged group,
+-- from 0 on, is group anchor + k. Groups of an interlaced picture are fields. Instants are nanoseconds of TAI, RTP
+-- timestamps are ticks of 90 kHz (RFC 4175, section 4.1; SMPTE ST 2110-10, media clock). That group 0 begins with the
+-- epoch is the standard's.
 use Rattle.std.specs.Prelude.{◌+◌, ◌-◌, ◌%◌, ◌^◌, ℕ, ℤ, pos, ◌+ℤ◌, ◌-ℤ◌}
 use Rattle.std.specs.Int.{int_rem_euclid}
 use Rattle.fraction128.specs.Fractions.{Fraction, divided, floor, minus, scaled, whole}

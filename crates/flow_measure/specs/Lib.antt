@@ -8,6 +8,7 @@ pub mod Occupancy
 pub mod Frames
 pub mod Broken
 pub mod Stands
+pub mod Followed
 -- numbers that are worked by hand
 pub mod Worked
 -- these only serve proofs

@@ -1,7 +1,7 @@
--- What the bucket and the virtual receiver buffer of SMPTE ST 2110-21 hold at each packet of a flow, and by how much each
--- packet comes before its own read. m is the video, n the packets of one group, and the stamps are those of the judged packets, in
--- nanoseconds of TAI, counted from 0; the schedule is gapped or linear. Both models are the standard's. This
--- project's own is that at one instant a packet has come and a read is done.
+-- What the bucket and the virtual receiver buffer of SMPTE ST 2110-21 hold at each packet of a flow, and by how much
+-- each packet comes before its own read. m is the video, n the packets of one group, and the stamps are those of the
+-- judged packets, in nanoseconds of TAI, counted from 0; the schedule is gapped or linear. Both models are the
+-- standard's. This project's own is that at one instant a packet has come and a read is done.
 use Rattle.std.specs.Prelude.{◌≡◌, ◌+◌, ◌≤◌, ◌<◌, ℕ, ℤ, pos, ◌-ℤ◌, Bool, List, length, slice_index}
 use Rattle.fraction128.specs.Fractions.{Fraction, below, floor, minus, whole}
 use Rattle.timing_base.specs.Media.{Media}
@@ -10,8 +10,8 @@ use Rattle.drain_bucket.specs.Word.{bucket_of}
 use Rattle.flow_measure.specs.Counts.{count_of}
 use Rattle.flow_measure.specs.Summary.{IsLeast}
 
--- just after packet i came the buffer holds so many packets: those up to i, less all reads that are due; below 0 where the
--- reads are more
+-- just after packet i came the buffer holds so many packets: those up to i, less all reads that are due; below 0
+-- where the reads are more
 pub record IsOccupancy (m : Media) (n : ℕ) (stamps : List ℕ) (gapped : Bool) (i : ℕ) (x : ℤ) : Type 0 where
   pub reads : ℕ
   pub due : AreDue m n (anchor_of m (slice_index stamps 0)) gapped (whole (slice_index stamps i)) reads

@@ -1,5 +1,5 @@
--- A packet's own read in parts of a nanosecond, from 480 groups before 0 of TAI on, as whole numbers. m is the video, n
--- the packets of one group, `anchor` the number of the group to which read 0 belongs.
+-- A packet's own read in parts of a nanosecond, from 480 groups before 0 of TAI on, as whole numbers. m is the video,
+-- n the packets of one group, `anchor` the number of the group to which read 0 belongs.
 use Rattle.std.specs.Prelude.{◌≡◌, ◌+◌, ◌*◌, ℕ, ℤ, pos, ◌-ℤ◌, Bool, List, slice_index}
 use Rattle.timing_base.specs.Media.{Media}
 use Rattle.sender_params.specs.Sizes.{AreSizes, HavePer}

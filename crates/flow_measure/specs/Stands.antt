@@ -1,5 +1,5 @@
--- What the meters of plain numbers say of the numbers that they were fed: `numbers` gives the number at each place, and
--- the first `seen` of them were fed.
+-- What the meters of plain numbers say of the numbers that they were fed: `numbers` gives the number at each place,
+-- and the first `seen` of them were fed.
 use Rattle.std.specs.Prelude.{◌≡◌, ◌<◌, ◌≤◌, ◌+◌, ◌*◌, ◌/◌, ◌%◌, ℕ, ℤ, Bool, List, length, slice_index}
 use Rattle.fraction128.specs.Fractions.{below, whole}
 use Rattle.timing_base.specs.Media.{Media}
@@ -41,7 +41,8 @@ column_of c i = (i % c.group) / c.width
 -- the columns were fed these numbers
 pub record Draws (c : Columns) (numbers : ℕ → ℤ) : Type 0 where
   pub within : (i : ℕ) → i < c.seen → column_of c i < c.begun
-  pub each : (k : ℕ) → k < c.begun → AreExtremes numbers (places_in (column_of c) c.seen k) (column_at c.columns.items k)
+  pub each : (k : ℕ) → k < c.begun
+      → AreExtremes numbers (places_in (column_of c) c.seen k) (column_at c.columns.items k)
 
 -- the meter was fed packets of which these are broken
 pub record CountsBroken (b : BrokenGroups) (broken : ℕ → Bool) : Type 0 where
@@ -55,4 +56,5 @@ pub record Times (m : Media) (n : ℕ) (anchor : ℤ) (gapped : Bool) (meter : M
   -- the least margin so far, in parts of a nanosecond
   pub least : 0 < length stamps
       → IsLeast (margin_in_parts meter.own.reads stamps) (λ i. i < length stamps) meter.least
-  pub late : meter.late ≡ count_of (λ i. below (read_of m n anchor gapped i) (whole (slice_index stamps i))) (length stamps)
+  pub late : meter.late
+      ≡ count_of (λ i. below (read_of m n anchor gapped i) (whole (slice_index stamps i))) (length stamps)

@@ -1,6 +1,6 @@
--- The summary of whole numbers: the least and the greatest of them, their sum, the first and the last. `numbers` gives
--- the number at each place, counted from 0, and `count` says how many there are. All but `count` has the numbers' unit.
--- This project's own.
+-- The summary of whole numbers: the least and the greatest of them, their sum, the first and the last. `numbers`
+-- gives the number at each place, counted from 0, and `count` says how many there are. All but `count` has the
+-- numbers' unit. This project's own.
 use Rattle.std.specs.Prelude.{◌≡◌, ◌<◌, ◌-◌, ℕ, zero, suc, ℤ, pos, ◌+ℤ◌, ◌≤ℤ◌}
 use Rattle.flow_measure.specs.declared.summary.Summary.{Summary}
 

@@ -13,7 +13,13 @@ naturals xs i = slice_index xs i
 
 -- the summary that has these
 abbrev pub summary : (least greatest sum first last : ℤ) → Summary
-summary least greatest sum first last = record { least = least; greatest = greatest; sum = sum; first = first; last = last }
+summary least greatest sum first last = record {
+  least = least;
+  greatest = greatest;
+  sum = sum;
+  first = first;
+  last = last;
+}
 
 -- the column that has these
 abbrev pub column : (least greatest : ℤ) → Extremes

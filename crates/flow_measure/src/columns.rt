@@ -160,8 +160,8 @@ impl Columns {
         }
     }
 
-    /// The columns of the numbers that were fed, in order: their eye, which is their curve where they are one
-    /// group.
+    /// The columns of the numbers that were fed, in order: their eye, which is their curve where they are
+    /// one group.
     pub fn finish(&self) -> &[Extremes]
         ensures eye { (numbers : ℕ → ℤ) → Draws self.now numbers
             → AreEye self.now.group self.now.most numbers self.now.seen result.now }

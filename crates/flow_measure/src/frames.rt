@@ -21,8 +21,8 @@ const TICKS: u128 = 9;
 /// The nanoseconds in which the media clock ticks `TICKS` times.
 const NANOS: u128 = 100_000;
 
-/// By how many nanoseconds `at`, in nanoseconds of TAI, is after the instant with which the k-th judged group
-/// begins, rounded down, where the first packet is of group `n0`; below 0 where it is before.
+/// By how many nanoseconds `at`, in nanoseconds of TAI, is after the instant with which the k-th judged
+/// group begins, rounded down, where the first packet is of group `n0`; below 0 where it is before.
 pub fn since_start(params: &Params, n0: i128, k: u64, at: u64) -> i128
     requires low { negsuc 479 ≤ℤ n0 }
     requires high { n0 ≤ℤ pos (2 ^ 42) }
@@ -38,8 +38,8 @@ pub fn since_start(params: &Params, n0: i128, k: u64, at: u64) -> i128
     floor_difference(reached, start, den)
 }
 
-/// By how many ticks of 90 kHz the timestamp of the k-th judged group is after that of the instant with which
-/// the group begins, where the first packet is of group `n0`: -2^31 to 2^31 - 1.
+/// By how many ticks of 90 kHz the timestamp of the k-th judged group is after that of the instant with
+/// which the group begins, where the first packet is of group `n0`: -2^31 to 2^31 - 1.
 pub fn offset_of(params: &Params, n0: i128, k: u64, timestamp: u32) -> i128
     requires low { negsuc 479 ≤ℤ n0 }
     requires high { n0 ≤ℤ pos (2 ^ 42) }
@@ -54,8 +54,8 @@ pub fn offset_of(params: &Params, n0: i128, k: u64, timestamp: u32) -> i128
     wrap(i128::from(timestamp) - floor_difference(start * TICKS, before * TICKS, den * NANOS))
 }
 
-/// By how many ticks of 90 kHz a first packet at `at`, in nanoseconds of TAI, comes after its timestamp: -2^31 to
-/// 2^31 - 1.
+/// By how many ticks of 90 kHz a first packet at `at`, in nanoseconds of TAI, comes after its timestamp:
+/// -2^31 to 2^31 - 1.
 pub fn latency_of(at: u64, timestamp: u32) -> i128
     requires { at < 2 ^ 62 }
     ensures value { result ≡ timestamp_latency at timestamp }

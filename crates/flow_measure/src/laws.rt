@@ -1,10 +1,12 @@
-//! The definitions on numbers worked by hand, and what holds of them for all numbers. Each function is a theorem:
-//! it does nothing, and its clauses are proved.
+//! The definitions on numbers worked by hand, and what holds of them for all numbers. Each function is a
+//! theorem: it does nothing, and its clauses are proved.
 
-ghost use Rattle.std.specs.Prelude.{◌≡◌, ◌<◌, ◌≤◌, ◌+◌, ◌∷◌, [], ◌↔◌, ℕ, ℤ, pos, negsuc, ◌≤ℤ◌, Bool, List, length, true, false, ◌==◌, ◌||◌};
+ghost use Rattle.std.specs.Prelude.{◌≡◌, ◌<◌, ◌≤◌, ◌+◌, ◌∷◌, [], ◌↔◌, ℕ, ℤ, pos, negsuc, ◌≤ℤ◌};
+ghost use Rattle.std.specs.Prelude.{Bool, List, length, true, false, ◌==◌, ◌||◌};
 ghost use Rattle.flow_measure.specs.Bins.{above_limit, below_zero, bin_count, bin_width, in_bin};
 ghost use Rattle.flow_measure.specs.Classes.{in_class};
-ghost use Rattle.flow_measure.specs.Columns.{AreColumns, AreCurve, AreEye, column_at, greatest_at, least_at, width_of};
+ghost use Rattle.flow_measure.specs.Columns.{AreColumns, AreCurve, AreEye, column_at, greatest_at};
+ghost use Rattle.flow_measure.specs.Columns.{least_at, width_of};
 ghost use Rattle.std.specs.Int.{int_max};
 ghost use Rattle.timing_base.specs.Media.{IsMedia, Media};
 ghost use Rattle.timing_base.specs.declared.media.Kind.{Kind};
@@ -37,8 +39,8 @@ pub fn summaries_by_hand()
         (summary (negsuc 4) (negsuc 4) (negsuc 4) (negsuc 4) (negsuc 4)) }
 {}
 
-/// Five numbers in at most two columns: three numbers each, the last column with two. In groups of two numbers, with
-/// at most two columns: the eye has the numbers at even places, and those at odd ones.
+/// Five numbers in at most two columns: three numbers each, the last column with two. In groups of two
+/// numbers, with at most two columns: the eye has the numbers at even places, and those at odd ones.
 pub fn columns_by_hand()
     ensures width { width_of 40 7 ≡ 6 }
     ensures fits { width_of 40 1000 ≡ 1 }
@@ -48,8 +50,8 @@ pub fn columns_by_hand()
         (column (pos 3) (pos 4) ∷ column (negsuc 4) (pos 2) ∷ []) }
 {}
 
-/// A limit of 4 has bins of width 1, a limit of 63 too, and one of 64 bins of width 2. A number at the limit
-/// belongs to the last bin; one more is above it.
+/// A limit of 4 has bins of width 1, a limit of 63 too, and one of 64 bins of width 2. A number at the
+/// limit belongs to the last bin; one more is above it.
 pub fn bins_by_hand()
     ensures narrow { (bin_width 4 ≡ 1) × (bin_count 4 ≡ 5) }
     ensures full { (bin_width 63 ≡ 1) × (bin_count 63 ≡ 64) }
@@ -60,8 +62,8 @@ pub fn bins_by_hand()
     ensures pairs { in_bin 64 1 (listed (pos 1 ∷ pos 2 ∷ pos 3 ∷ pos 4 ∷ [])) 4 ≡ 2 }
 {}
 
-/// 0 is of class 0, 1 of class 1, 2 and 3 are of class 2, and 4 is of class 3. 960,000 is of class 20, which has the
-/// numbers from 524,288 to 1,048,575, and 1,760,000 of class 21.
+/// 0 is of class 0, 1 of class 1, 2 and 3 are of class 2, and 4 is of class 3. 960,000 is of class 20,
+/// which has the numbers from 524,288 to 1,048,575, and 1,760,000 of class 21.
 pub fn classes_by_hand()
     ensures zero { in_class 0 (naturals (0 ∷ 1 ∷ 0 ∷ [])) 3 ≡ 2 }
     ensures one { in_class 1 (naturals (0 ∷ 1 ∷ 2 ∷ [])) 3 ≡ 1 }
@@ -83,8 +85,8 @@ pub fn one_list_of_columns()
         → columns ≡ other }
 {}
 
-/// No peak is hidden: the least of all columns is the least of all numbers, and the greatest the greatest, of a curve
-/// and of an eye.
+/// No peak is hidden: the least of all columns is the least of all numbers, and the greatest the greatest,
+/// of a curve and of an eye.
 pub fn no_peak_is_hidden()
     ensures least { (column_of : ℕ → ℕ) (numbers : ℕ → ℤ) (count : ℕ) (columns : List Extremes) (s : Summary)
         → AreColumns column_of numbers count columns → IsSummary numbers count s
@@ -98,8 +100,8 @@ pub fn no_peak_is_hidden()
 pub fn what_fits_is_itself()
     ensures length { (most : ℕ) (numbers : ℕ → ℤ) (count : ℕ) (columns : List Extremes) → count ≤ most
         → AreCurve most numbers count columns → length columns ≡ count }
-    ensures each { (most : ℕ) (numbers : ℕ → ℤ) (count i : ℕ) (columns : List Extremes) → count ≤ most → i < count
-        → AreCurve most numbers count columns → column_at columns i ≡ column (numbers i) (numbers i) }
+    ensures each { (most : ℕ) (numbers : ℕ → ℤ) (count i : ℕ) (columns : List Extremes)
+        → count ≤ most → i < count → AreCurve most numbers count columns → column_at columns i ≡ column (numbers i) (numbers i) }
 {}
 
 /// No number is counted as above a limit exactly where none is above it, and none as below 0 where none is.
@@ -110,8 +112,8 @@ pub fn none_above_is_none()
         ↔ ((i : ℕ) → i < count → pos 0 ≤ℤ numbers i) }
 {}
 
-/// A frame at 50 frames per second, whose group is 80,000,000,000: packets 764,000 and 19,004,000 ns after it begins, and
-/// one that comes a nanosecond before the next frame.
+/// A frame at 50 frames per second, whose group is 80,000,000,000: packets 764,000 and 19,004,000 ns after
+/// it begins, and one that comes a nanosecond before the next frame.
 pub fn frames_by_hand()
     ensures first { after_start hd_50 (pos 80000000000) 0 1600000000000764000 ≡ pos 764000 }
     ensures last { after_start hd_50 (pos 80000000000) 0 1600000000019004000 ≡ pos 19004000 }
@@ -121,7 +123,8 @@ pub fn frames_by_hand()
     ensures part { after_start hd_59_94 (pos 1) 0 16683333 ≡ negsuc 0 }
 {}
 
-/// The media clock at that frame is 2,631,467,008 modulo 2^32. Timestamps 1800 and 3600 are of it and of the next frame.
+/// The media clock at that frame is 2,631,467,008 modulo 2^32. Timestamps 1800 and 3600 are of it and of
+/// the next frame.
 pub fn timestamps_by_hand()
     ensures offset { timestamp_offset hd_50 (pos 80000000000) 0 1800 ≡ pos 1663502088 }
     ensures next { timestamp_offset hd_50 (pos 80000000000) 1 3600 ≡ pos 1663502088 }
@@ -133,8 +136,8 @@ pub fn timestamps_by_hand()
     ensures turn { timestamp_step 4294967295 1 ≡ 2 }
 {}
 
-/// Packet 0 comes 444 4/9 ns before its read. Packet 1 of a linear sender comes 39,555 5/9 ns after its gapped read, and
-/// 444 4/9 ns before its linear one.
+/// Packet 0 comes 444 4/9 ns before its read. Packet 1 of a linear sender comes 39,555 5/9 ns after its
+/// gapped read, and 444 4/9 ns before its linear one.
 pub fn margins_by_hand()
     ensures first { margin_of hd_50 20 linear_two true 0 ≡ pos 444 }
     ensures late { margin_of hd_50 20 linear_two true 1 ≡ negsuc 39555 }
@@ -156,8 +159,8 @@ pub fn bucket_passes()
         ↔ (above_limit (c_max_of m n kind) (buckets_of m n stamps) (length stamps) ≡ 0) }
 {}
 
-/// Its buffer holds between nothing and VRX_FULL at every instant exactly where no occupancy is above VRX_FULL and no
-/// packet is late.
+/// Its buffer holds between nothing and VRX_FULL at every instant exactly where no occupancy is above
+/// VRX_FULL and no packet is late.
 pub fn buffer_passes()
     ensures { (m : Media) (n : ℕ) (stamps : List ℕ) (kind : Kind) (occupancy : ℕ → ℤ)
         → IsMedia m → 1 ≤ n → NeverFall stamps
@@ -167,8 +170,8 @@ pub fn buffer_passes()
         × (late_of m n stamps (gapped_of kind) ≡ 0)) }
 {}
 
-/// The greatest count of the bucket is the peak that a row has of it, and the greatest occupancy is the peak of the
-/// buffer, where it isn't below 0; else that peak is 0.
+/// The greatest count of the bucket is the peak that a row has of it, and the greatest occupancy is the
+/// peak of the buffer, where it isn't below 0; else that peak is 0.
 pub fn peaks_are_the_rows()
     ensures bucket { (m : Media) (n : ℕ) (stamps : List ℕ) (s : Summary) (p : ℕ)
         → IsSummary (buckets_of m n stamps) (length stamps) s

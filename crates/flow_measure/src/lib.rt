@@ -1,7 +1,9 @@
-//! The numbers of one flow, packet by packet, and what a picture of them has.
+//! The numbers of one flow, packet by packet and group by group, and what a picture of them has.
 //!
-//! A [`SummaryMeter`], [`Columns`], [`Bins`] and [`Classes`] are fed whole numbers, one by one and in order,
-//! and keep no history: their size doesn't grow with the numbers. Numbers and places are counted from 0.
+//! A [`SummaryMeter`], [`Columns`], [`Bins`] and [`Classes`] are fed whole numbers, one by one and in
+//! order. A [`ScheduleMeter`] and a [`MarginMeter`] are fed the stamps of the judged packets, and
+//! [`BrokenGroups`] whether each is broken. None keeps a history: their size doesn't grow with what they
+//! are fed. Stamps are nanoseconds of TAI; numbers, packets and groups are counted from 0.
 #![tactic(auto)]
 
 mod bins;
@@ -13,6 +15,7 @@ mod groups;
 pub mod laws;
 mod margin;
 mod occupancy;
+mod reader;
 mod summary;
 
 pub use bins::Bins;
@@ -22,4 +25,5 @@ pub use columns::{Columns, Extremes};
 pub use frames::{latency_of, offset_of, since_start, step_of};
 pub use margin::{MarginMeter, Margins};
 pub use occupancy::occupancy_of;
+pub use reader::ScheduleMeter;
 pub use summary::{Summary, SummaryMeter};

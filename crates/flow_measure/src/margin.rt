@@ -1,6 +1,7 @@
 //! By how much packets come before their own reads.
 
-ghost use Rattle.std.specs.Prelude.{◌≡◌, ◌<◌, ◌≤◌, ◌+◌, ◌-◌, ◌*◌, ◌%◌, ◌^◌, ◌++◌, ◌∷◌, [], ℕ, ℤ, List, MatchOption, length};
+ghost use Rattle.std.specs.Prelude.{◌≡◌, ◌<◌, ◌≤◌, ◌+◌, ◌-◌, ◌*◌, ◌%◌, ◌^◌, ◌++◌, ◌∷◌, [], ℕ, ℤ};
+ghost use Rattle.std.specs.Prelude.{List, MatchOption, length};
 ghost use Rattle.std.specs.Prelude.{slice_index, pos, negsuc, neg_ℤ, ◌-ℤ◌, ◌≤ℤ◌, ◌+ℤ◌};
 ghost use Rattle.sender_params.specs.Reads.{anchor_of};
 ghost use Rattle.flow_measure.specs.Parts.{parts_of_read};
@@ -9,8 +10,8 @@ use crate::groups::{GROUPS_BEFORE, lifted};
 use fraction128::floor_signed;
 use sender_params::{Params, sizes_of};
 
-/// The reads of one schedule in parts of a nanosecond, from `GROUPS_BEFORE` groups before 0 of TAI on: read k * `n` + j is
-/// at `start + k * group + j * step`.
+/// The reads of one schedule in parts of a nanosecond, from `GROUPS_BEFORE` groups before 0 of TAI on: read
+/// k * `n` + j is at `start + k * group + j * step`.
 #[derive(Clone, Copy, Debug, PartialEq, Eq)]
 struct Reads {
     /// The parts of a nanosecond.
@@ -83,8 +84,8 @@ impl OwnRead {
         }
     }
 
-    /// By how many parts of a nanosecond a packet at `at`, in nanoseconds of TAI, comes before the read; below 0 where it
-    /// comes after.
+    /// By how many parts of a nanosecond a packet at `at`, in nanoseconds of TAI, comes before the read;
+    /// below 0 where it comes after.
     #[inline(always)]
     fn margin(&self, at: u64) -> i128
         requires { at < 2 ^ 62 }
@@ -138,7 +139,8 @@ impl OwnRead {
 /// How much later packets may come, and how many are late.
 #[derive(Clone, Copy, Debug, PartialEq, Eq)]
 pub struct Margins {
-    /// How many nanoseconds later all of them may come before one is late, rounded down; below 0 where one is.
+    /// How many nanoseconds later all of them may come before one is late, rounded down; below 0 where one
+    /// is.
     pub slack: i128,
     /// How many come after their own reads.
     pub late: u64,
@@ -166,8 +168,8 @@ impl MarginMeter {
     ghost use Rattle.flow_measure.specs.Occupancy.{IsSlack, late_of};
     ghost use Rattle.flow_measure.specs.Stands.{Times};
 
-    /// The meter of a flow whose first packet is of group `n0`, before that packet: of its gapped schedule or its
-    /// linear one.
+    /// The meter of a flow whose first packet is of group `n0`, before that packet: of its gapped schedule
+    /// or its linear one.
     pub fn new(params: &Params, gapped: bool, n0: i128) -> MarginMeter
         requires low { negsuc 479 ≤ℤ n0 }
         requires high { n0 ≤ℤ pos (2 ^ 42) }
@@ -182,8 +184,8 @@ impl MarginMeter {
         }
     }
 
-    /// Takes in the packet that came at `at`, in nanoseconds of TAI. One that comes at its own read isn't late (SMPTE
-    /// ST 2110-21, virtual receiver buffer; this project's profile).
+    /// Takes in the packet that came at `at`, in nanoseconds of TAI. One that comes at its own read isn't
+    /// late (SMPTE ST 2110-21, virtual receiver buffer; this project's profile).
     #[inline(always)]
     pub fn feed(&mut self, at: u64)
         requires in_time { at < 2 ^ 62 }
@@ -215,8 +217,8 @@ impl MarginMeter {
         }
     }
 
-    /// The margins of the packets that were fed, if there is one, where the first of them is of the group that `new` was
-    /// given.
+    /// The margins of the packets that were fed, if there is one, where the first of them is of the group
+    /// that `new` was given.
     pub fn finish(&self) -> Option<Margins>
         ensures { (m : Media) (n : ℕ) (gapped : Bool) (stamps : List ℕ)
             → Times m n (anchor_of m (slice_index stamps 0)) gapped self.now stamps

@@ -8,9 +8,9 @@ ghost use Rattle.flow_measure.specs.Occupancy.{IsOccupancy};
 
 use read_schedule::Due;
 
-/// What the buffer holds just after the packet of this number came, counted from 0, where so much is due at its
-/// instant: the packets up to it, less all reads that are due. It is below 0 where the reads are more (SMPTE ST
-/// 2110-21, virtual receiver buffer).
+/// What the buffer holds just after the packet of this number came, counted from 0, where so much is due at
+/// its instant: the packets up to it, less all reads that are due. It is below 0 where the reads are more
+/// (SMPTE ST 2110-21, virtual receiver buffer).
 #[inline(always)]
 pub fn occupancy_of(packet: u64, due: Due) -> i128
     requires { packet < 2 ^ 41 }

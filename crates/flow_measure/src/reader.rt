@@ -1,0 +1,93 @@
+//! What the reads of one schedule say of a flow.
+
+ghost use Rattle.std.specs.Prelude.{◌≡◌, ◌<◌, ◌≤◌, ◌+◌, ◌^◌, ◌++◌, ◌∷◌, [], ℕ, ℤ, Bool, List, length};
+ghost use Rattle.std.specs.Prelude.{slice_index, pos, negsuc, ◌≤ℤ◌, MatchOption};
+ghost use Rattle.timing_base.specs.Media.{Media};
+ghost use Rattle.sender_params.specs.Reads.{anchor_of};
+
+use crate::margin::{MarginMeter, Margins};
+use crate::occupancy::occupancy_of;
+use crate::summary::{Summary, SummaryMeter};
+use read_schedule::Schedule;
+use sender_params::Params;
+
+/// The reads of one schedule and the packets so far of one flow: the occupancy and the margins of each.
+#[derive(Clone, Copy, Debug, PartialEq, Eq)]
+pub struct ScheduleMeter {
+    /// The packets fed.
+    pub seen: u64,
+    schedule: Schedule,
+    occupancy: SummaryMeter,
+    margins: MarginMeter,
+    ghost occupancy_is: { occupancy.seen ≡ seen },
+    ghost margins_is: { margins.seen ≡ seen },
+}
+
+impl ScheduleMeter {
+    ghost use Rattle.flow_measure.specs.Occupancy.{AreOccupancies, IsOccupancy, IsSlack, late_of};
+    ghost use Rattle.flow_measure.specs.Followed.{CanFollow, Follows};
+    ghost use Rattle.flow_measure.specs.Summary.{IsSummary};
+
+    /// The meter of a flow whose first packet is of group `n0`, before that packet: of its gapped schedule
+    /// or its linear one.
+    pub fn new(params: &Params, gapped: bool, n0: i128) -> ScheduleMeter
+        requires low { negsuc 479 ≤ℤ n0 }
+        requires high { n0 ≤ℤ pos (2 ^ 42) }
+        ensures seen { result.seen ≡ 0 }
+        ensures stands { Follows params.now.media params.now.n n0 gapped result [] }
+    {
+        ScheduleMeter {
+            seen: 0,
+            schedule: Schedule::new(params, gapped, n0),
+            occupancy: SummaryMeter::new(),
+            margins: MarginMeter::new(params, gapped, n0),
+        }
+    }
+
+    /// Takes in the packet that came at `at`, in nanoseconds of TAI, and answers what the buffer holds just
+    /// after it, below 0 where the reads are more.
+    ///
+    /// Feed one meter with stamps that never fall, the first of them of the group that `new` was given: the
+    /// clauses say nothing of others.
+    #[inline(always)]
+    pub fn feed(&mut self, at: u64) -> i128
+        requires in_time { at < 2 ^ 62 }
+        requires few { self.old.seen < 2 ^ 41 }
+        ensures seen { self.new.seen ≡ self.old.seen + 1 }
+
+        // Whatever packets the meter was fed, this is the occupancy of the next one, and it was now fed
+        // that one, too.
+        ensures occupancy { (m : Media) (n : ℕ) (anchor : ℤ) (gapped : Bool) (stamps : List ℕ)
+            → Follows m n anchor gapped self.old stamps → CanFollow m anchor stamps at
+            → IsOccupancy m n (stamps ++ at ∷ []) gapped (length stamps) result }
+        ensures stands { (m : Media) (n : ℕ) (anchor : ℤ) (gapped : Bool) (stamps : List ℕ)
+            → Follows m n anchor gapped self.old stamps → CanFollow m anchor stamps at
+            → Follows m n anchor gapped self.new (stamps ++ at ∷ []) }
+    {
+        let due = self.schedule.advance(at);
+        let occupancy = occupancy_of(self.seen, due);
+        self.occupancy.feed(occupancy);
+        self.margins.feed(at);
+        self.seen += 1;
+        occupancy
+    }
+
+    /// The summary of the occupancies, if there is a packet.
+    pub fn occupancy(&self) -> Option<Summary>
+        ensures { (m : Media) (n : ℕ) (anchor : ℤ) (gapped : Bool) (stamps : List ℕ) (occupancy : ℕ → ℤ)
+            → Follows m n anchor gapped self.now stamps → AreOccupancies m n stamps gapped occupancy
+            → MatchOption result (length stamps ≡ 0) (IsSummary occupancy (length stamps)) }
+    {
+        self.occupancy.finish()
+    }
+
+    /// The margins, if there is a packet.
+    pub fn margins(&self) -> Option<Margins>
+        ensures { (m : Media) (n : ℕ) (gapped : Bool) (stamps : List ℕ)
+            → Follows m n (anchor_of m (slice_index stamps 0)) gapped self.now stamps
+            → MatchOption result (length stamps ≡ 0) (λ x. IsSlack m n stamps gapped x.slack
+            × (x.late ≡ late_of m n stamps gapped)) }
+    {
+        self.margins.finish()
+    }
+}
