@@ -1,5 +1,6 @@
 -- for other crates
 pub mod Confirmed
+pub mod Runs
 -- of this crate alone
 mod Banks
 mod Expecting
@@ -18,7 +19,6 @@ mod OneTakes
 mod Prefixes
 mod Readings
 mod Rows
-mod Runs
 mod SenderTypes
 mod Verdicts
 mod Whole

@@ -1,23 +1,23 @@
 -- What follows for a run from what its steps found.
-use Rattle.std.proofs.Common.{◌≡◌, ◌≤◌, ℕ, List, Option, Some, None, refl, arith, ap, ◌∙◌, sym, subst, inl, inr}
+use Rattle.std.proofs.Common.{◌≡◌, ◌≤◌, ℕ, List, Option, Some, refl, arith, ap, ◌∙◌, sym, subst, inl, inr}
 use Rattle.std.specs.Prelude.{IfErr, IfOk, Result, Ok, Err, slice_get}
 use Rattle.std.specs.Option.{option_map}
-use Rattle.std.specs.Result.{IsErrAnd}
 use Rattle.timing_base.specs.Jobs.{FlowJob}
 use Rattle.timing_base.specs.Media.{Media}
 use Rattle.timing_outside.specs.Causes.{Rose}
 use Rattle.pcapng_reader.specs.Classic.{classic, classic_texts}
 use Rattle.sdp_reader.specs.Session.{session}
-use Rattle.timing_report.specs.declared.status.Input.{Input}
+use Rattle.sdp_reader.specs.declared.fault.SdpFault.{SdpFault}
 use Rattle.timing_report.specs.declared.status.Input.TheVariants as input
-use Rattle.timing_steps.specs.Answers.{Answer, Gives, Inputs, OnReadFault, ReadsSession, Yields}
+use Rattle.timing_steps.specs.Answers.{Answer, Gives, Inputs, OnReadFault, OnSession, ReadsSession, Yields}
 use Rattle.timing_steps.specs.Ends.{HasStatus, look_ends}
 use Rattle.timing_steps.specs.Ran.{HasCause}
 use Rattle.timing_steps.specs.declared.failure.Failure.{Failure}
 use Rattle.timing_steps.specs.declared.failure.Failure.TheVariants as failure
 use Rattle.timing_steps.proofs.Endings.{look-answered}
-use Rattle.timing_steps.proofs.Seeing.{Sees, follows-session, risen-seen, rose-within, yields-on}
-use Rattle.timing_reach.specs.Asked.{FlowInputRose, ReadsCapture, ReadsFlow, no_such_media}
+use Rattle.timing_steps.proofs.Seeing.{Sees, risen-seen, rose-within}
+use Rattle.timing_reach.specs.Asked.{FlowInputRose, ReadsCapture, ReadsFlow}
+use Rattle.timing_reach.specs.judged.Found.{IsFound}
 
 -- a capture that was read, or couldn't be
 pub reads-capture : (i : Inputs) (outcome : Result Answer Failure) (name : List ℕ) (next : List ℕ → Answer → Type 0)
@@ -43,22 +43,35 @@ capture-seen : (i j : Inputs) (outcome : Result Answer Failure) (name : List ℕ
 capture-seen i j outcome name next s (inl failed) = inl (failed.0, risen-seen i j name s failed.1)
 capture-seen i j outcome name next s (inr read) = inr ((λ lacks. read.0 (s.lacks name lacks)), λ text told. read.1 text (s.texts name ∙ told))
 
-flow-seen : (i j : Inputs) (outcome : Result Answer Failure) (job : FlowJob) (next : Media → List ℕ → Answer → Type 0) (there : Option Media) → Sees i j
-    → ReadsFlow j outcome job next there → ReadsFlow i outcome job next there
-flow-seen i j outcome job next None s h = h
-flow-seen i j outcome job next (Some m) s h = capture-seen i j outcome job.capture (λ text. Gives outcome (next m text)) s h
-
 -- a description that was read, and what follows for its media was seen later
-pub flow-session : (i j : Inputs) (job : FlowJob) (next : Media → List ℕ → Answer → Type 0) (outcome : Result Answer Failure) (asked : List ℕ)
-    (all media : List Media) → Sees i j → asked ≡ job.sdp → all ≡ media → ¬ i.lacks asked
-    → ((text : List ℕ) → i.texts asked ≡ Some text → session text ≡ Ok media) → Yields outcome (ReadsFlow j outcome job next (slice_get all job.media))
+on-found : (i : Inputs) (job : FlowJob) (next : Media → List ℕ → Answer → Type 0) (outcome : Result Answer Failure) (m : Media)
+    (read : Result (List Media) SdpFault) → IsFound read job.media (Ok m) → ReadsFlow i outcome job next (Some m)
+    → OnSession read outcome (λ media. ReadsFlow i outcome job next (slice_get media job.media))
+on-found i job next outcome m (Ok media) found h = subst (ReadsFlow i outcome job next) (sym found) h
+on-found i job next outcome m (Err fault) found h = absurd found
+
+pub found-follows : (i j : Inputs) (job : FlowJob) (next : Media → List ℕ → Answer → Type 0) (outcome : Result Answer Failure) (m : Media) → Sees i j
+    → ¬ i.lacks job.sdp → ((text : List ℕ) → i.texts job.sdp ≡ Some text → IsFound (session text) job.media (Ok m))
+    → Yields outcome (ReadsCapture j outcome job.capture (λ text. Gives outcome (next m text)))
     → Yields outcome (ReadsSession i outcome job.sdp (λ media. ReadsFlow i outcome job next (slice_get media job.media)))
-flow-session i j job next outcome asked all media s named same there told h =
-    follows-session i outcome job.sdp media (λ m. ReadsFlow i outcome job next (slice_get m job.media)) (subst (λ (n : List ℕ). ¬ i.lacks n) named there)
-    (λ text t. told text (ap i.texts named ∙ t))
-    (yields-on outcome (ReadsFlow j outcome job next (slice_get all job.media)) (ReadsFlow i outcome job next (slice_get media job.media))
-    (λ r. subst (λ (m : List Media). ReadsFlow i outcome job next (slice_get m job.media)) same (flow-seen i j outcome job next (slice_get all job.media) s r))
-    h)
+found-follows i j job next outcome m s there told (inl memory) = inl memory
+found-follows i j job next outcome m s there told (inr h) =
+    inr (inr (
+      there,
+      λ text t. on-found i job next outcome m (session text) (told text t)
+          (capture-seen i j outcome job.capture (λ text. Gives outcome (next m text)) s h),
+    ))
+
+-- the description is refused, or hasn't the media
+on-none : (i : Inputs) (job : FlowJob) (next : Media → List ℕ → Answer → Type 0) (answer : Answer) (read : Result (List Media) SdpFault)
+    → IsFound read job.media (Err answer) → OnSession read (Ok answer) (λ media. ReadsFlow i (Ok answer) job next (slice_get media job.media))
+on-none i job next answer (Ok media) none = subst (ReadsFlow i (Ok answer) job next) (sym none.0) (answer, refl, none.1)
+on-none i job next answer (Err fault) none = (answer, refl, none)
+
+pub none-follows : (i : Inputs) (job : FlowJob) (next : Media → List ℕ → Answer → Type 0) (answer : Answer) → ¬ i.lacks job.sdp
+    → ((text : List ℕ) → i.texts job.sdp ≡ Some text → IsFound (session text) job.media (Err answer))
+    → Yields (Ok answer) (ReadsSession i (Ok answer) job.sdp (λ media. ReadsFlow i (Ok answer) job next (slice_get media job.media)))
+none-follows i job next answer there told = inr (inr (there, λ text t. on-none i job next answer (session text) (told text t)))
 
 -- the capture's count rose in a part of the run
 pub cause-after : (outcome : Result Answer Failure) (a b c : ℕ) → a ≤ b → IfErr outcome (λ e. OnReadFault e (λ x. (x ≡ input.Capture 0) × Rose b c))
@@ -89,26 +102,6 @@ reads-twice i mid between outcome name Known next texts earlier known there told
     there-too : (outcome : Result Answer Failure) → IfOk outcome (λ _. ¬ i.lacks name)
     there-too (Ok answer) = there
     there-too (Err e) = tt
-
--- memory ran out
-pub ran-out : (outcome : Result Answer Failure) → IsErrAnd outcome (λ e. e ≡ failure.OutOfMemory) → outcome ≡ Err failure.OutOfMemory
-ran-out (Ok answer) h = absurd h
-ran-out (Err e) h = ap Err h
-
-pub cause-out : (outcome : Result Answer Failure) (InputRose : Input → Type 0) → IsErrAnd outcome (λ e. e ≡ failure.OutOfMemory) → HasCause outcome InputRose
-cause-out outcome InputRose h = subst (λ o. HasCause o InputRose) (sym (ran-out outcome h)) tt
-
--- the description hasn't the media
-pub reads-none : (i : Inputs) (job : FlowJob) (next : Media → List ℕ → Answer → Type 0) (answer : Answer) (there : Option Media) → there ≡ None
-    → answer ≡ no_such_media
-    → Yields (Ok answer) (ReadsFlow i (Ok answer) job next there)
-reads-none i job next answer there none is = inr (subst (ReadsFlow i (Ok answer) job next) (sym none) (answer, refl, is))
-
--- the description has it
-pub reads-some : (i : Inputs) (outcome : Result Answer Failure) (job : FlowJob) (next : Media → List ℕ → Answer → Type 0) (there : Option Media) (m : Media)
-    → there ≡ Some m
-    → Yields outcome (ReadsFlow i outcome job next (Some m)) → Yields outcome (ReadsFlow i outcome job next there)
-reads-some i outcome job next there m some h = subst (λ t. Yields outcome (ReadsFlow i outcome job next t)) (sym some) h
 
 -- an input's count rose in a part of the run
 pub cause-seen : (i j : Inputs) (outcome : Result Answer Failure) (job : FlowJob) → Sees i j → HasCause outcome (FlowInputRose job j)

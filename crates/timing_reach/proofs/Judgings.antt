@@ -60,12 +60,17 @@ whole-of : (packets : List FlowPacket) (tai head : ℕ) (run : JudgedRun) (b : B
 whole-of packets tai head run true e h = absurd h
 whole-of packets tai head run false e h = record { marked = not_few _ e; run_is = h }
 
-pub one-run : (packets : List FlowPacket) (pt tai : ℕ) (run : JudgedRun) → judged packets pt tai ≡ in_one_run (whole_frames run) → IsOneRun packets tai run
-one-run packets pt tai run e =
-    let out : run_outcome packets tai 0 (length packets) ≡ whole_frames run =
+-- what comes of the run
+pub run-of : (packets : List FlowPacket) (pt tai : ℕ) (run : JudgedRun) → judged packets pt tai ≡ in_one_run (whole_frames run)
+    → run_outcome packets tai 0 (length packets) ≡ whole_frames run
+run-of packets pt tai run e =
     one-of (whole_frames run) packets (length packets == 0) (length (cuts packets (length packets)) == 0) (first_fault packets pt)
     (run_outcome packets tai 0 (length packets)) (runs packets tai)
-    (subst (IsOne (whole_frames run)) (sym e) refl) in
+    (subst (IsOne (whole_frames run)) (sym e) refl)
+
+pub one-run : (packets : List FlowPacket) (pt tai : ℕ) (run : JudgedRun) → judged packets pt tai ≡ in_one_run (whole_frames run) → IsOneRun packets tai run
+one-run packets pt tai run e =
+    let out = run-of packets pt tai run e in
     whole-of packets tai (head_len (markers packets 0 (length packets)) 0 (length packets)) run (nat_lt (length (markers packets 0 (length packets))) 2) refl
     (subst (IsWhole run) (sym out) refl)
 

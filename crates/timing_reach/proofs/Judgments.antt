@@ -1,6 +1,6 @@
--- What a first reading finds, from what its judge and its opening say, and what a second one measures.
-use Rattle.std.specs.Prelude.{IfOk, OnOk, Result, Ok, Err, if◌then◌else◌, slice_index}
-use Rattle.std.proofs.Common.{◌≡◌, ◌≤◌, ◌+◌, ◌*◌, ◌-◌, ◌^◌, ℕ, List, [], ◌∷◌, ◌++◌, length, Some, refl, arith, ap, ◌∙◌, sym, subst}
+-- What a first reading finds, from what its judge and its opening say.
+use Rattle.std.specs.Prelude.{IfOk, OnOk, Result, Ok, Err, if◌then◌else◌}
+use Rattle.std.proofs.Common.{◌≡◌, ◌≤◌, ◌+◌, ◌-◌, ◌^◌, ℕ, List, [], ◌∷◌, ◌++◌, Some, refl, arith, ap, ◌∙◌, sym, subst}
 use Rattle.timing_base.specs.Captures.{Record}
 use Rattle.timing_base.specs.Flows.{read_or_zeros}
 use Rattle.timing_base.specs.Judged.{FlowVerdict, JudgedRun, absent, gap, in_one_run, in_runs, judged, no_whole_frame, refused, whole_frames}
@@ -16,23 +16,18 @@ use Rattle.fail_interval.specs.Stands.{StandsFor}
 use Rattle.pcap_reader.specs.Records.{Records}
 use Rattle.pcap_reader.specs.Taken.{TakesFew}
 use Rattle.pcap_reader.specs.declared.records.Taken.{Taken}
-use Rattle.sender_params.specs.Reads.{anchor_of}
 use Rattle.udp_rtp.specs.Flow.{flow, flow_packet}
 use Rattle.timing_steps.specs.Answers.{Answer}
 use Rattle.timing_steps.specs.Taken.{TakesText}
 use Rattle.timing_reach.specs.Asked.{OnFlow, OnRun, not_judged}
-use Rattle.timing_reach.specs.judged.Runs.{IsRunOf, gauged}
-use Rattle.timing_reach.specs.window.Gauging.{GaugesOn, IsGauged}
+use Rattle.timing_reach.specs.judged.Runs.{IsRunOf}
 use Rattle.timing_reach.specs.judged.Opening.{IsOpening}
 use Rattle.timing_reach.specs.judged.Marks.{last_marked}
 use Rattle.timing_reach.specs.judged.Readings.{IsJudging, IsJudgment, IsJudgmentIn, JudgesOn}
-use Rattle.timing_reach.specs.Windows.{AreWindowsOf}
-use Rattle.timing_reach.specs.declared.window.gauge.Gauge.{Gauge}
 use Rattle.timing_reach.specs.declared.judged.judging.Judging.{Judging}
 use Rattle.timing_reach.specs.declared.judged.judgment.Judgment.{Judgment}
-use Rattle.timing_reach.specs.declared.window.windows.Windows.{Windows}
 use Rattle.timing_reach.proofs.Gauges.{one-packet}
-use Rattle.timing_reach.proofs.Judgings.{judged-few, judged-of, one-run, within-run}
+use Rattle.timing_reach.proofs.Judgings.{judged-few, judged-of, one-run}
 use Rattle.timing_reach.proofs.Packets.{flow-few}
 use Rattle.timing_reach.proofs.Takings.{fed-alone}
 
@@ -82,24 +77,6 @@ judgment-few m key tai most old new judgment j start t finish is =
     let few = judged-few m j packets tai run.0 (one-run packets m.pt tai run.0 run.1) run.2 in
     omega (arith, few, flow-few m t.items, t.few)
 
--- the records of a flow were measured that is judged in this run
-pub measured : (m : Media) (tai first : ℕ) (j : Judged) (run : JudgedRun) (old new : Gauge) (items : List Record) (w : Windows)
-    → IsGauged m j.n tai (anchor_of m (first + tai * 10 ^ 9)) j.head j.packets old [] → GaugesOn old new items → IsRunOf m tai first j items run
-    → ((m : Media) (n tai head count : ℕ) (packets : List FlowPacket) (stamps : List ℕ)
-    → IsGauged m n tai (anchor_of m (slice_index stamps 0)) head count new packets
-    → count ≤ length packets - head → gauged tai head count packets ≡ stamps → AreWindowsOf m n stamps w)
-    → AreWindowsOf m run.n run.stamps w
-measured m tai first j run old new items w start on found finish =
-    let packets = flow items m in
-    let within = within-run packets tai run (one-run packets m.pt tai run found.judged_is) in
-    let at_start : IsGauged m run.n tai (anchor_of m (slice_index run.stamps 0)) run.head (length run.stamps) old [] =
-    subst (λ (x : ℕ). IsGauged m x tai (anchor_of m (slice_index run.stamps 0)) run.head (length run.stamps) old []) found.group
-    (subst (λ (x : ℕ). IsGauged m j.n tai (anchor_of m (slice_index run.stamps 0)) x (length run.stamps) old []) found.head
-    (subst (λ (x : ℕ). IsGauged m j.n tai (anchor_of m (slice_index run.stamps 0)) j.head x old []) found.count
-    (subst (λ (a : ℕ). IsGauged m j.n tai (anchor_of m a) j.head j.packets old []) (sym found.opens) start))) in
-    finish m run.n tai run.head (length run.stamps) packets run.stamps
-    (on m run.n tai (anchor_of m (slice_index run.stamps 0)) run.head (length run.stamps) [] at_start) within.few within.gauged_is
-
 -- the answer on a flow that is judged in one run
 pub run-on : (text : List ℕ) (m : Media) (tai : ℕ) (next : List Record → JudgedRun → Answer → Type 0) (judgment : Judgment) (j : Judged) (answer : Answer)
     → judgment.verdict ≡ verdict.Judged j → IsJudgmentIn m tai text judgment
@@ -125,7 +102,7 @@ run-on text m tai next judgment j answer is s looked =
     }
 
 -- the answer on any other flow
-not-run : (m : Media) (next : JudgedRun → Answer → Type 0) (v : FlowVerdict) (answer : Answer) → ((j : Judged) → verdict_of m v ≡ verdict.Judged j → ⊥)
+pub not-run : (m : Media) (next : JudgedRun → Answer → Type 0) (v : FlowVerdict) (answer : Answer) → ((j : Judged) → verdict_of m v ≡ verdict.Judged j → ⊥)
     → answer ≡ not_judged m (verdict_of m v) → OnRun m next v answer
 not-run m next absent answer other e = e
 not-run m next (refused rec fault) answer other e = e

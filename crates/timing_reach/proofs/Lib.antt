@@ -6,6 +6,8 @@ mod Judgings
 mod RunSizes
 pub mod SomeShape
 mod Judgments
+mod WindowGauges
+mod WindowReadings
 mod SecondReadings
 mod Following
 pub mod Unique

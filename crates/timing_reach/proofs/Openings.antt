@@ -24,7 +24,7 @@ packet-before packets p k h = get_or-append packets (p ∷ []) no_packet k h
 pub packet-last : (packets : List FlowPacket) (p : FlowPacket) → packet (packets ++ p ∷ []) (length packets) ≡ p
 packet-last packets p = get_or-append_seam packets p [] no_packet
 
-markers-before : (packets : List FlowPacket) (p : FlowPacket) → markers (packets ++ p ∷ []) 0 (length packets) ≡ markers packets 0 (length packets)
+pub markers-before : (packets : List FlowPacket) (p : FlowPacket) → markers (packets ++ p ∷ []) 0 (length packets) ≡ markers packets 0 (length packets)
 markers-before packets p =
     places-same (has_marker (packets ++ p ∷ [])) (has_marker packets) 0 (length packets)
     (λ k h. ap (λ (q : FlowPacket). (read_or_zeros q.rtp).marker) (packet-before packets p k h))

@@ -1,1 +1,2 @@
 pub mod Gauging
+pub mod Readings

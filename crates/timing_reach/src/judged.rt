@@ -1,14 +1,17 @@
-//! A flow is judged first, and where that comes to one run of whole frames, its capture is read again. What the
-//! second reading comes to is held against the first.
+//! What commands over one flow share. The media of a job is found in its description. Where a capture is read twice, a
+//! flow is judged first, and where that comes to one run of whole frames, its capture is read again; what the second
+//! reading comes to is held against the first.
 
-mod answers;
 pub mod captures;
 mod judging;
 mod judgment;
 pub mod look;
-mod opening;
+mod media;
+pub mod opening;
 mod second;
+mod twice;
 pub mod words;
 
-pub use answers::answer_flow;
 pub use look::Look;
+pub use media::find_media;
+pub use twice::answer_twice;

@@ -2,8 +2,9 @@
 //! flow, `shape`, when its packets would leave if they were delayed as little as the limits of a sender type
 //! allow, and `skew`, how far two flows with the same packets lie apart.
 //!
-//! For `window` and `shape` a flow is judged first, and where that comes to one run its capture is read a
-//! second time. Captures, media and judged packets count from 0, and records from 1; stamps are nanoseconds.
+//! `window` measures a flow while it is judged. For `shape` a flow is judged first, and where that comes to one run
+//! its capture is read a second time. Captures, media and judged packets count from 0, and records from 1; stamps
+//! are nanoseconds.
 #![tactic(auto)]
 
 mod judged;

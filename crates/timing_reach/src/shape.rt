@@ -14,7 +14,7 @@ ghost use Rattle.timing_steps.specs.Ran.{HasCause, Ran, output_of};
 ghost use Rattle.timing_reach.specs.Asked.{FlowInputRose};
 ghost use Rattle.timing_reach.specs.Shaped.{FollowsShape};
 
-use crate::judged::{Look, answer_flow};
+use crate::judged::{Look, answer_twice, find_media};
 use crate::shape::leaver::Leaver;
 use crate::shape::shaping::Shaping;
 use std::alloc::{AllocError as OutOfMemory, Global};
@@ -78,7 +78,10 @@ fn answer_shape<H: Shelf>(alloc: Global, job: &ShapeJob, shelf: &mut H) -> Resul
         kind: job.kind,
         list: job.list,
     };
-    answer_flow(alloc, &job.flow, &look, shelf)
+    match find_media(alloc, &job.flow, shelf)? {
+        Ok(media) => answer_twice(alloc, &job.flow, &look, shelf, &media),
+        Err(answer) => Ok(answer),
+    }
 }
 
 /// Prints on `out` the flow of a job as a capture in which its judged packets leave as early as the limits of

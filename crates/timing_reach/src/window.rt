@@ -2,56 +2,96 @@
 
 mod gauge;
 mod meters;
+mod reading;
 mod windows;
 
-ghost use Rattle.std.specs.Prelude.{IfOk};
+ghost use Rattle.std.specs.Prelude.{◌≡◌, ℕ, List, Some, IfErr, IfOk};
+ghost use Rattle.timing_base.specs.Judged.{judged};
+ghost use Rattle.timing_base.specs.declared.packet.FlowPacket.{FlowPacket as PacketValue};
+ghost use Rattle.timing_outside.specs.Causes.{Rose};
 ghost use Rattle.timing_outside.specs.Shelves.{StaysAs};
-ghost use Rattle.timing_steps.specs.Answers.{seen_of};
+ghost use Rattle.pcapng_reader.specs.Classic.{classic_texts};
+ghost use Rattle.timing_steps.specs.Answers.{Gives, OnReadFault, Yields, seen_of};
 ghost use Rattle.timing_steps.specs.Ends.{EndsWith, HasStatus, look_ends};
 ghost use Rattle.timing_steps.specs.Ran.{HasCause, Ran, output_of};
-ghost use Rattle.timing_reach.specs.Asked.{FlowInputRose, FollowsWindow};
+ghost use Rattle.timing_reach.specs.Asked.{FlowInputRose, FollowsWindow, HasWindow, OnRun, ReadsCapture};
+ghost use Rattle.timing_reach.specs.Windows.{HasLines};
+ghost use Rattle.timing_reach.specs.window.Readings.{HasWindows, IsMeasured, IsMeasuredIn};
 
-use crate::judged::{Look, answer_flow};
-use crate::window::gauge::Gauge;
+use crate::judged::captures::take_capture;
+use crate::judged::find_media;
+use crate::judged::words::not_judged;
+use crate::window::reading::{Measured, Reading};
 use crate::window::windows::windowed;
 use std::alloc::{AllocError as OutOfMemory, Global};
-use timing_base::{FlowJob, Judged, Media};
+use timing_base::{FlowJob, Media, Verdict};
 use timing_outside::{Shelf, Sink};
-use timing_report::Status;
+use timing_report::{Input, Status};
 use timing_steps::{Answer, Failure, conclude};
 
-/// The windows of a flow are looked for.
-#[derive(Clone, Copy, Debug, PartialEq, Eq)]
-struct WindowLook;
-
-impl Look for WindowLook {
-    ghost use Rattle.std.specs.Prelude.{◌+◌, ◌*◌, ◌^◌, []};
-    ghost use Rattle.sender_params.specs.Reads.{anchor_of};
-    ghost use Rattle.timing_reach.specs.Windows.{HasLines};
-    ghost use Rattle.timing_reach.specs.window.Gauging.{IsGauged};
-
-    type Meter = Gauge;
-
-    ghost answers = { λ look tai m items. HasLines m };
-
-    ghost fresh = { λ look tai m judged first gauge.
-        IsGauged m judged.n tai (anchor_of m (first + tai * 10 ^ 9)) judged.head judged.packets
-        gauge [] };
-
-    fn begin(
-        &self,
-        _alloc: Global,
-        tai: u64,
-        media: &Media,
-        judged: &Judged,
-        first: u64,
-    ) -> Result<Gauge, OutOfMemory> {
-        Ok(Gauge::new(media, judged, first, tai))
+/// The lines of a flow that is judged in one run, or the verdict on another.
+fn told_of(alloc: Global, media: &Media, measured: &Measured) -> Result<Answer, OutOfMemory>
+    requires { HasWindows measured.now }
+    ensures answered { IfOk result (HasStatus look_ends) }
+    ensures answers { IfOk result (λ answer. (tai : ℕ) (packets : List PacketValue)
+        → IsMeasured media.now tai packets measured.now
+        → OnRun media.now (HasLines media.now) (judged packets media.now.pt tai) answer) }
+{
+    match &measured.verdict {
+        Verdict::Judged(_) => windowed(alloc, &measured.windows.unwrap()),
+        verdict => not_judged(alloc, media, verdict),
     }
+}
 
-    fn finish(&self, alloc: Global, _judged: &Judged, gauge: Gauge) -> Result<Answer, OutOfMemory> {
-        windowed(alloc, &gauge.finish())
-    }
+/// The answer on a flow of which a reading came to this.
+fn answer_measured(alloc: Global, media: &Media, measured: &Measured) -> Result<Answer, Failure>
+    requires { HasWindows measured.now }
+    ensures answered { IfOk result (HasStatus look_ends) }
+    ensures answers { IfOk result (λ answer. (tai : ℕ) (packets : List PacketValue)
+        → IsMeasured media.now tai packets measured.now
+        → OnRun media.now (HasLines media.now) (judged packets media.now.pt tai) answer) }
+    ensures cause { IfErr result (λ e. OnReadFault e (λ _. ⊥)) }
+{
+    Ok(told_of(alloc, media, measured)?)
+}
+
+/// Reads the flow of a job, and measures it while it is judged: its capture is fetched for that.
+fn measure<H: Shelf>(
+    alloc: Global,
+    job: &FlowJob,
+    shelf: &mut H,
+    media: &Media,
+) -> Result<Measured, Failure>
+    ensures told { IfOk result (λ measured. (text : List ℕ)
+        → classic_texts (H.text shelf.old) job.now.capture ≡ Some text
+        → IsMeasuredIn media.now job.now.tai text measured) }
+    ensures windows { IfOk result (λ measured. HasWindows measured) }
+    ensures cause { IfErr result (λ e. OnReadFault e (λ i. (i ≡ Input.Capture 0)
+        × Rose (H.faults shelf.old job.now.capture) (H.faults shelf.new job.now.capture))) }
+    ensures there { IfOk result (λ _. ¬ H.lacks shelf.old job.now.capture) }
+    ensures stays { StaysAs H.text H.lacks H.faults shelf.old shelf.new }
+{
+    let mut reading = Reading::new(alloc, media, job.media, job.tai);
+    take_capture(alloc, shelf, job.capture.as_str(), &mut reading)?;
+    Ok(reading.finish())
+}
+
+/// The answer on the flow of this media.
+fn answer_on<H: Shelf>(
+    alloc: Global,
+    job: &FlowJob,
+    shelf: &mut H,
+    media: &Media,
+) -> Result<Answer, Failure>
+    ensures follows { Yields result (ReadsCapture (seen_of H.Shelf shelf.old shelf.new)
+        result job.now.capture (λ text. Gives result (HasWindow job.now.tai media.now text))) }
+    ensures answers { IfOk result (HasStatus look_ends) }
+    ensures cause { HasCause result
+        (FlowInputRose job.now (seen_of H.Shelf shelf.old shelf.new)) }
+    ensures stays { StaysAs H.text H.lacks H.faults shelf.old shelf.new }
+{
+    let measured = measure(alloc, job, shelf, media)?;
+    answer_measured(alloc, media, &measured)
 }
 
 /// The answer of a job, or why there is none.
@@ -62,7 +102,10 @@ fn answer_window<H: Shelf>(alloc: Global, job: &FlowJob, shelf: &mut H) -> Resul
         (FlowInputRose job.now (seen_of H.Shelf shelf.old shelf.new)) }
     ensures stays { StaysAs H.text H.lacks H.faults shelf.old shelf.new }
 {
-    answer_flow(alloc, job, &WindowLook, shelf)
+    match find_media(alloc, job, shelf)? {
+        Ok(media) => answer_on(alloc, job, shelf, &media),
+        Err(answer) => Ok(answer),
+    }
 }
 
 /// Prints on `out` which offsets would keep the buffer of the flow of a job, for each sender type. On

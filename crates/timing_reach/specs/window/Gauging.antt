@@ -1,17 +1,21 @@
--- What the second reading of a flow measures. Packets count from 0; stamps are nanoseconds of TAI.
-use Rattle.std.specs.Prelude.{◌≡◌, ◌+◌, ◌-◌, ◌*◌, ◌^◌, ℕ, ℤ, List, [], ◌∷◌, ◌++◌, length}
-use Rattle.std.proofs.Common.{sym, subst, append-nil, append_assoc, ap, ◌∙◌}
-use Rattle.std.proofs.lemmas.List.Elements.{filter_map-append}
-use Rattle.timing_base.specs.Captures.{Record}
+-- What a gauge measures of a flow, as far as the flow has come. Packets count from 0; stamps are nanoseconds of TAI.
+use Rattle.std.specs.Prelude.{◌≡◌, ◌≤◌, ◌<◌, ◌+◌, ◌*◌, ◌^◌, ℕ, ℤ, ⊤, Bool, true, false, List, [], ◌∷◌, ◌++◌, length}
+use Rattle.std.specs.Prelude.{slice_index, Option, Some, None}
+use Rattle.fail_interval.specs.SoFar.{Groups as GroupsSoFar, SoFar, in_first, in_groups, in_head, so_far_at}
+use Rattle.timing_base.specs.Judged.{RunOutcome, no_whole_frame, whole_frames}
 use Rattle.timing_base.specs.Media.{Media}
 use Rattle.timing_base.specs.declared.media.Kind.TheVariants.{N, NL, W}
 use Rattle.timing_base.specs.declared.packet.FlowPacket.{FlowPacket}
+use Rattle.sender_params.specs.Reads.{anchor_of}
 use Rattle.sender_params.specs.declared.params.Params.{Params}
 use Rattle.offset_window.specs.Stands.{StandsFor}
-use Rattle.udp_rtp.specs.Flow.{flow, flow_packet}
-use Rattle.timing_reach.specs.judged.Runs.{gauged}
+use Rattle.timing_reach.specs.Windows.{AreWindowsOf}
 use Rattle.timing_reach.specs.declared.window.gauge.Gauge.{Gauge}
+use Rattle.timing_reach.specs.declared.window.gauge.GroupGauge.{GroupGauge}
+use Rattle.timing_reach.specs.declared.window.gauge.Part.{Part}
+use Rattle.timing_reach.specs.declared.window.gauge.Part.TheVariants.{First, Groups, Head, TooLarge}
 use Rattle.timing_reach.specs.declared.window.meters.WindowMeters.{WindowMeters}
+use Rattle.timing_reach.specs.declared.window.windows.Windows.{Windows}
 
 -- the meters were fed packets with these stamps and no others, of a flow whose first packet is of group `anchor`
 pub record AreFed (params : Params) (anchor : ℤ) (meters : WindowMeters) (stamps : List ℕ) : Type 0 where
@@ -23,44 +27,54 @@ pub record AreFed (params : Params) (anchor : ℤ) (meters : WindowMeters) (stam
 abbrev pub count_seen : WindowMeters → ℕ
 count_seen meters = meters.narrow.seen
 
--- the packets were passed to meters of this media, with n packets in each group, and no others
-pub record IsGauged (m : Media) (n tai : ℕ) (anchor : ℤ) (head count : ℕ) (g : Gauge)
-    (packets : List FlowPacket) : Type 0 where
+-- the flow has come to these whole groups: all packets behind the first marker were fed, and at the last marker those
+-- of the whole groups
+pub record IsMetered (m : Media) (g : GroupGauge) (so_far : GroupsSoFar) : Type 0 where
   pub media : g.params.media ≡ m
-  pub group : g.params.n ≡ n
-  pub added : g.added ≡ tai * 10 ^ 9
-  pub ahead : g.ahead ≡ head - length packets
-  pub due : g.due ≡ count - (length packets - head)
-  pub fed : AreFed g.params anchor g.meters (gauged tai head count packets)
+  pub group : g.params.n ≡ so_far.n
+  pub some : 1 ≤ length so_far.stamps
+  pub begins : slice_index so_far.whole 0 ≡ slice_index so_far.stamps 0
+  pub fed : AreFed g.params (anchor_of m (slice_index so_far.stamps 0)) g.meters so_far.stamps
+  pub kept : AreFed g.params (anchor_of m (slice_index so_far.stamps 0)) g.at_marker so_far.whole
 
--- a packet that came at this instant was put in
-pub record Puts (at : ℕ) (old new : Gauge) : Type 0 where
-  pub params : new.params ≡ old.params
-  pub added : new.added ≡ old.added
-  pub ahead : new.ahead ≡ old.ahead
-  pub due : new.due + 1 ≡ old.due
-  pub stands : (anchor : ℤ) (stamps : List ℕ) → AreFed old.params anchor old.meters stamps
-      → AreFed new.params anchor new.meters (stamps ++ at ∷ [])
+-- whether a first group took the packet that came at this instant: it did, or has as many as a group may have
+abbrev pub HasPushed : (at : ℕ) → (old new : List ℕ) → Bool → Type 0
+HasPushed at old new true = new ≡ old ++ at ∷ []
+HasPushed at old new false = 262144 ≤ length old
+
+-- the flow has come to this, or its first group has more packets than a group may have
+abbrev pub HasCome : Media → Part → SoFar → Type 0
+HasCome m Head (in_head head) = ⊤
+HasCome m (First group) (in_first head stamps) = group.stamps.items ≡ stamps
+HasCome m (Groups g) (in_groups so_far) = IsMetered m g so_far
+HasCome m TooLarge (in_first head stamps) = 262144 < length stamps
+HasCome m TooLarge (in_groups so_far) = 262144 < so_far.n
+HasCome m _ _ = ⊥
+
+-- how many stamps are kept, or were fed
+abbrev pub count_kept : Part → ℕ
+count_kept Head = 0
+count_kept (First group) = length group.stamps.items
+count_kept (Groups g) = count_seen g.meters
+count_kept TooLarge = 0
+
+-- the windows of a run of whole groups, unless they have more packets than a group may have
+abbrev pub AreWindowsIn : Media → RunOutcome → Option Windows → Type 0
+AreWindowsIn m (no_whole_frame head) windows = ⊤
+AreWindowsIn m (whole_frames run) (Some windows) = AreWindowsOf m run.n run.stamps windows
+AreWindowsIn m (whole_frames run) None = 262144 < run.n
+
+-- the packets were passed to the gauge of this media, and no others
+pub record IsGauged (m : Media) (tai : ℕ) (g : Gauge) (packets : List FlowPacket) : Type 0 where
+  pub media : g.media ≡ m
+  pub added : g.added ≡ tai * 10 ^ 9
+  pub come : HasCome m g.part (so_far_at packets tai 0 (length packets))
+
+-- as many stamps it has at most
+abbrev pub count_gauged : Gauge → ℕ
+count_gauged g = count_kept g.part
 
 -- whatever packets were passed, this one was passed then
-abbrev pub Passes : (at : ℕ) → (old new : Gauge) → Type 0
-Passes at old new = (m : Media) (n tai : ℕ) (anchor : ℤ) (head count : ℕ) (packets : List FlowPacket) (p : FlowPacket)
-    → p.at ≡ at
-    → IsGauged m n tai anchor head count old packets → IsGauged m n tai anchor head count new (packets ++ p ∷ [])
-
--- whatever packets were passed, the flow of these records was passed then, and nothing else
-abbrev pub GaugesOn : (old new : Gauge) → List Record → Type 0
-GaugesOn old new more = (m : Media) (n tai : ℕ) (anchor : ℤ) (head count : ℕ) (packets : List FlowPacket)
-    → IsGauged m n tai anchor head count old packets
-    → IsGauged m n tai anchor head count new (packets ++ flow more m)
-
--- no record, and some records and then others
-pub gauges_none : (x : Gauge) → GaugesOn x x []
-gauges_none x m n tai anchor head count packets h =
-    subst (IsGauged m n tai anchor head count x) (sym (append-nil packets)) h
-
-pub gauges_more : (x y z : Gauge) (a b : List Record) → GaugesOn x y a → GaugesOn y z b → GaugesOn x z (a ++ b)
-gauges_more x y z a b first second m n tai anchor head count packets h =
-    subst (IsGauged m n tai anchor head count z) (append_assoc packets (flow a m) (flow b m)
-    ∙ ap (λ l. packets ++ l) (sym (filter_map-append (flow_packet m) a b)))
-    (second m n tai anchor head count (packets ++ flow a m) (first m n tai anchor head count packets h))
+abbrev pub Passes : FlowPacket → (old new : Gauge) → Type 0
+Passes p old new = (m : Media) (tai : ℕ) (packets : List FlowPacket) → IsGauged m tai old packets
+    → IsGauged m tai new (packets ++ p ∷ [])

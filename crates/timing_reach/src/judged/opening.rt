@@ -78,7 +78,7 @@ pub fn last_marked(before: u64, packet: &FlowPacket) -> u64
 
 /// Whether a packet has the marker; one that wasn't read has none.
 #[inline]
-fn is_last_of_group(packet: &FlowPacket) -> bool
+pub fn is_last_of_group(packet: &FlowPacket) -> bool
     ensures { result ≡ (read_or_zeros packet.now.rtp).marker }
 {
     match packet.rtp {

@@ -1,139 +1,206 @@
-//! The judged packets of a flow are measured.
+//! The judged packets of a flow are measured while it comes.
 
-ghost use Rattle.std.specs.Prelude.{◌≡◌, ◌≤◌, ◌<◌, ◌+◌, ◌-◌, ◌*◌, ◌^◌, [], ℕ, List, length, slice_index};
+ghost use Rattle.std.specs.Prelude.{◌≡◌, ◌≤◌, ◌<◌, ◌+◌, ◌*◌, ◌^◌, ◌++◌, ◌∷◌, [], ℕ, List, All, IfOk, length};
 ghost use Rattle.timing_base.specs.Captures.{IsStamp};
-ghost use Rattle.sender_params.specs.Reads.{anchor_of};
-ghost use Rattle.timing_reach.specs.Windows.{AreWindowsOf};
+ghost use Rattle.timing_base.specs.Media.{Media as MediaValue};
+ghost use Rattle.fail_interval.specs.SoFar.{Groups, SoFar, groups_first, groups_next, outcome_of, so_far_next};
 
+use crate::judged::opening::is_last_of_group;
 use crate::window::meters::WindowMeters;
 use crate::window::windows::Windows;
-use pcap_reader::Taker;
 use sender_params::Params;
-use std::alloc::AllocError as OutOfMemory;
-use timing_base::{Judged, Media};
-use udp_rtp::packet_of;
+use std::alloc::{AllocError as OutOfMemory, Global};
+use timing_base::{FlowPacket, Media};
 
-/// The meters of a flow, and which of its packets are still to come.
+/// The most packets that a group may have (this project's profile).
+const MOST: usize = 262_144;
+
+/// The packets of a first group so far.
+#[derive(Drop)]
+struct FirstGroup {
+    /// In nanoseconds of TAI.
+    stamps: Vec<u64>,
+    ghost most: { length stamps.items ≤ 262144 },
+    ghost early: { All (λ at. at < 2 ^ 62) stamps.items },
+}
+
+impl FirstGroup {
+    ghost use Rattle.timing_reach.specs.window.Gauging.{HasPushed};
+
+    /// Before the first packet.
+    fn new(alloc: Global) -> FirstGroup
+        ensures { result.stamps.items ≡ [] }
+    {
+        FirstGroup {
+            stamps: Vec::new(alloc),
+        }
+    }
+
+    /// Takes the next packet, where a group may have so many, and answers whether it may.
+    fn push(&mut self, at: u64) -> Result<bool, OutOfMemory>
+        requires { at < 2 ^ 62 }
+        ensures { IfOk result (HasPushed at self.old.stamps.items self.new.stamps.items) }
+    {
+        if self.stamps.len() >= MOST {
+            return Ok(false);
+        }
+        self.stamps.push(at)?;
+        Ok(true)
+    }
+}
+
+/// A flow with a whole group.
 #[derive(Clone, Copy, Debug, PartialEq, Eq)]
+struct GroupGauge {
+    params: Params,
+    /// The meters of all packets behind the first marker.
+    meters: WindowMeters,
+    /// The meters as they stood at the last marker.
+    at_marker: WindowMeters,
+}
+
+impl GroupGauge {
+    ghost use Rattle.timing_reach.specs.window.Gauging.{IsMetered, count_seen};
+
+    /// After the last packet of the first group.
+    fn first(media: &Media, group: &FirstGroup) -> GroupGauge
+        requires { 1 ≤ length group.now.stamps.items }
+        ensures seen { count_seen result.meters ≡ length group.now.stamps.items }
+        ensures stands { (head : ℕ)
+            → IsMetered media.now result (groups_first head group.now.stamps.items) }
+    {
+        let params = Params::of(media, group.stamps.len() as u32);
+        let meters = WindowMeters::of(&params, group.stamps.as_slice());
+        GroupGauge {
+            params,
+            meters,
+            at_marker: meters,
+        }
+    }
+
+    /// Takes the next packet, which came at `at`, in nanoseconds of TAI.
+    fn feed(&mut self, at: u64, marker: bool)
+        requires in_time { at < 2 ^ 62 }
+        requires few { count_seen self.old.meters < 2 ^ 40 }
+        ensures seen { count_seen self.new.meters ≡ count_seen self.old.meters + 1 }
+        ensures stands { (m : MediaValue) (so_far : Groups) → IsMetered m self.old so_far
+            → IsMetered m self.new (groups_next so_far at marker) }
+    {
+        self.meters.feed(&self.params, at);
+        if marker {
+            self.at_marker = self.meters;
+        }
+    }
+}
+
+/// What of a flow is measured, as far as it has come.
+#[derive(Drop)]
+enum Part {
+    /// No packet has the marker yet.
+    Head,
+    /// The first group goes on. Its size isn't known yet, so its stamps are kept.
+    First(FirstGroup),
+    /// The first group is whole.
+    Groups(GroupGauge),
+    /// The first group has more packets than a group may have, so the flow isn't judged.
+    TooLarge,
+}
+
+impl Part {
+    ghost use Rattle.timing_reach.specs.window.Gauging.{AreWindowsIn, HasCome, count_kept};
+
+    /// Takes the next packet, which came at `at`, in nanoseconds of TAI. `Err` is want of memory, for the
+    /// stamps of the first group.
+    fn feed(
+        &mut self,
+        alloc: Global,
+        media: &Media,
+        at: u64,
+        marker: bool,
+    ) -> Result<(), OutOfMemory>
+        requires in_time { at < 2 ^ 62 }
+        requires few { count_kept self.old < 2 ^ 40 }
+        ensures kept { IfOk result (λ _. count_kept self.new ≤ count_kept self.old + 1) }
+        ensures comes { IfOk result (λ _. (so_far : SoFar) → HasCome media.now self.old so_far
+            → HasCome media.now self.new (so_far_next so_far at marker)) }
+    {
+        match self {
+            Part::Groups(groups) => groups.feed(at, marker),
+            Part::First(group) => {
+                if !group.push(at)? {
+                    *self = Part::TooLarge;
+                } else if marker {
+                    *self = Part::Groups(GroupGauge::first(media, group));
+                }
+            }
+            Part::Head => {
+                if marker {
+                    *self = Part::First(FirstGroup::new(alloc));
+                }
+            }
+            Part::TooLarge => {}
+        }
+        Ok(())
+    }
+
+    /// The windows of the packets up to the last marker, where the flow has a whole group.
+    fn windows(&self) -> Option<Windows>
+        ensures { (m : MediaValue) (so_far : SoFar) → HasCome m self.now so_far
+            → AreWindowsIn m (outcome_of so_far) result }
+    {
+        match self {
+            Part::Groups(groups) => Some(groups.at_marker.finish()),
+            Part::Head | Part::First(_) | Part::TooLarge => None,
+        }
+    }
+}
+
+/// The gauge of a flow: it is passed the flow's packets, one by one and in order.
+#[derive(Drop)]
 pub struct Gauge {
-    pub params: Params,
+    alloc: Global,
+    media: Media,
     /// What is added to the stamps, in nanoseconds.
-    pub added: u64,
-    /// The packets of the flow that are still before the judged ones.
-    pub ahead: u64,
-    /// The judged packets that are still to come.
-    pub due: u64,
-    /// The stamp of the packet before, or of the first one, in nanoseconds of TAI.
-    pub last: u64,
-    pub meters: WindowMeters,
+    added: u64,
+    part: Part,
     ghost added_small: { added ≤ 10 ^ 12 },
-    ghost last_early: { last < 2 ^ 62 },
-    ghost few: { meters.narrow.seen + due ≤ 2 ^ 40 },
 }
 
 impl Gauge {
-    ghost use Rattle.timing_reach.specs.judged.Runs.{gauged};
-    ghost use Rattle.timing_reach.specs.window.Gauging.{IsGauged, Passes, Puts};
+    ghost use Rattle.timing_base.specs.Judged.{run_outcome};
+    ghost use Rattle.timing_reach.specs.window.Gauging.{AreWindowsIn, IsGauged, Passes, count_gauged};
 
-    /// The meters before the first record, of a flow that was judged so. Its first judged packet came at
-    /// `first`, in nanoseconds, as the capture has it.
-    pub fn new(media: &Media, judged: &Judged, first: u64, tai: u64) -> Gauge
-        requires tai { tai ≤ 1000 }
-        requires first { IsStamp first }
-        requires few { judged.now.packets ≤ 2 ^ 36 }
-        ensures { IsGauged media.now judged.now.n tai (anchor_of media.now (first + tai * 10 ^ 9))
-            judged.now.head judged.now.packets result [] }
+    /// The gauge of this media before the first packet. `tai` seconds are added to the stamps.
+    pub fn new(alloc: Global, media: &Media, tai: u64) -> Gauge
+        requires { tai ≤ 1000 }
+        ensures kept { count_gauged result ≡ 0 }
+        ensures stands { IsGauged media.now tai result [] }
     {
-        let params = Params::of(media, judged.n);
-        let added = tai * 1_000_000_000;
-        let last = first + added;
         Gauge {
-            params,
-            added,
-            ahead: judged.head,
-            due: judged.packets,
-            last,
-            meters: WindowMeters::new(&params, params.anchor(last)),
+            alloc,
+            media: *media,
+            added: tai * 1_000_000_000,
+            part: Part::Head,
         }
     }
 
-    /// Puts in the packet that came at `at`, in nanoseconds of TAI.
-    fn put(&mut self, at: u64)
-        requires due { 0 < self.old.due }
-        requires in_time { at < 2 ^ 62 }
-        ensures { Puts at self.old self.new }
+    /// Passes the next packet of the flow. `Err` is want of memory.
+    pub fn pass(&mut self, packet: &FlowPacket) -> Result<(), OutOfMemory>
+        requires stamp { IsStamp packet.now.at }
+        requires few { count_gauged self.old < 2 ^ 40 }
+        ensures kept { IfOk result (λ _. count_gauged self.new ≤ count_gauged self.old + 1) }
+        ensures passes { IfOk result (λ _. Passes packet.now self.old self.new) }
     {
-        self.due -= 1;
-        self.last = at;
-        self.meters.feed(&self.params, at);
+        let at = packet.at + self.added;
+        self.part
+            .feed(self.alloc, &self.media, at, is_last_of_group(packet))
     }
 
-    /// Passes the next packet of the flow, which came at `at`, in nanoseconds, as the capture has it.
-    #[inline]
-    fn pass(&mut self, at: u64)
-        requires { IsStamp at }
-        ensures { Passes at self.old self.new }
+    /// The windows of the judged packets, where the flow has a whole group and ends here.
+    pub fn windows(&self) -> Option<Windows>
+        ensures { (m : MediaValue) (tai : ℕ) (packets : List _) → IsGauged m tai self.now packets
+            → AreWindowsIn m (run_outcome packets tai 0 (length packets)) result }
     {
-        if self.ahead > 0 {
-            self.ahead -= 1;
-            return;
-        }
-        if self.due > 0 {
-            self.put(at + self.added);
-        }
-    }
-
-    /// Puts the packet before in the place of each judged one that didn't come, or the first one, where
-    /// none came. A capture that reads as it did when the flow was judged leaves none of them out.
-    fn fill(&mut self)
-        ensures { self.old.due ≡ 0 → self.new ≡ self.old }
-    {
-        for _ in 0..self.due {
-            self.put(self.last);
-        }
-    }
-
-    /// The windows of the judged packets.
-    pub fn finish(mut self) -> Windows
-        ensures { (m : _) (n tai head count : ℕ) (packets : List _) (stamps : List ℕ)
-            → IsGauged m n tai (anchor_of m (slice_index stamps 0)) head count self packets
-            → count ≤ length packets - head → gauged tai head count packets ≡ stamps
-            → AreWindowsOf m n stamps result }
-    {
-        self.fill();
-        self.meters.finish()
-    }
-}
-
-impl Taker for Gauge {
-    ghost use Rattle.pcap_reader.specs.Taken.{StopsAnyhow};
-    ghost use Rattle.std.specs.Prelude.{⊤};
-    ghost use Rattle.timing_reach.specs.window.Gauging.{GaugesOn, gauges_more, gauges_none};
-
-    /// Want of memory.
-    type Stop = OutOfMemory;
-
-    ghost takes = { GaugesOn };
-
-    ghost stops = { StopsAnyhow };
-
-    ghost room = { λ _ _ _. ⊤ };
-
-    ghost none = { gauges_none };
-
-    ghost more = { gauges_more };
-
-    ghost ends = { λ _ _ _ _ _ _ _ _. tt };
-
-    ghost halts = { λ _ _ _ _ _ _. tt };
-
-    ghost less = { λ _ _ _ _ _ _. tt };
-
-    #[inline(always)]
-    fn take(&mut self, number: u64, at: u64, frame: &[u8]) -> Result<(), OutOfMemory> {
-        if let Some(packet) = packet_of(&self.params.media, number, at, frame) {
-            self.pass(packet.at);
-        }
-        Ok(())
+        self.part.windows()
     }
 }

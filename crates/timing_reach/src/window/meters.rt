@@ -1,7 +1,7 @@
 //! The meters of the three sender types.
 
-ghost use Rattle.std.specs.Prelude.{◌≡◌, ◌≤◌, ◌<◌, ◌+◌, ◌^◌, ◌++◌, ◌∷◌, [], ℕ, ℤ, List, slice_index};
-ghost use Rattle.std.specs.Prelude.{pos, negsuc, ◌≤ℤ◌};
+ghost use Rattle.std.specs.Prelude.{◌≡◌, ◌≤◌, ◌<◌, ◌+◌, ◌^◌, ◌++◌, ◌∷◌, [], ℕ, ℤ, List, length, slice_index};
+ghost use Rattle.std.specs.Prelude.{All, pos, negsuc, ◌≤ℤ◌};
 ghost use Rattle.sender_params.specs.Reads.{anchor_of};
 
 use crate::window::windows::Windows;
@@ -36,6 +36,22 @@ impl WindowMeters {
             narrow_linear: WindowMeter::new(params, Kind::NL, n0),
             wide: WindowMeter::new(params, Kind::W, n0),
         }
+    }
+
+    /// The meters of a flow with these stamps, in nanoseconds of TAI.
+    pub fn of(params: &Params, stamps: &[u64]) -> WindowMeters
+        requires some { 1 ≤ length stamps.now }
+        requires few { length stamps.now < 2 ^ 40 }
+        requires early { All (λ at. at < 2 ^ 62) stamps.now }
+        ensures seen { count_seen result ≡ length stamps.now }
+        ensures stands { AreFed params.now (anchor_of params.now.media (slice_index stamps.now 0))
+            result stamps.now }
+    {
+        let mut meters = WindowMeters::new(params, params.anchor(stamps[0]));
+        for at in stamps {
+            meters.feed(params, *at);
+        }
+        meters
     }
 
     /// Puts in the packet that came at `at`, in nanoseconds of TAI.

@@ -1,0 +1,68 @@
+-- What the reading of a flow finds that is measured while it is judged. Packets count from 0.
+use Rattle.std.specs.Prelude.{◌≡◌, ◌≤◌, ◌+◌, ◌^◌, ℕ, List, [], ◌++◌, IsSome, length}
+use Rattle.std.proofs.Common.{arith, sym, subst, append-nil, append_assoc, ap, ◌∙◌}
+use Rattle.std.proofs.lemmas.List.Elements.{filter_map-append}
+use Rattle.timing_base.specs.Captures.{Record}
+use Rattle.timing_base.specs.Judged.{judged, run_outcome}
+use Rattle.timing_base.specs.Media.{Media}
+use Rattle.timing_base.specs.Verdicts.{Judged}
+use Rattle.timing_base.specs.declared.capture.FileNote.{FileNote}
+use Rattle.timing_base.specs.declared.key.FlowKey.{FlowKey}
+use Rattle.timing_base.specs.declared.packet.FlowPacket.{FlowPacket}
+use Rattle.timing_base.specs.declared.row.Verdict.TheVariants as verdict
+use Rattle.fail_interval.specs.Row.{verdict_of}
+use Rattle.fail_interval.specs.Stands.{StandsFor, count_fed}
+use Rattle.pcap_reader.specs.Records.{Records}
+use Rattle.udp_rtp.specs.Flow.{flow, flow_packet}
+use Rattle.timing_reach.specs.window.Gauging.{AreWindowsIn, IsGauged, count_gauged}
+use Rattle.timing_reach.specs.declared.window.reading.Measured.{Measured}
+use Rattle.timing_reach.specs.declared.window.reading.Reading.{Reading}
+
+-- the packets were passed to the judge of this media and to its gauge, and no others
+pub record IsReading (m : Media) (key : FlowKey) (tai : ℕ) (r : Reading) (packets : List FlowPacket) : Type 0 where
+  pub media : r.media ≡ m
+  pub judge : StandsFor m key tai r.judge packets
+  pub gauge : IsGauged m tai r.gauge packets
+
+-- there is room for so many records more
+pub record HasRoom (number count : ℕ) (r : Reading) : Type 0 where
+  pub judge : count_fed r.judge + count ≤ 2 ^ 41
+  pub gauge : count_gauged r.gauge + count ≤ 2 ^ 40
+
+pub room_less : (number few many : ℕ) (r : Reading) → few ≤ many → HasRoom number many r → HasRoom number few r
+room_less number few many r less room = record {
+  judge = omega (arith, less, room.judge);
+  gauge = omega (arith, less, room.gauge);
+}
+
+-- whatever packets were passed, the flow of these records was passed then, and nothing else
+abbrev pub ReadsOn : (old new : Reading) → List Record → Type 0
+ReadsOn old new more =
+    (m : Media) (key : FlowKey) (tai : ℕ) (packets : List FlowPacket) → IsReading m key tai old packets
+    → IsReading m key tai new (packets ++ flow more m)
+
+-- no record, and some records and then others
+pub reads_none : (x : Reading) → ReadsOn x x []
+reads_none x m key tai packets h = subst (IsReading m key tai x) (sym (append-nil packets)) h
+
+pub reads_more : (x y z : Reading) (a b : List Record) → ReadsOn x y a → ReadsOn y z b → ReadsOn x z (a ++ b)
+reads_more x y z a b first second m key tai packets h =
+    subst (IsReading m key tai z) (append_assoc packets (flow a m) (flow b m)
+    ∙ ap (λ l. packets ++ l) (sym (filter_map-append (flow_packet m) a b)))
+    (second m key tai (packets ++ flow a m) (first m key tai packets h))
+
+-- what is found where these packets are the flow
+pub record IsMeasured (m : Media) (tai : ℕ) (packets : List FlowPacket) (x : Measured) : Type 0 where
+  pub verdict_is : x.verdict ≡ verdict_of m (judged packets m.pt tai)
+  pub windows_are : AreWindowsIn m (run_outcome packets tai 0 (length packets)) x.windows
+
+-- what is found of the flow of a media in a capture of this text
+pub record IsMeasuredIn (m : Media) (tai : ℕ) (text : List ℕ) (x : Measured) : Type 0 where
+  pub items : List Record
+  pub note : FileNote
+  pub records : Records text (2 ^ 40) items note
+  pub measured_is : IsMeasured m tai (flow items m) x
+
+-- where one run is judged, there are windows
+abbrev pub HasWindows : Measured → Type 0
+HasWindows x = (j : Judged) → x.verdict ≡ verdict.Judged j → IsSome x.windows
