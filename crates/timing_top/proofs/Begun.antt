@@ -6,7 +6,6 @@ use Rattle.timing_base.specs.Captures.{Record}
 use Rattle.timing_base.specs.Jobs.{CheckJob}
 use Rattle.timing_base.specs.Media.{Media}
 use Rattle.timing_base.specs.Targets.{HaveOwnTargets}
-use Rattle.timing_base.specs.declared.capture.FileNote.{FileNote}
 use Rattle.timing_base.specs.declared.row.Row.{Row}
 use Rattle.timing_outside.specs.Shelves.{StaysAs}
 use Rattle.fail_interval.specs.Found.{AreFound}
@@ -14,7 +13,7 @@ use Rattle.pcapng_reader.specs.Classic.{classic, classic_texts}
 use Rattle.sdp_reader.specs.Session.{session}
 use Rattle.timing_report.specs.Outcomes.{status_of}
 use Rattle.timing_report.specs.declared.status.Input.TheVariants as input
-use Rattle.timing_steps.specs.Answers.{Answer, AreThere, AreTold, CaptureRose, Inputs, OnReadFault}
+use Rattle.timing_steps.specs.Answers.{Answer, AreThere, AreTold, CaptureRose, OnReadFault}
 use Rattle.timing_steps.specs.Fetched.{AreFetched}
 use Rattle.timing_steps.specs.declared.failure.Failure.{Failure}
 use Rattle.timing_steps.specs.declared.failure.Failure.TheVariants as failure

@@ -1,4 +1,4 @@
-use Rattle.std.proofs.Common.{rules, refl, ◌≡◌, ◌∙◌, ◌++◌, [], List}
+use Rattle.std.proofs.Common.{rules, refl, ◌≡◌, ◌++◌, [], List}
 use Rattle.std.specs.Prelude.{IfOk}
 use Rattle.timing_base.specs.Captures.{Record}
 use Rattle.fail_interval.specs.BankStands.{IsFed, StandsFor}
