@@ -1,5 +1,5 @@
 -- What intakes and workers leave, for the captures of a job.
-use Rattle.std.proofs.Common.{◌≡◌, ◌≤◌, ◌<◌, ◌+◌, ℕ, zero, suc, Bool, List, [], ◌∷◌, length, slice_index_or, map, Some, refl, sym, ap, ◌∙◌, subst, arith}
+use Rattle.std.proofs.Common.{◌≡◌, ◌≤◌, ◌<◌, ℕ, zero, suc, Bool, List, [], ◌∷◌, length, slice_index_or, map, Some, refl, ap, ◌∙◌, subst, arith}
 use Rattle.std.specs.Prelude.{All, IfSome, Option}
 use Rattle.timing_base.specs.Media.{Media}
 use Rattle.timing_base.specs.Keys.{keys_of}

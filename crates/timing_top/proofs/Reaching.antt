@@ -6,7 +6,6 @@ use Rattle.timing_base.specs.Jobs.{FlowJob, SkewJob}
 use Rattle.timing_base.specs.Media.{IsMedia, Media}
 use Rattle.pcapng_reader.specs.Classic.{classic}
 use Rattle.sdp_reader.proofs.Within.{session-within}
-use Rattle.timing_report.specs.declared.status.Input.{Input}
 use Rattle.timing_report.specs.declared.status.Input.TheVariants as input
 use Rattle.timing_steps.specs.Answers.{Answer, AreThere, AreTold, Gives, Inputs, ReadsSession, Yields}
 use Rattle.timing_steps.specs.declared.failure.Failure.{Failure}

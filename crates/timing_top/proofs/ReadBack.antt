@@ -1,20 +1,19 @@
 -- A JSON report is read back as its fails, and verifies.
-use Rattle.std.proofs.Common.{◌≡◌, ◌≤◌, ℕ, List, length, Option, Some, refl, arith, ap, ◌∙◌, subst}
+use Rattle.std.proofs.Common.{◌≡◌, ◌≤◌, ℕ, List, length, Option, Some, arith, ap, ◌∙◌, subst}
 use Rattle.std.proofs.lemmas.List.{length-map}
-use Rattle.std.specs.Prelude.{All, IsUtf8, codes, map, option_and_then}
+use Rattle.std.specs.Prelude.{All, map}
 use Rattle.timing_base.specs.Captures.{Record}
-use Rattle.timing_base.specs.Jobs.{CheckJob, IsCheckJob}
+use Rattle.timing_base.specs.Jobs.{CheckJob}
 use Rattle.timing_base.specs.Keys.{keys_of}
-use Rattle.timing_base.specs.Media.{IsMedia, IsSession, Media}
+use Rattle.timing_base.specs.Media.{Media}
 use Rattle.timing_base.specs.declared.capture.FileNote.{FileNote}
-use Rattle.timing_base.specs.declared.row.Row.{Row}
 use Rattle.pcap_reader.specs.Records.{AreRecords}
 use Rattle.fail_interval.specs.Rows.{rows_over}
 use Rattle.timing_report.specs.Outcomes.{AreRowsOf}
 use Rattle.timing_report.specs.declared.status.Status.TheVariants as status
-use Rattle.timing_json.specs.Fails.{FitsVerdict, fails_of}
-use Rattle.timing_json.specs.Json.{json_text, report_data}
-use Rattle.timing_json.specs.Reading.{IsReport, report_of}
+use Rattle.timing_json.specs.Fails.{fails_of}
+use Rattle.timing_json.specs.Json.{json_text}
+use Rattle.timing_json.specs.Reading.{IsReport}
 use Rattle.timing_json.specs.declared.reading.ReportProof.{ReportProof}
 use Rattle.timing_json.proofs.Back.{read-back}
 use Rattle.timing_steps.specs.Answers.{Answer}

@@ -1,5 +1,5 @@
 -- Captures that are taken and judged one by one.
-use Rattle.std.proofs.Common.{◌≡◌, ◌≤◌, ◌<◌, ◌+◌, ◌^◌, ℕ, List, [], ◌∷◌, ◌++◌, length, Option, Some, refl, arith, ap, ◌∙◌, sym, subst, append_assoc, append-nil}
+use Rattle.std.proofs.Common.{◌≡◌, ◌≤◌, ◌<◌, ◌+◌, ℕ, List, [], ◌∷◌, ◌++◌, length, Option, Some, refl, arith, ap, ◌∙◌, sym, subst, append_assoc, append-nil}
 use Rattle.std.proofs.Common.{length-append, true, false, if◌then◌else◌}
 use Rattle.std.specs.Prelude.{All, IfOk, Result, Ok, Err, map}
 use Rattle.timing_steps.specs.declared.failure.Failure.{Failure}
@@ -10,12 +10,9 @@ use Rattle.timing_base.specs.Jobs.{CheckJob}
 use Rattle.timing_base.specs.Media.{Media}
 use Rattle.timing_base.specs.declared.capture.FileNote.{FileNote}
 use Rattle.timing_base.specs.declared.row.Row.{Row}
-use Rattle.pcap_reader.specs.Header.{header}
-use Rattle.pcap_reader.specs.Records.{Records}
 use Rattle.pcap_reader.specs.declared.records.Taken.{Taken}
 use Rattle.pcap_reader.specs.Taken.{TakesFew}
 use Rattle.pcap_reader.proofs.Captures.{files-length, map-raised, records-push}
-use Rattle.pcap_reader.proofs.Lists.{some_by}
 use Rattle.fail_interval.specs.Rows.{rows_from, rows_of, rows_of_files}
 use Rattle.fail_interval.specs.BankStands.{Feeds, IsFed, StandsFor}
 use Rattle.fail_interval.specs.declared.bank.Bank.{Bank}

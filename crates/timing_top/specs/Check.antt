@@ -1,5 +1,5 @@
 -- What the texts of `check` define, in the order in which its inputs are read. The number of workers is in none of it.
-use Rattle.std.specs.Prelude.{ℕ, List, Result}
+use Rattle.std.specs.Prelude.{Result}
 use Rattle.timing_base.specs.Jobs.{CheckJob}
 use Rattle.timing_report.specs.declared.status.Input.{Input}
 use Rattle.timing_report.specs.declared.status.Input.TheVariants as input

@@ -1,7 +1,7 @@
 -- What a report says of the sender types, in the terms of the standard (SMPTE ST 2110-21): a type passes exactly where
 -- the judged
 -- packets keep its limits, and its fail names an interval that shows why they don't. Files and media count from 0.
-use Rattle.std.specs.Prelude.{◌≡◌, ℕ, Bool, true, false, List, [], ◌∷◌, Option, Some, slice_get}
+use Rattle.std.specs.Prelude.{◌≡◌, ℕ, Bool, true, false, List, [], ◌∷◌, Some, slice_get}
 use Rattle.timing_base.specs.Captures.{Record, joined as joined_records}
 use Rattle.timing_base.specs.Judged.{FlowRun, FlowVerdict, JudgedRun, RunOutcome, in_one_run, in_runs, judged}
 use Rattle.timing_base.specs.Judged.{no_whole_frame, whole_frames}

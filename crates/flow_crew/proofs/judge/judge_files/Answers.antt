@@ -1,4 +1,4 @@
-use Rattle.std.proofs.Common.{◌≡◌, ◌≤◌, ◌∙◌, sym, ap, subst, length, List, arith, rules}
+use Rattle.std.proofs.Common.{◌≡◌, ◌∙◌, sym, ap, subst, length, List, arith}
 use Rattle.std.proofs.lemmas.Option.{IfSome_then}
 use Rattle.ruled_intake.specs.Lanes.{LaneId}
 use Rattle.timing_base.specs.Keys.{keys_of}
