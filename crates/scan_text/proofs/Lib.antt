@@ -1,2 +1,3 @@
 pub mod Floatless
 pub mod Numerals
+pub mod Rates

@@ -1,9 +1,10 @@
--- The contents of a capture that are worked by hand: 41 packets of one sender, 2 frames of 20 packets after a packet
--- with the marker, at 50 frames per second.
-use Rattle.std.specs.Prelude.{[], ◌∷◌, Some, None}
+-- The contents of captures that are worked by hand. The first: 41 packets of one sender, 2 frames of 20 packets after a
+-- packet with the marker, at 50 frames per second.
+use Rattle.std.specs.Prelude.{ℕ, true, [], ◌∷◌, Some, None}
 use Rattle.timing_base.specs.declared.target.Target.{Target}
 use Rattle.capture_scan.specs.Examples.{order_with, pace_with, sender}
 use Rattle.capture_scan.specs.declared.found.PassedOver.{PassedOver}
+use Rattle.capture_scan.specs.declared.stream.Rate.{Rate}
 use Rattle.capture_scan.specs.declared.stream.Stream.{Stream}
 use Rattle.scan_text.specs.Contents.{Contents}
 
@@ -53,4 +54,17 @@ empty_contents = record {
   streams = [];
   unread = [];
   more = 0;
+}
+
+-- so many ticks in so many steps
+abbrev pub ticks_in : ℕ → ℕ → Rate
+ticks_in ticks steps = record { ticks = ticks; steps = steps }
+
+-- the stream with one packet lost, of fields with 540 lines each
+abbrev pub stream_of_fields : Stream
+stream_of_fields = record plain_stream {
+  packets = 40;
+  order = order_with 1 0 0 0;
+  pace = Some (pace_with 19 20 1501 1502 3003 2);
+  lines = Some (record { greatest = 539; second_field = true });
 }

@@ -1,5 +1,7 @@
 -- what is promised
 pub mod Contents
 pub mod Json
+pub mod Draft
+pub mod Rates
 -- streams that are worked by hand
 pub mod Examples

@@ -1,10 +1,12 @@
 //! The texts tried by hand. Each function is a theorem: it does nothing, and its clauses are proved.
 
-ghost use Rattle.std.specs.Prelude.{◌≡◌, ◌++◌, codes};
+ghost use Rattle.std.specs.Prelude.{◌≡◌, ◌*◌, ◌++◌, ◌∷◌, [], codes, false, map, true};
 ghost use Rattle.timing_base.specs.declared.capture.FileNote.TheVariants as note;
 ghost use Rattle.scan_text.specs.Contents.{ssrc_text};
-ghost use Rattle.scan_text.specs.Examples.{empty_contents, plain_contents};
+ghost use Rattle.scan_text.specs.Draft.{draft_text, videos_of};
+ghost use Rattle.scan_text.specs.Examples.{empty_contents, plain_contents, plain_stream, stream_of_fields, ticks_in};
 ghost use Rattle.scan_text.specs.Json.{json_text};
+ghost use Rattle.scan_text.specs.Rates.{denominator, exact, faster, nearest, numerator, rate_text, slowed, slowest};
 
 /// An SSRC in hexadecimal.
 #[tactic(auto, unfolding(crate::proofs::Numerals::scan_texts))]
@@ -36,4 +38,47 @@ pub fn empty_json_by_hand()
         ≡ codes "{\"end\":\"cut at 24\",\"more\":0,\"name\":\"e.pcap\",\"passed_over\":{\"broken\":0,"
         ++ (codes "\"empty\":0,\"fragment\":0,\"ipv6\":0,\"not_udp\":0,\"other\":0,\"tags\":0},"
         ++ codes "\"records\":0,\"streams\":[],\"unread\":[]}\n") }
+{}
+
+/// The ticks of each known rate are right: frames per second times the ticks of a frame are 90,000 ticks.
+pub fn known_rates_by_hand()
+    ensures { map (λ r. r.eighths * numerator r) (slowest ∷ faster) ≡ map (λ r. 720000 * denominator r) (slowest ∷ faster) }
+{}
+
+/// The nearest rates: of 1501.5 ticks, half-way between 1501.5 and 1500 ticks and below, of fields of 1501.5 ticks, and
+/// of steps that are longer or shorter than all.
+pub fn nearest_by_hand()
+    ensures near { nearest false (ticks_in 3003 2) ≡ slowed 60 12012 }
+    ensures half_way { nearest false (ticks_in 6003 4) ≡ slowed 60 12012 }
+    ensures below { nearest false (ticks_in 6002 4) ≡ exact 60 12000 }
+    ensures fields { nearest true (ticks_in 3003 2) ≡ slowed 30 24024 }
+    ensures long { nearest false (ticks_in 90000 1) ≡ slowest }
+    ensures short { nearest false (ticks_in 1 1) ≡ exact 120 6000 }
+{}
+
+/// Rates as people say them.
+#[tactic(auto, unfolding(crate::proofs::Numerals::scan_texts))]
+pub fn rates_by_hand()
+    ensures film { rate_text (slowed 24 30030) ≡ codes "23.98 frames per second (24000/1001)" }
+    ensures video { rate_text (slowed 60 12012) ≡ codes "59.94 frames per second (60000/1001)" }
+    ensures fast { rate_text (slowed 120 6006) ≡ codes "119.88 frames per second (120000/1001)" }
+    ensures whole { rate_text (exact 50 14400) ≡ codes "50 frames per second" }
+{}
+
+/// The whole draft of a stream.
+#[tactic(auto, unfolding(crate::proofs::Numerals::scan_texts))]
+pub fn plain_draft_by_hand()
+    ensures { draft_text (videos_of plain_contents.streams)
+        ≡ codes "v=0\no=- 0 0 IN IP4 0.0.0.0\ns=draft\nt=0 0\n"
+        ++ (codes "m=video 50000 RTP/AVP 96\nc=IN IP4 239.0.0.1/32\na=rtpmap:96 raw/90000\n"
+        ++ codes "a=fmtp:96 width=1920; height=1080; exactframerate=50; \n") }
+{}
+
+/// The draft of a stream of fields, and of a second one to the same target, which has no video.
+#[tactic(auto, unfolding(crate::proofs::Numerals::scan_texts))]
+pub fn fields_draft_by_hand()
+    ensures { draft_text (videos_of (stream_of_fields ∷ plain_stream ∷ []))
+        ≡ codes "v=0\no=- 0 0 IN IP4 0.0.0.0\ns=draft\nt=0 0\n"
+        ++ (codes "m=video 50000 RTP/AVP 96\nc=IN IP4 239.0.0.1/32\na=rtpmap:96 raw/90000\n"
+        ++ codes "a=fmtp:96 width=1920; height=1080; exactframerate=30000/1001; interlace; \n") }
 {}

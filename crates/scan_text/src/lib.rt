@@ -1,12 +1,16 @@
-//! What a capture holds, as it is printed: as JSON, as lines for eyes, and as a draft of a description.
+//! What a capture holds, as JSON, and a draft of a description that is made of its streams.
 //!
 //! Texts are made whole, as values. Stamps are nanoseconds since 1970-01-01 00:00:00, lengths are bytes, and ticks are
 //! of 90 kHz.
 #![tactic(auto)]
 
+mod draft;
 mod json;
 pub mod laws;
+mod rate;
 mod words;
 
+pub use draft::{Draft, DraftVideo};
 pub use json::json_of;
+pub use rate::FrameRate;
 pub use words::SsrcText;
