@@ -1,6 +1,6 @@
 -- What a first reading finds, from what its judge and its opening say.
 use Rattle.std.specs.Prelude.{IfOk, OnOk, Result, Ok, Err, if◌then◌else◌}
-use Rattle.std.proofs.Common.{◌≡◌, ◌≤◌, ◌+◌, ◌-◌, ◌^◌, ℕ, List, [], ◌∷◌, ◌++◌, Some, refl, arith, ap, ◌∙◌, sym, subst}
+use Rattle.std.proofs.Common.{◌≡◌, ◌≤◌, ◌^◌, ℕ, List, [], ◌∷◌, ◌++◌, Some, refl, arith, ap, ◌∙◌, sym, subst}
 use Rattle.timing_base.specs.Captures.{Record}
 use Rattle.timing_base.specs.Flows.{read_or_zeros}
 use Rattle.timing_base.specs.Judged.{FlowVerdict, JudgedRun, absent, gap, in_one_run, in_runs, judged, no_whole_frame, refused, whole_frames}
