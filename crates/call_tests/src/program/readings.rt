@@ -153,7 +153,14 @@ fn the_same_again(rt: HostRuntime) -> Result<(), Fail> {
     let setting = over(rt.alloc(), Vec::from_slice(rt.alloc(), &capture)?)?;
     let texts = [NONE_LINES.as_bytes(), capture.as_slice()];
     for (line, text) in TWICE.iter().zip(texts) {
-        answers_changing(&rt, line, &setting, &capture, (Status::Pass, text, ""), (2, 0))?;
+        answers_changing(
+            &rt,
+            line,
+            &setting,
+            &capture,
+            (Status::Pass, text, ""),
+            (2, 0),
+        )?;
     }
     Ok(())
 }
