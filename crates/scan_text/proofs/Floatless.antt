@@ -16,7 +16,8 @@ use Rattle.scan_text.specs.Json.{contents_data, contents_members, file_members, 
 use Rattle.scan_text.specs.Json.{rate_data, rate_members, span_members, stream_data, stream_members, unread_data, unread_members}
 
 rate-floatless : (rate : Rate) → any_float (rate_members rate) ≡ false
-rate-floatless rate = elim (nat_lt rate.ticks (2 ^ 64)) as (λ b. any_float (if b then (codes "rate", rate_data rate) ∷ [] else []) ≡ false) [ true ↦ refl | false ↦ refl ]
+rate-floatless rate =
+    elim (nat_lt rate.ticks (2 ^ 64)) as (λ b. any_float (if b then (codes "rate", rate_data rate) ∷ [] else []) ≡ false) [ true ↦ refl | false ↦ refl ]
 
 pace-floatless : (pace : Option Pace) → any_float (pace_members pace) ≡ false
 pace-floatless None = refl

@@ -68,3 +68,14 @@ stream_of_fields = record plain_stream {
   pace = Some (pace_with 19 20 1501 1502 3003 2);
   lines = Some (record { greatest = 539; second_field = true });
 }
+
+-- a capture with it, with frames that were passed over and packets that aren't told one by one
+abbrev pub mixed_contents : Contents
+mixed_contents = record {
+  records = 51;
+  span = Some (record { first = 1599999999999000000; last = 1600000000039004000 });
+  passed_over = record none_passed { tags = 2; ipv6 = 1 };
+  streams = stream_of_fields ∷ [];
+  unread = record { target = group; packets = 3 } ∷ [];
+  more = 5;
+}

@@ -3,5 +3,6 @@ pub mod Contents
 pub mod Json
 pub mod Draft
 pub mod Rates
+pub mod Text
 -- streams that are worked by hand
 pub mod Examples

@@ -34,7 +34,7 @@ pub struct Draft {
 }
 
 /// Whether a line of a second field was seen.
-fn has_fields(lines: Option<Lines>) -> bool
+pub(crate) fn has_fields(lines: Option<Lines>) -> bool
     ensures { result ≡ has_fields lines }
 {
     match lines {

@@ -4,8 +4,9 @@ ghost use Rattle.std.specs.Prelude.{◌≡◌, ◌*◌, ◌++◌, ◌∷◌, [],
 ghost use Rattle.timing_base.specs.declared.capture.FileNote.TheVariants as note;
 ghost use Rattle.scan_text.specs.Contents.{ssrc_text};
 ghost use Rattle.scan_text.specs.Draft.{draft_text, videos_of};
-ghost use Rattle.scan_text.specs.Examples.{empty_contents, plain_contents, plain_stream, stream_of_fields, ticks_in};
+ghost use Rattle.scan_text.specs.Examples.{empty_contents, mixed_contents, plain_contents, plain_stream, stream_of_fields, ticks_in};
 ghost use Rattle.scan_text.specs.Json.{json_text};
+ghost use Rattle.scan_text.specs.Text.{contents_text};
 ghost use Rattle.scan_text.specs.Rates.{denominator, exact, faster, nearest, numerator, rate_text, slowed, slowest};
 
 /// An SSRC in hexadecimal.
@@ -81,4 +82,39 @@ pub fn fields_draft_by_hand()
         ≡ codes "v=0\no=- 0 0 IN IP4 0.0.0.0\ns=draft\nt=0 0\n"
         ++ (codes "m=video 50000 RTP/AVP 96\nc=IN IP4 239.0.0.1/32\na=rtpmap:96 raw/90000\n"
         ++ codes "a=fmtp:96 width=1920; height=1080; exactframerate=30000/1001; interlace; \n") }
+{}
+
+/// The whole text of a capture with one stream.
+#[tactic(auto, unfolding(crate::proofs::Numerals::scan_texts))]
+pub fn plain_text_by_hand()
+    ensures { contents_text (codes "a.pcap") note.End plain_contents
+        ≡ codes "capture a.pcap: end, 41 records, 1 streams\n"
+        ++ (codes "stream 1 from    192.0.2.1:50000 to 239.0.0.1:50000, ssrc 00000001, "
+        ++ (codes "payload type 96 but for 0\n"
+        ++ (codes "stream 1 packets 41 in records 1 to 41, 3 with the marker, 1722 bytes\n"
+        ++ (codes "stream 1 rate    50 frames per second, steps of 1800 to 1800 ticks\n"
+        ++ (codes "stream 1 frame   20 to 20 packets\n"
+        ++ (codes "stream 1 lost    0 of 41 sent (0.00 %), 0 back, 0 repeated, "
+        ++ (codes "0 wraps without the extended number\n"
+        ++ codes "stream 1 lines   not seen: no line header was captured\n"))))))) }
+{}
+
+/// The whole text of a capture with frames that were passed over, unread packets, further streams, and a stream of
+/// fields with a loss.
+#[tactic(auto, unfolding(crate::proofs::Numerals::scan_texts))]
+pub fn mixed_text_by_hand()
+    ensures { contents_text (codes "b.pcap") (note.Cut 2904) mixed_contents
+        ≡ codes "capture b.pcap: cut at 2904, 51 records, 1 streams\n"
+        ++ (codes "passed over 2: more than one VLAN tag, or a provider's\n"
+        ++ (codes "passed over 1: IPv6\n"
+        ++ (codes "unread 3: UDP to 239.0.0.1:50000 that isn't RTP with an extended sequence number\n"
+        ++ (codes "more 5: packets of further streams and targets\n"
+        ++ (codes "stream 1 from    192.0.2.1:50000 to 239.0.0.1:50000, ssrc 00000001, "
+        ++ (codes "payload type 96 but for 0\n"
+        ++ (codes "stream 1 packets 40 in records 1 to 41, 3 with the marker, 1722 bytes\n"
+        ++ (codes "stream 1 rate    29.97 frames per second (30000/1001), steps of 1501 to 1502 ticks\n"
+        ++ (codes "stream 1 frame   19 to 20 packets\n"
+        ++ (codes "stream 1 lost    1 of 41 sent (2.43 %), 0 back, 0 repeated, "
+        ++ (codes "0 wraps without the extended number\n"
+        ++ codes "stream 1 lines   540 in each of two fields\n"))))))))))) }
 {}
