@@ -1,5 +1,6 @@
 -- The margin of a packet by its parts.
-use Rattle.std.proofs.Common.{◌≡◌, ◌≤◌, ◌<◌, ◌+◌, ◌*◌, ◌/◌, ◌%◌, ◌^◌, ◌++◌, ◌∷◌, [], ℕ, ℤ, Bool, true, false, cond, not, List, length, slice_index, pos, ◌-ℤ◌, ◌*ℤ◌, ◌<ℤ◌, ◌≤ℤ◌, inl, inr, ap, ◌∙◌, sym, subst, refl, arith, length-append}
+use Rattle.std.proofs.Common.{◌≡◌, ◌≤◌, ◌<◌, ◌+◌, ◌*◌, ◌/◌, ◌%◌, ◌^◌, ◌++◌, ◌∷◌, [], ℕ, ℤ, Bool, true, false, cond, not}
+use Rattle.std.proofs.Common.{List, length, slice_index, pos, ◌-ℤ◌, ◌*ℤ◌, ◌<ℤ◌, ◌≤ℤ◌, inl, inr, ap, ◌∙◌, sym, subst, refl, arith, length-append}
 use Rattle.std.specs.Prelude.{int_lt}
 use Rattle.std.specs.Int.{int_min}
 use Rattle.std.proofs.Math.Seq.{get_or-append_seam}

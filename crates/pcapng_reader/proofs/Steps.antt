@@ -1,5 +1,6 @@
 -- Lemmas on the steps of a converter: each leaves the text that is still to be given.
-use Rattle.std.proofs.Common.{refl, subst, ◌≡◌, ◌≤◌, ◌<◌, ◌+◌, ◌-◌, ◌^◌, inl, inr, ℕ, min, Bool, true, false, List, [], ◌∷◌, ◌++◌, length, take, drop, None, Some}
+use Rattle.std.proofs.Common.{refl, subst, ◌≡◌, ◌≤◌, ◌<◌, ◌+◌, ◌-◌, ◌^◌, inl, inr, ℕ, min}
+use Rattle.std.proofs.Common.{Bool, true, false, List, [], ◌∷◌, ◌++◌, length, take, drop, None, Some}
 use Rattle.std.proofs.Common.{sym, ap, ◌∙◌, arith, append-nil, append_assoc, length-append, length-drop}
 use Rattle.std.proofs.Math.Seq.{take-append-add}
 use Rattle.std.proofs.lemmas.Bool.{cases_lt}
@@ -23,7 +24,8 @@ use Rattle.pcapng_reader.specs.declared.step.Step.{Step}
 use Rattle.pcapng_reader.specs.declared.step.Step.TheVariants as step
 use Rattle.pcapng_reader.specs.declared.converter.Converter.{Converter}
 use Rattle.pcapng_reader.specs.declared.window.Window.{Window}
-use Rattle.pcapng_reader.specs.Classic.{number, Section, Given, bare_head, broken, gives, options, padded, interface_by, body_from, add_interface, content, is_length}
+use Rattle.pcapng_reader.specs.Classic.{number, Section, Given, bare_head, broken, gives, options}
+use Rattle.pcapng_reader.specs.Classic.{padded, interface_by, body_from, add_interface, content, is_length}
 use Rattle.pcapng_reader.specs.Converting.{found_by, found_with, found_interface, fate_by, fate_given, content_given, options_text, after, head_text}
 use Rattle.pcapng_reader.specs.Texts.{text_by, section_of, ahead, whole, text_of, work, HasRoom, Steps, Waits, IsHead, AtBlock, AtOption}
 use Rattle.pcapng_reader.specs.Windows.{kept_bytes, held_bytes}

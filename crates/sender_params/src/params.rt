@@ -9,7 +9,7 @@ ghost use Rattle.sender_params.specs.Limits.{c_max_of, vrx_full_of};
 ghost use Rattle.sender_params.specs.Reads.{anchor_of};
 ghost use Rattle.sender_params.specs.Ticks.{ticks_of};
 ghost use Rattle.sender_params.specs.Times.{drain_time, frame_time, group_time, offset_time};
-ghost use Rattle.sender_params.specs.Times.{per_frame_of, read_step};
+ghost use Rattle.sender_params.specs.Times.{read_step};
 
 use crate::rules::{self, Limits, Ratio};
 use fraction128::{Line, floor_of, floor_signed};
@@ -109,19 +109,9 @@ impl Params {
         }
     }
 
-    /// T_DRAIN in nanoseconds, the time from one tick of the bucket's drain to the next, as numerator
-    /// and denominator.
-    pub fn drain(&self) -> (u128, u128)
-        ensures num { result.0 ≡ (drain_time self.now.media self.now.n).0 }
-        ensures den { result.1 ≡ (drain_time self.now.media self.now.n).1 }
-        ensures some { 1 ≤ result.1 }
-    {
-        (u128::from(self.drain.num), u128::from(self.drain.den))
-    }
-
     /// TR_OFFSET in nanoseconds, the time from the start of each group to its first read, as
     /// numerator and denominator. TROFF replaces it. A group of an interlaced picture is a field.
-    pub fn offset(&self) -> (u128, u128)
+    pub(crate) fn offset(&self) -> (u128, u128)
         ensures num { result.0 ≡ (offset_time self.now.media).0 }
         ensures den { result.1 ≡ (offset_time self.now.media).1 }
         ensures some { 1 ≤ result.1 }
@@ -134,7 +124,7 @@ impl Params {
     }
 
     /// T_FRAME in nanoseconds, as numerator and denominator.
-    pub fn frame(&self) -> (u128, u128)
+    fn frame(&self) -> (u128, u128)
         ensures num { result.0 ≡ (frame_time self.now.media).0 }
         ensures den { result.1 ≡ (frame_time self.now.media).1 }
         ensures some { 1 ≤ result.1 }
@@ -161,7 +151,7 @@ impl Params {
 
     /// T_RS in nanoseconds, the time from one read to the next in a group, of the gapped schedule or
     /// the linear one, as numerator and denominator.
-    pub fn step(&self, gapped: bool) -> (u128, u128)
+    pub(crate) fn step(&self, gapped: bool) -> (u128, u128)
         ensures num { result.0 ≡ (read_step self.now.media self.now.n gapped).0 }
         ensures den { result.1 ≡ (read_step self.now.media self.now.n gapped).1 }
         ensures some { 1 ≤ result.1 }
@@ -182,15 +172,6 @@ impl Params {
         ensures most { result ≤ 262144 }
     {
         self.n
-    }
-
-    /// N, the packets of one frame.
-    pub fn per_frame(&self) -> u32
-        ensures value { result ≡ per_frame_of self.now.media self.now.n }
-        ensures some { 1 ≤ result }
-        ensures most { result ≤ 524288 }
-    {
-        rules::per_frame(&self.media, self.n)
     }
 
     /// The ticks of the bucket's drain from `a0` up to `at`, both in nanoseconds of TAI: they stand at

@@ -60,14 +60,10 @@ fn plain_narrow(rt: HostRuntime) {
     assert_eq!(rt; num, 1_000_000 * den);
     let (num, den) = params.offset();
     assert_eq!(rt; num * 9, 6_880_000 * den);
-    let (num, den) = params.drain();
-    assert_eq!(rt; num * 11, 10_000_000 * den);
-    let (num, den) = params.frame();
-    assert_eq!(rt; num, 20_000_000 * den);
+    assert_eq!(rt; params.drain.num * 11, 10_000_000 * params.drain.den);
     let (num, den) = params.group();
     assert_eq!(rt; num, 20_000_000 * den);
     assert_eq!(rt; params.n(), 20);
-    assert_eq!(rt; params.per_frame(), 20);
     assert_eq!(rt; limits(&params), [(4, 8), (4, 8), (16, 720)]);
     assert_eq!(rt; params.anchor(FIRST), 80_000_000_000);
     assert_eq!(rt; params.ticks(FIRST, FIRST + 3_840_000), 4);

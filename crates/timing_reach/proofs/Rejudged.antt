@@ -1,5 +1,6 @@
 -- Packets that leave as a plan has it are judged as they were, but for their stamps.
-use Rattle.std.proofs.Common.{◌≡◌, ◌≤◌, ◌<◌, ◌+◌, ◌-◌, ◌*◌, ◌^◌, ℕ, zero, suc, Bool, true, false, if◌then◌else◌, nat_lt, List, [], ◌∷◌, length, map, take, drop, min, Option}
+use Rattle.std.proofs.Common.{◌≡◌, ◌≤◌, ◌<◌, ◌+◌, ◌-◌, ◌*◌, ◌^◌, ℕ, zero, suc, Bool, true}
+use Rattle.std.proofs.Common.{false, if◌then◌else◌, nat_lt, List, [], ◌∷◌, length, map, take, drop, min, Option}
 use Rattle.std.proofs.Common.{Some, None, refl, arith, ap, ◌∙◌, sym, subst, inl, inr}
 use Rattle.std.specs.Prelude.{All, Result, ⊤, not, ◌==◌, ◌&&◌, ◌||◌, nat_le, max, slice_index}
 use Rattle.std.proofs.lemmas.Bool.{cases_lt}
@@ -13,7 +14,8 @@ use Rattle.timing_base.specs.Judged.{FlowRun, FlowVerdict, JudgedRun, RunOutcome
 use Rattle.timing_base.specs.Judged.{no_whole_frame, refusal, refused_or, run_outcome, runs, stamp_of, whole_frames}
 use Rattle.timing_base.specs.declared.packet.FlowPacket.{FlowPacket}
 use Rattle.timing_base.specs.declared.packet.PacketFault.{PacketFault}
-use Rattle.timing_base.specs.declared.packet.PacketFault.TheVariants.{FrameSize, FrameTooLarge, NoMarker, Number, PayloadType, SameStamp, SecondSource, StampBack}
+use Rattle.timing_base.specs.declared.packet.PacketFault.TheVariants.{FrameSize, FrameTooLarge, NoMarker, Number}
+use Rattle.timing_base.specs.declared.packet.PacketFault.TheVariants.{PayloadType, SameStamp, SecondSource, StampBack}
 use Rattle.timing_base.specs.declared.packet.Rtp.{Rtp}
 use Rattle.timing_base.proofs.FirstFaults.{no_fault-at}
 use Rattle.timing_base.proofs.Grouped.{none-order}

@@ -1,5 +1,6 @@
 -- The capture that is written of a flow, read as records, and the flow of these.
-use Rattle.std.proofs.Common.{◌≡◌, ◌≤◌, ◌<◌, ◌+◌, ◌*◌, ◌^◌, ℕ, zero, suc, Bool, true, false, if◌then◌else◌, List, [], ◌∷◌, ◌++◌, length, drop, take, refl, arith, ap, ◌∙◌, sym, subst}
+use Rattle.std.proofs.Common.{◌≡◌, ◌≤◌, ◌<◌, ◌+◌, ◌*◌, ◌^◌, ℕ, zero, suc, Bool, true, false, if◌then◌else◌}
+use Rattle.std.proofs.Common.{List, [], ◌∷◌, ◌++◌, length, drop, take, refl, arith, ap, ◌∙◌, sym, subst}
 use Rattle.std.proofs.Common.{Some, None, Ok, Option, length-append, drop-drop, drop_at, take_at}
 use Rattle.std.specs.Prelude.{All, Result, cond, filter_map, ◌/◌, ◌%◌, is_some}
 use Rattle.std.proofs.lemmas.Bool.Decides.{nat_tests}
@@ -64,7 +65,8 @@ written-note : (most number place s n : ℕ) (rest : List ℕ) → n ≤ 262144 
 unfolding written
 written-note most number place s n rest short whole room =
     note_at-append written most number place (record_head s n) rest (omega arith)
-    ∙ ap (λ f. note_by Nanos most number place (length (record_head s n ++ rest)) f (captured written (record_head s n))) (four-bytes (s % 1000000000) (omega arith))
+    ∙ ap (λ f. note_by Nanos most number place (length (record_head s n ++ rest)) f (captured written (record_head s n)))
+      (four-bytes (s % 1000000000) (omega arith))
     ∙ ap (note_by Nanos most number place (length (record_head s n ++ rest)) (s % 1000000000)) (four-bytes n (omega (arith, short)))
     ∙ note-none most number place (length (record_head s n ++ rest)) (s % 1000000000) n (omega arith) short room (omega (arith, whole))
 
@@ -131,7 +133,8 @@ flow-some m x xs p some =
 
 -- a record that isn't of the flow
 passed-over : (m : Media) (leaves : ℕ → ℕ → ℕ) (k : ℕ) (x : Record) (xs : List Record) → flow_packet m x ≡ None
-    → flow (sent leaves k (flow_records m xs)) m ≡ moved leaves k (flow xs m) → flow (sent leaves k (flow_records m (x ∷ xs))) m ≡ moved leaves k (flow (x ∷ xs) m)
+    → flow (sent leaves k (flow_records m xs)) m ≡ moved leaves k (flow xs m)
+    → flow (sent leaves k (flow_records m (x ∷ xs))) m ≡ moved leaves k (flow (x ∷ xs) m)
 passed-over m leaves k x xs none rest =
     let records = flow_records m xs in
     ap (λ (o : Option FlowPacket). flow (sent leaves k (cond (is_some o) (x ∷ records) records)) m) none ∙ rest

@@ -21,5 +21,6 @@ pub record StandsFor (params : Params) (v : Vrx) (stamps : List ℕ) : Type 0 wh
 -- is due
 abbrev pub Takes : Params → (old new : Vrx) → (packet : ℕ) → Due → Type 0
 Takes params old new packet due = (stamps : List ℕ) (at : ℕ) → packet ≡ length stamps → StandsFor params old stamps
-    → IsDueAt params.media params.n (anchor_of params.media (slice_index (stamps ++ at ∷ []) 0)) (gapped_of old.kind) at due
+    → IsDueAt params.media params.n (anchor_of params.media (slice_index (stamps ++ at ∷ []) 0)) (gapped_of old.kind)
+        at due
     → StandsFor params new (stamps ++ at ∷ [])

@@ -56,7 +56,8 @@ returns c =
     let first : seen ≡ get_or items batch.file was = c.index.ensures ∙ ap (λ n. get_or items n seen) same ∙ get_or_default items batch.file seen was within in
     let was_open : (get_or items batch.file was).ended ≡ false = ap (λ (x : OneFile). x.ended) (sym first) ∙ c.if-index.false in
     record {
-      stands = apart-fed_if c.take.result batch.file batch.packets c.args.self.now record c.args.self.now { files = with_item c.args.self.now.files c.batch.inside.file one }
+      stands = apart-fed_if c.take.result batch.file batch.packets c.args.self.now record c.args.self.now
+        { files = with_item c.args.self.now.files c.batch.inside.file one }
           was one within was_open
           (ap (λ (x : OneFile). x.ended) here) (ap (λ n. set items n one) same)
           (subst (λ (x : OneFile). IfOk c.take.result (λ _. Feeds 0 batch.packets x.judges c.take.new.self)) here
