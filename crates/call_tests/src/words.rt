@@ -3,8 +3,8 @@
 use std::alloc::{AllocError, Global};
 use std::process::Abort;
 use std::test::Fail;
-use timing_base::{FileName, Items, Request};
-use timing_words::{WordFault, read_words};
+use timing_base::{FileName, Items};
+use timing_words::{Request, WordFault, read_words};
 
 // The words of a line, which bars part.
 fn words_of(alloc: Global, line: &str) -> Result<Vec<String>, AllocError> {

@@ -53,7 +53,7 @@ pub record CatchesUp (old new : Schedule) (t : ℕ) : Type 0 where
 
 -- whatever reads a schedule was of, and whatever stamp no later it stood by, this says so of them at `at`
 abbrev pub Tells : {T : Type 0} → (Says : Media → ℕ → ℤ → Bool → ℕ → T → Type 0) → (old : Schedule) → (at : ℕ) → T
-  → Type 0
+    → Type 0
 Tells Says old at told = (m : Media) (n : ℕ) (anchor : ℤ) (gapped : Bool) (before : ℕ)
     → before ≤ at → StandsBy m n anchor gapped old before
     → Says m n anchor gapped at told

@@ -1,7 +1,8 @@
--- What a command line asks for, and the limits of its quantities. Texts are bytes; units and meanings are those of the
--- fields of the jobs.
+-- The jobs that a command line asks for, and the limits of their quantities. Texts are bytes; units and meanings are
+-- those of the fields of the jobs.
 use Rattle.std.specs.Prelude.{◌≡◌, ◌≤◌, ◌<◌, ℕ, Bool, false, List, length}
 use Rattle.timing_base.specs.declared.fail.FailProof.{FailProof}
+use Rattle.timing_base.specs.declared.job.ScanForm.{ScanForm}
 use Rattle.timing_base.specs.declared.media.Kind.{Kind}
 
 -- judge the flows of captures
@@ -90,3 +91,22 @@ pub record IsSkewJob (job : SkewJob) : Type 0 where
   pub pair_few : job.pair < 64
   pub some : 1 ≤ length job.captures
   pub few : length job.captures ≤ 2
+
+-- every flow of one capture
+pub record CaptureJob : Type 0 where
+  pub sdp : List ℕ
+  pub tai : ℕ
+  pub capture : List ℕ
+
+pub record IsCaptureJob (job : CaptureJob) : Type 0 where
+  pub tai_most : job.tai ≤ 1000
+
+-- list the numbers of a flow, of its frames or of its packets
+pub record SeriesJob : Type 0 where
+  pub flow : FlowJob
+  pub frames : Bool
+
+-- say what a capture holds
+pub record ScanJob : Type 0 where
+  pub capture : List ℕ
+  pub form : ScanForm

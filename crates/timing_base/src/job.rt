@@ -1,4 +1,4 @@
-//! What a command line asks for.
+//! The jobs that a command line asks for.
 
 use crate::fail::FailProof;
 use crate::list::Items;
@@ -53,7 +53,15 @@ impl Model for VerifyJob {
 
     ghost Value = { Seen };
 
-    ghost view = { λ job. record { sdp = job.sdp; media = job.media; kind = job.kind; proof = job.proof; tai = job.tai; captures = job.captures; joined = job.joined } };
+    ghost view = { λ job. record {
+      sdp = job.sdp;
+      media = job.media;
+      kind = job.kind;
+      proof = job.proof;
+      tai = job.tai;
+      captures = job.captures;
+      joined = job.joined;
+    } };
 
     ghost invariant = { λ job. IsVerifyJob (view job) };
 }
@@ -161,14 +169,63 @@ impl Model for SkewJob {
     ghost invariant = { λ job. IsSkewJob (view job) };
 }
 
-/// What a command line asks for.
+/// Every flow of one capture.
 #[derive(Debug, Drop)]
-pub enum Request {
-    Check(CheckJob),
-    Verify(VerifyJob),
-    VerifyReport(ReportJob),
-    SelfTest(SelfTestJob),
-    Window(FlowJob),
-    Shape(ShapeJob),
-    Skew(SkewJob),
+pub struct CaptureJob {
+    pub sdp: FileName,
+    /// Seconds that are added to the stamps of the capture, 0 to 1,000.
+    pub tai: u64,
+    pub capture: FileName,
+}
+
+impl Model for CaptureJob {
+    ghost use Rattle.timing_base.specs.Jobs.{CaptureJob as Seen, IsCaptureJob};
+
+    ghost Value = { Seen };
+
+    ghost view = { λ job. record { sdp = job.sdp; tai = job.tai; capture = job.capture } };
+
+    ghost invariant = { λ job. IsCaptureJob (view job) };
+}
+
+/// List the numbers of a flow.
+#[derive(Debug, Drop)]
+pub struct SeriesJob {
+    pub flow: FlowJob,
+    /// Whether frames (fields of an interlaced video) are listed, in place of packets.
+    pub frames: bool,
+}
+
+impl Model for SeriesJob {
+    ghost use Rattle.timing_base.specs.Jobs.{SeriesJob as Seen};
+
+    ghost Value = { Seen };
+
+    ghost view = { λ job. record { flow = job.flow; frames = job.frames } };
+}
+
+/// How it is printed what a capture holds.
+#[derive(Clone, Copy, Debug, PartialEq, Eq)]
+pub enum ScanForm {
+    /// Lines for eyes.
+    Lines,
+    /// One JSON value.
+    Json,
+    /// The draft of a session description.
+    Draft,
+}
+
+/// Say what a capture holds.
+#[derive(Debug, Drop)]
+pub struct ScanJob {
+    pub capture: FileName,
+    pub form: ScanForm,
+}
+
+impl Model for ScanJob {
+    ghost use Rattle.timing_base.specs.Jobs.{ScanJob as Seen};
+
+    ghost Value = { Seen };
+
+    ghost view = { λ job. record { capture = job.capture; form = job.form } };
 }

@@ -25,7 +25,10 @@ pub mod worked;
 
 pub use capture::{FileNote, PcapFault};
 pub use fail::{Broken, FailProof};
-pub use job::{CheckJob, FlowJob, ReportJob, Request, SelfTestJob, ShapeJob, SkewJob, VerifyJob};
+pub use job::{
+    CaptureJob, CheckJob, FlowJob, ReportJob, ScanForm, ScanJob, SelfTestJob, SeriesJob, ShapeJob,
+    SkewJob, VerifyJob,
+};
 pub use key::{FlowKey, route};
 pub use list::Items;
 pub use media::{Kind, Media, Session};

@@ -66,7 +66,7 @@ unfolding written
 written-note most number place s n rest short whole room =
     note_at-append written most number place (record_head s n) rest (omega arith)
     ∙ ap (λ f. note_by Nanos most number place (length (record_head s n ++ rest)) f (captured written (record_head s n)))
-      (four-bytes (s % 1000000000) (omega arith))
+    (four-bytes (s % 1000000000) (omega arith))
     ∙ ap (note_by Nanos most number place (length (record_head s n ++ rest)) (s % 1000000000)) (four-bytes n (omega (arith, short)))
     ∙ note-none most number place (length (record_head s n ++ rest)) (s % 1000000000) n (omega arith) short room (omega (arith, whole))
 

@@ -4,8 +4,8 @@ use Rattle.std.specs.Prelude.{Result, Ok, Err, map}
 use Rattle.std.proofs.lemmas.List.Elements.{All-head, All-tail}
 use Rattle.timing_base.specs.Jobs.{CheckJob}
 use Rattle.timing_base.specs.Media.{Media}
-use Rattle.timing_base.specs.declared.job.Request.{Request}
-use Rattle.timing_base.specs.declared.job.Request.TheVariants as request
+use Rattle.timing_words.specs.declared.request.Request.{Request}
+use Rattle.timing_words.specs.declared.request.Request.TheVariants as request
 use Rattle.timing_report.specs.declared.status.Input.{Input}
 use Rattle.timing_report.specs.declared.status.Status.{Status}
 use Rattle.timing_report.specs.declared.status.Status.TheVariants as status

@@ -45,10 +45,10 @@ module _ {H S : Type 0} (tells : shelf.Ghosts H S) (from : source.Ghosts S) wher
   is-opened job old mid new media sources sdp captures stays named listed there told targets are_there fetched =
       let whole : AreFetched (name_of from.name) (left_of from.left) (faults_of from.faults) (classic_texts (tells.text old)) job.captures sources =
       fetched-same (name_of from.name) (left_of from.left) (faults_of from.faults) (classic_texts (tells.text mid)) (classic_texts (tells.text old))
-        job.captures sources
+      job.captures sources
       (λ n. ap (option_map classic) (sym (stays.texts n)))
       (subst (λ names. AreFetched (name_of from.name) (left_of from.left) (faults_of from.faults) (classic_texts (tells.text mid)) names sources)
-        listed fetched) in
+      listed fetched) in
       record {
         there = subst (λ n. ¬ tells.lacks old n) named there;
         told = λ t is. told t (ap (tells.text old) named ∙ is);
@@ -66,7 +66,7 @@ module _ {H S : Type 0} (tells : shelf.Ghosts H S) (from : source.Ghosts S) wher
       (judged : Judges table listed tells from mid new sources found) where
     fetched-later : AreFetched (name_of from.name) (left_of from.left) (faults_of from.faults) (classic_texts (tells.text mid)) job.captures sources
     fetched-later = fetched-same (name_of from.name) (left_of from.left) (faults_of from.faults) (classic_texts (tells.text old))
-      (classic_texts (tells.text mid)) job.captures sources
+        (classic_texts (tells.text mid)) job.captures sources
         (λ n. ap (option_map classic) (stays.texts n)) opened.fetched
 
     -- where a capture's read fails while they are judged, its count has risen
@@ -75,7 +75,7 @@ module _ {H S : Type 0} (tells : shelf.Ghosts H S) (from : source.Ghosts S) wher
     rose e is =
         capture-earlier (tells.faults old) (tells.faults mid) (tells.faults new) job.captures e stays.later
         (subst (λ r. IfErr r (λ e. OnReadFault e (λ x. (number : ℕ) × (x ≡ input.Capture number) × CaptureRose (tells.faults mid) (tells.faults new)
-          job.captures number))) is
+        job.captures number))) is
         (judged.cause job.captures fetched-later))
 
     pub failed-follows : (e : Failure) → found ≡ Err e → FollowsCheck job (seen_of tells old new) (Err e)
@@ -94,10 +94,10 @@ module _ {H S : Type 0} (tells : shelf.Ghosts H S) (from : source.Ghosts S) wher
         → FollowsCheck job (seen_of tells old new) outcome
     report-follows outcome f is same printed status memory =
         let told : (names texts : List (List ℕ)) → AreFetched (name_of from.name) (left_of from.left) (faults_of from.faults) (classic_texts (tells.text mid))
-          names sources
+        names sources
         → AreTold (classic_texts (tells.text mid)) names texts → AreFound texts table f.notes.items f.rows.items =
         subst (λ r. IfOk r (λ x. (names texts : List (List ℕ)) → AreFetched (name_of from.name) (left_of from.left) (faults_of from.faults)
-          (classic_texts (tells.text mid)) names sources
+        (classic_texts (tells.text mid)) names sources
         → AreTold (classic_texts (tells.text mid)) names texts → AreFound texts table x.notes.items x.rows.items)) is judged.told in
         follows-report job (seen_of tells old new) media outcome f.notes.items f.rows.items opened.there opened.told opened.captures
         (λ raw t. subst (λ (g : List (List Record) → List Row). AreFound (map classic raw) g f.notes.items f.rows.items) same

@@ -3,8 +3,8 @@ use Rattle.std.proofs.Common.{◌≡◌, ℕ, true, Some, None, Option, Ok, Err,
 use Rattle.std.specs.Prelude.{◌||◌, Bool, Result}
 use Rattle.std.proofs.lemmas.Bool.{false≢true}
 use Rattle.timing_base.specs.Jobs.{CheckJob, FlowJob, ReportJob, SelfTestJob, ShapeJob, SkewJob, VerifyJob}
-use Rattle.timing_base.specs.declared.job.Request.{Request}
-use Rattle.timing_base.specs.declared.job.Request.TheVariants as request
+use Rattle.timing_words.specs.declared.request.Request.{Request}
+use Rattle.timing_words.specs.declared.request.Request.TheVariants as request
 use Rattle.timing_report.specs.declared.status.Status.{Status}
 use Rattle.timing_report.specs.declared.status.Status.TheVariants as status
 use Rattle.timing_steps.specs.Answers.{Answer, silent}

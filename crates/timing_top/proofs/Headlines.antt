@@ -4,8 +4,8 @@ use Rattle.std.specs.Prelude.{All, Result, map}
 use Rattle.std.proofs.lemmas.List.{length-map}
 use Rattle.timing_base.specs.Jobs.{CheckJob, IsCheckJob}
 use Rattle.timing_base.specs.Media.{IsMedia, Media}
-use Rattle.timing_base.specs.declared.job.Request.{Request}
-use Rattle.timing_base.specs.declared.job.Request.TheVariants as request
+use Rattle.timing_words.specs.declared.request.Request.{Request}
+use Rattle.timing_words.specs.declared.request.Request.TheVariants as request
 use Rattle.pcapng_reader.specs.Bytes.{AreBytes}
 use Rattle.pcapng_reader.specs.Classic.{classic}
 use Rattle.pcapng_reader.proofs.Bytes.{each-bytes}

@@ -2,8 +2,8 @@
 use Rattle.std.proofs.Common.{◌≡◌, ◌≤◌, Some, None, Option, refl, ap, sym, subst, inl, inr}
 use Rattle.std.specs.Prelude.{Result, Ok, Err}
 use Rattle.timing_base.specs.Jobs.{CheckJob, FlowJob, ReportJob, ShapeJob, SkewJob, VerifyJob}
-use Rattle.timing_base.specs.declared.job.Request.{Request}
-use Rattle.timing_base.specs.declared.job.Request.TheVariants as request
+use Rattle.timing_words.specs.declared.request.Request.{Request}
+use Rattle.timing_words.specs.declared.request.Request.TheVariants as request
 use Rattle.timing_reach.specs.Asked.{FlowInputRose, FollowsWindow}
 use Rattle.timing_reach.specs.Shaped.{FollowsShape}
 use Rattle.timing_reach.specs.Skewed.{FollowsSkew, SkewInputRose}

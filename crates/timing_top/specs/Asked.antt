@@ -1,7 +1,7 @@
 -- What each request and its texts define, in the order in which its inputs are read.
 use Rattle.std.specs.Prelude.{◌≡◌, Bool, IsTrue, ℕ, List, [], ◌∷◌, Option, Some, None, Result}
-use Rattle.timing_base.specs.declared.job.Request.{Request}
-use Rattle.timing_base.specs.declared.job.Request.TheVariants as request
+use Rattle.timing_words.specs.declared.request.Request.{Request}
+use Rattle.timing_words.specs.declared.request.Request.TheVariants as request
 use Rattle.timing_report.specs.declared.status.Input.{Input}
 use Rattle.timing_report.specs.declared.status.Status.{Status}
 use Rattle.timing_report.specs.declared.status.Status.TheVariants as status

@@ -1,7 +1,7 @@
 -- With which statuses a run of a request may end, whatever the texts are that it reads, and when nothing is printed.
 use Rattle.std.specs.Prelude.{◌≡◌, Bool, true, false, not, Option, Some, None, []}
-use Rattle.timing_base.specs.declared.job.Request.{Request}
-use Rattle.timing_base.specs.declared.job.Request.TheVariants as request
+use Rattle.timing_words.specs.declared.request.Request.{Request}
+use Rattle.timing_words.specs.declared.request.Request.TheVariants as request
 use Rattle.timing_report.specs.declared.status.Status.{Status}
 use Rattle.timing_report.specs.declared.status.Status.TheVariants as status
 use Rattle.timing_steps.specs.Ends.{is_silent}

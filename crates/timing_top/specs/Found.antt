@@ -63,11 +63,11 @@ pub record IsJudged {S : Type 0} (name : S → List ℕ) (left : S → Option (L
 
 -- the same of the captures of a shelf, before and after
 abbrev pub Judges : {H S : Type 0} → (rows : List (List Record) → List Row) → List Media → shelf.Ghosts H S
-  → source.Ghosts S
+    → source.Ghosts S
     → (old new : H) → List (Classic S) → Result Found Failure → Type 0
 Judges rows media tells from old new sources outcome =
     IsJudged (name_of from.name) (left_of from.left) (faults_of from.faults) (seen_of tells old new)
-      sources rows media outcome
+    sources rows media outcome
 
 -- captures that may be judged: they and the media are few, no read of them has failed, and few seconds are added
 pub record AreReady {S : Type 0} (faults : S → ℕ) (sources : List S) (media : List Media) (tai : ℕ) : Type 0 where

@@ -13,13 +13,12 @@ use crate::self_tests::self_test;
 use std::alloc::Global;
 use std::sync::Wait;
 use std::thread::Threads;
-use timing_base::Request;
 use timing_outside::{Gate, Shelf, Sink};
 use timing_reach::{shape_one, skew_one, window_one};
 use timing_report::Status;
 use timing_steps::{Answer, Failure, conclude};
 use timing_verify::{verify_all, verify_one};
-use timing_words::{WordFault, read_words};
+use timing_words::{Request, WordFault, read_words};
 
 /// Does what a request asks for, by the call of its command: `check` on this thread where the job has no workers.
 fn serve<R: Threads + Wait + Sync, H: Shelf, K: Sink, G: Gate>(

@@ -3,8 +3,8 @@
 
 ghost use Rattle.std.specs.Prelude.{◌≡◌, ◌⊎◌, [], ◌∷◌, ℕ, Bool, List, All, Option, Some, None, Result, Ok, Err, false, ◌≤◌, length, true, map};
 ghost use Rattle.timing_base.specs.Examples.{plain_media};
-ghost use Rattle.timing_base.specs.declared.job.Request.{Request};
-ghost use Rattle.timing_base.specs.declared.job.Request.TheVariants as asks;
+ghost use Rattle.timing_words.specs.declared.request.Request.{Request};
+ghost use Rattle.timing_words.specs.declared.request.Request.TheVariants as asks;
 ghost use Rattle.sdp_reader.specs.Session.{session};
 ghost use Rattle.capture_gen.specs.Sdp.{sdp_text};
 ghost use Rattle.timing_report.specs.declared.status.Input.{Input as InputValue};

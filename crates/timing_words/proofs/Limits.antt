@@ -7,8 +7,8 @@ use Rattle.timing_base.specs.Jobs.{CheckJob, FlowJob, IsCheckJob, IsFlowJob, IsR
 use Rattle.timing_base.specs.Jobs.{IsSkewJob, IsVerifyJob, ReportJob, SelfTestJob, ShapeJob}
 use Rattle.timing_base.specs.Jobs.{SkewJob, VerifyJob}
 use Rattle.timing_base.specs.Name.{is_file_name}
-use Rattle.timing_base.specs.declared.job.Request.{Request}
-use Rattle.timing_base.specs.declared.job.Request.TheVariants as asks
+use Rattle.timing_words.specs.declared.request.Request.{Request}
+use Rattle.timing_words.specs.declared.request.Request.TheVariants as asks
 use Rattle.timing_words.specs.declared.command.Command.{Command}
 use Rattle.timing_words.specs.declared.command.Command.TheVariants as command
 use Rattle.timing_words.specs.Limits.{IsWithinLimits}

@@ -1,7 +1,7 @@
 -- Lines for examples that are worked by hand.
 use Rattle.std.specs.Prelude.{ℕ, ◌≡◌, ◌==◌, if◌then◌else◌, List, [], ◌∷◌, Some, None, codes, false}
 use Rattle.timing_base.specs.Jobs.{CheckJob, FlowJob}
-use Rattle.timing_base.specs.declared.job.Request.{Request}
+use Rattle.timing_words.specs.declared.request.Request.{Request}
 use Rattle.timing_words.specs.Line.{Part, Text, cut}
 use Rattle.timing_words.specs.Request.{check_sorts, request}
 

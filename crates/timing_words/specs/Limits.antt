@@ -1,7 +1,7 @@
 -- What every request keeps: the limits of its job's quantities, as `timing_base` states them.
 use Rattle.timing_base.specs.Jobs.{IsCheckJob, IsFlowJob, IsReportJob, IsSelfTestJob, IsSkewJob, IsVerifyJob}
-use Rattle.timing_base.specs.declared.job.Request.{Request}
-use Rattle.timing_base.specs.declared.job.Request.TheVariants as asks
+use Rattle.timing_words.specs.declared.request.Request.{Request}
+use Rattle.timing_words.specs.declared.request.Request.TheVariants as asks
 
 -- the job of a request is within its limits
 abbrev pub IsWithinLimits : Request → Type 0

@@ -12,8 +12,8 @@ use Rattle.timing_base.specs.Name.{is_file_name}
 use Rattle.timing_base.specs.declared.fail.Broken.{Broken}
 use Rattle.timing_base.specs.declared.fail.Broken.TheVariants as broken
 use Rattle.timing_base.specs.declared.fail.FailProof.{FailProof}
-use Rattle.timing_base.specs.declared.job.Request.{Request}
-use Rattle.timing_base.specs.declared.job.Request.TheVariants as asks
+use Rattle.timing_words.specs.declared.request.Request.{Request}
+use Rattle.timing_words.specs.declared.request.Request.TheVariants as asks
 use Rattle.timing_base.specs.declared.media.Kind.{Kind}
 use Rattle.timing_base.specs.declared.media.Kind.TheVariants as kind
 use Rattle.timing_words.specs.declared.command.Command.{Command}

@@ -3,8 +3,8 @@
 
 ghost use Rattle.std.specs.Prelude.{◌≡◌, List, [], ◌∷◌, ◌++◌, Some, None, codes, false, true};
 ghost use Rattle.timing_base.specs.declared.fail.Broken.TheVariants as broken;
-ghost use Rattle.timing_base.specs.declared.job.Request.{Request};
-ghost use Rattle.timing_base.specs.declared.job.Request.TheVariants as asks;
+ghost use Rattle.timing_words.specs.declared.request.Request.{Request};
+ghost use Rattle.timing_words.specs.declared.request.Request.TheVariants as asks;
 ghost use Rattle.timing_base.specs.declared.media.Kind.TheVariants as kind;
 ghost use Rattle.timing_words.specs.Examples.{Asks, IsCut, IsRefused, IsUncut, plain_check, second_flow};
 ghost use Rattle.timing_words.specs.Examples.{sixteen, sixteen_names, words};

@@ -10,7 +10,9 @@ mod jobs;
 pub mod laws;
 mod line;
 mod read;
+mod request;
 mod values;
 
 pub use line::WordFault;
 pub use read::read_words;
+pub use request::Request;

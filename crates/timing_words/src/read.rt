@@ -11,9 +11,9 @@ use crate::jobs::{
     check_job, flow_job, report_job, self_test_job, shape_job, skew_job, verify_job,
 };
 use crate::line::{WordFault, cut};
+use crate::request::Request;
 use clap::ArgMatches;
 use std::alloc::{AllocError as OutOfMemory, Global};
-use timing_base::Request;
 
 fn request_of(
     alloc: Global,

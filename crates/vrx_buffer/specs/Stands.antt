@@ -22,5 +22,5 @@ pub record StandsFor (params : Params) (v : Vrx) (stamps : List ℕ) : Type 0 wh
 abbrev pub Takes : Params → (old new : Vrx) → (packet : ℕ) → Due → Type 0
 Takes params old new packet due = (stamps : List ℕ) (at : ℕ) → packet ≡ length stamps → StandsFor params old stamps
     → IsDueAt params.media params.n (anchor_of params.media (slice_index (stamps ++ at ∷ []) 0)) (gapped_of old.kind)
-        at due
+    at due
     → StandsFor params new (stamps ++ at ∷ [])

@@ -82,7 +82,7 @@ pub returns-in_default-deal_all-clause-back : goal.returns-in_default-deal_all-c
 returns-in_default-deal_all-clause-back g c =
     sources_back g.S.Source.name g.S.Source.left g.S.Source.faults _ _ _ _ _ _ _ _ c.in_ok-intakes.ensures c.in_ok-worked.ensures.read
     (c.unfound-in_default-deal_all.ensures.notes ∙ c.in_ok-sources.ensures.notes)
-      (c.unfound-in_default-deal_all.ensures.sources ∙ c.in_ok-sources.ensures.sources)
+    (c.unfound-in_default-deal_all.ensures.sources ∙ c.in_ok-sources.ensures.sources)
 
 pub returns-clause-notes : goal.returns-clause-notes
 returns-clause-notes g c =

@@ -14,7 +14,7 @@ returns-clause-follows g c =
     (HasWindow c.args.job.now.tai c.args.media.now)
     c.measure.ensures.stays.texts c.measure.ensures.stays.later c.in_ok-measured.ensures.told c.in_ok-measured.ensures.there
     (if-ok c.answer_measured.result (λ answer answers text whole h. window-in text c.args.media.now c.args.job.now.tai c.in_ok-measured.measured
-      answer answers h)
+    answer answers h)
     c.answer_measured.ensures.answers)
     (no-fault c.answer_measured.result _ c.answer_measured.ensures.cause)
 

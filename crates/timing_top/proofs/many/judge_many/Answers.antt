@@ -30,7 +30,7 @@ returns-in-Some-clause-judged g c = record {
       let notes = c.in_ok-sources.field-0.notes.items in
       let unread : (c.in-Some.number < length notes) × ((d : Option FileNote) → slice_index_or notes c.in-Some.number d ≡ Some (Refused ReadFault)) =
       subst (λ (l : List (Option FileNote)). (c.in-Some.number < length l)
-        × ((d : Option FileNote) → slice_index_or l c.in-Some.number d ≡ Some (Refused ReadFault)))
+      × ((d : Option FileNote) → slice_index_or l c.in-Some.number d ≡ Some (Refused ReadFault)))
       c.deref.ensures.value c.in-Some.ensures in (
         c.in-Some.number,
         refl,
@@ -56,7 +56,7 @@ returns-in-Some-found-clause-judged g c = record {
       sym (length-map notes (λ (n : FileNote). Some n))
       ∙ ap (λ (l : List (Option FileNote)). length l)
       (some-at c.in_ok-sources.field-0.found c.in-Some-found.found (λ found. map Some found.notes.items ≡ ends) c.in-Some-found.is
-        c.in_ok-sources.ensures.notes)
+      c.in_ok-sources.ensures.notes)
       ∙ back-length (name_of g.H.Source.Source.name) (faults_of g.H.Source.Source.faults) c.args.sources.items ends c.in_ok-sources.field-0.sources.items
       c.in_ok-sources.ensures.back;
   of_session =

@@ -18,7 +18,7 @@ loop-claim-preserved g c =
       checked =
           subst (All (IsChecked texts lacks c.args.job.now c.args.media.now)) (sym c.in_ok-push.ensures.items)
           (All-push (IsChecked texts lacks c.args.job.now c.args.media.now) c.loop-claim.checked.items
-            (record { claim = _; finding = c.in_ok-finding.finding }) i.checked
+          (record { claim = _; finding = c.in_ok-finding.finding }) i.checked
           (c.in_ok-finding.ensures.found c.args.shelf.now i.stays i.served));
       claims = grind (arith, common_steps, c.in_ok-push.ensures.items, i.claims);
       served = c.in_ok-finding.ensures.served c.args.shelf.now i.stays i.served;

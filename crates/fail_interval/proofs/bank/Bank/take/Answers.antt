@@ -12,7 +12,7 @@ invariant_of-self c =
           within at c.args.self.now.few c.take_carried-taken.ensures.fed;
       ordered = λ x e.
           order-one c.in-Some.order c.pass.new.self x c.ahead-ahead.result c.args.self.now.judges.items c.index_mut-judge.result.now
-            c.take_carried-taken.new.self
+          c.take_carried-taken.new.self
           e c.pass.ensures.next at c.take_carried-taken.ensures.target order;
     }
 

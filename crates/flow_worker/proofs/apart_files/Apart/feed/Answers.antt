@@ -57,7 +57,7 @@ returns c =
     let was_open : (get_or items batch.file was).ended ≡ false = ap (λ (x : OneFile). x.ended) (sym first) ∙ c.if-index.false in
     record {
       stands = apart-fed_if c.take.result batch.file batch.packets c.args.self.now record c.args.self.now
-        { files = with_item c.args.self.now.files c.batch.inside.file one }
+          { files = with_item c.args.self.now.files c.batch.inside.file one }
           was one within was_open
           (ap (λ (x : OneFile). x.ended) here) (ap (λ n. set items n one) same)
           (subst (λ (x : OneFile). IfOk c.take.result (λ _. Feeds 0 batch.packets x.judges c.take.new.self)) here

@@ -80,7 +80,7 @@ returns-clause-judged g c = record {
   count = search rules;
   of_session =
       let was : IfOk c.loop-source.outcome (λ _. (items : List Record) × StandsFor c.args.self.now.media.now 0 c.args.self.now.tai
-          c.loop-source.joined.bank items) =
+      c.loop-source.joined.bank items) =
       c.loop-source.invariant.fed in
       let fed : (items : List Record) × StandsFor c.args.self.now.media.now 0 c.args.self.now.tai c.loop-source.joined.bank items =
       if_ok-at c.loop-source.outcome c.in_ok-outcome.field-0 _ (search rules) was in

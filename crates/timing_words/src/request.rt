@@ -1,0 +1,15 @@
+//! What a command line asks for.
+
+use timing_base::{CheckJob, FlowJob, ReportJob, SelfTestJob, ShapeJob, SkewJob, VerifyJob};
+
+/// What a command line asks for.
+#[derive(Debug, Drop)]
+pub enum Request {
+    Check(CheckJob),
+    Verify(VerifyJob),
+    VerifyReport(ReportJob),
+    SelfTest(SelfTestJob),
+    Window(FlowJob),
+    Shape(ShapeJob),
+    Skew(SkewJob),
+}
