@@ -17,13 +17,13 @@ returns-then-from-body c =
 pub returns-then-len-count : goal.returns-then-len-count
 returns-then-len-count c =
     option-waits c.args.self.now c.wait.new.self c.wait.result c.args.body c.args.found c.wait.ensures c.requires.option.stage_is c.requires.option.given
-      (omega arith)
+    (omega arith)
     (omega arith)
 
 pub returns-in-Some : goal.returns-in-Some
 returns-in-Some c =
     steps-option c.args.self.now c.pass_option.new.self c.args.body c.args.found c.in-Some.found c.args.code c.args.size _ c.min-count.result _
-      c.requires.option
+    c.requires.option
     (omega arith) (omega arith) c.min-count.ensures c.padded.ensures.value c.peek.ensures (sym c.with.ensures ∙ c.in-Some.is)
     c.pass_option.ensures.text c.pass_option.ensures.work c.pass_option.ensures.budget
 
