@@ -121,13 +121,9 @@ fn verifies_runs<R: Abort + AllocGlobal>(
     kind: Kind,
     shelf: &mut MemoryShelf,
 ) -> Result<(), Fail> {
-    let FailProof {
-        model,
-        from,
-        to,
-        count,
-        limit,
-    } = row.proof;
+    let proof = row.proof;
+    let (model, limit) = (proof.model, proof.limit);
+    let (from, to, count) = (proof.from, proof.to, proof.count);
     let run = format!(in rt.alloc();
         "{{\"types\":[{{\"type\":\"{kind:?}\",\"proof\":{{\"count\":{count},\"from\":{from},\"limit\":{limit},\"model\":\"{model:?}\",\"to\":{to}}}}}]}}"
     )?;
