@@ -15,21 +15,19 @@ use Rattle.fail_interval.specs.Row.{judged_values, verdict_of}
 use Rattle.fail_interval.specs.Stands.{StandsFor}
 use Rattle.pcap_reader.specs.Records.{Records}
 use Rattle.pcap_reader.specs.Taken.{TakesFew}
-use Rattle.pcap_reader.specs.declared.records.Taken.{Taken}
 use Rattle.udp_rtp.specs.Flow.{flow, flow_packet}
 use Rattle.timing_steps.specs.Answers.{Answer}
-use Rattle.timing_steps.specs.Taken.{TakesText}
 use Rattle.timing_reach.specs.Asked.{OnFlow, OnRun, not_judged}
+use Rattle.timing_reach.specs.judged.Flows.{TakesIn}
 use Rattle.timing_reach.specs.judged.Runs.{IsRunOf}
 use Rattle.timing_reach.specs.judged.Opening.{IsOpening}
 use Rattle.timing_reach.specs.judged.Marks.{last_marked}
-use Rattle.timing_reach.specs.judged.Readings.{IsJudging, IsJudgment, IsJudgmentIn, JudgesOn}
+use Rattle.timing_reach.specs.judged.Readings.{IsJudging, IsJudgment, IsJudgmentIn, JudgesOn, count_judged}
 use Rattle.timing_reach.specs.declared.judged.judging.Judging.{Judging}
 use Rattle.timing_reach.specs.declared.judged.judgment.Judgment.{Judgment}
 use Rattle.timing_reach.proofs.Gauges.{one-packet}
 use Rattle.timing_reach.proofs.Judgings.{judged-few, judged-of, one-run}
 use Rattle.timing_reach.proofs.Packets.{flow-few}
-use Rattle.timing_reach.proofs.Takings.{fed-alone}
 
 -- the last marked packet, and one more
 last-more : (before : ℕ) (packets : List FlowPacket) (p : FlowPacket) → last_marked before (packets ++ p ∷ [])
@@ -38,41 +36,45 @@ last-more before [] p = refl
 last-more before (q ∷ packets) p = last-more (if (read_or_zeros q.rtp).marker then q.at else before) packets p
 
 -- a packet of the flow was passed to the judge
-pub judges-packet : {T E : Type 0} (result : Result T E) (old new : Judging) (r : Record) (p : FlowPacket) → flow_packet old.media r ≡ Some p
-    → new.media ≡ old.media
+pub judges-packet : {T E : Type 0} (result : Result T E) (old new : Judging) (p : FlowPacket) (frame : List ℕ)
     → ((packets : List FlowPacket) → IsOpening packets old.opening → IsOpening (packets ++ p ∷ []) new.opening)
     → new.last ≡ last_marked old.last (p ∷ [])
     → ((m : Media) (key : FlowKey) (tai : ℕ) (packets : List FlowPacket) → StandsFor m key tai old.judge packets
     → OnOk result (StandsFor m key tai new.judge (packets ++ p ∷ [])))
-    → IfOk result (λ _. JudgesOn old new (r ∷ []))
-judges-packet (Ok x) old new r p e media opens ends feeds = λ m key tai packets h.
-    one-packet (IsJudging m key tai new) packets (Some p) (flow_packet m r) (ap (λ (x : Media). flow_packet x r) (sym h.media) ∙ e)
+    → IfOk result (λ _. (m : Media) (r : Record) → flow_packet m r ≡ Some p → r.bytes ≡ frame → JudgesOn m old new (r ∷ []))
+judges-packet (Ok x) old new p frame opens ends feeds = λ m r is carried key tai packets h.
+    one-packet (IsJudging m key tai new) packets (Some p) (flow_packet m r) is
     (record {
-      media = media ∙ h.media;
       judge = feeds m key tai packets h.judge;
       opening = opens packets h.opening;
       last = ends ∙ ap (λ n. last_marked n (p ∷ [])) h.last ∙ sym (last-more 0 packets p);
     })
-judges-packet (Err e) old new r p is media opens ends feeds = tt
+judges-packet (Err e) old new p frame opens ends feeds = tt
 
--- the records of a text were passed
-pub judgment-in : (text : List ℕ) (m : Media) (key : FlowKey) (tai : ℕ) (old new : Judging) (read : Taken) (judgment : Judgment) → IsJudging m key tai old []
-    → TakesText JudgesOn text 0 old new read → ((packets : List FlowPacket) → IsJudging m key tai new packets → IsJudgment m tai packets judgment)
+-- the flow in a text was passed
+pub judgment-in : (text : List ℕ) (m : Media) (key : FlowKey) (tai : ℕ) (old new : Judging) (judgment : Judgment) → IsJudging m key tai old []
+    → TakesIn (JudgesOn m) text old new → ((packets : List FlowPacket) → IsJudging m key tai new packets → IsJudgment m tai packets judgment)
     → IsJudgmentIn m tai text judgment
-judgment-in text m key tai old new read judgment start t finish = record {
+judgment-in text m key tai old new judgment start t finish = record {
   items = t.items;
-  note = read.note;
+  note = t.note;
   records = t.records;
-  judgment_is = finish (flow t.items m) (fed-alone JudgesOn text old new read t m key tai [] start);
+  judgment_is = finish (flow t.items m) (t.fed key tai [] start);
 }
+
+-- few packets were passed
+pub passed-few : (m : Media) (key : FlowKey) (tai most : ℕ) (old new : Judging) → IsJudging m key tai old [] → TakesFew (JudgesOn m) most old new
+    → count_judged new ≤ most
+passed-few m key tai most old new start t =
+    let h = t.taken key tai [] start in omega (arith, h.judge.fed, flow-few m t.items, t.few)
 
 -- few records were passed
 pub judgment-few : (m : Media) (key : FlowKey) (tai most : ℕ) (old new : Judging) (judgment : Judgment) (j : Judged) → IsJudging m key tai old []
-    → TakesFew JudgesOn most old new → ((packets : List FlowPacket) → IsJudging m key tai new packets → IsJudgment m tai packets judgment)
+    → TakesFew (JudgesOn m) most old new → ((packets : List FlowPacket) → IsJudging m key tai new packets → IsJudgment m tai packets judgment)
     → judgment.verdict ≡ verdict.Judged j → j.packets ≤ most
 judgment-few m key tai most old new judgment j start t finish is =
     let packets = flow t.items m in
-    let s = finish packets (t.taken m key tai [] start) in
+    let s = finish packets (t.taken key tai [] start) in
     let run = judged-of m j (judged packets m.pt tai) judgment.verdict s.verdict_is is in
     let few = judged-few m j packets tai run.0 (one-run packets m.pt tai run.0 run.1) run.2 in
     omega (arith, few, flow-few m t.items, t.few)

@@ -1,7 +1,7 @@
 -- What a second reading of a flow finds, beside the first.
 use Rattle.std.specs.Prelude.{◌&&◌, nat_eq, slice_index}
 use Rattle.std.specs.Option.{option_map}
-use Rattle.std.proofs.Common.{◌≡◌, ◌≤◌, ◌+◌, ◌*◌, ◌^◌, ℕ, Bool, true, false, List, [], Option, Some, None, refl, arith, ap, ap₂, ◌∙◌, sym, subst}
+use Rattle.std.proofs.Common.{◌≡◌, ◌+◌, ◌*◌, ◌^◌, ℕ, Bool, true, false, List, [], Option, Some, None, refl, arith, ap, ap₂, ◌∙◌, sym, subst}
 use Rattle.std.proofs.lemmas.Bool.{eqb-true, false≢true}
 use Rattle.std.proofs.lemmas.Bool.Decides.{nat_tests}
 use Rattle.timing_base.specs.Captures.{Record}
@@ -14,19 +14,17 @@ use Rattle.timing_base.specs.declared.row.Verdict.{Verdict}
 use Rattle.timing_base.specs.declared.row.Verdict.TheVariants as verdict
 use Rattle.pcap_reader.specs.Header.{header}
 use Rattle.pcap_reader.specs.Taken.{TakesFew}
-use Rattle.pcap_reader.specs.declared.records.Taken.{Taken}
 use Rattle.pcap_reader.proofs.Lists.{only_by}
 use Rattle.pcapng_reader.specs.Classic.{classic}
 use Rattle.udp_rtp.specs.Flow.{flow}
 use Rattle.timing_steps.specs.Answers.{Answer}
-use Rattle.timing_steps.specs.Taken.{TakesText}
-use Rattle.timing_reach.specs.judged.Readings.{IsJudging, IsJudgment, IsJudgmentIn, JudgesOn, count_judged}
+use Rattle.timing_reach.specs.judged.Readings.{IsJudging, IsJudgment, IsJudgmentIn, JudgesOn}
+use Rattle.timing_reach.specs.judged.Flows.{TakesIn}
 use Rattle.timing_reach.specs.judged.Runs.{IsRunOf}
 use Rattle.timing_reach.specs.judged.SecondReadings.{AnswersSome, TakesBoth, is_again, is_of_part}
 use Rattle.timing_reach.specs.declared.judged.judgment.Judgment.{Judgment}
 use Rattle.timing_reach.specs.declared.judged.second.SecondReading.{SecondReading}
 use Rattle.timing_reach.proofs.Judgings.{judged-of}
-use Rattle.timing_reach.proofs.Packets.{flow-few}
 
 both : (a b : Bool) → (a && b) ≡ true → (a ≡ true) × (b ≡ true)
 both true b e = (refl, e)
@@ -80,30 +78,28 @@ changed-untold o m tai first second j is known seen other =
     let t : option_map classic o ≡ Some (classic text) = ap (option_map classic) e in
     false≢true (sym other ∙ same-found (classic text) m tai first second j is (known (classic text) t) (seen (classic text) t)))
 
--- what the judge took of the records that were taken
-pub judge-part : {M : Type 0} (takes : M → M → List Record → Type 0) (text : List ℕ) (old new : SecondReading M) (read : Taken)
-    → TakesText (TakesBoth takes) text 0 old new read → TakesText JudgesOn text 0 old.judging new.judging read
-judge-part takes text old new read t = record { items = t.items; records = t.records; count = t.count; fed = t.fed.judged }
+-- what the judge took of the flow that was taken
+pub judge-part : {M : Type 0} (takes : Media → M → M → List Record → Type 0) (text : List ℕ) (m : Media) (old new : SecondReading M)
+    → TakesIn (TakesBoth takes m) text old new → TakesIn (JudgesOn m) text old.judging new.judging
+judge-part takes text m old new t = record { items = t.items; note = t.note; records = t.records; fed = t.fed.judged }
 
--- few packets were passed to the judge
-pub few-judged : {M : Type 0} (takes : M → M → List Record → Type 0) (m : Media) (key : FlowKey) (tai most : ℕ) (old new : SecondReading M)
-    → IsJudging m key tai old.judging [] → TakesFew (TakesBoth takes) most old new → count_judged new.judging ≤ most
-few-judged takes m key tai most old new start t =
-    let h = t.taken.judged m key tai [] start in omega (arith, h.judge.fed, flow-few m t.items, t.few)
+pub judge-few : {M : Type 0} (takes : Media → M → M → List Record → Type 0) (m : Media) (most : ℕ) (old new : SecondReading M)
+    → TakesFew (TakesBoth takes m) most old new → TakesFew (JudgesOn m) most old.judging new.judging
+judge-few takes m most old new t = record { items = t.items; few = t.few; taken = t.taken.judged }
 
 -- a second reading that found as much: the answer is that on what it read
-pub answers-some : {M : Type 0} (takes : M → M → List Record → Type 0) (Answers : List Record → JudgedRun → Answer → Type 0) (m : Media) (key : FlowKey)
+pub answers-some : {M : Type 0} (takes : Media → M → M → List Record → Type 0) (Answers : List Record → JudgedRun → Answer → Type 0) (m : Media) (key : FlowKey)
     (tai most : ℕ) (old new : SecondReading M) (first second : Judgment) (j : Judged) (answer : Answer) → IsJudging m key tai old.judging []
-    → TakesFew (TakesBoth takes) most old new → ((packets : List FlowPacket) → IsJudging m key tai new.judging packets → IsJudgment m tai packets second)
+    → TakesFew (TakesBoth takes m) most old new → ((packets : List FlowPacket) → IsJudging m key tai new.judging packets → IsJudgment m tai packets second)
     → is_again second j first ≡ true
-    → ((items : List Record) (run : JudgedRun) → takes old.meter new.meter items → IsRunOf m tai first.first j items run → Answers items run answer)
+    → ((items : List Record) (run : JudgedRun) → takes m old.meter new.meter items → IsRunOf m tai first.first j items run → Answers items run answer)
     → AnswersSome Answers m tai first.first j answer
 answers-some takes Answers m key tai most old new first second j answer start t finish again looked =
     let same = both (is_of_part second.verdict j) (nat_eq second.first first.first && nat_eq second.last first.last) again in
     let opens : second.first ≡ first.first =
     eqb-true second.first first.first (both (nat_eq second.first first.first) (nat_eq second.last first.last) same.1).0 in
     let part = part-of second.verdict j same.0 in
-    let s = finish (flow t.items m) (t.taken.judged m key tai [] start) in
+    let s = finish (flow t.items m) (t.taken.judged key tai [] start) in
     let run = judged-of m part.0 (judged (flow t.items m) m.pt tai) second.verdict s.verdict_is part.1 in
     let found : IsRunOf m tai first.first j t.items run.0 =
     record {

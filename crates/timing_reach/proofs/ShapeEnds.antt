@@ -147,14 +147,14 @@ part-found m kind tai first j items run found = record {
 -- all packets of a flow were passed that is judged in this run
 pub shaped-in : (m : Media) (kind : Kind) (list : Bool) (tai first : ℕ) (j : Judged) (old new : Shaping) (items : List Record) (run : JudgedRun)
     → IsShaping (part_of m kind tai first j) list old [] []
-    → ShapesOn old new items → IsRunOf m tai first j items run → Ends (part_of m kind tai first j) list new (flow items m) items run j.packets
+    → ShapesOn m old new items → IsRunOf m tai first j items run → Ends (part_of m kind tai first j) list new (flow items m) items run j.packets
 shaped-in m kind list tai first j old new items run start on found =
     let w = part_of m kind tai first j in
     let passed = flow items m in
     let part = part-found m kind tai first j items run found in
     let within = within-run passed tai run (one-run passed m.pt tai run found.judged_is) in
     record {
-      shaping = on w list [] [] start;
+      shaping = on w list [] [] refl start;
       group = part.group;
       head = part.head;
       count = refl;

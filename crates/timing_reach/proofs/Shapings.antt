@@ -1,5 +1,5 @@
 -- One packet more of a flow that is shaped, and one record more of its capture.
-use Rattle.std.specs.Prelude.{cond, is_some, slice_index, string_bytes, nat_lt, max, if◌then◌else◌}
+use Rattle.std.specs.Prelude.{cond, is_some, slice_index, string_bytes, nat_lt, max, if◌then◌else◌, IfOk, Result, Ok, Err}
 use Rattle.std.proofs.Common.{◌≡◌, ◌+◌, ◌-◌, ◌*◌, ◌^◌, ℕ, Bool, true, false, List, [], ◌∷◌, ◌++◌, length, min, Option, Some, None}
 use Rattle.std.proofs.Common.{refl, arith, ap, ◌∙◌, sym, subst, append-nil, length-append}
 use Rattle.std.specs.List.{cons_option, count_by}
@@ -22,6 +22,7 @@ use Rattle.timing_reach.specs.declared.shape.shaping.Shaping.{Shaping}
 use Rattle.timing_reach.proofs.Copies.{capture-beside, capture-judged, record_at}
 use Rattle.timing_reach.proofs.Gauges.{gauged-none}
 use Rattle.timing_reach.proofs.Leavings.{length-stamps}
+use Rattle.timing_reach.proofs.Packets.{packet-of}
 use Rattle.timing_reach.proofs.Listings.{bounds-more, bounds-none, count-more, delays-more, greatest-more, length-delays, lines-more}
 use Rattle.timing_reach.proofs.ShapeFronts.{fit-first, late-first, each-more}
 
@@ -186,9 +187,11 @@ passes-late at frame old new late takes stops = λ w list packets records p r is
       (takes w packets p g.departures is fit g.given);
 }
 
--- a record behind a packet that is late
-pub record-late : (old : Shaping) (late : Late) (more : List Record) → old.late ≡ Some late → ShapesOn old old more
-record-late old late more stopped = λ w list packets records h.
+-- a packet behind one that is late
+pub behind-late : (old : Shaping) (late : Late) (p : FlowPacket) (frame : List ℕ) → old.late ≡ Some late → (m : Media) (r : Record) → flow_packet m r ≡ Some p
+    → r.bytes ≡ frame → ShapesOn m old old (r ∷ [])
+behind-late old late p frame stopped m r is carried = λ w list packets records of h.
+    let more = r ∷ [] in
     let all = packets ++ flow more w.media in
     let both = records ++ flow_records w.media more in
     record {
@@ -201,34 +204,17 @@ record-late old late more stopped = λ w list packets records h.
           (late-first w packets (flow more w.media) late.packet was);
     }
 
--- a record that is a packet of the flow, or isn't
+-- a record that is a packet of the flow
 on-record : (w : Part) (list : Bool) (s : Shaping) (packets : List FlowPacket) (records : List Record) (r : Record) (o also : Option FlowPacket) → also ≡ o
     → IsShaping w list s (packets ++ cons_option o []) (records ++ (if is_some o then r ∷ [] else []))
     → IsShaping w list s (packets ++ cons_option also []) (records ++ (if is_some also then r ∷ [] else []))
 on-record w list s packets records r o also e h =
     subst (λ x. IsShaping w list s (packets ++ cons_option x []) (records ++ (if is_some x then r ∷ [] else []))) (sym e) h
 
--- what is so of the flow if its media is known is so
-known-media : (w : Part) (list : Bool) (old new : Shaping) (packets : List FlowPacket) (records more : List Record) → old.late ≡ None
-    → IsShaping w list old packets records
-    → (old.leaver.params.media ≡ w.media → IsShaping w list new (packets ++ flow more w.media) (records ++ flow_records w.media more))
-    → IsShaping w list new (packets ++ flow more w.media) (records ++ flow_records w.media more)
-known-media w list old new packets records more none h next = record {
-  each = each-more w.media packets records more h.each;
-  state = λ fit.
-      let g = going-of w list old packets records none (fit-first w packets (flow more w.media) fit) h in
-      (next g.given.media).state fit;
-}
-
-pub record-other : (old : Shaping) (r : Record) → old.late ≡ None → flow_packet old.leaver.params.media r ≡ None → ShapesOn old old (r ∷ [])
-record-other old r none other = λ w list packets records h.
-    known-media w list old old packets records (r ∷ []) none h (λ media.
-    on-record w list old packets records r None (flow_packet w.media r) (ap (λ (x : Media). flow_packet x r) (sym media) ∙ other)
-    (subst (λ l. IsShaping w list old l (records ++ [])) (sym (append-nil packets)) (subst (IsShaping w list old packets) (sym (append-nil records)) h)))
-
-pub record-packet : (old new : Shaping) (r : Record) (p : FlowPacket) (at : ℕ) → old.late ≡ None → flow_packet old.leaver.params.media r ≡ Some p → p.at ≡ at
-    → r.stamp ≡ at → Passes at r.bytes old new → ShapesOn old new (r ∷ [])
-record-packet old new r p at none is came stamped passes = λ w list packets records h.
-    known-media w list old new packets records (r ∷ []) none h (λ media.
-    on-record w list new packets records r (Some p) (flow_packet w.media r) (ap (λ (x : Media). flow_packet x r) (sym media) ∙ is)
-    (passes w list packets records p r came stamped refl none h))
+pub shapes-packet : {T E : Type 0} (result : Result T E) (old new : Shaping) (p : FlowPacket) (frame : List ℕ) → old.late ≡ None
+    → IfOk result (λ _. Passes p.at frame old new)
+    → IfOk result (λ _. (m : Media) (r : Record) → flow_packet m r ≡ Some p → r.bytes ≡ frame → ShapesOn m old new (r ∷ []))
+shapes-packet (Ok x) old new p frame none passes = λ m r is carried w list packets records of h.
+    on-record w list new packets records r (Some p) (flow_packet w.media r) (ap (λ (n : Media). flow_packet n r) of ∙ is)
+    (passes w list packets records p r refl (sym (packet-of m r p is).at) carried none h)
+shapes-packet (Err e) old new p frame none passes = tt

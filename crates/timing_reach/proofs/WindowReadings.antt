@@ -1,6 +1,6 @@
 -- What the reading of a flow finds that is measured while it is judged.
 use Rattle.std.specs.Prelude.{IfErr, IfOk, IsSome, Result, Ok, Err, Option, Some, None}
-use Rattle.std.proofs.Common.{◌≡◌, ℕ, List, [], ◌∷◌, ◌++◌, refl, arith, ap, ◌∙◌, sym, subst}
+use Rattle.std.proofs.Common.{◌≡◌, ℕ, List, [], ◌∷◌, ◌++◌, refl, arith, ap, ◌∙◌, subst}
 use Rattle.timing_base.specs.Captures.{Record}
 use Rattle.timing_base.specs.Judged.{JudgedRun, in_one_run, judged, whole_frames}
 use Rattle.timing_base.specs.Media.{Media}
@@ -11,15 +11,14 @@ use Rattle.timing_base.specs.declared.row.Verdict.{Verdict}
 use Rattle.timing_base.specs.declared.row.Verdict.TheVariants as verdict
 use Rattle.fail_interval.specs.Stands.{StandsFor}
 use Rattle.pcap_reader.specs.Taken.{TakesFew}
-use Rattle.pcap_reader.specs.declared.records.Taken.{Taken}
 use Rattle.udp_rtp.specs.Flow.{flow, flow_packet}
 use Rattle.timing_report.specs.declared.status.Input.{Input}
 use Rattle.timing_steps.specs.Answers.{Answer, OnReadFault}
 use Rattle.timing_steps.specs.declared.failure.Failure.{Failure}
 use Rattle.timing_steps.specs.declared.failure.Failure.TheVariants as failure
-use Rattle.timing_steps.specs.Taken.{TakesText}
 use Rattle.timing_reach.specs.Asked.{HasWindow, OnRun, not_judged}
 use Rattle.timing_reach.specs.Windows.{HasLines}
+use Rattle.timing_reach.specs.judged.Flows.{TakesIn}
 use Rattle.timing_reach.specs.window.Gauging.{AreWindowsIn, Passes}
 use Rattle.timing_reach.specs.window.Readings.{HasWindows, IsMeasured, IsMeasuredIn, IsReading, ReadsOn}
 use Rattle.timing_reach.specs.declared.window.reading.Measured.{Measured}
@@ -29,22 +28,17 @@ use Rattle.timing_reach.proofs.Gauges.{one-packet}
 use Rattle.timing_reach.proofs.Judgings.{judged-of, run-of}
 use Rattle.timing_reach.proofs.Judgments.{not-run}
 use Rattle.timing_reach.proofs.RunSizes.{HasSize, RunHasSize, judged-size}
-use Rattle.timing_reach.proofs.Takings.{fed-alone}
 
 -- a packet of the flow was passed to the judge and to the gauge
-pub reads-packet : {T E : Type 0} (result : Result T E) (old new : Reading) (r : Record) (p : FlowPacket) → flow_packet old.media r ≡ Some p
-    → new.media ≡ old.media
+pub reads-packet : {T E : Type 0} (result : Result T E) (old new : Reading) (p : FlowPacket) (frame : List ℕ)
     → ((m : Media) (key : FlowKey) (tai : ℕ) (packets : List FlowPacket) → StandsFor m key tai old.judge packets
     → StandsFor m key tai new.judge (packets ++ p ∷ []))
-    → IfOk result (λ _. Passes p old.gauge new.gauge) → IfOk result (λ _. ReadsOn old new (r ∷ []))
-reads-packet (Ok x) old new r p e media feeds passes = λ m key tai packets h.
-    one-packet (IsReading m key tai new) packets (Some p) (flow_packet m r) (ap (λ (x : Media). flow_packet x r) (sym h.media) ∙ e)
-    (record {
-      media = media ∙ h.media;
-      judge = feeds m key tai packets h.judge;
-      gauge = passes m tai packets h.gauge;
-    })
-reads-packet (Err e) old new r p is media feeds passes = tt
+    → IfOk result (λ _. Passes p old.gauge new.gauge)
+    → IfOk result (λ _. (m : Media) (r : Record) → flow_packet m r ≡ Some p → r.bytes ≡ frame → ReadsOn m old new (r ∷ []))
+reads-packet (Ok x) old new p frame feeds passes = λ m r is carried key tai packets h.
+    one-packet (IsReading m key tai new) packets (Some p) (flow_packet m r) is
+    (record { judge = feeds m key tai packets h.judge; gauge = passes m tai packets h.gauge })
+reads-packet (Err e) old new p frame feeds passes = tt
 
 -- the windows of a flow that is judged in one run
 windows-of : (m : Media) (tai : ℕ) (packets : List FlowPacket) (x : Measured) (j : Judged) → IsMeasured m tai packets x → x.verdict ≡ verdict.Judged j
@@ -58,11 +52,11 @@ some-windows m run (Some w) size are = refl
 some-windows m run None size are = absurd (omega (arith, are, size.few))
 
 -- few records were read, so there are some of this flow
-pub has-windows : (m : Media) (key : FlowKey) (tai most : ℕ) (old new : Reading) (x : Measured) → IsReading m key tai old [] → TakesFew ReadsOn most old new
+pub has-windows : (m : Media) (key : FlowKey) (tai most : ℕ) (old new : Reading) (x : Measured) → IsReading m key tai old [] → TakesFew (ReadsOn m) most old new
     → ((packets : List FlowPacket) → IsReading m key tai new packets → IsMeasured m tai packets x) → HasWindows x
 has-windows m key tai most old new x start t finish = λ j is.
     let packets = flow t.items m in
-    let found = windows-of m tai packets x j (finish packets (t.taken m key tai [] start)) is in
+    let found = windows-of m tai packets x j (finish packets (t.taken key tai [] start)) is in
     let size : HasSize found.0 = subst RunHasSize found.1 (judged-size packets m.pt tai) in
     some-windows m found.0 x.windows size found.2
 
@@ -73,14 +67,14 @@ verdict-on m tai packets x v answer is other e h =
     not-run m (HasLines m) (judged packets m.pt tai) answer (λ j s. other j (h.verdict_is ∙ s)) (e ∙ ap (not_judged m) (is ∙ h.verdict_is))
 
 -- the records of a text were read
-pub measured-in : (text : List ℕ) (m : Media) (key : FlowKey) (tai : ℕ) (old new : Reading) (read : Taken) (x : Measured) → IsReading m key tai old []
-    → TakesText ReadsOn text 0 old new read → ((packets : List FlowPacket) → IsReading m key tai new packets → IsMeasured m tai packets x)
+pub measured-in : (text : List ℕ) (m : Media) (key : FlowKey) (tai : ℕ) (old new : Reading) (x : Measured) → IsReading m key tai old []
+    → TakesIn (ReadsOn m) text old new → ((packets : List FlowPacket) → IsReading m key tai new packets → IsMeasured m tai packets x)
     → IsMeasuredIn m tai text x
-measured-in text m key tai old new read x start t finish = record {
+measured-in text m key tai old new x start t finish = record {
   items = t.items;
-  note = read.note;
+  note = t.note;
   records = t.records;
-  measured_is = finish (flow t.items m) (fed-alone ReadsOn text old new read t m key tai [] start);
+  measured_is = finish (flow t.items m) (t.fed key tai [] start);
 }
 
 -- the answer over this text

@@ -1,3 +1,4 @@
+pub mod Flows
 pub mod Found
 pub mod Marks
 pub mod Opening

@@ -3,6 +3,7 @@
 //! reading comes to is held against the first.
 
 pub mod captures;
+pub mod flows;
 mod judging;
 mod judgment;
 pub mod look;

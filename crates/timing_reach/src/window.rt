@@ -18,8 +18,8 @@ ghost use Rattle.timing_reach.specs.Asked.{FlowInputRose, FollowsWindow, HasWind
 ghost use Rattle.timing_reach.specs.Windows.{HasLines};
 ghost use Rattle.timing_reach.specs.window.Readings.{HasWindows, IsMeasured, IsMeasuredIn};
 
-use crate::judged::captures::take_capture;
 use crate::judged::find_media;
+use crate::judged::flows::take_flow;
 use crate::judged::words::not_judged;
 use crate::window::reading::{Measured, Reading};
 use crate::window::windows::windowed;
@@ -71,8 +71,8 @@ fn measure<H: Shelf>(
     ensures there { IfOk result (λ _. ¬ H.lacks shelf.old job.now.capture) }
     ensures stays { StaysAs H.text H.lacks H.faults shelf.old shelf.new }
 {
-    let mut reading = Reading::new(alloc, media, job.media, job.tai);
-    take_capture(alloc, shelf, job.capture.as_str(), &mut reading)?;
+    let reading = Reading::new(alloc, media, job.media, job.tai);
+    let reading = take_flow(alloc, shelf, job.capture.as_str(), media, reading)?;
     Ok(reading.finish())
 }
 

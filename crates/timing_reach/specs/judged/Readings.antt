@@ -1,5 +1,6 @@
 -- What the first reading of a flow finds. Packets count from 0.
-use Rattle.std.specs.Prelude.{◌≡◌, ◌≤◌, ◌+◌, ◌*◌, ◌^◌, ℕ, List, [], ◌++◌, slice_index}
+use Rattle.std.specs.Prelude.{◌≡◌, ◌≤◌, ◌+◌, ◌*◌, ◌^◌, ℕ, List, [], ◌∷◌, ◌++◌, slice_index, Option, None}
+use Rattle.std.specs.List.{cons_option}
 use Rattle.std.proofs.Common.{arith, sym, subst, append-nil, append_assoc, ap, ◌∙◌}
 use Rattle.std.proofs.lemmas.List.Elements.{filter_map-append}
 use Rattle.timing_base.specs.Captures.{Record}
@@ -20,7 +21,6 @@ use Rattle.timing_reach.specs.declared.judged.judgment.Judgment.{Judgment}
 
 -- the packets were passed to the judge of this media, and no others
 pub record IsJudging (m : Media) (key : FlowKey) (tai : ℕ) (j : Judging) (packets : List FlowPacket) : Type 0 where
-  pub media : j.media ≡ m
   pub judge : StandsFor m key tai j.judge packets
   pub opening : IsOpening packets j.opening
   pub last : j.last ≡ last_marked 0 packets
@@ -29,28 +29,34 @@ pub record IsJudging (m : Media) (key : FlowKey) (tai : ℕ) (j : Judging) (pack
 abbrev pub count_judged : Judging → ℕ
 count_judged j = count_fed j.judge
 
--- there is room for so many records more
-abbrev pub HasRoom : (number count : ℕ) → Judging → Type 0
-HasRoom number count j = count_judged j + count ≤ 2 ^ 41
+-- there is room for so many packets more
+abbrev pub HasRoom : (count : ℕ) → Judging → Type 0
+HasRoom count j = count_judged j + count ≤ 2 ^ 41
 
-pub room_less : (number few many : ℕ) (j : Judging) → few ≤ many → HasRoom number many j → HasRoom number few j
-room_less number few many j less room = omega (arith, less, room)
+pub room_less : (few many : ℕ) (j : Judging) → few ≤ many → HasRoom many j → HasRoom few j
+room_less few many j less room = omega (arith, less, room)
 
--- whatever packets were passed, the flow of these records was passed then, and nothing else
-abbrev pub JudgesOn : (old new : Judging) → List Record → Type 0
-JudgesOn old new more =
-    (m : Media) (key : FlowKey) (tai : ℕ) (packets : List FlowPacket) → IsJudging m key tai old packets
+-- whatever packets were passed, the flow of this media in these records was passed then, and nothing else
+abbrev pub JudgesOn : Media → (old new : Judging) → List Record → Type 0
+JudgesOn m old new more =
+    (key : FlowKey) (tai : ℕ) (packets : List FlowPacket) → IsJudging m key tai old packets
     → IsJudging m key tai new (packets ++ flow more m)
 
--- no record, and some records and then others
-pub judges_none : (x : Judging) → JudgesOn x x []
-judges_none x m key tai packets h = subst (IsJudging m key tai x) (sym (append-nil packets)) h
+-- no record, one that is no packet of the flow, and some records and then others
+pub judges_none : (m : Media) (x : Judging) → JudgesOn m x x []
+judges_none m x key tai packets h = subst (IsJudging m key tai x) (sym (append-nil packets)) h
 
-pub judges_more : (x y z : Judging) (a b : List Record) → JudgesOn x y a → JudgesOn y z b → JudgesOn x z (a ++ b)
-judges_more x y z a b first second m key tai packets h =
+pub judges_other : (m : Media) (x : Judging) (r : Record) → flow_packet m r ≡ None → JudgesOn m x x (r ∷ [])
+judges_other m x r is key tai packets h =
+    subst (λ (o : Option FlowPacket). IsJudging m key tai x (packets ++ cons_option o [])) (sym is)
+    (judges_none m x key tai packets h)
+
+pub judges_more : (m : Media) (x y z : Judging) (a b : List Record) → JudgesOn m x y a → JudgesOn m y z b
+    → JudgesOn m x z (a ++ b)
+judges_more m x y z a b first second key tai packets h =
     subst (IsJudging m key tai z) (append_assoc packets (flow a m) (flow b m)
     ∙ ap (λ l. packets ++ l) (sym (filter_map-append (flow_packet m) a b)))
-    (second m key tai (packets ++ flow a m) (first m key tai packets h))
+    (second key tai (packets ++ flow a m) (first key tai packets h))
 
 -- what is found where these packets are the flow: its verdict, the stamp of the last packet that has the marker, and
 -- where it is judged in one run that of the first judged packet, before the seconds are added; the stamps of the run

@@ -12,17 +12,16 @@ use Rattle.timing_reach.specs.judged.Runs.{IsRunOf}
 use Rattle.timing_reach.specs.declared.judged.judgment.Judgment.{Judgment}
 use Rattle.timing_reach.specs.declared.judged.second.SecondReading.{SecondReading}
 
--- the judge took these records, and so did the meter
-pub record TakesBoth {M : Type 0} (takes : M → M → List Record → Type 0) (old new : SecondReading M)
+-- the judge took the flow of this media in these records, and so did the meter
+pub record TakesBoth {M : Type 0} (takes : Media → M → M → List Record → Type 0) (m : Media) (old new : SecondReading M)
     (items : List Record) : Type 0 where
-  pub judged : JudgesOn old.judging new.judging items
-  pub metered : takes old.meter new.meter items
+  pub judged : JudgesOn m old.judging new.judging items
+  pub metered : takes m old.meter new.meter items
 
--- both have room for so many records more
-pub record HaveRoom {M : Type 0} (room : (number count : ℕ) → M → Type 0) (number count : ℕ)
-    (x : SecondReading M) : Type 0 where
-  pub judge : HasRoom number count x.judging
-  pub meter : room number count x.meter
+-- both have room for so many packets more
+pub record HaveRoom {M : Type 0} (room : (count : ℕ) → M → Type 0) (count : ℕ) (x : SecondReading M) : Type 0 where
+  pub judge : HasRoom count x.judging
+  pub meter : room count x.meter
 
 -- a verdict on one run of as many packets in each group, before the judged ones and among them as these values say
 abbrev pub is_of_part : Verdict → Judged → Bool

@@ -1,7 +1,7 @@
 -- What the second reading of a flow that is shaped makes of it. Packets count from 0.
 use Rattle.std.specs.Prelude.{◌≡◌, ◌≤◌, ◌-◌, ◌*◌, ◌^◌, ◌+◌, ℕ, Bool, true, false, cond, max, nat_lt, List, [], ◌∷◌}
-use Rattle.std.specs.Prelude.{◌++◌, length, slice_index, Option, Some, None, string_bytes}
-use Rattle.std.specs.List.{count_by}
+use Rattle.std.specs.Prelude.{◌++◌, length, slice_index, Option, Some, None, is_some, if◌then◌else◌, string_bytes}
+use Rattle.std.specs.List.{cons_option, count_by}
 use Rattle.std.proofs.Common.{sym, subst, append-nil, append_assoc, ap, ◌∙◌}
 use Rattle.std.proofs.lemmas.List.Elements.{filter-append, filter_map-append}
 use Rattle.pcap_reader.specs.WrittenHeads.{record_head}
@@ -10,6 +10,7 @@ use Rattle.flow_shaper.specs.declared.departure.Departure.{Departure}
 use Rattle.flow_shaper.specs.declared.departure.Late.{Late}
 use Rattle.timing_base.specs.Captures.{Record}
 use Rattle.timing_base.specs.Judged.{JudgedRun}
+use Rattle.timing_base.specs.Media.{Media}
 use Rattle.timing_base.specs.declared.packet.FlowPacket.{FlowPacket}
 use Rattle.timing_reach.specs.shape.Leaving.{HasGiven, IsFit, Part, stamps_in}
 use Rattle.timing_reach.specs.Shapes.{AreBounds, IsLate, delays, end_of, flow_records, greatest, packet_line}
@@ -83,10 +84,11 @@ pub record Copies (at : ℕ) (frame : List ℕ) (old new : Shaping) : Type 0 whe
   pub left : new.left ≡ old.left
   pub copied : old.list ≡ false → new.bytes.items ≡ old.bytes.items ++ (record_head at (length frame) ++ frame)
 
--- whatever packets were passed, the flow of these records was passed then, and nothing else
-abbrev pub ShapesOn : (old new : Shaping) → List Record → Type 0
-ShapesOn old new more =
-    (w : Part) (list : Bool) (packets : List FlowPacket) (records : List Record) → IsShaping w list old packets records
+-- whatever packets were passed, the flow of this media in these records was passed then, and nothing else
+abbrev pub ShapesOn : Media → (old new : Shaping) → List Record → Type 0
+ShapesOn m old new more =
+    (w : Part) (list : Bool) (packets : List FlowPacket) (records : List Record) → w.media ≡ m
+    → IsShaping w list old packets records
     → IsShaping w list new (packets ++ flow more w.media) (records ++ flow_records w.media more)
 
 -- all packets were passed, so many judged ones among them, which are this run
@@ -100,18 +102,25 @@ pub record Ends (w : Part) (list : Bool) (s : Shaping) (passed : List FlowPacket
   pub stamps : stamps_in w passed ≡ run.stamps
   pub fit : IsFit w.origin run.stamps
 
--- no record, and some records and then others
-pub shapes_none : (x : Shaping) → ShapesOn x x []
-shapes_none x w list packets records h =
+-- no record, one that is no packet of the flow, and some records and then others
+pub shapes_none : (m : Media) (x : Shaping) → ShapesOn m x x []
+shapes_none m x w list packets records of h =
     subst (λ l. IsShaping w list x l (records ++ [])) (sym (append-nil packets))
     (subst (IsShaping w list x packets) (sym (append-nil records)) h)
 
-pub shapes_more : (x y z : Shaping) (a b : List Record) → ShapesOn x y a → ShapesOn y z b → ShapesOn x z (a ++ b)
-shapes_more x y z a b first second w list packets records h =
-    let m = w.media in
-    subst (λ l. IsShaping w list z l (records ++ flow_records m (a ++ b)))
-    (append_assoc packets (flow a m) (flow b m) ∙ ap (λ l. packets ++ l)
-    (sym (filter_map-append (flow_packet m) a b)))
-    (subst (IsShaping w list z ((packets ++ flow a m) ++ flow b m))
-    (append_assoc records (flow_records m a) (flow_records m b) ∙ ap (λ l. records ++ l) (sym (filter-append _ a b)))
-    (second w list (packets ++ flow a m) (records ++ flow_records m a) (first w list packets records h)))
+pub shapes_other : (m : Media) (x : Shaping) (r : Record) → flow_packet m r ≡ None → ShapesOn m x x (r ∷ [])
+shapes_other m x r is w list packets records of h =
+    subst (λ (o : Option FlowPacket). IsShaping w list x (packets ++ cons_option o [])
+    (records ++ (if is_some o then r ∷ [] else [])))
+    (sym (ap (λ (n : Media). flow_packet n r) of ∙ is)) (shapes_none m x w list packets records of h)
+
+pub shapes_more : (m : Media) (x y z : Shaping) (a b : List Record) → ShapesOn m x y a → ShapesOn m y z b
+    → ShapesOn m x z (a ++ b)
+shapes_more m x y z a b first second w list packets records of h =
+    let n = w.media in
+    subst (λ l. IsShaping w list z l (records ++ flow_records n (a ++ b)))
+    (append_assoc packets (flow a n) (flow b n) ∙ ap (λ l. packets ++ l)
+    (sym (filter_map-append (flow_packet n) a b)))
+    (subst (IsShaping w list z ((packets ++ flow a n) ++ flow b n))
+    (append_assoc records (flow_records n a) (flow_records n b) ∙ ap (λ l. records ++ l) (sym (filter-append _ a b)))
+    (second w list (packets ++ flow a n) (records ++ flow_records n a) of (first w list packets records of h)))

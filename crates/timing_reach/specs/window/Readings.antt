@@ -1,5 +1,6 @@
 -- What the reading of a flow finds that is measured while it is judged. Packets count from 0.
-use Rattle.std.specs.Prelude.{◌≡◌, ◌≤◌, ◌+◌, ◌^◌, ℕ, List, [], ◌++◌, IsSome, length}
+use Rattle.std.specs.Prelude.{◌≡◌, ◌≤◌, ◌+◌, ◌^◌, ℕ, List, [], ◌∷◌, ◌++◌, IsSome, length, Option, None}
+use Rattle.std.specs.List.{cons_option}
 use Rattle.std.proofs.Common.{arith, sym, subst, append-nil, append_assoc, ap, ◌∙◌}
 use Rattle.std.proofs.lemmas.List.Elements.{filter_map-append}
 use Rattle.timing_base.specs.Captures.{Record}
@@ -20,36 +21,41 @@ use Rattle.timing_reach.specs.declared.window.reading.Reading.{Reading}
 
 -- the packets were passed to the judge of this media and to its gauge, and no others
 pub record IsReading (m : Media) (key : FlowKey) (tai : ℕ) (r : Reading) (packets : List FlowPacket) : Type 0 where
-  pub media : r.media ≡ m
   pub judge : StandsFor m key tai r.judge packets
   pub gauge : IsGauged m tai r.gauge packets
 
--- there is room for so many records more
-pub record HasRoom (number count : ℕ) (r : Reading) : Type 0 where
+-- there is room for so many packets more
+pub record HasRoom (count : ℕ) (r : Reading) : Type 0 where
   pub judge : count_fed r.judge + count ≤ 2 ^ 41
   pub gauge : count_gauged r.gauge + count ≤ 2 ^ 40
 
-pub room_less : (number few many : ℕ) (r : Reading) → few ≤ many → HasRoom number many r → HasRoom number few r
-room_less number few many r less room = record {
+pub room_less : (few many : ℕ) (r : Reading) → few ≤ many → HasRoom many r → HasRoom few r
+room_less few many r less room = record {
   judge = omega (arith, less, room.judge);
   gauge = omega (arith, less, room.gauge);
 }
 
--- whatever packets were passed, the flow of these records was passed then, and nothing else
-abbrev pub ReadsOn : (old new : Reading) → List Record → Type 0
-ReadsOn old new more =
-    (m : Media) (key : FlowKey) (tai : ℕ) (packets : List FlowPacket) → IsReading m key tai old packets
+-- whatever packets were passed, the flow of this media in these records was passed then, and nothing else
+abbrev pub ReadsOn : Media → (old new : Reading) → List Record → Type 0
+ReadsOn m old new more =
+    (key : FlowKey) (tai : ℕ) (packets : List FlowPacket) → IsReading m key tai old packets
     → IsReading m key tai new (packets ++ flow more m)
 
--- no record, and some records and then others
-pub reads_none : (x : Reading) → ReadsOn x x []
-reads_none x m key tai packets h = subst (IsReading m key tai x) (sym (append-nil packets)) h
+-- no record, one that is no packet of the flow, and some records and then others
+pub reads_none : (m : Media) (x : Reading) → ReadsOn m x x []
+reads_none m x key tai packets h = subst (IsReading m key tai x) (sym (append-nil packets)) h
 
-pub reads_more : (x y z : Reading) (a b : List Record) → ReadsOn x y a → ReadsOn y z b → ReadsOn x z (a ++ b)
-reads_more x y z a b first second m key tai packets h =
+pub reads_other : (m : Media) (x : Reading) (r : Record) → flow_packet m r ≡ None → ReadsOn m x x (r ∷ [])
+reads_other m x r is key tai packets h =
+    subst (λ (o : Option FlowPacket). IsReading m key tai x (packets ++ cons_option o [])) (sym is)
+    (reads_none m x key tai packets h)
+
+pub reads_more : (m : Media) (x y z : Reading) (a b : List Record) → ReadsOn m x y a → ReadsOn m y z b
+    → ReadsOn m x z (a ++ b)
+reads_more m x y z a b first second key tai packets h =
     subst (IsReading m key tai z) (append_assoc packets (flow a m) (flow b m)
     ∙ ap (λ l. packets ++ l) (sym (filter_map-append (flow_packet m) a b)))
-    (second m key tai (packets ++ flow a m) (first m key tai packets h))
+    (second key tai (packets ++ flow a m) (first key tai packets h))
 
 -- what is found where these packets are the flow
 pub record IsMeasured (m : Media) (tai : ℕ) (packets : List FlowPacket) (x : Measured) : Type 0 where

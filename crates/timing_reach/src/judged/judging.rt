@@ -9,22 +9,19 @@ ghost use Rattle.timing_outside.specs.Shelves.{StaysAs};
 ghost use Rattle.pcapng_reader.specs.Classic.{classic_texts};
 ghost use Rattle.timing_steps.specs.Answers.{OnReadFault};
 
-use crate::judged::captures::take_capture;
+use crate::judged::flows::{FlowTaker, take_flow};
 use crate::judged::judgment::Judgment;
 use crate::judged::opening::{Opening, last_marked};
 use fail_interval::FlowJudge;
-use pcap_reader::Taker;
 use std::alloc::{AllocError as OutOfMemory, Global};
-use timing_base::{FlowJob, FlowKey, Media};
+use timing_base::{FlowJob, FlowKey, FlowPacket, Media};
 use timing_outside::Shelf;
 use timing_report::Input;
 use timing_steps::Failure;
-use udp_rtp::packet_of;
 
 /// The judge of a flow, and how its judged part opens and ends.
 #[derive(Drop)]
 pub struct Judging {
-    pub media: Media,
     pub judge: FlowJudge,
     pub opening: Opening,
     /// The stamp of the last packet that had the marker, in nanoseconds, as the capture has it; 0 before.
@@ -45,7 +42,6 @@ impl Judging {
             media: number,
         };
         Judging {
-            media: *media,
             judge: FlowJudge::new(alloc, media, key, tai),
             opening: Opening::new(),
             last: 0,
@@ -59,7 +55,6 @@ impl Judging {
             → IsJudging media key tai self packets → IsJudgment media tai packets result }
     {
         let Judging {
-            media: _,
             judge,
             opening,
             last,
@@ -72,39 +67,26 @@ impl Judging {
     }
 }
 
-impl Taker for Judging {
-    ghost use Rattle.pcap_reader.specs.Taken.{StopsAnyhow};
-    ghost use Rattle.timing_reach.specs.judged.Readings.{HasRoom, JudgesOn, judges_more, judges_none, room_less};
-
-    /// Want of memory.
-    type Stop = OutOfMemory;
+impl FlowTaker for Judging {
+    ghost use Rattle.timing_reach.specs.judged.Readings.{HasRoom, JudgesOn, judges_more, judges_none, judges_other, room_less};
 
     ghost takes = { JudgesOn };
-
-    ghost stops = { StopsAnyhow };
 
     ghost room = { HasRoom };
 
     ghost none = { judges_none };
 
+    ghost other = { judges_other };
+
     ghost more = { judges_more };
-
-    ghost ends = { λ _ _ _ _ _ _ _ _. tt };
-
-    ghost halts = { λ _ _ _ _ _ _. tt };
 
     ghost less = { room_less };
 
     #[inline(always)]
-    fn take(&mut self, number: u64, at: u64, frame: &[u8]) -> Result<(), OutOfMemory> {
-        match packet_of(&self.media, number, at, frame) {
-            None => Ok(()),
-            Some(packet) => {
-                self.opening.pass(&packet);
-                self.last = last_marked(self.last, &packet);
-                self.judge.feed(packet.rec, packet.at, packet.rtp)
-            }
-        }
+    fn take(&mut self, packet: &FlowPacket, _frame: &[u8]) -> Result<(), OutOfMemory> {
+        self.opening.pass(packet);
+        self.last = last_marked(self.last, packet);
+        self.judge.feed(packet.rec, packet.at, packet.rtp)
     }
 }
 
@@ -127,7 +109,7 @@ pub fn judge_flow<H: Shelf>(
     ensures there { IfOk result (λ _. ¬ H.lacks shelf.old job.now.capture) }
     ensures stays { StaysAs H.text H.lacks H.faults shelf.old shelf.new }
 {
-    let mut judging = Judging::new(alloc, media, job.media, job.tai);
-    take_capture(alloc, shelf, job.capture.as_str(), &mut judging)?;
+    let judging = Judging::new(alloc, media, job.media, job.tai);
+    let judging = take_flow(alloc, shelf, job.capture.as_str(), media, judging)?;
     Ok(judging.finish())
 }

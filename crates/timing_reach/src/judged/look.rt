@@ -9,26 +9,25 @@ ghost use Rattle.timing_steps.specs.Answers.{Answer as AnswerValue};
 ghost use Rattle.timing_steps.specs.Ends.{HasStatus, look_ends};
 ghost use Rattle.timing_reach.specs.judged.Runs.{IsRunOf};
 
-use pcap_reader::Taker;
+use crate::judged::flows::FlowTaker;
 use std::alloc::{AllocError as OutOfMemory, Global};
 use timing_base::{Judged, Media};
 use timing_steps::Answer;
 
-/// How a command looks into a flow that is judged in one run: a meter takes the records of its capture,
-/// one after the other.
+/// How a command looks into a flow that is judged in one run: a meter takes its packets, one after the other.
 pub trait Look {
-    /// What takes the records.
-    type Meter: Taker<Stop = OutOfMemory> + Drop;
+    /// What takes the packets.
+    type Meter: FlowTaker + Drop;
 
     /// The answer on this run of a media's flow, in a capture of these records. `tai` is in seconds.
     ghost answers: { Self → (tai : ℕ) → MediaValue → List Record → JudgedRun → AnswerValue
         → Type 0 };
 
-    /// The meter took no record yet of a media's flow that was judged so.
+    /// The meter took no packet yet of a media's flow that was judged so.
     ghost fresh: { Self → (tai : ℕ) → MediaValue → JudgedValue → (first : ℕ) → Self.Meter
         → Type 0 };
 
-    /// The meter before the first record of a media's flow that was judged so. Its first judged packet came
+    /// The meter before the first packet of a media's flow that was judged so. Its first judged packet came
     /// at `first`, in nanoseconds, as the capture has it.
     fn begin(
         &self,
@@ -41,7 +40,7 @@ pub trait Look {
         requires tai { tai ≤ 1000 }
         requires first { IsStamp first }
         requires few { judged.now.packets ≤ 2 ^ 36 }
-        ensures room { IfOk result (λ meter. Self.Meter.room 1 (2 ^ 36) meter) }
+        ensures room { IfOk result (λ meter. Self.Meter.room (2 ^ 36) meter) }
         ensures fresh { IfOk result (λ meter.
             fresh self.now tai media.now judged.now first meter) };
 
@@ -55,7 +54,7 @@ pub trait Look {
         ensures answered { IfOk result (HasStatus look_ends) }
         ensures answers { IfOk result (λ answer. (tai : ℕ) (media : MediaValue) (first : ℕ)
             (begun : Self.Meter) (items : List Record) (run : JudgedRun)
-            → fresh self.now tai media judged.now first begun → Self.Meter.takes begun meter items
+            → fresh self.now tai media judged.now first begun → Self.Meter.takes media begun meter items
             → IsRunOf media tai first judged.now items run
             → answers self.now tai media items run answer) };
 }

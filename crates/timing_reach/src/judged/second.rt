@@ -1,8 +1,9 @@
-//! The second reading of a flow: it is judged again while a meter takes its records.
+//! The second reading of a flow: it is judged again while a meter takes its packets.
 
+use crate::judged::flows::FlowTaker;
 use crate::judged::judging::Judging;
-use pcap_reader::Taker;
 use std::alloc::AllocError as OutOfMemory;
+use timing_base::FlowPacket;
 
 /// The judge of a flow that was judged before, and the meter of a command.
 #[derive(Drop)]
@@ -11,39 +12,34 @@ pub struct SecondReading<M: Drop> {
     pub meter: M,
 }
 
-impl<M: Taker<Stop = OutOfMemory> + Drop> Taker for SecondReading<M> {
-    ghost use Rattle.pcap_reader.specs.Taken.{StopsAnyhow};
-    ghost use Rattle.timing_reach.specs.judged.Readings.{judges_more, judges_none, room_less};
+impl<M: FlowTaker + Drop> FlowTaker for SecondReading<M> {
+    ghost use Rattle.timing_reach.specs.judged.Readings.{judges_more, judges_none, judges_other, room_less};
     ghost use Rattle.timing_reach.specs.judged.SecondReadings.{HaveRoom, TakesBoth};
 
-    /// Want of memory.
-    type Stop = OutOfMemory;
+    ghost takes = { λ m old new items. TakesBoth M.takes m old new items };
 
-    ghost takes = { λ old new items. TakesBoth M.takes old new items };
+    ghost room = { λ count x. HaveRoom M.room count x };
 
-    ghost stops = { StopsAnyhow };
+    ghost none = { λ m x. record { judged = judges_none m x.judging; metered = M.none m x.meter } };
 
-    ghost room = { λ number count x. HaveRoom M.room number count x };
-
-    ghost none = { λ x. record { judged = judges_none x.judging; metered = M.none x.meter } };
-
-    ghost more = { λ x y z a b first second. record {
-      judged = judges_more x.judging y.judging z.judging a b first.judged second.judged;
-      metered = M.more x.meter y.meter z.meter a b first.metered second.metered;
+    ghost other = { λ m x r is. record {
+      judged = judges_other m x.judging r is;
+      metered = M.other m x.meter r is;
     } };
 
-    ghost ends = { λ _ _ _ _ _ _ _ _. tt };
+    ghost more = { λ m x y z a b first second. record {
+      judged = judges_more m x.judging y.judging z.judging a b first.judged second.judged;
+      metered = M.more m x.meter y.meter z.meter a b first.metered second.metered;
+    } };
 
-    ghost halts = { λ _ _ _ _ _ _. tt };
-
-    ghost less = { λ number few many x le room. record {
-      judge = room_less number few many x.judging le room.judge;
-      meter = M.less number few many x.meter le room.meter;
+    ghost less = { λ few many x le room. record {
+      judge = room_less few many x.judging le room.judge;
+      meter = M.less few many x.meter le room.meter;
     } };
 
     #[inline(always)]
-    fn take(&mut self, number: u64, at: u64, frame: &[u8]) -> Result<(), OutOfMemory> {
-        self.judging.take(number, at, frame)?;
-        self.meter.take(number, at, frame)
+    fn take(&mut self, packet: &FlowPacket, frame: &[u8]) -> Result<(), OutOfMemory> {
+        self.judging.take(packet, frame)?;
+        self.meter.take(packet, frame)
     }
 }

@@ -17,7 +17,7 @@ ghost use Rattle.timing_reach.specs.judged.Readings.{IsJudgmentIn};
 ghost use Rattle.timing_reach.specs.judged.Runs.{IsRunOf};
 ghost use Rattle.timing_reach.specs.judged.SecondReadings.{AnswersSome};
 
-use crate::judged::captures::take_capture;
+use crate::judged::flows::take_flow;
 use crate::judged::judging::{Judging, judge_flow};
 use crate::judged::judgment::Judgment;
 use crate::judged::look::Look;
@@ -61,9 +61,8 @@ fn look_again<L: Look, H: Shelf>(
     let name = job.capture.as_str();
     let judging = Judging::new(alloc, media, job.media, job.tai);
     let meter = look.begin(alloc, job.tai, media, judged, judgment.first)?;
-    let mut second = SecondReading { judging, meter };
-    take_capture(alloc, shelf, name, &mut second)?;
-    let SecondReading { judging, meter } = second;
+    let second = SecondReading { judging, meter };
+    let SecondReading { judging, meter } = take_flow(alloc, shelf, name, media, second)?;
     if !judging.finish().is_again(judged, judgment) {
         shelf.note_change(name);
         return Err(Failure::ReadFault(Input::Capture(0)));

@@ -7,16 +7,16 @@ ghost use Rattle.timing_steps.specs.Ends.{HasStatus, look_ends};
 ghost use Rattle.timing_reach.specs.shape.Leaving.{HasGiven, Part};
 ghost use Rattle.timing_reach.specs.Shapes.{HasShape};
 
+use crate::judged::flows::FlowTaker;
 use crate::shape::copy::{add_record, begin};
 use crate::shape::delays::Delays;
 use crate::shape::leaver::{Leaver, Turn};
 use crate::shape::words::not_shaped;
 use flow_shaper::{Departure, Late};
-use pcap_reader::Taker;
 use std::alloc::{AllocError as OutOfMemory, Global};
+use timing_base::FlowPacket;
 use timing_report::Status;
 use timing_steps::Answer;
-use udp_rtp::packet_of;
 
 /// What is made of a flow that is shaped, as far as the flow has come.
 #[derive(Drop)]
@@ -162,38 +162,27 @@ impl Shaping {
     }
 }
 
-impl Taker for Shaping {
-    ghost use Rattle.pcap_reader.specs.Taken.{StopsAnyhow};
+impl FlowTaker for Shaping {
     ghost use Rattle.std.specs.Prelude.{⊤};
-    ghost use Rattle.timing_reach.specs.shape.Shaping.{ShapesOn, shapes_more, shapes_none};
-
-    /// Want of memory.
-    type Stop = OutOfMemory;
+    ghost use Rattle.timing_reach.specs.shape.Shaping.{ShapesOn, shapes_more, shapes_none, shapes_other};
 
     ghost takes = { ShapesOn };
 
-    ghost stops = { StopsAnyhow };
-
-    ghost room = { λ _ _ _. ⊤ };
+    ghost room = { λ _ _. ⊤ };
 
     ghost none = { shapes_none };
 
+    ghost other = { shapes_other };
+
     ghost more = { shapes_more };
 
-    ghost ends = { λ _ _ _ _ _ _ _ _. tt };
-
-    ghost halts = { λ _ _ _ _ _ _. tt };
-
-    ghost less = { λ _ _ _ _ _ _. tt };
+    ghost less = { λ _ _ _ _ _. tt };
 
     #[inline(always)]
-    fn take(&mut self, number: u64, at: u64, frame: &[u8]) -> Result<(), OutOfMemory> {
+    fn take(&mut self, packet: &FlowPacket, frame: &[u8]) -> Result<(), OutOfMemory> {
         if self.late.is_some() {
             return Ok(());
         }
-        match packet_of(&self.leaver.params.media, number, at, frame) {
-            None => Ok(()),
-            Some(packet) => self.pass(packet.at, frame),
-        }
+        self.pass(packet.at, frame)
     }
 }

@@ -5,13 +5,12 @@ ghost use Rattle.timing_base.specs.Media.{Media as MediaValue};
 ghost use Rattle.timing_base.specs.declared.key.FlowKey.{FlowKey as KeyValue};
 ghost use Rattle.timing_base.specs.declared.packet.FlowPacket.{FlowPacket as PacketValue};
 
+use crate::judged::flows::FlowTaker;
 use crate::window::gauge::Gauge;
 use crate::window::windows::Windows;
 use fail_interval::FlowJudge;
-use pcap_reader::Taker;
 use std::alloc::{AllocError as OutOfMemory, Global};
-use timing_base::{FlowKey, Media, Verdict};
-use udp_rtp::packet_of;
+use timing_base::{FlowKey, FlowPacket, Media, Verdict};
 
 /// What a reading comes to: the verdict on the flow, and the windows of its judged packets, where it is judged in one
 /// run.
@@ -24,7 +23,6 @@ pub struct Measured {
 /// The judge of a flow, and its gauge.
 #[derive(Drop)]
 pub struct Reading {
-    media: Media,
     judge: FlowJudge,
     gauge: Gauge,
 }
@@ -35,7 +33,7 @@ impl Reading {
     /// Before the first record, of the flow of this media. `tai` seconds are added to the stamps.
     pub fn new(alloc: Global, media: &Media, number: u32, tai: u64) -> Reading
         requires { tai ≤ 1000 }
-        ensures room { HasRoom 1 (2 ^ 36) result }
+        ensures room { HasRoom (2 ^ 36) result }
         ensures stands { IsReading media.now (record { file = 0; media = number }) tai result [] }
     {
         let key = FlowKey {
@@ -43,7 +41,6 @@ impl Reading {
             media: number,
         };
         Reading {
-            media: *media,
             judge: FlowJudge::new(alloc, media, key, tai),
             gauge: Gauge::new(alloc, media, tai),
         }
@@ -54,11 +51,7 @@ impl Reading {
         ensures { (m : MediaValue) (key : KeyValue) (tai : ℕ) (packets : List PacketValue)
             → IsReading m key tai self packets → IsMeasured m tai packets result }
     {
-        let Reading {
-            media: _,
-            judge,
-            gauge,
-        } = self;
+        let Reading { judge, gauge } = self;
         Measured {
             verdict: judge.finish().verdict,
             windows: gauge.windows(),
@@ -66,37 +59,24 @@ impl Reading {
     }
 }
 
-impl Taker for Reading {
-    ghost use Rattle.pcap_reader.specs.Taken.{StopsAnyhow};
-    ghost use Rattle.timing_reach.specs.window.Readings.{HasRoom, ReadsOn, reads_more, reads_none, room_less};
-
-    /// Want of memory.
-    type Stop = OutOfMemory;
+impl FlowTaker for Reading {
+    ghost use Rattle.timing_reach.specs.window.Readings.{HasRoom, ReadsOn, reads_more, reads_none, reads_other, room_less};
 
     ghost takes = { ReadsOn };
-
-    ghost stops = { StopsAnyhow };
 
     ghost room = { HasRoom };
 
     ghost none = { reads_none };
 
+    ghost other = { reads_other };
+
     ghost more = { reads_more };
-
-    ghost ends = { λ _ _ _ _ _ _ _ _. tt };
-
-    ghost halts = { λ _ _ _ _ _ _. tt };
 
     ghost less = { room_less };
 
     #[inline(always)]
-    fn take(&mut self, number: u64, at: u64, frame: &[u8]) -> Result<(), OutOfMemory> {
-        match packet_of(&self.media, number, at, frame) {
-            None => Ok(()),
-            Some(packet) => {
-                self.judge.feed(packet.rec, packet.at, packet.rtp)?;
-                self.gauge.pass(&packet)
-            }
-        }
+    fn take(&mut self, packet: &FlowPacket, _frame: &[u8]) -> Result<(), OutOfMemory> {
+        self.judge.feed(packet.rec, packet.at, packet.rtp)?;
+        self.gauge.pass(packet)
     }
 }

@@ -3,8 +3,8 @@ use Rattle.timing_outside.specs.Causes.{Rose}
 use Rattle.timing_steps.proofs.Seeing.{rose-within}
 use Rattle.timing_reach.specs.judged.Readings.{IsJudgmentIn}
 use Rattle.timing_reach.specs.judged.SecondReadings.{AnswersSome, TakesBoth, is_again}
-use Rattle.timing_reach.proofs.Judgments.{judgment-in}
-use Rattle.timing_reach.proofs.SecondReadings.{answers-some, changed-untold, few-judged, judge-part}
+use Rattle.timing_reach.proofs.Judgments.{judgment-in, passed-few}
+use Rattle.timing_reach.proofs.SecondReadings.{answers-some, changed-untold, judge-few, judge-part}
 use Rattle.timing_reach.proofs.Takings.{fed-records}
 use Rattle.timing_reach.proofs.judged.twice.look_again.Goals as goal
 
@@ -12,17 +12,17 @@ pub finish-requires : goal.finish-requires
 finish-requires g c =
     omega (
       arith,
-      few-judged g.L.Meter.Taker.takes c.args.media.now _ c.job.inside.tai (2 ^ 36)
-          (record { judging = c.new-judging.result; meter = c.in_ok-meter.meter }) c.take_capture.new.taker c.new-judging.ensures.stands
-          c.in_ok-take_capture.ensures.fed,
+      passed-few c.args.media.now _ c.job.inside.tai (2 ^ 36) c.new-judging.result _ c.new-judging.ensures.stands
+          (judge-few g.L.Meter.FlowTaker.takes c.args.media.now (2 ^ 36) (record { judging = c.new-judging.result; meter = c.in_ok-meter.meter }) _
+          c.in_ok-judging.ensures.fed),
     )
 
 pub returns-clause-told : goal.returns-clause-told
 returns-clause-told g c = λ text items note run whole records found.
     let same : c.job.inside.tai ≡ c.args.job.now.tai = search rules in
     let taken =
-    fed-records (TakesBoth g.L.Meter.Taker.takes) text (record { judging = c.new-judging.result; meter = c.in_ok-meter.meter }) c.take_capture.new.taker
-    items note c.in_ok-take_capture.field-0 (c.in_ok-take_capture.ensures.told text (search rules)) records in
+    fed-records (TakesBoth g.L.Meter.FlowTaker.takes c.args.media.now) text (record { judging = c.new-judging.result; meter = c.in_ok-meter.meter }) _
+    items note (c.in_ok-judging.ensures.told text (search rules)) records in
     c.in_ok-finish.ensures.answers c.args.job.now.tai c.args.media.now c.args.judgment.now.first c.in_ok-meter.meter items run
     (subst (λ (x : ℕ). g.L.Look.fresh c.args.look.now x c.args.media.now c.args.judged.now c.args.judgment.now.first c.in_ok-meter.meter) same
     c.in_ok-meter.ensures.fresh)
@@ -35,9 +35,9 @@ returns-clause-some g c =
     subst (λ (x : ℕ). AnswersSome (g.L.Look.answers c.args.look.now x c.args.media.now) c.args.media.now x c.args.judgment.now.first c.args.judged.now
     c.in_ok-finish.field-0)
     same
-    (answers-some g.L.Meter.Taker.takes (g.L.Look.answers c.args.look.now c.job.inside.tai c.args.media.now) c.args.media.now _ c.job.inside.tai (2 ^ 36)
-    (record { judging = c.new-judging.result; meter = c.in_ok-meter.meter }) c.take_capture.new.taker c.args.judgment.now c.finish.result
-    c.args.judged.now c.in_ok-finish.field-0 c.new-judging.ensures.stands c.in_ok-take_capture.ensures.fed
+    (answers-some g.L.Meter.FlowTaker.takes (g.L.Look.answers c.args.look.now c.job.inside.tai c.args.media.now) c.args.media.now _ c.job.inside.tai (2 ^ 36)
+    (record { judging = c.new-judging.result; meter = c.in_ok-meter.meter }) _ c.args.judgment.now c.finish.result
+    c.args.judged.now c.in_ok-finish.field-0 c.new-judging.ensures.stands c.in_ok-judging.ensures.fed
     (λ packets h. c.finish.ensures c.args.media.now _ c.job.inside.tai packets c.job.invariant.tai_most h) again
     (λ items run taken found.
     c.in_ok-finish.ensures.answers c.job.inside.tai c.args.media.now c.args.judgment.now.first c.in_ok-meter.meter items run
@@ -54,15 +54,14 @@ returns-then-not-is_again-clause-cause g c =
     c.args.judged.now c.requires.judged c.requires.known
     (λ text whole.
     subst (λ (x : ℕ). IsJudgmentIn c.args.media.now x text c.finish.result) same
-    (judgment-in text c.args.media.now _ c.job.inside.tai c.new-judging.result c.take_capture.new.taker.judging c.in_ok-take_capture.field-0
-    c.finish.result c.new-judging.ensures.stands
-    (judge-part g.L.Meter.Taker.takes text (record { judging = c.new-judging.result; meter = c.in_ok-meter.meter }) c.take_capture.new.taker
-    c.in_ok-take_capture.field-0 (c.in_ok-take_capture.ensures.told text (search rules)))
+    (judgment-in text c.args.media.now _ c.job.inside.tai c.new-judging.result _ c.finish.result c.new-judging.ensures.stands
+    (judge-part g.L.Meter.FlowTaker.takes text c.args.media.now (record { judging = c.new-judging.result; meter = c.in_ok-meter.meter }) _
+    (c.in_ok-judging.ensures.told text (search rules)))
     (λ packets h. c.finish.ensures c.args.media.now _ c.job.inside.tai packets c.job.invariant.tai_most h)))
     other in (
       refl,
       subst (λ (x : List ℕ). Rose (g.H.Shelf.faults c.args.shelf.now x) (g.H.Shelf.faults c.note_change.new.self x)) named
-          (rose-within (g.H.Shelf.faults c.args.shelf.now name) (g.H.Shelf.faults c.take_capture.new.shelf name) (g.H.Shelf.faults c.note_change.new.self name)
-          (g.H.Shelf.faults c.note_change.new.self name) (c.take_capture.ensures.stays.later name) (omega arith)
-          (c.note_change.ensures.raised (c.take_capture.ensures.stays.texts name ∙ ap (g.H.Shelf.text c.args.shelf.now) named ∙ none))),
+          (rose-within (g.H.Shelf.faults c.args.shelf.now name) (g.H.Shelf.faults c.take_flow.new.shelf name) (g.H.Shelf.faults c.note_change.new.self name)
+          (g.H.Shelf.faults c.note_change.new.self name) (c.take_flow.ensures.stays.later name) (omega arith)
+          (c.note_change.ensures.raised (c.take_flow.ensures.stays.texts name ∙ ap (g.H.Shelf.text c.args.shelf.now) named ∙ none))),
     )

@@ -1,4 +1,4 @@
-use Rattle.std.proofs.Common.{◌≡◌, ◌<◌, ◌++◌, ℕ, zero, suc, true, List, [], ◌∷◌, length, refl, ap, ◌∙◌, arith, inl}
+use Rattle.std.proofs.Common.{◌≡◌, ◌<◌, ◌++◌, ℕ, true, List, [], ◌∷◌, length, refl, ap, ◌∙◌, arith, inl}
 use Rattle.std.specs.Prelude.{codes, slice_index, slice_index_or, nat_lt}
 use Rattle.std.specs.List.{count_by}
 use Rattle.flow_shaper.proofs.ByHand.{five}

@@ -1,0 +1,8 @@
+use Rattle.timing_reach.proofs.Takings.{flow-few-taken, flow-taken}
+use Rattle.timing_reach.proofs.judged.flows.take_flow.Goals as goal
+
+pub returns-clause-told : goal.returns-clause-told
+returns-clause-told g c = λ text whole. flow-taken g.F.FlowTaker.takes text _ _ c.in_ok-take_capture.field-0 (c.in_ok-take_capture.ensures.told text whole)
+
+pub returns-clause-fed : goal.returns-clause-fed
+returns-clause-fed g c = flow-few-taken g.F.FlowTaker.takes _ _ _ c.in_ok-take_capture.ensures.fed

@@ -1,0 +1,172 @@
+//! What takes the packets of a media's flow, one after the other, off the records of a capture: each frame is read once.
+
+ghost use Rattle.std.specs.Prelude.{◌≡◌, ◌≤◌, ◌+◌, ◌++◌, ◌∷◌, ◌^◌, [], ℕ, List, None, Some, IfErr, IfOk, length};
+ghost use Rattle.timing_base.specs.Captures.{IsStamp, Record};
+ghost use Rattle.timing_base.specs.Media.{Media as MediaValue};
+ghost use Rattle.fail_interval.specs.States.{IsReading};
+ghost use Rattle.timing_outside.specs.Causes.{Rose};
+ghost use Rattle.timing_outside.specs.Shelves.{StaysAs};
+ghost use Rattle.pcap_reader.specs.Taken.{TakesFew};
+ghost use Rattle.pcapng_reader.specs.Classic.{classic_texts};
+ghost use Rattle.timing_steps.specs.Answers.{OnReadFault};
+ghost use Rattle.udp_rtp.specs.Flow.{flow_packet};
+ghost use Rattle.timing_reach.specs.judged.Flows.{TakesIn};
+
+use crate::judged::captures::take_capture;
+use pcap_reader::Taker;
+use std::alloc::{AllocError as OutOfMemory, Global};
+use timing_base::{FlowPacket, Media, Rtp};
+use timing_outside::Shelf;
+use timing_report::Input;
+use timing_steps::Failure;
+use udp_rtp::{carries, packet_of};
+
+/// What takes the packets of a flow, one after the other.
+pub trait FlowTaker {
+    /// By the flow of this media in these records, and by nothing else, the first became the second.
+    ghost takes: { MediaValue → Self → Self → List Record → Type 0 };
+
+    /// It has room for so many packets more.
+    ghost room: { (count : ℕ) → Self → Type 0 };
+
+    /// Takes the next packet, and the frame that carried it. `Err` is want of memory.
+    fn take(&mut self, packet: &FlowPacket, frame: &[u8]) -> Result<(), OutOfMemory>
+        requires stamp { IsStamp packet.now.at }
+        requires reading { IsReading packet.now.rtp }
+        requires short { length frame.now ≤ 262144 }
+        requires room { room 1 self.old }
+        ensures room { (count : ℕ) → IfOk result (λ _. room (count + 1) self.old → room count self.new) }
+        ensures takes { IfOk result (λ _. (m : MediaValue) (r : Record)
+            → flow_packet m r ≡ Some packet.now → r.bytes ≡ frame.now
+            → takes m self.old self.new (r ∷ [])) };
+
+    /// No record changes nothing.
+    ghost none: { (m : MediaValue) (x : Self) → takes m x x [] };
+
+    /// Nor does one that is no packet of the flow.
+    ghost other: { (m : MediaValue) (x : Self) (r : Record) → flow_packet m r ≡ None
+        → takes m x x (r ∷ []) };
+
+    /// Some records, and then others.
+    ghost more: { (m : MediaValue) (x y z : Self) (a b : List Record) → takes m x y a
+        → takes m y z b → takes m x z (a ++ b) };
+
+    /// Room for many packets is room for few.
+    ghost less: { (few many : ℕ) (x : Self) → few ≤ many → room many x → room few x };
+}
+
+/// The flow of a media, and what takes it.
+#[derive(Drop)]
+struct FlowOf<F: Drop> {
+    media: Media,
+    /// What the next packet reads as where the flow goes on as most do. A frame is held against it before it is read,
+    /// since that is quicker; what is taken doesn't depend on it.
+    next: Option<Rtp>,
+    taker: F,
+}
+
+/// What the packet behind this one reads as, where it goes on in the same frame or field.
+fn next_of(packet: &FlowPacket) -> Option<Rtp> {
+    match packet.rtp {
+        Ok(rtp) if !rtp.marker => Some(Rtp {
+            number: rtp.number.wrapping_add(1),
+            ..rtp
+        }),
+        _ => None,
+    }
+}
+
+impl<F: FlowTaker + Drop> FlowOf<F> {
+    ghost use Rattle.timing_reach.specs.judged.Flows.{TakesFlow};
+
+    /// Takes the next record, whatever its frame.
+    #[cold]
+    #[inline(never)]
+    fn take_read(&mut self, number: u64, at: u64, frame: &[u8]) -> Result<(), OutOfMemory>
+        requires stamp { IsStamp at }
+        requires short { length frame.now ≤ 262144 }
+        requires room { F.room 1 self.old.taker }
+        ensures room { (count : ℕ) → IfOk result (λ _. F.room (count + 1) self.old.taker
+            → F.room count self.new.taker) }
+        ensures takes { IfOk result (λ _. TakesFlow F.takes self.old self.new
+            (record { number = number; stamp = at; bytes = frame.now } ∷ [])) }
+    {
+        match packet_of(&self.media, number, at, frame) {
+            None => Ok(()),
+            Some(packet) => {
+                self.next = next_of(&packet);
+                self.taker.take(&packet, frame)
+            }
+        }
+    }
+}
+
+impl<F: FlowTaker + Drop> Taker for FlowOf<F> {
+    ghost use Rattle.pcap_reader.specs.Taken.{StopsAnyhow};
+    ghost use Rattle.timing_reach.specs.judged.Flows.{TakesFlow, flow_more, flow_none};
+
+    /// Want of memory.
+    type Stop = OutOfMemory;
+
+    ghost takes = { λ old new items. TakesFlow F.takes old new items };
+
+    ghost stops = { StopsAnyhow };
+
+    ghost room = { λ number count x. F.room count x.taker };
+
+    ghost none = { λ x. flow_none F.takes F.none x };
+
+    ghost more = { λ x y z a b first second. flow_more F.takes F.more x y z a b first second };
+
+    ghost ends = { λ _ _ _ _ _ _ _ _. tt };
+
+    ghost halts = { λ _ _ _ _ _ _. tt };
+
+    ghost less = { λ number few many x le room. F.less few many x.taker le room };
+
+    #[inline(always)]
+    fn take(&mut self, number: u64, at: u64, frame: &[u8]) -> Result<(), OutOfMemory> {
+        if let Some(next) = &mut self.next {
+            let rtp = *next;
+            if carries(frame, self.media.target(), rtp) {
+                next.number = rtp.number.wrapping_add(1);
+                let packet = FlowPacket {
+                    rec: number,
+                    at,
+                    rtp: Ok(rtp),
+                };
+                return self.taker.take(&packet, frame);
+            }
+        }
+        self.take_read(number, at, frame)
+    }
+}
+
+/// Gives a taker the flow of a media in the one capture of a job, under this name: the capture is fetched for
+/// that, and goes back to the shelf.
+pub fn take_flow<H: Shelf, F: FlowTaker + Drop>(
+    alloc: Global,
+    shelf: &mut H,
+    name: &str,
+    media: &Media,
+    taker: F,
+) -> Result<F, Failure>
+    requires room { F.room (2 ^ 36) taker }
+    ensures told { IfOk result (λ taken. (text : List ℕ)
+        → classic_texts (H.text shelf.old) name.now ≡ Some text
+        → TakesIn (F.takes media.now) text taker taken) }
+    ensures fed { IfOk result (λ taken. TakesFew (F.takes media.now) (2 ^ 36) taker taken) }
+    ensures cause { IfErr result (λ e. OnReadFault e (λ i. (i ≡ Input.Capture 0)
+        × Rose (H.faults shelf.old name.now) (H.faults shelf.new name.now))) }
+    ensures there { IfOk result (λ _. ¬ H.lacks shelf.old name.now) }
+    ensures stays { StaysAs H.text H.lacks H.faults shelf.old shelf.new }
+{
+    let mut flow = FlowOf {
+        media: *media,
+        next: None,
+        taker,
+    };
+    take_capture(alloc, shelf, name, &mut flow)?;
+    let FlowOf { taker, .. } = flow;
+    Ok(taker)
+}
