@@ -23,3 +23,4 @@ mod ShapeEnds
 mod Pairings
 mod Comparings
 mod Skewing
+pub mod Scannings

@@ -2,6 +2,7 @@
 pub mod Asked
 pub mod Windows
 pub mod Skewed
+pub mod Scanned
 pub mod Shapes
 pub mod Shaped
 pub mod ShapedAgain
@@ -13,3 +14,4 @@ pub mod judged
 pub mod window
 pub mod shape
 pub mod skew
+pub mod scan

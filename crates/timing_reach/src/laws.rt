@@ -5,7 +5,7 @@ pub mod shapes;
 
 ghost use Rattle.std.specs.Prelude.{◌≡◌, ◌++◌, ◌∷◌, [], ℕ, List, None, codes, map, pos, negsuc, true, false};
 ghost use Rattle.timing_base.specs.Captures.{Record};
-ghost use Rattle.timing_base.specs.Jobs.{SkewJob};
+ghost use Rattle.timing_base.specs.Jobs.{ScanJob, SkewJob};
 ghost use Rattle.timing_base.specs.Judged.{FlowRun, in_one_run, in_runs, judged, no_whole_frame};
 ghost use Rattle.timing_base.specs.Media.{Media};
 ghost use Rattle.timing_base.specs.declared.capture.FileNote.TheVariants as note;
@@ -18,6 +18,7 @@ ghost use Rattle.sender_params.specs.Worked.{hd_50};
 ghost use Rattle.timing_report.specs.declared.status.Status.TheVariants as status;
 ghost use Rattle.timing_steps.specs.Answers.{Answer};
 ghost use Rattle.timing_reach.specs.Asked.{HasWindow, OnRun, no_such_media, not_judged};
+ghost use Rattle.timing_reach.specs.Scanned.{HasScan};
 ghost use Rattle.timing_reach.specs.Skewed.{HasSkew, first_of, last_of, skew_status, skewed};
 ghost use Rattle.timing_reach.specs.Windows.{HasLines, window_line};
 ghost use Rattle.timing_reach.specs.Worked.{bound_at, from_to, narrow_frame, pair_of};
@@ -120,4 +121,11 @@ pub fn pairs_by_hand()
     ensures alone { (x : List Record) → last_of (x ∷ []) ≡ x }
     ensures one { skew_status false (told 1 9 9 9 9 None None) ≡ status.Pass }
     ensures refused { skew_status true (told 40 0 0 0 0 None None) ≡ status.NotAllJudged }
+{}
+
+/// The text of `scan` has one answer.
+pub fn one_scan_answer()
+    ensures some { (job : ScanJob) (text : List ℕ) → (answer : Answer) × HasScan job text answer }
+    ensures once { (job : ScanJob) (text : List ℕ) (a b : Answer)
+        → HasScan job text a → HasScan job text b → a ≡ b }
 {}

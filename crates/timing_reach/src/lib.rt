@@ -1,6 +1,6 @@
 //! The commands that look deeper into one flow, or two: `window`, which offsets would keep the buffer of a
 //! flow, `shape`, when its packets would leave if they were delayed as little as the limits of a sender type
-//! allow, and `skew`, how far two flows with the same packets lie apart.
+//! allow, and `skew`, how far two flows with the same packets lie apart; and `scan`, what a capture holds.
 //!
 //! `window` measures a flow while it is judged. For `shape` a flow is judged first, and where that comes to one run
 //! its capture is read a second time. Captures, media and judged packets count from 0, and records from 1; stamps
@@ -9,10 +9,12 @@
 
 mod judged;
 pub mod laws;
+mod scan;
 mod shape;
 mod skew;
 mod window;
 
+pub use scan::scan_one;
 pub use shape::shape_one;
 pub use skew::skew_one;
 pub use window::window_one;

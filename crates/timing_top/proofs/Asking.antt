@@ -23,7 +23,8 @@ use Rattle.timing_reach.specs.Asked.{HasWindow}
 use Rattle.timing_reach.specs.Shaped.{HasShapeIn}
 use Rattle.timing_reach.proofs.SomeShape.{once-shape-in, some-shape-in}
 use Rattle.timing_reach.proofs.Unique.{once-window, some-window}
-use Rattle.timing_top.proofs.Reaching.{only-reach, only-skewed, reach-failed, skewed-failed, some-reach, some-skewed}
+use Rattle.timing_top.proofs.Reaching.{only-reach, only-scanned, only-skewed, reach-failed, scanned-failed, skewed-failed}
+use Rattle.timing_top.proofs.Reaching.{some-reach, some-scanned, some-skewed}
 use Rattle.timing_top.proofs.Reports.{only-report, some-report}
 use Rattle.timing_top.proofs.Reported.{only-reread, reread-failed, some-reread}
 use Rattle.timing_top.proofs.SelfTests.{only-self_test, some-self_test}
@@ -91,6 +92,7 @@ some-answer (Some (request.SelfTest job)) i texts there told = some-self job.fra
 some-answer (Some (request.Window job)) i texts there told = some-reach job i texts (HasWindow job.tai) there told (λ m is text. some-window job.tai m text)
 some-answer (Some (request.Shape job)) i texts there told = some-reach job.flow i texts (HasShapeIn job) there told (λ m is text. some-shape-in job m text is)
 some-answer (Some (request.Skew job)) i texts there told = some-skewed job i texts there told
+some-answer (Some (request.Scan job)) i texts there told = some-scanned job i texts there told
 
 -- there are not two
 pub only-answer : (asked : Option Request) (i : Inputs) (texts : List (List ℕ)) (a b : Answer) → AreTold i.texts (names_of asked) texts → Follows asked i (Ok a)
@@ -103,6 +105,7 @@ only-answer (Some (request.SelfTest job)) i texts a b told h k = only-self job.f
 only-answer (Some (request.Window job)) i texts a b told h k = only-reach job i texts (HasWindow job.tai) a b told (λ m text. once-window job.tai m text) h k
 only-answer (Some (request.Shape job)) i texts a b told h k = only-reach job.flow i texts (HasShapeIn job) a b told (once-shape-in job) h k
 only-answer (Some (request.Skew job)) i texts a b told h k = only-skewed job i texts a b told h k
+only-answer (Some (request.Scan job)) i texts a b told h k = only-scanned job i texts a b told h k
 
 -- what has none has a cause
 pub answer-failed : (asked : Option Request) (i : Inputs) (texts : List (List ℕ)) (e : Failure) → AreTold i.texts (names_of asked) texts
@@ -117,3 +120,4 @@ answer-failed (Some (request.SelfTest job)) i texts e told h =
 answer-failed (Some (request.Window job)) i texts e told h = reach-failed job i texts (HasWindow job.tai) e told h
 answer-failed (Some (request.Shape job)) i texts e told h = reach-failed job.flow i texts (HasShapeIn job) e told h
 answer-failed (Some (request.Skew job)) i texts e told h = skewed-failed job i texts e told h
+answer-failed (Some (request.Scan job)) i texts e told h = scanned-failed job i texts e told h

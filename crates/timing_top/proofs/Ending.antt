@@ -2,7 +2,7 @@
 use Rattle.std.proofs.Common.{◌≡◌, ℕ, true, Some, None, Option, Ok, Err, refl, ap, ◌∙◌, sym, subst, inl, inr}
 use Rattle.std.specs.Prelude.{◌||◌, Bool, Result}
 use Rattle.std.proofs.lemmas.Bool.{false≢true}
-use Rattle.timing_base.specs.Jobs.{CheckJob, FlowJob, ReportJob, SelfTestJob, ShapeJob, SkewJob, VerifyJob}
+use Rattle.timing_base.specs.Jobs.{CheckJob, FlowJob, ReportJob, ScanJob, SelfTestJob, ShapeJob, SkewJob, VerifyJob}
 use Rattle.timing_words.specs.declared.request.Request.{Request}
 use Rattle.timing_words.specs.declared.request.Request.TheVariants as request
 use Rattle.timing_report.specs.declared.status.Status.{Status}
@@ -12,6 +12,7 @@ use Rattle.timing_steps.specs.Ends.{EndsWith, check_ends, is_failure, look_ends,
 use Rattle.timing_steps.specs.Ran.{Appended, Broke, HasCause, Leaves, Output, Ran}
 use Rattle.timing_steps.specs.declared.failure.Failure.{Failure}
 use Rattle.timing_steps.specs.declared.failure.Failure.TheVariants as failure
+use Rattle.timing_reach.specs.Scanned.{scan_ends}
 use Rattle.timing_top.specs.Asked.{FollowsSelfTest}
 use Rattle.timing_top.specs.Ends.{Ends, may_end}
 use Rattle.timing_steps.proofs.Endings.{kept-none}
@@ -89,6 +90,17 @@ skew-all job status.WriteFault h = refl
 skew-all job status.OutOfMemory h = refl
 skew-all job status.ReportRefused h = h
 
+scan-all : (job : ScanJob) (s : Status) → scan_ends s || is_failure s ≡ true → may_end (Some (request.Scan job)) s ≡ true
+scan-all job status.Pass h = refl
+scan-all job status.Fail h = h
+scan-all job status.Usage h = h
+scan-all job (status.SdpRefused fault) h = h
+scan-all job status.NotAllJudged h = refl
+scan-all job (status.ReadFault input) h = refl
+scan-all job status.WriteFault h = refl
+scan-all job status.OutOfMemory h = refl
+scan-all job status.ReportRefused h = h
+
 -- what a request asked for ended
 abbrev EndsFor : Output → Status → Request → Type 0
 EndsFor o ends asked = Ends (Some asked) o ends
@@ -116,6 +128,10 @@ ends-shape asked job o ends is h = subst (EndsFor o ends) (sym is) (ends-as look
 pub ends-skew : (asked : Request) (job : SkewJob) (o : Output) (ends : Status) → asked ≡ request.Skew job → EndsWith look_ends o ends
     → Ends (Some asked) o ends
 ends-skew asked job o ends is h = subst (EndsFor o ends) (sym is) (ends-as look_ends (request.Skew job) o ends (skew-all job) h)
+
+pub ends-scan : (asked : Request) (job : ScanJob) (o : Output) (ends : Status) → asked ≡ request.Scan job → EndsWith scan_ends o ends
+    → Ends (Some asked) o ends
+ends-scan asked job o ends is h = subst (EndsFor o ends) (sym is) (ends-as scan_ends (request.Scan job) o ends (scan-all job) h)
 
 -- want of memory, whatever was asked
 pub ends-memory : (asked : Option Request) (o : Output) (ends : Status) → Leaves o (Err failure.OutOfMemory) ends → Ends asked o ends

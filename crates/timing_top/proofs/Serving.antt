@@ -1,10 +1,11 @@
 -- What the run of a command is to the request that asks for it.
 use Rattle.std.proofs.Common.{◌≡◌, ◌≤◌, Some, None, Option, refl, ap, sym, subst, inl, inr}
 use Rattle.std.specs.Prelude.{Result, Ok, Err}
-use Rattle.timing_base.specs.Jobs.{CheckJob, FlowJob, ReportJob, ShapeJob, SkewJob, VerifyJob}
+use Rattle.timing_base.specs.Jobs.{CheckJob, FlowJob, ReportJob, ScanJob, ShapeJob, SkewJob, VerifyJob}
 use Rattle.timing_words.specs.declared.request.Request.{Request}
 use Rattle.timing_words.specs.declared.request.Request.TheVariants as request
 use Rattle.timing_reach.specs.Asked.{FlowInputRose, FollowsWindow}
+use Rattle.timing_reach.specs.Scanned.{FollowsScan, ScanInputRose}
 use Rattle.timing_reach.specs.Shaped.{FollowsShape}
 use Rattle.timing_reach.specs.Skewed.{FollowsSkew, SkewInputRose}
 use Rattle.timing_report.specs.declared.status.Input.{Input}
@@ -72,6 +73,11 @@ pub serves-skew : (asked : Request) (job : SkewJob) (i : Inputs) (o e : Output) 
 serves-skew asked job i o e ends is ran =
     subst (RanFor i o e ends) (sym is) (ran-as (FollowsSkew job i) _ (SkewInputRose job i) _ o e ends (λ r h. h) (λ x h. h) ran)
 
+pub serves-scan : (asked : Request) (job : ScanJob) (i : Inputs) (o e : Output) (ends : Status) → asked ≡ request.Scan job
+    → Ran (FollowsScan job i) (ScanInputRose job i) o e ends → Ran (Follows (Some asked) i) (InputRose (Some asked) i) o e ends
+serves-scan asked job i o e ends is ran =
+    subst (RanFor i o e ends) (sym is) (ran-as (FollowsScan job i) _ (ScanInputRose job i) _ o e ends (λ r h. h) (λ x h. h) ran)
+
 -- words that are no request
 pub refuses-words : (asked : Option Request) (i : Inputs) (o e : Output) (ends : Status) (answer : Answer) → asked ≡ None → answer ≡ silent status.Usage
     → Leaves o (Ok answer) ends → TellsLine e ends → o.before ≤ o.now → e.before ≤ e.now → Ran (Follows asked i) (InputRose asked i) o e ends
@@ -95,6 +101,7 @@ memory-follows (Some (request.SelfTest job)) i = inl refl
 memory-follows (Some (request.Window job)) i = inl refl
 memory-follows (Some (request.Shape job)) i = inl refl
 memory-follows (Some (request.Skew job)) i = inl refl
+memory-follows (Some (request.Scan job)) i = inl refl
 
 pub lacks-memory : (asked : Option Request) (i : Inputs) (o e : Output) (ends : Status)
     → Leaves o (Err failure.OutOfMemory) ends → TellsLine e ends → o.before ≤ o.now → e.before ≤ e.now → Ran (Follows asked i) (InputRose asked i) o e ends

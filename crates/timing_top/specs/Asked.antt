@@ -9,6 +9,7 @@ use Rattle.timing_steps.specs.Answers.{Answer, Gives, Inputs, Yields, silent}
 use Rattle.timing_steps.specs.declared.failure.Failure.{Failure}
 use Rattle.timing_top.specs.Check.{CheckInputRose, FollowsCheck}
 use Rattle.timing_reach.specs.Asked.{FlowInputRose, FollowsWindow}
+use Rattle.timing_reach.specs.Scanned.{FollowsScan, ScanInputRose}
 use Rattle.timing_reach.specs.Shaped.{FollowsShape}
 use Rattle.timing_reach.specs.Skewed.{FollowsSkew, SkewInputRose}
 use Rattle.timing_verify.specs.Asked.{FollowsReport, FollowsVerify, ReportInputRose, VerifyInputRose}
@@ -32,6 +33,7 @@ Follows (Some (request.SelfTest job)) i outcome = FollowsSelfTest job.frames out
 Follows (Some (request.Window job)) i outcome = FollowsWindow job i outcome
 Follows (Some (request.Shape job)) i outcome = FollowsShape job i outcome
 Follows (Some (request.Skew job)) i outcome = FollowsSkew job i outcome
+Follows (Some (request.Scan job)) i outcome = FollowsScan job i outcome
 
 -- the count of the name of this input of the request rose; what reads nothing has none
 abbrev pub InputRose : Option Request → Inputs → Input → Type 0
@@ -41,6 +43,7 @@ InputRose (Some (request.VerifyReport job)) i input = ReportInputRose job i inpu
 InputRose (Some (request.Window job)) i input = FlowInputRose job i input
 InputRose (Some (request.Shape job)) i input = FlowInputRose job.flow i input
 InputRose (Some (request.Skew job)) i input = SkewInputRose job i input
+InputRose (Some (request.Scan job)) i input = ScanInputRose job i input
 InputRose other i input = ⊥
 
 -- the names of a request's inputs, where it reads any
@@ -51,6 +54,7 @@ names_of (Some (request.VerifyReport job)) = job.sdp ∷ job.report ∷ job.capt
 names_of (Some (request.Window job)) = job.sdp ∷ job.capture ∷ []
 names_of (Some (request.Shape job)) = job.flow.sdp ∷ job.flow.capture ∷ []
 names_of (Some (request.Skew job)) = job.sdp ∷ job.captures
+names_of (Some (request.Scan job)) = job.capture ∷ []
 names_of other = []
 
 -- what was seen of a shelf that tells by a test which names it lacks; the laws speak of such shelves

@@ -17,6 +17,11 @@ abbrev pub reads_inputs : Option Request → Bool
 reads_inputs (Some (request.SelfTest job)) = false
 reads_inputs asked = is_request asked
 
+-- a description is read: of all that read inputs but `scan`
+abbrev pub reads_sdp : Option Request → Bool
+reads_sdp (Some (request.Scan job)) = false
+reads_sdp asked = reads_inputs asked
+
 -- limits or fails are checked, and may be not kept or not confirmed: of `check`, `verify` and `verify-report`
 abbrev pub checks : Option Request → Bool
 checks (Some (request.Check job)) = true
@@ -34,7 +39,7 @@ abbrev pub may_end : Option Request → Status → Bool
 may_end asked status.Pass = is_request asked
 may_end asked status.Fail = checks asked
 may_end asked status.Usage = not (is_request asked)
-may_end asked (status.SdpRefused fault) = reads_inputs asked
+may_end asked (status.SdpRefused fault) = reads_sdp asked
 may_end asked status.NotAllJudged = reads_inputs asked
 may_end asked (status.ReadFault input) = reads_inputs asked
 may_end asked status.WriteFault = is_request asked

@@ -14,7 +14,7 @@ use std::alloc::Global;
 use std::sync::Wait;
 use std::thread::Threads;
 use timing_outside::{Gate, Shelf, Sink};
-use timing_reach::{shape_one, skew_one, window_one};
+use timing_reach::{scan_one, shape_one, skew_one, window_one};
 use timing_report::Status;
 use timing_steps::{Answer, Failure, conclude};
 use timing_verify::{verify_all, verify_one};
@@ -51,6 +51,7 @@ fn serve<R: Threads + Wait + Sync, H: Shelf, K: Sink, G: Gate>(
         Request::SelfTest(job) => self_test(rt, alloc, &job, out, err, gate),
         Request::Window(job) => window_one(alloc, &job, shelf, out, err),
         Request::Shape(job) => shape_one(alloc, &job, shelf, out, err),
+        Request::Scan(job) => scan_one(alloc, &job, shelf, out, err),
         Request::Skew(job) => skew_one(alloc, &job, shelf, out, err),
     }
 }

@@ -15,7 +15,7 @@ use Rattle.timing_words.specs.Limits.{IsWithinLimits}
 use Rattle.timing_words.specs.Line.{Stands, Text, line, stands}
 use Rattle.timing_words.specs.Request.{asked, asked_by, check_asked, check_workers, command_named, file_name, file_names}
 use Rattle.timing_words.specs.Request.{flow_asked, given, kind_named, media, need, number, passing}
-use Rattle.timing_words.specs.Request.{proof_asked, report_asked, request, self_test_asked, shape_asked, skew_asked}
+use Rattle.timing_words.specs.Request.{proof_asked, report_asked, request, scan_asked, self_test_asked, shape_asked, skew_asked}
 use Rattle.timing_words.specs.Request.{sole, sorts, tai, test_workers, verify_asked, written}
 use Rattle.timing_words.proofs.Checks.{both_true}
 
@@ -186,6 +186,9 @@ asked-within command.Shape l r e =
 asked-within command.Skew l r e =
     let m = mapped asks.Skew (skew_asked l) r e in
     subst IsWithinLimits m.2 (skew-within l m.0 m.1)
+asked-within command.Scan l r e =
+    let m = mapped asks.Scan (scan_asked l) r e in
+    subst IsWithinLimits m.2 tt
 
 by-within : (c : Command) (words : List Text) (r : Request) → asked_by c words ≡ Some r → IsWithinLimits r
 by-within c words r e =

@@ -7,13 +7,15 @@ use Rattle.std.specs.List.{list_all}
 use Rattle.std.specs.Char.{is_ascii_digit}
 use Rattle.std.specs.Str.{bytes_eq}
 use Rattle.std.specs.Str.Parse.{digits_value}
-use Rattle.timing_base.specs.Jobs.{CheckJob, FlowJob, ReportJob, SelfTestJob, ShapeJob, SkewJob, VerifyJob}
+use Rattle.timing_base.specs.Jobs.{CheckJob, FlowJob, ReportJob, ScanJob, SelfTestJob, ShapeJob, SkewJob, VerifyJob}
 use Rattle.timing_base.specs.Name.{is_file_name}
 use Rattle.timing_base.specs.declared.fail.Broken.{Broken}
 use Rattle.timing_base.specs.declared.fail.Broken.TheVariants as broken
 use Rattle.timing_base.specs.declared.fail.FailProof.{FailProof}
 use Rattle.timing_words.specs.declared.request.Request.{Request}
 use Rattle.timing_words.specs.declared.request.Request.TheVariants as asks
+use Rattle.timing_base.specs.declared.job.ScanForm.{ScanForm}
+use Rattle.timing_base.specs.declared.job.ScanForm.TheVariants as form
 use Rattle.timing_base.specs.declared.media.Kind.{Kind}
 use Rattle.timing_base.specs.declared.media.Kind.TheVariants as kind
 use Rattle.timing_words.specs.declared.command.Command.{Command}
@@ -93,6 +95,13 @@ check_workers (Some text) true = None
 abbrev pub test_workers : Option Text → Option ℕ
 test_workers None = Some 0
 test_workers (Some text) = number 1 16 text
+
+-- how `scan` prints: lines where neither `--json` nor `--draft` stands, which exclude each other
+abbrev pub scan_form : (json draft : Bool) → Option ScanForm
+scan_form false false = Some form.Lines
+scan_form true false = Some form.Json
+scan_form false true = Some form.Draft
+scan_form true true = None
 
 -- the one name
 abbrev pub sole : List Text → Option Text
@@ -230,6 +239,17 @@ skew_asked l =
     need (file_names 2 l.names) (λ captures.
     Some (record { sdp = sdp; media = first; pair = second; captures = captures })))))
 
+-- what `scan` takes
+abbrev pub scan_sorts : List Sort
+scan_sorts = takes [] (codes "json" ∷ codes "draft" ∷ [])
+
+-- and what it asks for
+abbrev pub scan_asked : Stands → Option ScanJob
+scan_asked l =
+    need (scan_form (l.flag (codes "json")) (l.flag (codes "draft"))) (λ printed.
+    need (need (sole l.names) file_name) (λ capture.
+    Some (record { capture = capture; form = printed })))
+
 -- ---- the whole line
 
 -- the command with this name
@@ -237,7 +257,9 @@ abbrev pub command_named : Text → Option Command
 command_named = chosen (
     (codes "check", command.Check) ∷ (codes "verify", command.Verify) ∷ (codes "verify-report", command.VerifyReport)
     ∷ (codes "selftest", command.SelfTest) ∷ (codes "window", command.Window) ∷ (codes "shape", command.Shape)
-    ∷ (codes "skew", command.Skew) ∷ [])
+    ∷ (codes "skew", command.Skew)
+    ∷ (codes "scan", command.Scan)
+    ∷ [])
 
 -- the options and flags that a command takes
 abbrev pub sorts : Command → List Sort
@@ -248,6 +270,7 @@ sorts command.SelfTest = self_test_sorts
 sorts command.Window = window_sorts
 sorts command.Shape = shape_sorts
 sorts command.Skew = skew_sorts
+sorts command.Scan = scan_sorts
 
 -- what a command asks for, by what stands in its line
 abbrev pub asked : Command → Stands → Option Request
@@ -258,6 +281,7 @@ asked command.SelfTest l = option_map asks.SelfTest (self_test_asked l)
 asked command.Window l = option_map asks.Window (flow_asked l)
 asked command.Shape l = option_map asks.Shape (shape_asked l)
 asked command.Skew l = option_map asks.Skew (skew_asked l)
+asked command.Scan l = option_map asks.Scan (scan_asked l)
 
 -- what the words after a command ask for
 abbrev pub asked_by : Command → List Text → Option Request

@@ -22,6 +22,7 @@ pub(crate) enum Command {
     Window,
     Shape,
     Skew,
+    Scan,
 }
 
 impl Command {
@@ -39,6 +40,7 @@ impl Command {
             "window" => Some(Command::Window),
             "shape" => Some(Command::Shape),
             "skew" => Some(Command::Skew),
+            "scan" => Some(Command::Scan),
             _ => None,
         }
     }
@@ -65,6 +67,7 @@ impl Command {
             Command::Window => parser_of(alloc, &["sdp", "media", "tai"], &[]),
             Command::Shape => parser_of(alloc, &["sdp", "media", "type", "tai"], &["list"]),
             Command::Skew => parser_of(alloc, &["sdp", "media", "pair"], &[]),
+            Command::Scan => parser_of(alloc, &[], &["json", "draft"]),
         }
     }
 }

@@ -9,14 +9,14 @@ ghost use Rattle.timing_words.specs.Request as words;
 use crate::command::NAMES;
 use crate::line::WordFault;
 use crate::values::{
-    check_workers, count, file_name, file_names, kind_named, media, model_named, number, sole, tai,
-    test_workers,
+    check_workers, count, file_name, file_names, kind_named, media, model_named, number, scan_form,
+    sole, tai, test_workers,
 };
 use clap::ArgMatches;
 use std::alloc::Global;
 use timing_base::{
-    CheckJob, FailProof, FileName, FlowJob, Items, ReportJob, SelfTestJob, ShapeJob, SkewJob,
-    VerifyJob,
+    CheckJob, FailProof, FileName, FlowJob, Items, ReportJob, ScanJob, SelfTestJob, ShapeJob,
+    SkewJob, VerifyJob,
 };
 
 /// The value of an option that may not be missing.
@@ -187,4 +187,12 @@ pub(crate) fn skew_job(alloc: Global, matches: &ArgMatches<'_>) -> Result<SkewJo
         pair: second,
         captures,
     })
+}
+
+pub(crate) fn scan_job(alloc: Global, matches: &ArgMatches<'_>) -> Result<ScanJob, WordFault>
+    ensures { Gives (words.scan_asked (found_stands (found_of matches.now))) result }
+{
+    let form = scan_form(matches.contains_id("json"), matches.contains_id("draft"))?;
+    let capture = file_name(alloc, sole_name(matches)?)?;
+    Ok(ScanJob { capture, form })
 }

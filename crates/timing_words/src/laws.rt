@@ -5,6 +5,7 @@ ghost use Rattle.std.specs.Prelude.{◌≡◌, List, [], ◌∷◌, ◌++◌, So
 ghost use Rattle.timing_base.specs.declared.fail.Broken.TheVariants as broken;
 ghost use Rattle.timing_words.specs.declared.request.Request.{Request};
 ghost use Rattle.timing_words.specs.declared.request.Request.TheVariants as asks;
+ghost use Rattle.timing_base.specs.declared.job.ScanForm.TheVariants as form;
 ghost use Rattle.timing_base.specs.declared.media.Kind.TheVariants as kind;
 ghost use Rattle.timing_words.specs.Examples.{Asks, IsCut, IsRefused, IsUncut, plain_check, second_flow};
 ghost use Rattle.timing_words.specs.Examples.{sixteen, sixteen_names, words};
@@ -239,6 +240,18 @@ pub fn flows_by_hand()
     ensures skew_no_media { IsRefused (codes "skew --sdp p --pair 1 c") }
     ensures skew_no_pair { IsRefused (codes "skew --sdp p --media 2 c") }
     ensures skew_tai { IsRefused (codes "skew --sdp p --media 2 --pair 1 --tai 0 c") }
+{}
+
+/// Lines of `scan`.
+pub fn scans_by_hand()
+    ensures plain { Asks (codes "scan c") (asks.Scan (record { capture = codes "c"; form = form.Lines })) }
+    ensures json { Asks (codes "scan --json c") (asks.Scan (record { capture = codes "c"; form = form.Json })) }
+    ensures draft { Asks (codes "scan c --draft") (asks.Scan (record { capture = codes "c"; form = form.Draft })) }
+    ensures both { IsRefused (codes "scan --json --draft c") }
+    ensures no_capture { IsRefused (codes "scan --json") }
+    ensures two_captures { IsRefused (codes "scan c d") }
+    ensures sdp { IsRefused (codes "scan --sdp p c") }
+    ensures tai { IsRefused (codes "scan --tai 37 c") }
 {}
 
 /// First words that are no command.

@@ -8,7 +8,7 @@ ghost use Rattle.timing_words.specs.Request.{asked, asked_by, request};
 
 use crate::command::Command;
 use crate::jobs::{
-    check_job, flow_job, report_job, self_test_job, shape_job, skew_job, verify_job,
+    check_job, flow_job, report_job, scan_job, self_test_job, shape_job, skew_job, verify_job,
 };
 use crate::line::{WordFault, cut};
 use crate::request::Request;
@@ -30,6 +30,7 @@ fn request_of(
         Command::Window => Ok(Request::Window(flow_job(alloc, matches)?)),
         Command::Shape => Ok(Request::Shape(shape_job(alloc, matches)?)),
         Command::Skew => Ok(Request::Skew(skew_job(alloc, matches)?)),
+        Command::Scan => Ok(Request::Scan(scan_job(alloc, matches)?)),
     }
 }
 

@@ -1,6 +1,8 @@
 //! What a command line asks for.
 
-use timing_base::{CheckJob, FlowJob, ReportJob, SelfTestJob, ShapeJob, SkewJob, VerifyJob};
+use timing_base::{
+    CheckJob, FlowJob, ReportJob, ScanJob, SelfTestJob, ShapeJob, SkewJob, VerifyJob,
+};
 
 /// What a command line asks for.
 #[derive(Debug, Drop)]
@@ -12,4 +14,5 @@ pub enum Request {
     Window(FlowJob),
     Shape(ShapeJob),
     Skew(SkewJob),
+    Scan(ScanJob),
 }

@@ -10,7 +10,7 @@ ghost use Rattle.timing_words.specs.Request as words;
 
 use crate::line::WordFault;
 use std::alloc::Global;
-use timing_base::{Broken, FileName, Items, Kind};
+use timing_base::{Broken, FileName, Items, Kind, ScanForm};
 
 fn are_digits(bytes: &[u8]) -> bool
     ensures { result ≡ list_all is_ascii_digit bytes.now }
@@ -118,6 +118,18 @@ pub(crate) fn test_workers(text: Option<&str>) -> Result<u32, WordFault>
     match text {
         Some(text) => Ok(number(text, 1, 16)? as u32),
         None => Ok(0),
+    }
+}
+
+/// How `scan` prints, by its two flags, which exclude each other.
+pub(crate) fn scan_form(json: bool, draft: bool) -> Result<ScanForm, WordFault>
+    ensures { Gives (words.scan_form json draft) result }
+{
+    match (json, draft) {
+        (false, false) => Ok(ScanForm::Lines),
+        (true, false) => Ok(ScanForm::Json),
+        (false, true) => Ok(ScanForm::Draft),
+        (true, true) => Err(WordFault::Usage),
     }
 }
 

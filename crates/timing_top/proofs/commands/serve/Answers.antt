@@ -1,5 +1,5 @@
-use Rattle.timing_top.proofs.Ending.{ends-check, ends-report, ends-self-test, ends-shape, ends-skew, ends-verify, ends-window}
-use Rattle.timing_top.proofs.Serving.{serves-check, serves-report, serves-shape, serves-skew, serves-verify, serves-window}
+use Rattle.timing_top.proofs.Ending.{ends-check, ends-report, ends-scan, ends-self-test, ends-shape, ends-skew, ends-verify, ends-window}
+use Rattle.timing_top.proofs.Serving.{serves-check, serves-report, serves-scan, serves-shape, serves-skew, serves-verify, serves-window}
 use Rattle.timing_top.proofs.commands.serve.Goals as goal
 
 pub returns-then-job-eq0-clause-ran : goal.returns-then-job-eq0-clause-ran
@@ -19,6 +19,9 @@ returns-in-Window-clause-ran g c = serves-window _ _ _ _ _ _ c.in-Window.is c.wi
 
 pub returns-in-Shape-clause-ran : goal.returns-in-Shape-clause-ran
 returns-in-Shape-clause-ran g c = serves-shape _ _ _ _ _ _ c.in-Shape.is c.shape_one.ensures.ran
+
+pub returns-in-Scan-clause-ran : goal.returns-in-Scan-clause-ran
+returns-in-Scan-clause-ran g c = serves-scan _ _ _ _ _ _ c.in-Scan.is c.scan_one.ensures.ran
 
 pub returns-clause-ran : goal.returns-clause-ran
 returns-clause-ran g c = serves-skew _ _ _ _ _ _ c.in-Skew.is c.skew_one.ensures.ran
@@ -40,6 +43,9 @@ returns-in-Window-clause-ends g c = ends-window _ _ _ _ c.in-Window.is c.window_
 
 pub returns-in-Shape-clause-ends : goal.returns-in-Shape-clause-ends
 returns-in-Shape-clause-ends g c = ends-shape _ _ _ _ c.in-Shape.is c.shape_one.ensures.ends
+
+pub returns-in-Scan-clause-ends : goal.returns-in-Scan-clause-ends
+returns-in-Scan-clause-ends g c = ends-scan _ _ _ _ c.in-Scan.is c.scan_one.ensures.ends
 
 pub returns-clause-ends : goal.returns-clause-ends
 returns-clause-ends g c = ends-skew _ _ _ _ c.in-Skew.is c.skew_one.ensures.ends

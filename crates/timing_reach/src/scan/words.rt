@@ -1,0 +1,71 @@
+//! What `scan` prints, and its status.
+
+ghost use Rattle.std.specs.Prelude.{◌≡◌, IfOk, true};
+ghost use Rattle.scan_text.specs.Contents.{contents_of};
+ghost use Rattle.scan_text.specs.Draft.{videos_of};
+ghost use Rattle.timing_report.specs.Outcomes.{is_refused};
+ghost use Rattle.timing_reach.specs.Scanned.{drafted, scan_ends, scan_status, scanned};
+
+use crate::scan::Scanned;
+use capture_scan::Found;
+use scan_text::{Draft, json_of, text_of};
+use std::alloc::{AllocError as OutOfMemory, Global};
+use timing_base::{FileNote, PcapFault, ScanForm, ScanJob};
+use timing_report::Status;
+use timing_steps::Answer;
+
+/// Whether a capture was refused for its bytes.
+fn is_refused(note: FileNote) -> bool
+    ensures { result ≡ is_refused note }
+{
+    match note {
+        FileNote::Refused(fault) => !matches!(fault, PcapFault::ReadFault),
+        FileNote::End | FileNote::Cut { .. } => false,
+    }
+}
+
+/// The status beside so many streams, or videos of a draft, of a capture that ends so.
+fn status_of(note: FileNote, told: usize) -> Status
+    ensures status { result ≡ scan_status note told }
+    ensures ends { scan_ends result ≡ true }
+{
+    if told == 0 || is_refused(note) {
+        Status::NotAllJudged
+    } else {
+        Status::Pass
+    }
+}
+
+/// The answer with the draft of the streams: nothing where it has no video.
+fn drafted(alloc: Global, note: FileNote, found: &Found) -> Result<Answer, OutOfMemory>
+    ensures { IfOk result (λ answer. answer ≡ drafted note (videos_of found.now.streams.items)) }
+{
+    let draft = Draft::of(alloc, found.streams.as_slice())?;
+    let status = status_of(note, draft.videos.len());
+    if draft.videos.is_empty() {
+        return Ok(Answer::silent(alloc, status));
+    }
+    Ok(Answer {
+        text: draft.text(alloc)?.into_bytes(),
+        status,
+    })
+}
+
+/// The answer on a capture in which this was found, in the form of the job.
+pub fn scanned(alloc: Global, job: &ScanJob, read: &Scanned) -> Result<Answer, OutOfMemory>
+    ensures { IfOk result (λ answer. answer
+        ≡ scanned job.now.form job.now.capture read.now.note (contents_of read.now.found)) }
+{
+    let note = read.note;
+    let found = &read.found;
+    let name = job.capture.as_str();
+    let text = match job.form {
+        ScanForm::Lines => text_of(alloc, name, note, found)?,
+        ScanForm::Json => json_of(alloc, name, note, found)?,
+        ScanForm::Draft => return drafted(alloc, note, found),
+    };
+    Ok(Answer {
+        text: text.into_bytes(),
+        status: status_of(note, found.streams.len()),
+    })
+}
