@@ -1,4 +1,5 @@
 -- What every request keeps: the limits of its job's quantities, as `timing_base` states them.
+use Rattle.std.specs.Prelude.{⊤}
 use Rattle.timing_base.specs.Jobs.{IsCheckJob, IsFlowJob, IsReportJob, IsSelfTestJob, IsSkewJob, IsVerifyJob}
 use Rattle.timing_words.specs.declared.request.Request.{Request}
 use Rattle.timing_words.specs.declared.request.Request.TheVariants as asks
@@ -12,3 +13,4 @@ IsWithinLimits (asks.SelfTest job) = IsSelfTestJob job
 IsWithinLimits (asks.Window job) = IsFlowJob job
 IsWithinLimits (asks.Shape job) = IsFlowJob job.flow
 IsWithinLimits (asks.Skew job) = IsSkewJob job
+IsWithinLimits (asks.Help named) = ⊤

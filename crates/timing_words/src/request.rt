@@ -1,5 +1,6 @@
 //! What a command line asks for.
 
+use crate::command::Command;
 use timing_base::{CheckJob, FlowJob, ReportJob, SelfTestJob, ShapeJob, SkewJob, VerifyJob};
 
 /// What a command line asks for.
@@ -12,4 +13,6 @@ pub enum Request {
     Window(FlowJob),
     Shape(ShapeJob),
     Skew(SkewJob),
+    /// The words of all commands, or of this one.
+    Help(Option<Command>),
 }
