@@ -73,6 +73,7 @@ fn shown(alloc: Global, request: &Request) -> Result<String, AllocError> {
             let (media, pair) = (job.media, job.pair);
             format!(in alloc; "skew {sdp} {media} {pair}:{captures}")
         }
+        Request::Help(command) => format!(in alloc; "help {command:?}"),
     }
 }
 
@@ -196,7 +197,7 @@ static ROWS: [(&str, &str); 86] = [
     ("check|help", "Usage"),
     // commands
     ("", "Usage"),
-    ("help", "Usage"),
+    ("judge", "Usage"),
     ("--help", "Usage"),
     ("--version", "Usage"),
     ("-h", "Usage"),
@@ -248,7 +249,7 @@ static ROWS: [(&str, &str); 86] = [
 ];
 
 // The lines of the commands but `check`.
-static OTHER_ROWS: [(&str, &str); 86] = [
+static OTHER_ROWS: [(&str, &str); 99] = [
     // verify
     (
         "verify|--sdp|p|--media|1|--type|N|--model|Bucket|--from|20|--to|24|--count|5|--limit|4|c",
@@ -453,6 +454,20 @@ static OTHER_ROWS: [(&str, &str); 86] = [
     ("skew|--media|1|--pair|2|c", "Usage"),
     ("skew|--sdp|p|--media|1|--pair|2", "Usage"),
     ("skew|--sdp|p|--media|1|--pair|2|--tai|3|c", "Usage"),
+    // help
+    ("help", "help None"),
+    ("help|skew", "help Some(Skew)"),
+    ("help|verify-report", "help Some(VerifyReport)"),
+    ("help|nothing", "Usage"),
+    ("help|help", "Usage"),
+    ("help|", "Usage"),
+    ("help|check|more", "Usage"),
+    ("help|--", "Usage"),
+    ("help|--|check", "Usage"),
+    ("help|--json", "Usage"),
+    ("check|help", "Usage"),
+    ("--help", "Usage"),
+    ("Help", "Usage"),
 ];
 
 // Reads each line, and compares what it is read as.

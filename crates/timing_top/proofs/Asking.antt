@@ -1,9 +1,10 @@
 -- The texts of a request define one answer.
-use Rattle.std.proofs.Common.{◌≡◌, ◌⊎◌, ℕ, List, [], ◌∷◌, Option, Some, None, refl}
+use Rattle.std.proofs.Common.{◌≡◌, ◌⊎◌, ℕ, List, [], ◌∷◌, Option, Some, None, refl, sym, ◌∙◌}
 use Rattle.std.specs.Prelude.{Result, Ok, Err, map}
 use Rattle.std.proofs.lemmas.List.Elements.{All-head, All-tail}
 use Rattle.timing_base.specs.Jobs.{CheckJob}
 use Rattle.timing_base.specs.Media.{Media}
+use Rattle.timing_words.specs.declared.command.Command.{Command}
 use Rattle.timing_words.specs.declared.request.Request.{Request}
 use Rattle.timing_words.specs.declared.request.Request.TheVariants as request
 use Rattle.timing_report.specs.declared.status.Input.{Input}
@@ -14,7 +15,7 @@ use Rattle.timing_steps.specs.Answers.{Answer, AreThere, AreTold, Gives, Inputs,
 use Rattle.timing_steps.specs.declared.failure.Failure.{Failure}
 use Rattle.timing_steps.specs.declared.failure.Failure.TheVariants as failure
 use Rattle.timing_top.specs.Check.{CheckInputRose, FollowsCheck}
-use Rattle.timing_top.specs.Asked.{Follows, FollowsAtOnce, FollowsSelfTest, InputRose, names_of}
+use Rattle.timing_top.specs.Asked.{Follows, FollowsAtOnce, FollowsHelp, FollowsSelfTest, InputRose, names_of, page}
 use Rattle.timing_top.specs.Report.{HasReport}
 use Rattle.timing_top.specs.SelfTest.{HasSelfTest}
 use Rattle.timing_top.proofs.Answering.{Caused, captured-failed, described-failed, not-given, only-captured, only-described, only-given, only-silent}
@@ -70,6 +71,16 @@ only-self frames a b h k = only-yielded (λ answer. Gives (Ok answer) (HasSelfTe
 self-failed : (frames : ℕ) (e : Failure) (Rises : Input → Type 0) → FollowsSelfTest frames (Err e) → Caused e Rises
 self-failed frames e Rises h = yielded-failed (Gives (Err e) (HasSelfTest frames)) e Rises (λ p. absurd (not-given (HasSelfTest frames) e p)) h
 
+some-help : (named : Option Command) → (answer : Answer) × FollowsHelp named (Ok answer)
+some-help named = some-yielded (λ answer. Gives (Ok answer) (λ x. x ≡ page named)) (some-given (λ x. x ≡ page named) (page named, refl))
+
+only-help : (named : Option Command) (a b : Answer) → FollowsHelp named (Ok a) → FollowsHelp named (Ok b) → a ≡ b
+only-help named a b h k =
+    only-yielded (λ answer. Gives (Ok answer) (λ x. x ≡ page named)) a b (λ p q. only-given (λ x. x ≡ page named) a b (λ x y s t. s ∙ sym t) p q) h k
+
+help-failed : (named : Option Command) (e : Failure) (Rises : Input → Type 0) → FollowsHelp named (Err e) → Caused e Rises
+help-failed named e Rises h = yielded-failed (Gives (Err e) (λ x. x ≡ page named)) e Rises (λ p. absurd (not-given (λ x. x ≡ page named) e p)) h
+
 some-at_once : (ends : Status) → (answer : Answer) × FollowsAtOnce ends (Ok answer)
 some-at_once ends = some-yielded (λ answer. Gives (Ok answer) (λ x. x ≡ silent ends)) (some-given (λ x. x ≡ silent ends) (silent ends, refl))
 
@@ -93,6 +104,7 @@ some-answer (Some (request.Window job)) i texts there told = some-reach job i te
 some-answer (Some (request.Shape job)) i texts there told = some-reach job.flow i texts (HasShapeIn job) there told (λ m is text. some-shape-in job m text is)
 some-answer (Some (request.Skew job)) i texts there told = some-skewed job i texts there told
 some-answer (Some (request.Scan job)) i texts there told = some-scanned job i texts there told
+some-answer (Some (request.Help named)) i texts there told = some-help named
 
 -- there are not two
 pub only-answer : (asked : Option Request) (i : Inputs) (texts : List (List ℕ)) (a b : Answer) → AreTold i.texts (names_of asked) texts → Follows asked i (Ok a)
@@ -106,6 +118,7 @@ only-answer (Some (request.Window job)) i texts a b told h k = only-reach job i 
 only-answer (Some (request.Shape job)) i texts a b told h k = only-reach job.flow i texts (HasShapeIn job) a b told (once-shape-in job) h k
 only-answer (Some (request.Skew job)) i texts a b told h k = only-skewed job i texts a b told h k
 only-answer (Some (request.Scan job)) i texts a b told h k = only-scanned job i texts a b told h k
+only-answer (Some (request.Help named)) i texts a b told h k = only-help named a b h k
 
 -- what has none has a cause
 pub answer-failed : (asked : Option Request) (i : Inputs) (texts : List (List ℕ)) (e : Failure) → AreTold i.texts (names_of asked) texts
@@ -121,3 +134,5 @@ answer-failed (Some (request.Window job)) i texts e told h = reach-failed job i 
 answer-failed (Some (request.Shape job)) i texts e told h = reach-failed job.flow i texts (HasShapeIn job) e told h
 answer-failed (Some (request.Skew job)) i texts e told h = skewed-failed job i texts e told h
 answer-failed (Some (request.Scan job)) i texts e told h = scanned-failed job i texts e told h
+answer-failed (Some (request.Help named)) i texts e told h =
+    help-failed named e (InputRose (Some (request.Help named)) i) h

@@ -3,6 +3,7 @@ use Rattle.std.proofs.Common.{◌≡◌, ℕ, true, Some, None, Option, Ok, Err,
 use Rattle.std.specs.Prelude.{◌||◌, Bool, Result}
 use Rattle.std.proofs.lemmas.Bool.{false≢true}
 use Rattle.timing_base.specs.Jobs.{CheckJob, FlowJob, ReportJob, ScanJob, SelfTestJob, ShapeJob, SkewJob, VerifyJob}
+use Rattle.timing_words.specs.declared.command.Command.{Command}
 use Rattle.timing_words.specs.declared.request.Request.{Request}
 use Rattle.timing_words.specs.declared.request.Request.TheVariants as request
 use Rattle.timing_report.specs.declared.status.Status.{Status}
@@ -13,7 +14,7 @@ use Rattle.timing_steps.specs.Ran.{Appended, Broke, HasCause, Leaves, Output, Ra
 use Rattle.timing_steps.specs.declared.failure.Failure.{Failure}
 use Rattle.timing_steps.specs.declared.failure.Failure.TheVariants as failure
 use Rattle.timing_reach.specs.Scanned.{scan_ends}
-use Rattle.timing_top.specs.Asked.{FollowsSelfTest}
+use Rattle.timing_top.specs.Asked.{FollowsHelp, FollowsSelfTest}
 use Rattle.timing_top.specs.Ends.{Ends, may_end}
 use Rattle.timing_steps.proofs.Endings.{kept-none}
 use Rattle.timing_top.proofs.Answering.{ok-not-err, same-ok}
@@ -163,3 +164,21 @@ pub ends-self-test : (asked : Request) (job : SelfTestJob) (o e : Output) (ends 
     → Ran (FollowsSelfTest job.frames) (λ x. ⊥) o e ends → Ends (Some asked) o ends
 ends-self-test asked job o e ends is ran =
     subst (EndsFor o ends) (sym is) (self-test-end job job.frames o ends ran.outcome ran.follows ran.cause ran.printed)
+
+-- `help`: nothing is read, and its answer has status 0
+help-end : (named : Option Command) (o : Output) (ends : Status) (outcome : Result Answer Failure) → FollowsHelp named outcome
+    → HasCause outcome (λ x. ⊥) → Leaves o outcome ends → Ends (Some (request.Help named)) o ends
+help-end named o ends (Ok answer) (inl memory) cause h = absurd (ok-not-err answer failure.OutOfMemory (Ok answer) refl memory)
+help-end named o ends (Ok answer) (inr g) cause (inl h) =
+    let passes : ends ≡ status.Pass = h.0 ∙ ap (λ (a : Answer). a.status) (same-ok answer g.0 (Ok answer) refl g.1 ∙ g.2) in
+    subst (Ends (Some (request.Help named)) o) (sym passes) (record { status_is = refl; silent = λ s. absurd (false≢true s) })
+help-end named o ends (Ok answer) (inr g) cause (inr h) =
+    subst (Ends (Some (request.Help named)) o) (sym h.0) (record { status_is = refl; silent = λ s. absurd (false≢true s) })
+help-end named o ends (Err (failure.ReadFault input)) follows cause h = absurd cause
+help-end named o ends (Err failure.WriteFault) follows cause h = absurd cause
+help-end named o ends (Err failure.OutOfMemory) follows cause h = ends-memory (Some (request.Help named)) o ends h
+
+pub ends-help : (asked : Request) (named : Option Command) (o e : Output) (ends : Status) → asked ≡ request.Help named
+    → Ran (FollowsHelp named) (λ x. ⊥) o e ends → Ends (Some asked) o ends
+ends-help asked named o e ends is ran =
+    subst (EndsFor o ends) (sym is) (help-end named o ends ran.outcome ran.follows ran.cause ran.printed)

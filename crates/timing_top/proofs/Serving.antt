@@ -102,6 +102,7 @@ memory-follows (Some (request.Window job)) i = inl refl
 memory-follows (Some (request.Shape job)) i = inl refl
 memory-follows (Some (request.Skew job)) i = inl refl
 memory-follows (Some (request.Scan job)) i = inl refl
+memory-follows (Some (request.Help named)) i = inl refl
 
 pub lacks-memory : (asked : Option Request) (i : Inputs) (o e : Output) (ends : Status)
     → Leaves o (Err failure.OutOfMemory) ends → TellsLine e ends → o.before ≤ o.now → e.before ≤ e.now → Ran (Follows asked i) (InputRose asked i) o e ends

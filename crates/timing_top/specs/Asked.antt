@@ -1,5 +1,7 @@
 -- What each request and its texts define, in the order in which its inputs are read.
 use Rattle.std.specs.Prelude.{◌≡◌, Bool, IsTrue, ℕ, List, [], ◌∷◌, Option, Some, None, Result}
+use Rattle.timing_words.specs.Help.{help_text}
+use Rattle.timing_words.specs.declared.command.Command.{Command}
 use Rattle.timing_words.specs.declared.request.Request.{Request}
 use Rattle.timing_words.specs.declared.request.Request.TheVariants as request
 use Rattle.timing_report.specs.declared.status.Input.{Input}
@@ -19,6 +21,14 @@ use Rattle.timing_top.specs.SelfTest.{HasSelfTest}
 abbrev pub FollowsSelfTest : ℕ → Result Answer Failure → Type 0
 FollowsSelfTest frames outcome = Yields outcome (Gives outcome (HasSelfTest frames))
 
+-- the text of `help`, or of `help` with a command, and status 0
+abbrev pub page : Option Command → Answer
+page named = record { text = help_text named; status = status.Pass }
+
+-- `help`, for which nothing is read
+abbrev pub FollowsHelp : Option Command → Result Answer Failure → Type 0
+FollowsHelp named outcome = Yields outcome (Gives outcome (λ answer. answer ≡ page named))
+
 -- one answer, for which nothing is read
 abbrev pub FollowsAtOnce : Status → Result Answer Failure → Type 0
 FollowsAtOnce ends outcome = Yields outcome (Gives outcome (λ answer. answer ≡ silent ends))
@@ -34,6 +44,7 @@ Follows (Some (request.Window job)) i outcome = FollowsWindow job i outcome
 Follows (Some (request.Shape job)) i outcome = FollowsShape job i outcome
 Follows (Some (request.Skew job)) i outcome = FollowsSkew job i outcome
 Follows (Some (request.Scan job)) i outcome = FollowsScan job i outcome
+Follows (Some (request.Help named)) i outcome = FollowsHelp named outcome
 
 -- the count of the name of this input of the request rose; what reads nothing has none
 abbrev pub InputRose : Option Request → Inputs → Input → Type 0

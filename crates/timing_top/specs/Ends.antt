@@ -12,9 +12,10 @@ abbrev pub is_request : Option Request → Bool
 is_request (Some asked) = true
 is_request None = false
 
--- inputs are read: of all requests but `selftest`
+-- inputs are read: of all requests but `selftest` and `help`
 abbrev pub reads_inputs : Option Request → Bool
 reads_inputs (Some (request.SelfTest job)) = false
+reads_inputs (Some (request.Help named)) = false
 reads_inputs asked = is_request asked
 
 -- a description is read: of all that read inputs but `scan`

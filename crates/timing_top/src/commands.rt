@@ -9,6 +9,7 @@ ghost use Rattle.timing_top.specs.Asked.{Follows, InputRose};
 ghost use Rattle.timing_top.specs.Ends.{Ends};
 
 use crate::check::{check_many, check_one};
+use crate::help::print_help;
 use crate::self_tests::self_test;
 use std::alloc::Global;
 use std::sync::Wait;
@@ -53,6 +54,7 @@ fn serve<R: Threads + Wait + Sync, H: Shelf, K: Sink, G: Gate>(
         Request::Shape(job) => shape_one(alloc, &job, shelf, out, err),
         Request::Scan(job) => scan_one(alloc, &job, shelf, out, err),
         Request::Skew(job) => skew_one(alloc, &job, shelf, out, err),
+        Request::Help(command) => print_help(alloc, command, out, err),
     }
 }
 

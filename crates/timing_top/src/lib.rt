@@ -8,6 +8,7 @@ mod alone;
 mod captures;
 mod check;
 mod commands;
+mod help;
 mod joined;
 pub mod laws;
 mod many;
@@ -15,4 +16,5 @@ mod self_tests;
 
 pub use check::{check_many, check_one};
 pub use commands::run;
+pub use help::print_help;
 pub use self_tests::self_test;

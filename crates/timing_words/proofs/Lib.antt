@@ -8,3 +8,4 @@ pub mod Tables
 pub mod Texts
 pub mod Says
 pub mod Limits
+pub mod Shown

@@ -2,6 +2,7 @@
 use Rattle.std.proofs.Common.{◌≡◌, ◌≤◌, ◌<◌, ◌-◌, ◌&&◌, Bool, true, false, refl, subst, List, [], ◌∷◌, length, Some, None, Option, ℕ, arith}
 use Rattle.std.specs.Prelude.{codes, if◌then◌else◌, nat_le, option_map}
 use Rattle.std.specs.List.{list_all}
+use Rattle.std.specs.Str.{bytes_eq}
 use Rattle.std.proofs.lemmas.Bool.{leb-true}
 use Rattle.timing_base.specs.Jobs.{CheckJob, FlowJob, IsCheckJob, IsFlowJob, IsReportJob, IsSelfTestJob}
 use Rattle.timing_base.specs.Jobs.{IsSkewJob, IsVerifyJob, ReportJob, SelfTestJob, ShapeJob}
@@ -14,7 +15,7 @@ use Rattle.timing_words.specs.declared.command.Command.TheVariants as command
 use Rattle.timing_words.specs.Limits.{IsWithinLimits}
 use Rattle.timing_words.specs.Line.{Stands, Text, line, stands}
 use Rattle.timing_words.specs.Request.{asked, asked_by, check_asked, check_workers, command_named, file_name, file_names}
-use Rattle.timing_words.specs.Request.{flow_asked, given, kind_named, media, need, number, passing}
+use Rattle.timing_words.specs.Request.{flow_asked, given, help_asked, kind_named, media, need, number, passing}
 use Rattle.timing_words.specs.Request.{proof_asked, report_asked, request, scan_asked, self_test_asked, shape_asked, skew_asked}
 use Rattle.timing_words.specs.Request.{sole, sorts, tai, test_workers, verify_asked, written}
 use Rattle.timing_words.proofs.Checks.{both_true}
@@ -195,8 +196,20 @@ by-within c words r e =
     let a = needed (line (sorts c) words) (λ ps. asked c (stands ps)) r e in
     asked-within c (stands a.a) r a.rest
 
-pub request-within : (words : List Text) (r : Request) → request words ≡ Some r → IsWithinLimits r
-request-within [] r e = cc
-request-within (w ∷ words) r e =
+help-within : (words : List Text) (r : Request) → help_asked words ≡ Some r → IsWithinLimits r
+help-within [] r e = subst IsWithinLimits (same (asks.Help None) r e) tt
+help-within (w ∷ []) r e =
+    let m = mapped (λ c. asks.Help (Some c)) (command_named w) r e in
+    subst IsWithinLimits m.2 tt
+help-within (w ∷ v ∷ rest) r e = cc
+
+either-within : (b : Bool) (w : Text) (words : List Text) (r : Request)
+    → (if b then help_asked words else need (command_named w) (λ c. asked_by c words)) ≡ Some r → IsWithinLimits r
+either-within true w words r e = help-within words r e
+either-within false w words r e =
     let c = needed (command_named w) (λ c. asked_by c words) r e in
     by-within c.a words r c.rest
+
+pub request-within : (words : List Text) (r : Request) → request words ≡ Some r → IsWithinLimits r
+request-within [] r e = cc
+request-within (w ∷ words) r e = either-within (bytes_eq w (codes "help")) w words r e

@@ -14,3 +14,4 @@ IsWithinLimits (asks.Window job) = IsFlowJob job
 IsWithinLimits (asks.Shape job) = IsFlowJob job.flow
 IsWithinLimits (asks.Skew job) = IsSkewJob job
 IsWithinLimits (asks.Scan job) = ⊤
+IsWithinLimits (asks.Help named) = ⊤

@@ -287,8 +287,15 @@ asked command.Scan l = option_map asks.Scan (scan_asked l)
 abbrev pub asked_by : Command → List Text → Option Request
 asked_by c words = need (line (sorts c) words) (λ ps. asked c (stands ps))
 
--- what the words of a command line ask for, the first of them the command; none where they are no
+-- what the words after `help` ask for: nothing more, or the one command
+abbrev pub help_asked : List Text → Option Request
+help_asked [] = Some (asks.Help None)
+help_asked (w ∷ []) = option_map (λ c. asks.Help (Some c)) (command_named w)
+help_asked (w ∷ v ∷ rest) = None
+
+-- what the words of a command line ask for, the first of them the command, or `help`; none where they are no
 -- request
 abbrev pub request : List Text → Option Request
 request [] = None
-request (w ∷ words) = need (command_named w) (λ c. asked_by c words)
+request (w ∷ words) =
+    if bytes_eq w (codes "help") then help_asked words else need (command_named w) (λ c. asked_by c words)

@@ -13,8 +13,8 @@ use std::alloc::{AllocError as OutOfMemory, Global};
 pub(crate) const NAMES: &str = "names";
 
 /// What the first word of a command line names.
-#[derive(Clone, Copy)]
-pub(crate) enum Command {
+#[derive(Clone, Copy, Debug, PartialEq, Eq)]
+pub enum Command {
     Check,
     Verify,
     VerifyReport,

@@ -7,11 +7,14 @@ ghost use Rattle.timing_words.specs.declared.request.Request.{Request};
 ghost use Rattle.timing_words.specs.declared.request.Request.TheVariants as asks;
 ghost use Rattle.timing_base.specs.declared.job.ScanForm.TheVariants as form;
 ghost use Rattle.timing_base.specs.declared.media.Kind.TheVariants as kind;
+ghost use Rattle.timing_words.specs.declared.command.Command.{Command};
+ghost use Rattle.timing_words.specs.declared.command.Command.TheVariants as command;
 ghost use Rattle.timing_words.specs.Examples.{Asks, IsCut, IsRefused, IsUncut, plain_check, second_flow};
 ghost use Rattle.timing_words.specs.Examples.{sixteen, sixteen_names, words};
+ghost use Rattle.timing_words.specs.Help.{help_text, name_of, usage};
 ghost use Rattle.timing_words.specs.Limits.{IsWithinLimits};
 ghost use Rattle.timing_words.specs.Line.{Text, flag, line, name, option};
-ghost use Rattle.timing_words.specs.Request.{check_sorts, check_workers, count, file_name, file_names};
+ghost use Rattle.timing_words.specs.Request.{check_sorts, check_workers, command_named, count, file_name, file_names};
 ghost use Rattle.timing_words.specs.Request.{kind_named, media, model_named, number, request, tai, test_workers};
 
 /// Lines that are cut into their parts.
@@ -257,10 +260,42 @@ pub fn scans_by_hand()
 /// First words that are no command.
 pub fn no_commands_by_hand()
     ensures nothing { request [] ≡ None }
-    ensures unknown { IsRefused (codes "help") }
+    ensures unknown { IsRefused (codes "judge") }
     ensures prefix { IsRefused (codes "chec --sdp p c") }
     ensures capital { IsRefused (codes "Check --sdp p c") }
     ensures after_options { IsRefused (codes "--sdp p check c") }
+{}
+
+/// Lines of `help`.
+pub fn helps_by_hand()
+    ensures all { Asks (codes "help") (asks.Help None) }
+    ensures one { Asks (codes "help check") (asks.Help (Some command.Check)) }
+    ensures hyphened { Asks (codes "help verify-report") (asks.Help (Some command.VerifyReport)) }
+    ensures unknown { IsRefused (codes "help nothing") }
+    ensures itself { IsRefused (codes "help help") }
+    ensures two { IsRefused (codes "help check verify") }
+    ensures option { IsRefused (codes "help --json") }
+    ensures dashes { IsRefused (codes "help -- check") }
+    ensures after { IsRefused (codes "check help") }
+    ensures flag { IsRefused (codes "--help") }
+{}
+
+/// The words of two commands as `help` shows them, and the whole text of `help selftest`.
+pub fn help_texts_by_hand()
+    ensures check { usage command.Check
+        ≡ codes "check --sdp FILE [--workers N] [--tai SECONDS] [--serial] [--json] [--joined] CAPTURE.." }
+    ensures skew { usage command.Skew ≡ codes "skew --sdp FILE --media N --pair N CAPTURE [CAPTURE]" }
+    ensures whole { help_text (Some command.SelfTest)
+        ≡ codes "selftest [--workers N] FRAMES\n"
+        ++ (codes "makes five captures of so many frames, four of them with a flaw, and judges each\n\n"
+        ++ (codes "  --workers N: so many threads judge, 1 to 16\n\n"
+        ++ (codes "Prints for each capture what is found in it, and the status of its report.\n"
+        ++ codes "Example: ./run selftest 2\n"))) }
+{}
+
+/// The word that `help` shows of a command names it.
+pub fn shown_words_are_read()
+    ensures { (c : Command) → command_named (name_of c) ≡ Some c }
 {}
 
 /// What words ask for is within its limits: 1 to 16 captures, at most 16 workers and 1,000 seconds, and

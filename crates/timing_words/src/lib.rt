@@ -6,6 +6,7 @@
 #![tactic(auto)]
 
 mod command;
+mod help;
 mod jobs;
 pub mod laws;
 mod line;
@@ -13,6 +14,8 @@ mod read;
 mod request;
 mod values;
 
+pub use command::Command;
+pub use help::help_text;
 pub use line::WordFault;
 pub use read::read_words;
 pub use request::Request;

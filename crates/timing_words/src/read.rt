@@ -4,7 +4,7 @@ ghost use Rattle.std.specs.Prelude.{◌≡◌, IfErr, IfOk, None, Some, map, str
 ghost use Rattle.clap.specs.Words.{found_of};
 ghost use Rattle.timing_words.specs.Answers.{Gives};
 ghost use Rattle.timing_words.specs.Clap.{AreTexts, found_stands};
-ghost use Rattle.timing_words.specs.Request.{asked, asked_by, request};
+ghost use Rattle.timing_words.specs.Request.{asked, asked_by, help_asked, request};
 
 use crate::command::Command;
 use crate::jobs::{
@@ -54,6 +54,20 @@ fn texts_of(alloc: Global, words: &[String]) -> Result<Vec<&str>, OutOfMemory>
     Ok(texts)
 }
 
+/// What the words after `help` ask for.
+fn read_help(rest: &[String]) -> Result<Request, WordFault>
+    ensures { Gives (help_asked (map string_bytes rest.now)) result }
+{
+    match rest {
+        [] => Ok(Request::Help(None)),
+        [name] => match Command::named(name.as_str()) {
+            Some(command) => Ok(Request::Help(Some(command))),
+            None => Err(WordFault::Usage),
+        },
+        _ => Err(WordFault::Usage),
+    }
+}
+
 /// Reads the words of a command line, without the program's name, as what they ask for.
 ///
 /// `Usage` comes exactly where the words are no request. Media count from 1 in the words and from 0
@@ -66,6 +80,9 @@ pub fn read_words(alloc: Global, words: &[String]) -> Result<Request, WordFault>
     let Some((name, rest)) = words.split_first() else {
         return Err(WordFault::Usage);
     };
+    if name.as_str() == "help" {
+        return read_help(rest);
+    }
     let Some(command) = Command::named(name.as_str()) else {
         return Err(WordFault::Usage);
     };

@@ -1,8 +1,7 @@
 //! What a command line asks for.
 
-use timing_base::{
-    CheckJob, FlowJob, ReportJob, ScanJob, SelfTestJob, ShapeJob, SkewJob, VerifyJob,
-};
+use crate::command::Command;
+use timing_base::{CheckJob, FlowJob, ReportJob, ScanJob, SelfTestJob, ShapeJob, SkewJob, VerifyJob};
 
 /// What a command line asks for.
 #[derive(Debug, Drop)]
@@ -15,4 +14,6 @@ pub enum Request {
     Shape(ShapeJob),
     Skew(SkewJob),
     Scan(ScanJob),
+    /// The words of all commands, or of this one.
+    Help(Option<Command>),
 }

@@ -1,4 +1,4 @@
-use Rattle.timing_top.proofs.Ending.{ends-check, ends-report, ends-scan, ends-self-test, ends-shape, ends-skew, ends-verify, ends-window}
+use Rattle.timing_top.proofs.Ending.{ends-check, ends-help, ends-report, ends-scan, ends-self-test, ends-shape, ends-skew, ends-verify, ends-window}
 use Rattle.timing_top.proofs.Serving.{serves-check, serves-report, serves-scan, serves-shape, serves-skew, serves-verify, serves-window}
 use Rattle.timing_top.proofs.commands.serve.Goals as goal
 
@@ -23,8 +23,8 @@ returns-in-Shape-clause-ran g c = serves-shape _ _ _ _ _ _ c.in-Shape.is c.shape
 pub returns-in-Scan-clause-ran : goal.returns-in-Scan-clause-ran
 returns-in-Scan-clause-ran g c = serves-scan _ _ _ _ _ _ c.in-Scan.is c.scan_one.ensures.ran
 
-pub returns-clause-ran : goal.returns-clause-ran
-returns-clause-ran g c = serves-skew _ _ _ _ _ _ c.in-Skew.is c.skew_one.ensures.ran
+pub returns-in-Skew-clause-ran : goal.returns-in-Skew-clause-ran
+returns-in-Skew-clause-ran g c = serves-skew _ _ _ _ _ _ c.in-Skew.is c.skew_one.ensures.ran
 
 pub returns-then-job-eq0-clause-ends : goal.returns-then-job-eq0-clause-ends
 returns-then-job-eq0-clause-ends g c = ends-check _ _ _ _ c.in-Check.is c.check_one.ensures.ends
@@ -47,8 +47,11 @@ returns-in-Shape-clause-ends g c = ends-shape _ _ _ _ c.in-Shape.is c.shape_one.
 pub returns-in-Scan-clause-ends : goal.returns-in-Scan-clause-ends
 returns-in-Scan-clause-ends g c = ends-scan _ _ _ _ c.in-Scan.is c.scan_one.ensures.ends
 
-pub returns-clause-ends : goal.returns-clause-ends
-returns-clause-ends g c = ends-skew _ _ _ _ c.in-Skew.is c.skew_one.ensures.ends
+pub returns-in-Skew-clause-ends : goal.returns-in-Skew-clause-ends
+returns-in-Skew-clause-ends g c = ends-skew _ _ _ _ c.in-Skew.is c.skew_one.ensures.ends
 
 pub returns-in-SelfTest-clause-ends : goal.returns-in-SelfTest-clause-ends
 returns-in-SelfTest-clause-ends g c = ends-self-test _ _ _ _ _ c.in-SelfTest.is c.self_test.ensures.ran
+
+pub returns-clause-ends : goal.returns-clause-ends
+returns-clause-ends g c = ends-help _ _ _ _ _ c.in-Help.is c.print_help.ensures.ran

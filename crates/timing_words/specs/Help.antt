@@ -1,0 +1,177 @@
+-- What `help` prints: of all commands their words, the statuses and where to read on; of one command more. The words
+-- are the options and flags that the grammar has for it.
+-- This project's profile: the whole text.
+use Rattle.std.specs.Prelude.{Bool, false, true, ◌||◌, if◌then◌else◌, List, [], ◌∷◌, ◌++◌, Option, Some, None, codes}
+use Rattle.std.specs.List.{flat_map}
+use Rattle.std.specs.Str.{bytes_eq}
+use Rattle.timing_words.specs.Line.{Sort, Text}
+use Rattle.timing_words.specs.Request.{sorts}
+use Rattle.timing_words.specs.declared.command.Command.{Command}
+use Rattle.timing_words.specs.declared.command.Command.TheVariants as command
+
+-- ---- options and flags
+
+-- what stands for the value of an option
+abbrev pub value_shape : Text → Text
+value_shape n =
+    if bytes_eq n (codes "sdp") then codes "FILE"
+    else if bytes_eq n (codes "report") then codes "FILE"
+    else if bytes_eq n (codes "tai") then codes "SECONDS"
+    else if bytes_eq n (codes "type") then codes "TYPE"
+    else if bytes_eq n (codes "model") then codes "MODEL"
+    else codes "N"
+
+-- what an option or a flag means
+abbrev pub meaning : Text → Text
+meaning n =
+    if bytes_eq n (codes "sdp") then codes "the session description"
+    else if bytes_eq n (codes "report") then codes "a report of check --json"
+    else if bytes_eq n (codes "workers") then codes "so many threads judge, 1 to 16"
+    else if bytes_eq n (codes "tai") then codes "are added to the stamps, 0 to 1000"
+    else if bytes_eq n (codes "media") then codes "a video of the description, 1 to 64"
+    else if bytes_eq n (codes "pair") then codes "the video of the other flow, 1 to 64"
+    else if bytes_eq n (codes "type") then codes "of the sender: N, NL or W"
+    else if bytes_eq n (codes "model") then codes "that is broken: Bucket, Over or Empty"
+    else if bytes_eq n (codes "from") then codes "the first packet of the interval; judged packets count from 0"
+    else if bytes_eq n (codes "to") then codes "the last packet of the interval"
+    else if bytes_eq n (codes "count") then codes "the packets that are counted"
+    else if bytes_eq n (codes "limit") then codes "the packets that are allowed"
+    else if bytes_eq n (codes "serial") then codes "one thread does all"
+    else if bytes_eq n (codes "json") then codes "JSON is printed"
+    else if bytes_eq n (codes "draft") then codes "a session description to begin with is printed"
+    else if bytes_eq n (codes "joined") then codes "the captures are one, in order"
+    else if bytes_eq n (codes "list") then codes "the delays are printed, and no capture"
+    else codes "docs/FORMATS.md says what"
+
+-- an option or a flag may be missing: one of these names
+abbrev pub may_be_missing : Text → Bool
+may_be_missing n =
+    bytes_eq n (codes "workers") || bytes_eq n (codes "tai") || bytes_eq n (codes "serial")
+    || bytes_eq n (codes "json") || bytes_eq n (codes "joined") || bytes_eq n (codes "list")
+    || bytes_eq n (codes "draft")
+
+-- `--name VALUE`, or `--name`
+abbrev pub shown : Sort → Text
+shown s = if s.valued then codes "--" ++ (s.name ++ (codes " " ++ value_shape s.name)) else codes "--" ++ s.name
+
+-- the same among the words of a command, in brackets where it may be missing
+abbrev pub word : Sort → Text
+word s = if may_be_missing s.name then codes " [" ++ (shown s ++ codes "]") else codes " " ++ shown s
+
+-- the same on a line of its own, with what it means
+abbrev pub told : Sort → Text
+told s = codes "  " ++ (shown s ++ (codes ": " ++ (meaning s.name ++ codes "\n")))
+
+-- ---- commands
+
+-- the word of a command
+abbrev pub name_of : Command → Text
+name_of command.Check = codes "check"
+name_of command.Verify = codes "verify"
+name_of command.VerifyReport = codes "verify-report"
+name_of command.SelfTest = codes "selftest"
+name_of command.Window = codes "window"
+name_of command.Shape = codes "shape"
+name_of command.Skew = codes "skew"
+name_of command.Scan = codes "scan"
+
+-- the names that follow its options
+abbrev pub names_shape : Command → Text
+names_shape command.Check = codes "CAPTURE.."
+names_shape command.Verify = codes "CAPTURE.."
+names_shape command.VerifyReport = codes "CAPTURE.."
+names_shape command.SelfTest = codes "FRAMES"
+names_shape command.Window = codes "CAPTURE"
+names_shape command.Shape = codes "CAPTURE"
+names_shape command.Skew = codes "CAPTURE [CAPTURE]"
+names_shape command.Scan = codes "CAPTURE"
+
+-- what it does
+abbrev pub about : Command → Text
+about command.Check = codes "judges each video of the description in each capture"
+about command.Verify = codes "checks one fail that is claimed of a sender, from the capture alone"
+about command.VerifyReport = codes "checks in that way each fail that a JSON report has"
+about command.SelfTest = codes "makes five captures of so many frames, four of them with a flaw, and judges each"
+about command.Window = codes "says with which offsets a flow would keep its receiver buffer, for each type"
+about command.Shape = codes "delays a flow as little as the limits allow, and writes it as a capture"
+about command.Skew = codes "says how far two flows that carry the same packets are apart, packet by packet"
+about command.Scan = codes "says what a capture holds, before there is a description"
+
+-- what is printed
+abbrev pub printed : Command → Text
+printed command.Check =
+    codes "Prints how each capture ends, then for each video whether its packets keep the limits of a narrow,\n"
+    ++ codes "narrow linear or wide sender, and the interval of packets that breaks them first; then the status.\n"
+printed command.Verify = codes "Prints `confirmed`, `not confirmed`, or `not judged` and why.\n"
+printed command.VerifyReport =
+    codes "Prints for each fail `confirmed`, `not confirmed` or `not judged`; then the status.\n"
+printed command.SelfTest = codes "Prints for each capture what is found in it, and the status of its report.\n"
+printed command.Window =
+    codes "Prints for each type the least and the greatest offset in microseconds, and the packets that bind.\n"
+printed command.Shape = codes "Prints a capture in pcap, or with --list each delay in nanoseconds and what causes it.\n"
+printed command.Skew =
+    codes "Prints how each capture ends, how many packets match, and the least and the greatest distance.\n"
+printed command.Scan =
+    codes "Prints how the capture ends, what is passed over, and of each stream who sends to whom, its packets, rate\n"
+    ++ codes "and loss; with --json the same as JSON, with --draft a session description. The two exclude each other.\n"
+
+-- an example, which reads files of the repository
+abbrev pub example : Command → Text
+example command.Check = codes "./run check --sdp examples/plain.sdp examples/burst.pcap"
+example command.Verify =
+    codes "./run verify --sdp examples/plain.sdp --media 1 --type N --model Bucket"
+    ++ codes " --from 20 --to 24 --count 5 --limit 4 examples/burst.pcap"
+example command.VerifyReport =
+    codes "./run verify-report --sdp examples/plain.sdp --report report.json examples/burst.pcap"
+example command.SelfTest = codes "./run selftest 2"
+example command.Window = codes "./run window --sdp examples/plain.sdp --media 1 examples/plain.pcap"
+example command.Shape = codes "./run shape --sdp examples/plain.sdp --media 1 --type N --list examples/burst.pcap"
+example command.Skew =
+    codes "./run skew --sdp examples/plain.sdp --media 1 --pair 1 examples/plain.pcap examples/burst.pcap"
+example command.Scan = codes "./run scan examples/plain.pcap"
+
+-- ---- texts
+
+-- the words of a command
+abbrev pub usage : Command → Text
+usage c = name_of c ++ (flat_map word (sorts c) ++ (codes " " ++ names_shape c))
+
+-- its words and what it does, in two lines
+abbrev pub summary : Command → Text
+summary c = codes "  " ++ (usage c ++ (codes "\n      " ++ (about c ++ codes "\n")))
+
+-- those of all commands
+abbrev pub summaries : Text
+summaries =
+    summary command.Check ++ (summary command.Verify ++ (summary command.VerifyReport ++ (summary command.SelfTest
+    ++ (summary command.Window ++ (summary command.Shape ++ (summary command.Skew ++ summary command.Scan))))))
+
+-- the lines before them
+abbrev pub front_text : Text
+front_text = codes "Judges the timing of video senders from packet captures, after SMPTE ST 2110-21:2017.\n\nWords:\n"
+
+-- and those after them
+abbrev pub back_text : Text
+back_text =
+    codes "  help [COMMAND]\n      prints this text, or more of one command\n\nStatuses:\n"
+    ++ (codes "  0 every declared type passes, or what was asked for was printed\n"
+    ++ (codes "  1 a declared type fails, or a fail isn't confirmed\n"
+    ++ (codes "  2 the words are no request\n"
+    ++ (codes "  3 the session description is refused\n"
+    ++ (codes "  4 a flow isn't judged as one run, or a capture is refused\n"
+    ++ (codes "  5 an input couldn't be read\n"
+    ++ (codes "  6 a write on standard output failed\n"
+    ++ (codes "  7 memory ran out\n"
+    ++ (codes "  9 the report isn't in the form of one\n\n"
+    ++ codes "Read on in docs/GUIDE.md, docs/FORMATS.md and docs/st2110_timing.1.\n")))))))))
+
+-- the text of one command
+abbrev pub command_text : Command → Text
+command_text c =
+    usage c ++ (codes "\n" ++ (about c ++ (codes "\n\n" ++ (flat_map told (sorts c) ++ (codes "\n" ++ (printed c
+    ++ (codes "Example: " ++ (example c ++ codes "\n"))))))))
+
+-- the text of `help`, or of `help COMMAND`
+abbrev pub help_text : Option Command → Text
+help_text None = front_text ++ (summaries ++ back_text)
+help_text (Some c) = command_text c

@@ -1,0 +1,338 @@
+//! What `help` prints. The words of a command are those of the parser that reads them: each option and flag that
+//! `clap` is told of is shown, and no other.
+
+ghost use Rattle.std.specs.Prelude.{◌≡◌, ◌++◌, IfOk, string_bytes};
+ghost use Rattle.std.specs.List.{flat_map};
+ghost use Rattle.clap.specs.Walk.{rule_of};
+ghost use Rattle.timing_words.specs.Help as page;
+ghost use Rattle.timing_words.specs.Request.{sorts};
+ghost use Rattle.timing_words.specs.Parsers.{told_in, word_in};
+
+use crate::command::Command;
+use clap::Arg;
+use std::alloc::{AllocError as OutOfMemory, Global};
+
+/// What stands for the value of an option.
+fn value_shape(name: &str) -> &'static str
+    ensures { result.now ≡ page.value_shape name.now }
+{
+    match name {
+        "sdp" | "report" => "FILE",
+        "tai" => "SECONDS",
+        "type" => "TYPE",
+        "model" => "MODEL",
+        _ => "N",
+    }
+}
+
+/// What an option or a flag means.
+fn meaning(name: &str) -> &'static str
+    ensures { result.now ≡ page.meaning name.now }
+{
+    match name {
+        "sdp" => "the session description",
+        "report" => "a report of check --json",
+        "workers" => "so many threads judge, 1 to 16",
+        "tai" => "are added to the stamps, 0 to 1000",
+        "media" => "a video of the description, 1 to 64",
+        "pair" => "the video of the other flow, 1 to 64",
+        "type" => "of the sender: N, NL or W",
+        "model" => "that is broken: Bucket, Over or Empty",
+        "from" => "the first packet of the interval; judged packets count from 0",
+        "to" => "the last packet of the interval",
+        "count" => "the packets that are counted",
+        "limit" => "the packets that are allowed",
+        "serial" => "one thread does all",
+        "json" => "JSON is printed",
+        "draft" => "a session description to begin with is printed",
+        "joined" => "the captures are one, in order",
+        "list" => "the delays are printed, and no capture",
+        _ => "docs/FORMATS.md says what",
+    }
+}
+
+/// Whether an option or a flag of this name may be missing.
+fn may_be_missing(name: &str) -> bool
+    ensures { result ≡ page.may_be_missing name.now }
+{
+    matches!(
+        name,
+        "workers" | "tai" | "serial" | "json" | "joined" | "list" | "draft"
+    )
+}
+
+/// An option with what stands for its value, or a flag.
+fn shown(alloc: Global, name: &str, valued: bool) -> Result<String, OutOfMemory>
+    ensures { IfOk result (λ s. string_bytes s ≡ page.shown (record { name = name.now; valued = valued })) }
+{
+    if valued {
+        let value = value_shape(name);
+        format!(in alloc; "--{name} {value}")
+    } else {
+        format!(in alloc; "--{name}")
+    }
+}
+
+/// The same among the words of a command.
+fn word(alloc: Global, name: &str, valued: bool) -> Result<String, OutOfMemory>
+    ensures { IfOk result (λ s. string_bytes s ≡ page.word (record { name = name.now; valued = valued })) }
+{
+    let shown = shown(alloc, name, valued)?;
+    if may_be_missing(name) {
+        format!(in alloc; " [{shown}]")
+    } else {
+        format!(in alloc; " {shown}")
+    }
+}
+
+/// The same on a line of its own, with what it means.
+fn told(alloc: Global, name: &str, valued: bool) -> Result<String, OutOfMemory>
+    ensures { IfOk result (λ s. string_bytes s ≡ page.told (record { name = name.now; valued = valued })) }
+{
+    let shown = shown(alloc, name, valued)?;
+    let meaning = meaning(name);
+    format!(in alloc; "  {shown}: {meaning}\n")
+}
+
+/// The word of an argument of a parser, or nothing of the names.
+fn word_in(alloc: Global, arg: &Arg<'_>) -> Result<String, OutOfMemory>
+    ensures { IfOk result (λ s. string_bytes s ≡ word_in (rule_of arg.now)) }
+{
+    match arg.get_long() {
+        Some(name) => word(alloc, name, arg.get_num_args().is_none()),
+        None => Ok(String::new(alloc)),
+    }
+}
+
+/// The line of an argument of a parser, or nothing of the names.
+fn told_in(alloc: Global, arg: &Arg<'_>) -> Result<String, OutOfMemory>
+    ensures { IfOk result (λ s. string_bytes s ≡ told_in (rule_of arg.now)) }
+{
+    match arg.get_long() {
+        Some(name) => told(alloc, name, arg.get_num_args().is_none()),
+        None => Ok(String::new(alloc)),
+    }
+}
+
+/// The words of the arguments of a parser.
+fn words_in(alloc: Global, args: &[Arg<'_>]) -> Result<String, OutOfMemory>
+    ensures { IfOk result (λ s. string_bytes s ≡ flat_map (λ a. word_in (rule_of a)) args.now) }
+{
+    let mut text = String::new(alloc);
+    for arg in args {
+        text.push_str(word_in(alloc, arg)?.as_str())?;
+    }
+    Ok(text)
+}
+
+/// The lines of the arguments of a parser.
+fn lines_in(alloc: Global, args: &[Arg<'_>]) -> Result<String, OutOfMemory>
+    ensures { IfOk result (λ s. string_bytes s ≡ flat_map (λ a. told_in (rule_of a)) args.now) }
+{
+    let mut text = String::new(alloc);
+    for arg in args {
+        text.push_str(told_in(alloc, arg)?.as_str())?;
+    }
+    Ok(text)
+}
+
+/// The words of the options and flags of a command.
+fn words_of(alloc: Global, command: Command) -> Result<String, OutOfMemory>
+    ensures { IfOk result (λ s. string_bytes s ≡ flat_map page.word (sorts command)) }
+{
+    let parser = command.parser(alloc)?;
+    words_in(alloc, parser.get_arguments())
+}
+
+/// The lines of the options and flags of a command.
+fn lines_of(alloc: Global, command: Command) -> Result<String, OutOfMemory>
+    ensures { IfOk result (λ s. string_bytes s ≡ flat_map page.told (sorts command)) }
+{
+    let parser = command.parser(alloc)?;
+    lines_in(alloc, parser.get_arguments())
+}
+
+impl Command {
+    /// The word of the command.
+    fn name(self) -> &'static str
+        ensures { result.now ≡ page.name_of self }
+    {
+        match self {
+            Command::Check => "check",
+            Command::Verify => "verify",
+            Command::VerifyReport => "verify-report",
+            Command::SelfTest => "selftest",
+            Command::Window => "window",
+            Command::Shape => "shape",
+            Command::Skew => "skew",
+            Command::Scan => "scan",
+        }
+    }
+
+    /// The names that follow its options.
+    fn names_shape(self) -> &'static str
+        ensures { result.now ≡ page.names_shape self }
+    {
+        match self {
+            Command::Check | Command::Verify | Command::VerifyReport => "CAPTURE..",
+            Command::SelfTest => "FRAMES",
+            Command::Window | Command::Shape => "CAPTURE",
+            Command::Skew => "CAPTURE [CAPTURE]",
+            Command::Scan => "CAPTURE",
+        }
+    }
+
+    /// What it does.
+    fn about(self) -> &'static str
+        ensures { result.now ≡ page.about self }
+    {
+        match self {
+            Command::Check => "judges each video of the description in each capture",
+            Command::Verify => {
+                "checks one fail that is claimed of a sender, from the capture alone"
+            }
+            Command::VerifyReport => "checks in that way each fail that a JSON report has",
+            Command::SelfTest => {
+                "makes five captures of so many frames, four of them with a flaw, and judges each"
+            }
+            Command::Window => {
+                "says with which offsets a flow would keep its receiver buffer, for each type"
+            }
+            Command::Shape => {
+                "delays a flow as little as the limits allow, and writes it as a capture"
+            }
+            Command::Skew => {
+                "says how far two flows that carry the same packets are apart, packet by packet"
+            }
+            Command::Scan => "says what a capture holds, before there is a description",
+        }
+    }
+
+    /// What is printed.
+    fn printed(self) -> &'static str
+        ensures { result.now ≡ page.printed self }
+    {
+        match self {
+            Command::Check => {
+                "Prints how each capture ends, then for each video whether its packets keep the limits of a narrow,\nnarrow linear or wide sender, and the interval of packets that breaks them first; then the status.\n"
+            }
+            Command::Verify => "Prints `confirmed`, `not confirmed`, or `not judged` and why.\n",
+            Command::VerifyReport => {
+                "Prints for each fail `confirmed`, `not confirmed` or `not judged`; then the status.\n"
+            }
+            Command::SelfTest => {
+                "Prints for each capture what is found in it, and the status of its report.\n"
+            }
+            Command::Window => {
+                "Prints for each type the least and the greatest offset in microseconds, and the packets that bind.\n"
+            }
+            Command::Shape => {
+                "Prints a capture in pcap, or with --list each delay in nanoseconds and what causes it.\n"
+            }
+            Command::Skew => {
+                "Prints how each capture ends, how many packets match, and the least and the greatest distance.\n"
+            }
+            Command::Scan => {
+                "Prints how the capture ends, what is passed over, and of each stream who sends to whom, its packets, rate\nand loss; with --json the same as JSON, with --draft a session description. The two exclude each other.\n"
+            }
+        }
+    }
+
+    /// An example, which reads files of the repository.
+    fn example(self) -> &'static str
+        ensures { result.now ≡ page.example self }
+    {
+        match self {
+            Command::Check => "./run check --sdp examples/plain.sdp examples/burst.pcap",
+            Command::Verify => {
+                "./run verify --sdp examples/plain.sdp --media 1 --type N --model Bucket --from 20 --to 24 --count 5 --limit 4 examples/burst.pcap"
+            }
+            Command::VerifyReport => {
+                "./run verify-report --sdp examples/plain.sdp --report report.json examples/burst.pcap"
+            }
+            Command::SelfTest => "./run selftest 2",
+            Command::Window => {
+                "./run window --sdp examples/plain.sdp --media 1 examples/plain.pcap"
+            }
+            Command::Shape => {
+                "./run shape --sdp examples/plain.sdp --media 1 --type N --list examples/burst.pcap"
+            }
+            Command::Skew => {
+                "./run skew --sdp examples/plain.sdp --media 1 --pair 1 examples/plain.pcap examples/burst.pcap"
+            }
+            Command::Scan => "./run scan examples/plain.pcap",
+        }
+    }
+}
+
+/// The words of a command.
+fn usage_of(alloc: Global, command: Command) -> Result<String, OutOfMemory>
+    ensures { IfOk result (λ s. string_bytes s ≡ page.usage command) }
+{
+    let words = words_of(alloc, command)?;
+    let (name, names) = (command.name(), command.names_shape());
+    format!(in alloc; "{name}{words} {names}")
+}
+
+/// Its words and what it does, in two lines.
+fn summary_of(alloc: Global, command: Command) -> Result<String, OutOfMemory>
+    ensures { IfOk result (λ s. string_bytes s ≡ page.summary command) }
+{
+    let usage = usage_of(alloc, command)?;
+    let about = command.about();
+    format!(in alloc; "  {usage}\n      {about}\n")
+}
+
+/// Those of all commands.
+fn summaries(alloc: Global) -> Result<String, OutOfMemory>
+    ensures { IfOk result (λ s. string_bytes s ≡ page.summaries) }
+{
+    let check = summary_of(alloc, Command::Check)?;
+    let verify = summary_of(alloc, Command::Verify)?;
+    let verify_report = summary_of(alloc, Command::VerifyReport)?;
+    let self_test = summary_of(alloc, Command::SelfTest)?;
+    let window = summary_of(alloc, Command::Window)?;
+    let shape = summary_of(alloc, Command::Shape)?;
+    let skew = summary_of(alloc, Command::Skew)?;
+    let scan = summary_of(alloc, Command::Scan)?;
+    format!(in alloc; "{check}{verify}{verify_report}{self_test}{window}{shape}{skew}{scan}")
+}
+
+/// The lines before them.
+fn front_text() -> &'static str
+    ensures { result.now ≡ page.front_text }
+{
+    "Judges the timing of video senders from packet captures, after SMPTE ST 2110-21:2017.\n\nWords:\n"
+}
+
+/// And those after them.
+fn back_text() -> &'static str
+    ensures { result.now ≡ page.back_text }
+{
+    "  help [COMMAND]\n      prints this text, or more of one command\n\nStatuses:\n  0 every declared type passes, or what was asked for was printed\n  1 a declared type fails, or a fail isn't confirmed\n  2 the words are no request\n  3 the session description is refused\n  4 a flow isn't judged as one run, or a capture is refused\n  5 an input couldn't be read\n  6 a write on standard output failed\n  7 memory ran out\n  9 the report isn't in the form of one\n\nRead on in docs/GUIDE.md, docs/FORMATS.md and docs/st2110_timing.1.\n"
+}
+
+/// The text of one command.
+fn command_text(alloc: Global, command: Command) -> Result<String, OutOfMemory>
+    ensures { IfOk result (λ s. string_bytes s ≡ page.command_text command) }
+{
+    let usage = usage_of(alloc, command)?;
+    let lines = lines_of(alloc, command)?;
+    let (about, printed, example) = (command.about(), command.printed(), command.example());
+    format!(in alloc; "{usage}\n{about}\n\n{lines}\n{printed}Example: {example}\n")
+}
+
+/// The text of `help`: the words of all commands, the statuses and where to read on; or that of `help` with a
+/// command: its words, what is printed, and an example. `Err` is want of memory.
+pub fn help_text(alloc: Global, command: Option<Command>) -> Result<String, OutOfMemory>
+    ensures { IfOk result (λ s. string_bytes s ≡ page.help_text command) }
+{
+    match command {
+        Some(command) => command_text(alloc, command),
+        None => {
+            let summaries = summaries(alloc)?;
+            let (front, back) = (front_text(), back_text());
+            format!(in alloc; "{front}{summaries}{back}")
+        }
+    }
+}
