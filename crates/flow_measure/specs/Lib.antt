@@ -7,8 +7,12 @@ pub mod Classes
 pub mod Occupancy
 pub mod Frames
 pub mod Broken
+pub mod First
 pub mod Stands
 pub mod Followed
+pub mod Gaps
+pub mod Fed
+pub mod Run
 -- numbers that are worked by hand
 pub mod Worked
 -- these only serve proofs
