@@ -8,18 +8,26 @@
 
 mod bins;
 mod broken;
+mod bucket_meter;
 mod classes;
 mod columns;
 mod first;
+mod firsts;
 mod frames;
 mod gaps;
+mod group_meter;
 mod groups;
+mod kind;
 pub mod laws;
 mod margin;
+mod meters;
 mod numbers;
 mod occupancy;
 mod reader;
+mod run;
+mod steps;
 mod summary;
+mod target;
 
 pub use bins::Bins;
 pub use broken::BrokenGroups;
@@ -30,4 +38,5 @@ pub use margin::{MarginMeter, Margins};
 pub use numbers::{Buffer, Gaps, KindNumbers, MeasuredFlow, MeasuredRun, Place, RunNumbers};
 pub use occupancy::occupancy_of;
 pub use reader::{Held, ScheduleMeter};
+pub use run::RunMeter;
 pub use summary::{Summary, SummaryMeter};

@@ -36,6 +36,7 @@ pub struct ScheduleMeter {
 impl ScheduleMeter {
     ghost use Rattle.flow_measure.specs.Occupancy.{AreOccupancies, IsOccupancy, IsSlack, is_late, late_of};
     ghost use Rattle.flow_measure.specs.Followed.{CanFollow, Follows};
+    ghost use Rattle.flow_measure.specs.Run.{IsBuffer};
     ghost use Rattle.flow_measure.specs.Summary.{IsSummary};
 
     /// The meter of a flow whose first packet is of group `n0`, before that packet: of its gapped schedule
@@ -95,6 +96,19 @@ impl ScheduleMeter {
             → MatchOption result (length stamps ≡ 0) (IsSummary occupancy (length stamps)) }
     {
         self.occupancy.finish()
+    }
+
+    /// What the buffer held, if there is a packet, where the first of them is of the group that `new` was
+    /// given.
+    pub fn finish(&self) -> Option<Buffer>
+        ensures { (m : Media) (n : ℕ) (gapped : Bool) (stamps : List ℕ) (occupancy : ℕ → ℤ)
+            → Follows m n (anchor_of m (slice_index stamps 0)) gapped self.now stamps
+            → AreOccupancies m n stamps gapped occupancy
+            → MatchOption result (length stamps ≡ 0) (IsBuffer m n stamps gapped occupancy) }
+    {
+        let occupancy = self.occupancy()?;
+        let margins = self.margins()?;
+        Some(Buffer { occupancy, margins })
     }
 
     /// The margins, if there is a packet.
