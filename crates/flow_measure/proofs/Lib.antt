@@ -11,6 +11,7 @@ pub mod Floors
 pub mod Followed
 pub mod Grouped
 pub mod Lateness
+pub mod Measured
 pub mod Packets
 pub mod Passes
 pub mod Runs

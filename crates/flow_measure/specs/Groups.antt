@@ -1,6 +1,6 @@
--- What the packets and RTP timestamps of groups say. `stamp` gives the nanoseconds of TAI at which each packet came, and
--- `timestamp` its RTP timestamp in ticks of 90 kHz, counted from 0; n is the number of packets in a group, and `anchor`
--- the number of the first group in the epoch of m.
+-- What the packets and RTP timestamps of groups say. `stamp` gives the nanoseconds of TAI at which each packet came,
+-- and `timestamp` its RTP timestamp in ticks of 90 kHz, counted from 0; n is the number of packets in a group, and
+-- `anchor` the number of the first group in the epoch of m.
 use Rattle.std.specs.Prelude.{◌≡◌, ◌+◌, ◌-◌, ◌*◌, ℕ, ℤ, pos, MatchOption}
 use Rattle.timing_base.specs.Media.{Media}
 use Rattle.flow_measure.specs.Frames.{after_start, timestamp_latency, timestamp_offset, timestamp_step}

@@ -1,5 +1,5 @@
--- What the meters of a run say of the packets that they were fed. Of each packet, counted from 0, there are the stamp in
--- nanoseconds of TAI, the record and the RTP timestamp.
+-- What the meters of a run say of the packets that they were fed. Of each packet, counted from 0, there are the stamp
+-- in nanoseconds of TAI, the record and the RTP timestamp.
 use Rattle.std.specs.Prelude.{◌≡◌, ◌<◌, ℕ, true, false, List, length, slice_index, Option, None}
 use Rattle.std.specs.List.{slice_index_or}
 use Rattle.timing_base.specs.Media.{Media}

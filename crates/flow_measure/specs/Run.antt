@@ -1,7 +1,8 @@
--- The numbers of one judged run: what SMPTE ST 2110-21's two models and the media clock of ST 2110-10 say of its packets
--- and groups. m is the video, n the packets of one group, and `groups` the groups. Of each judged packet, counted from 0,
--- `stamps` has the nanoseconds of TAI, `records` the record of the capture, counted from 1, and `timestamps` the RTP
--- timestamp in ticks of 90 kHz, which all packets of a group share. Which numbers these are is this project's own.
+-- The numbers of one judged run: what SMPTE ST 2110-21's two models and the media clock of ST 2110-10 say of its
+-- packets and groups. m is the video, n the packets of one group, and `groups` the groups. Of each judged packet,
+-- counted from 0, `stamps` has the nanoseconds of TAI, `records` the record of the capture, counted from 1, and
+-- `timestamps` the RTP timestamp in ticks of 90 kHz, which all packets of a group share. Which numbers these are is
+-- this project's own.
 use Rattle.std.specs.Prelude.{◌≡◌, ◌-◌, ◌*◌, ◌/◌, ◌≤◌, ℕ, ℤ, Bool, true, false, List, [], ◌∷◌, length, slice_index}
 use Rattle.std.specs.Prelude.{Option, None, MatchOption}
 use Rattle.std.specs.List.{slice_index_or}

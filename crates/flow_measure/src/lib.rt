@@ -2,8 +2,9 @@
 //!
 //! A [`SummaryMeter`], [`Columns`], [`Bins`] and [`Classes`] are fed whole numbers, one by one and in
 //! order. A [`ScheduleMeter`] and a [`MarginMeter`] are fed the stamps of the judged packets, and
-//! [`BrokenGroups`] whether each is broken. None keeps a history: their size doesn't grow with what they
-//! are fed. Stamps are nanoseconds of TAI; numbers, packets and groups are counted from 0.
+//! [`BrokenGroups`] whether each is broken. A [`RunMeter`] has all numbers of a judged run. None keeps a
+//! history: their size doesn't grow with what they are fed. Stamps are nanoseconds of TAI; numbers, packets
+//! and groups are counted from 0.
 #![tactic(auto)]
 
 mod bins;
