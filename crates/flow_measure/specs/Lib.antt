@@ -9,6 +9,7 @@ pub mod Frames
 pub mod Broken
 pub mod Stands
 pub mod Followed
+pub mod Told
 -- numbers that are worked by hand
 pub mod Worked
 -- these only serve proofs
