@@ -18,6 +18,7 @@ pub mod Filled
 pub mod Metered
 pub mod Run
 pub mod RunStands
+pub mod Told
 -- numbers that are worked by hand
 pub mod Worked
 -- these only serve proofs

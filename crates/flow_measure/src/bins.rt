@@ -38,6 +38,7 @@ impl Bins {
     ghost use Rattle.flow_measure.specs.Bins.{AreBins, above_limit, below_zero, is_above};
     ghost use Rattle.flow_measure.specs.Places.{IsWithin, place_of};
     ghost use Rattle.flow_measure.specs.Stands.{Counts};
+    ghost use Rattle.flow_measure.specs.Told.{bin_counts};
 
     /// The bins for a limit, before the first number: at most 64, as narrow as that allows.
     pub fn new(limit: u64) -> Bins
@@ -110,6 +111,7 @@ impl Bins {
 
     /// How many numbers each bin has, in order, up to the bin of the limit.
     pub fn counts(&self) -> &[u64]
+        ensures value { result.now ≡ bin_counts self.now }
         ensures bins { (numbers : ℕ → ℤ) → Counts self.now numbers
             → AreBins self.now.limit numbers self.now.seen result.now }
         ensures above { (numbers : ℕ → ℤ) → Counts self.now numbers

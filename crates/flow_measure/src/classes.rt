@@ -23,6 +23,7 @@ pub struct Classes {
 impl Classes {
     ghost use Rattle.flow_measure.specs.Classes.{AreClasses};
     ghost use Rattle.flow_measure.specs.Stands.{Classifies};
+    ghost use Rattle.flow_measure.specs.Told.{class_counts};
 
     /// The classes before the first number.
     pub fn new() -> Classes
@@ -55,6 +56,7 @@ impl Classes {
 
     /// How many numbers each class has, in order, up to the last one that has a number.
     pub fn counts(&self) -> &[u64]
+        ensures value { result.now ≡ class_counts self.now }
         ensures classes { (numbers : ℕ → ℕ) → Classifies self.now numbers
             → AreClasses numbers self.now.seen result.now }
 

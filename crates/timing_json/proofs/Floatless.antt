@@ -86,7 +86,8 @@ judged-floatless media judged =
     neither (has_float (types_data media judged)) _ (list-floatless (type_data media judged) (type-floatless media judged) (N ∷ NL ∷ W ∷ []))
     (interlaced-floatless media.interlaced)
 
-unjudged-floatless : (u : Unjudged) → any_float (unjudged_members u) ≡ false
+-- a flow without a verdict
+pub unjudged-floatless : (u : Unjudged) → any_float (unjudged_members u) ≡ false
 unjudged-floatless unjudged.Absent = refl
 unjudged-floatless (unjudged.NoWholeFrame head) = refl
 unjudged-floatless (unjudged.Refused rec fault) = refl

@@ -8,4 +8,4 @@ mod written;
 
 pub use object::Object;
 pub use reading::{ReportError, ReportProof, read_json};
-pub use written::json_of;
+pub use written::{add_value, comma_if, json_of, put_unjudged};

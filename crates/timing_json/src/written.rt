@@ -167,8 +167,12 @@ fn put_no_whole_frame(object: &mut Object, head: u64) -> Result<(), OutOfMemory>
     object.put_text("verdict", "no whole frame")
 }
 
-/// A flow without a verdict.
-fn put_unjudged(object: &mut Object, alloc: Global, unjudged: Unjudged) -> Result<(), OutOfMemory>
+/// Puts the verdict on a flow that isn't judged in, with the keys that belong to it: those that the JSON report has.
+pub fn put_unjudged(
+    object: &mut Object,
+    alloc: Global,
+    unjudged: Unjudged,
+) -> Result<(), OutOfMemory>
     ensures { IfOk result (λ _. Puts (unjudged_members unjudged) object.old object.new) }
 {
     match unjudged {
@@ -378,8 +382,8 @@ fn add_files(
     add_value(text, alloc, &files)
 }
 
-/// Adds the text of a value that has no float.
-fn add_value(text: &mut String, alloc: Global, value: &Value) -> Result<(), OutOfMemory>
+/// Adds the text of a value that has no float. `Err` is want of memory.
+pub fn add_value(text: &mut String, alloc: Global, value: &Value) -> Result<(), OutOfMemory>
     requires { has_float (view value.now) ≡ false }
     ensures { IfOk result (λ _. string_bytes text.new
         ≡ string_bytes text.old ++ compact_text (view value.now)) }
@@ -407,7 +411,7 @@ fn add_flows(
 }
 
 /// A comma, where something stands before.
-fn comma_if(later: bool) -> &'static str
+pub fn comma_if(later: bool) -> &'static str
     ensures { result.now ≡ comma_if later }
 {
     if later { "," } else { "" }
