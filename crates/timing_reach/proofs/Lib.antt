@@ -23,3 +23,6 @@ mod ShapeEnds
 mod Pairings
 mod Comparings
 mod Skewing
+mod Planning
+mod Plans
+mod Meterings

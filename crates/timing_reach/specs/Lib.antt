@@ -5,6 +5,7 @@ pub mod Skewed
 pub mod Shapes
 pub mod Shaped
 pub mod ShapedAgain
+pub mod Measured
 -- what is worked by hand
 pub mod Worked
 pub mod WorkedShapes
@@ -13,3 +14,4 @@ pub mod judged
 pub mod window
 pub mod shape
 pub mod skew
+pub mod measure

@@ -9,6 +9,7 @@
 
 mod judged;
 pub mod laws;
+pub mod measure;
 mod shape;
 mod skew;
 mod window;
