@@ -44,7 +44,7 @@ pub one-packet : (P : List FlowPacket → Type 0) (packets : List FlowPacket) (o
 one-packet P packets o also e h = subst (λ x. P (packets ++ cons_option x [])) (sym e) h
 
 -- as many of a list as a part from its start has
-take-again : {X : Type 0} (k : ℕ) (xs : List X) → take (length (take k xs)) xs ≡ take k xs
+pub take-again : {X : Type 0} (k : ℕ) (xs : List X) → take (length (take k xs)) xs ≡ take k xs
 take-again k xs =
     ap (take (length (take k xs))) (sym (take-append-drop k xs)) ∙ take-append_seam (take k xs) (drop k xs)
 

@@ -24,3 +24,6 @@ mod Pairings
 mod Comparings
 mod Skewing
 pub mod Scannings
+mod Planning
+mod Plans
+mod Meterings

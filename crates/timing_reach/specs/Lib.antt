@@ -6,6 +6,7 @@ pub mod Scanned
 pub mod Shapes
 pub mod Shaped
 pub mod ShapedAgain
+pub mod Measured
 -- what is worked by hand
 pub mod Worked
 pub mod WorkedShapes
@@ -15,3 +16,4 @@ pub mod window
 pub mod shape
 pub mod skew
 pub mod scan
+pub mod measure

@@ -9,6 +9,7 @@
 
 mod judged;
 pub mod laws;
+pub mod measure;
 mod scan;
 mod shape;
 mod skew;

@@ -1,0 +1,3 @@
+pub mod Metering
+pub mod Plan
+pub mod Walks

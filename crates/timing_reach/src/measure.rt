@@ -1,0 +1,11 @@
+//! The numbers of the judged runs of a flow. A first reading judged the flow; in a second one each judged run's packets
+//! go to a meter.
+
+pub mod flow;
+pub mod gauge;
+pub mod open;
+pub mod plan;
+pub mod walk;
+
+pub use flow::FlowMeter;
+pub use gauge::RunGauge;
