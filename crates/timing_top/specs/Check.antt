@@ -1,12 +1,13 @@
 -- What the texts of `check` define, in the order in which its inputs are read. The number of workers is in none of it.
-use Rattle.std.specs.Prelude.{Result}
+use Rattle.std.specs.Prelude.{IfOk, Result}
 use Rattle.timing_base.specs.Jobs.{CheckJob}
 use Rattle.timing_report.specs.declared.status.Input.{Input}
 use Rattle.timing_report.specs.declared.status.Input.TheVariants as input
 use Rattle.timing_report.specs.declared.status.Status.{Status}
 use Rattle.timing_steps.specs.Answers.{Answer, CaptureRose, Gives, HasRisen, Inputs, ReadsCaptures, ReadsSession}
 use Rattle.timing_steps.specs.Answers.{Yields}
-use Rattle.timing_steps.specs.Ran.{Output, Ran}
+use Rattle.timing_steps.specs.Ends.{HasStatus, check_ends}
+use Rattle.timing_steps.specs.Ran.{HasCause, Output, Ran}
 use Rattle.timing_steps.specs.declared.failure.Failure.{Failure}
 use Rattle.timing_top.specs.Report.{HasReport}
 
@@ -24,3 +25,10 @@ CheckInputRose job i (input.Capture number) = CaptureRose i.before i.now job.cap
 -- a run of `check`, over what it saw of its shelf
 abbrev pub RanCheck : CheckJob → Inputs → (out err : Output) → Status → Type 0
 RanCheck job i out err ends = Ran (FollowsCheck job i) (CheckInputRose job i) out err ends
+
+-- an answer of `check`, or why there is none: what its texts define, with a status that it may have, and a read fault
+-- has its cause
+pub record AnswersCheck (job : CheckJob) (i : Inputs) (outcome : Result Answer Failure) : Type 0 where
+  pub follows : FollowsCheck job i outcome
+  pub status : IfOk outcome (HasStatus check_ends)
+  pub cause : HasCause outcome (CheckInputRose job i)

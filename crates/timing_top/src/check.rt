@@ -6,8 +6,8 @@ ghost use Rattle.timing_outside.specs.Shelves.{StaysAs};
 ghost use Rattle.timing_report.specs.Outcomes.{AreOfSession, status_of};
 ghost use Rattle.timing_steps.specs.Answers.{OnReadFault, seen_of};
 ghost use Rattle.timing_steps.specs.Ends.{EndsWith, HasStatus, check_ends};
-ghost use Rattle.timing_steps.specs.Ran.{HasCause, output_of};
-ghost use Rattle.timing_top.specs.Check.{CheckInputRose, FollowsCheck, RanCheck};
+ghost use Rattle.timing_steps.specs.Ran.{output_of};
+ghost use Rattle.timing_top.specs.Check.{AnswersCheck, CheckInputRose, FollowsCheck, RanCheck};
 ghost use Rattle.timing_top.specs.Found.{Opens};
 ghost use Rattle.timing_top.specs.Report.{printed};
 
@@ -98,9 +98,7 @@ fn open<H: Shelf>(
 
 /// The answer of a job on one thread, or why there is none.
 fn answer_check<H: Shelf>(alloc: Global, job: &CheckJob, shelf: &mut H) -> Result<Answer, Failure>
-    ensures follows { FollowsCheck job.now (seen_of H.Shelf shelf.old shelf.new) result }
-    ensures answers { IfOk result (HasStatus check_ends) }
-    ensures cause { HasCause result (CheckInputRose job.now (seen_of H.Shelf shelf.old shelf.new)) }
+    ensures answers { AnswersCheck job.now (seen_of H.Shelf shelf.old shelf.new) result }
     ensures stays { StaysAs H.text H.lacks H.faults shelf.old shelf.new }
 {
     match open(alloc, job, shelf)? {
@@ -145,9 +143,7 @@ fn answer_many<R: Threads + Wait + Sync, H: Shelf, G: Gate>(
     gate: &G,
 ) -> Result<Answer, Failure>
     requires some { 1 ≤ job.now.workers }
-    ensures follows { FollowsCheck job.now (seen_of H.Shelf shelf.old shelf.new) result }
-    ensures answers { IfOk result (HasStatus check_ends) }
-    ensures cause { HasCause result (CheckInputRose job.now (seen_of H.Shelf shelf.old shelf.new)) }
+    ensures answers { AnswersCheck job.now (seen_of H.Shelf shelf.old shelf.new) result }
     ensures stays { StaysAs H.text H.lacks H.faults shelf.old shelf.new }
 {
     match open(alloc, job, shelf)? {

@@ -1,7 +1,9 @@
 //! What a command line asks for.
 
 use crate::command::Command;
-use timing_base::{CheckJob, FlowJob, ReportJob, ScanJob, SelfTestJob, ShapeJob, SkewJob, VerifyJob};
+use timing_base::{
+    CheckJob, FlowJob, ReportJob, ScanJob, SelfTestJob, ShapeJob, SkewJob, VerifyJob,
+};
 
 /// What a command line asks for.
 #[derive(Debug, Drop)]
