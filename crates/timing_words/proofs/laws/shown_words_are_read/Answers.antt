@@ -16,3 +16,4 @@ returns c = go
     go command.Window = refl
     go command.Shape = refl
     go command.Skew = refl
+    go command.Scan = refl
