@@ -15,7 +15,7 @@ pub fn begin(alloc: Global) -> Result<Vec<u8>, OutOfMemory>
 }
 
 /// Adds the record of a frame with this stamp, in nanoseconds.
-#[inline]
+#[inline(always)]
 pub fn add_record(bytes: &mut Vec<u8>, at: u64, frame: &[u8]) -> Result<(), OutOfMemory>
     requires stamp { IsStamp at }
     requires short { length frame.now ≤ 262144 }

@@ -38,6 +38,7 @@ impl Delays {
     }
 
     /// Adds a packet. The delay is in nanoseconds.
+    #[inline(always)]
     pub fn add(&mut self, packet: u64, delay: u64, bound: Bound) -> Result<(), OutOfMemory>
         requires { self.old.delayed < 2 ^ 41 }
         ensures lines { IfOk result (λ _. string_bytes self.new.lines

@@ -81,7 +81,7 @@ impl Leaver {
     }
 
     /// The next packet of the flow, which came at `at`, in nanoseconds, as the capture has it.
-    #[inline]
+    #[inline(always)]
     pub fn turn(&mut self, at: u64) -> Turn
         requires { IsStamp at }
         ensures added { self.new.added ≡ self.old.added }
@@ -100,7 +100,7 @@ impl Leaver {
     }
 
     /// The next judged packet leaves, which came at `at`, in nanoseconds of TAI.
-    #[inline]
+    #[inline(always)]
     pub fn leave(&mut self, at: u64) -> Turn
         requires due { 0 < self.old.due }
         requires in_time { at < self.old.shaper.end }
@@ -130,6 +130,7 @@ impl Leaver {
 
     /// The stamp of the next judged packet: that of the packet before, where this one came earlier, and the
     /// first one's, where it isn't that. A capture that reads as it did when the flow was judged has neither.
+    #[inline(always)]
     fn in_order(&self, at: u64) -> u64
         requires { at < self.now.shaper.end }
         ensures in_time { result < self.now.shaper.end }

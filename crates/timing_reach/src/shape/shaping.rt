@@ -57,7 +57,7 @@ impl Shaping {
     }
 
     /// Passes the next packet of the flow, which came at `at`, in nanoseconds, as the capture has it.
-    #[inline]
+    #[inline(always)]
     fn pass(&mut self, at: u64, frame: &[u8]) -> Result<(), OutOfMemory>
         requires stamp { IsStamp at }
         requires short { length frame.now ≤ 262144 }
@@ -81,6 +81,7 @@ impl Shaping {
     }
 
     /// Adds a packet that leaves so to the list, where it is made.
+    #[inline(always)]
     fn tell(&mut self, packet: u64, stamp: u64, departure: Departure) -> Result<(), OutOfMemory>
         requires in_time { departure.at < 2 ^ 32 * 10 ^ 9 + self.old.leaver.added }
         requires few { self.old.delays.delayed + self.old.leaver.due < 2 ^ 40 }
@@ -96,6 +97,7 @@ impl Shaping {
     }
 
     /// Adds the record of a packet to the capture, where it is made.
+    #[inline(always)]
     fn copy(&mut self, at: u64, frame: &[u8]) -> Result<(), OutOfMemory>
         requires stamp { IsStamp at }
         requires short { length frame.now ≤ 262144 }

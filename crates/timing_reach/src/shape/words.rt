@@ -32,6 +32,8 @@ impl fmt::Display for BoundWord {
 }
 
 /// Adds the line of a delayed packet. The delay is in nanoseconds.
+#[cold]
+#[inline(never)]
 fn add_delayed(lines: &mut String, packet: u64, delay: u64, bound: Bound) -> Result<(), OutOfMemory>
     ensures { IfOk result (λ _. string_bytes lines.new
         ≡ string_bytes lines.old ++ delayed_line packet delay bound) }
@@ -41,6 +43,7 @@ fn add_delayed(lines: &mut String, packet: u64, delay: u64, bound: Bound) -> Res
 }
 
 /// Adds the line of a packet, where something holds it back. The delay is in nanoseconds.
+#[inline(always)]
 pub fn add_packet(
     lines: &mut String,
     packet: u64,

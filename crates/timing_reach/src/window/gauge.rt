@@ -79,6 +79,7 @@ impl GroupGauge {
     }
 
     /// Takes the next packet, which came at `at`, in nanoseconds of TAI.
+    #[inline(always)]
     fn feed(&mut self, at: u64, marker: bool)
         requires in_time { at < 2 ^ 62 }
         requires few { count_seen self.old.meters < 2 ^ 40 }
@@ -111,7 +112,33 @@ impl Part {
 
     /// Takes the next packet, which came at `at`, in nanoseconds of TAI. `Err` is want of memory, for the
     /// stamps of the first group.
+    #[inline(always)]
     fn feed(
+        &mut self,
+        alloc: Global,
+        media: &Media,
+        at: u64,
+        marker: bool,
+    ) -> Result<(), OutOfMemory>
+        requires in_time { at < 2 ^ 62 }
+        requires few { count_kept self.old < 2 ^ 40 }
+        ensures kept { IfOk result (λ _. count_kept self.new ≤ count_kept self.old + 1) }
+        ensures comes { IfOk result (λ _. (so_far : SoFar) → HasCome media.now self.old so_far
+            → HasCome media.now self.new (so_far_next so_far at marker)) }
+    {
+        match self {
+            Part::Groups(groups) => {
+                groups.feed(at, marker);
+                Ok(())
+            }
+            _ => self.feed_early(alloc, media, at, marker),
+        }
+    }
+
+    /// Takes a packet as [`Part::feed`] does, also before the first group is whole.
+    #[cold]
+    #[inline(never)]
+    fn feed_early(
         &mut self,
         alloc: Global,
         media: &Media,
@@ -185,6 +212,7 @@ impl Gauge {
     }
 
     /// Passes the next packet of the flow. `Err` is want of memory.
+    #[inline(always)]
     pub fn pass(&mut self, packet: &FlowPacket) -> Result<(), OutOfMemory>
         requires stamp { IsStamp packet.now.at }
         requires few { count_gauged self.old < 2 ^ 40 }

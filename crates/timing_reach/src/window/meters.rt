@@ -55,6 +55,7 @@ impl WindowMeters {
     }
 
     /// Puts in the packet that came at `at`, in nanoseconds of TAI.
+    #[inline(always)]
     pub fn feed(&mut self, params: &Params, at: u64)
         requires in_time { at < 2 ^ 62 }
         requires few { count_seen self.old < 2 ^ 40 }

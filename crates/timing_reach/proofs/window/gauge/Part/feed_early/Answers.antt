@@ -1,7 +1,7 @@
 use Rattle.std.proofs.Common.{subst}
 use Rattle.timing_reach.specs.window.Gauging.{HasPushed}
 use Rattle.timing_reach.proofs.WindowGauges.{comes-whole}
-use Rattle.timing_reach.proofs.window.gauge.Part.feed.Goals as goal
+use Rattle.timing_reach.proofs.window.gauge.Part.feed_early.Goals as goal
 
 pub returns-then-marker-clause-comes : goal.returns-then-marker-clause-comes
 returns-then-marker-clause-comes c = λ so_far h.
