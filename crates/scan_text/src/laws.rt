@@ -1,6 +1,10 @@
 //! The texts tried by hand. Each function is a theorem: it does nothing, and its clauses are proved.
 
-ghost use Rattle.std.specs.Prelude.{◌≡◌, ◌*◌, ◌++◌, ◌∷◌, [], codes, false, map, true};
+ghost use Rattle.std.specs.Prelude.{◌≡◌, ◌≤◌, ◌*◌, ◌++◌, ◌∷◌, [], All, List, Ok, codes, false, length, map, true};
+ghost use Rattle.sdp_reader.specs.Session.{session};
+ghost use Rattle.scan_text.specs.ReadBack.{HasBits, HaveOwnTargets, IsDrafted, media_of};
+ghost use Rattle.capture_scan.specs.declared.stream.Stream.{Stream};
+ghost use Rattle.scan_text.specs.declared.draft.DraftVideo.{DraftVideo};
 ghost use Rattle.timing_base.specs.declared.capture.FileNote.TheVariants as note;
 ghost use Rattle.scan_text.specs.Contents.{ssrc_text};
 ghost use Rattle.scan_text.specs.Draft.{draft_text, videos_of};
@@ -117,4 +121,24 @@ pub fn mixed_text_by_hand()
         ++ (codes "stream 1 lost    1 of 41 sent (2.43 %), 0 back, 0 repeated, "
         ++ (codes "0 wraps without the extended number\n"
         ++ codes "stream 1 lines   540 in each of two fields\n"))))))))))) }
+{}
+
+/// A draft is read back as the media that it was made from: videos with the ranges of a description and targets of
+/// their own, 1 to 64, are the session of their draft, with each one's address, port, payload type, sizes, rate and
+/// interlace, and no sender type.
+pub fn drafts_are_read_back()
+    ensures { (videos : List DraftVideo) → All IsDrafted videos → HaveOwnTargets videos → 1 ≤ length videos
+        → length videos ≤ 64 → session (draft_text videos) ≡ Ok (media_of videos) }
+{}
+
+/// The videos of streams have targets of their own, and are at most 64.
+pub fn drafts_have_own_targets()
+    ensures own { (streams : List Stream) → HaveOwnTargets (videos_of streams) }
+    ensures few { (streams : List Stream) → length (videos_of streams) ≤ 64 }
+{}
+
+/// So the draft of streams is read back as their videos, where it has one.
+pub fn streams_are_read_back()
+    ensures { (streams : List Stream) → All HasBits streams → 1 ≤ length (videos_of streams)
+        → session (draft_text (videos_of streams)) ≡ Ok (media_of (videos_of streams)) }
 {}
