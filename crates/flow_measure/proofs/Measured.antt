@@ -1,5 +1,5 @@
 -- What holds of the numbers of every run.
-use Rattle.std.proofs.Common.{◌≡◌, ◌<◌, ◌≤◌, ◌↔◌, ◌⊎◌, ℕ, ℤ, Bool, true, false, List, length, Option, Some, None, inl, inr, refl, ap, ◌∙◌, sym, arith}
+use Rattle.std.proofs.Common.{◌≡◌, ◌≤◌, ◌↔◌, ℕ, ℤ, Bool, true, false, List, length, Option, Some, None, inl, inr, refl, ap, ◌∙◌, sym, arith}
 use Rattle.std.proofs.lemmas.Bool.{cases_lt}
 use Rattle.timing_base.specs.Media.{IsMedia, Media}
 use Rattle.timing_base.specs.declared.media.Kind.{Kind}
@@ -9,7 +9,7 @@ use Rattle.sender_params.specs.Ticks.{KeepsBucket, NeverFall}
 use Rattle.flow_measure.specs.Bins.{above_limit, below_zero}
 use Rattle.flow_measure.specs.First.{IsFirst}
 use Rattle.flow_measure.specs.Kinds.{AreBinsOf}
-use Rattle.flow_measure.specs.Occupancy.{AreOccupancies, buckets_of, late_of}
+use Rattle.flow_measure.specs.Occupancy.{buckets_of}
 use Rattle.flow_measure.specs.Run.{IsBuffer, IsKind}
 use Rattle.flow_measure.specs.declared.bins.Bins.{Bins}
 use Rattle.flow_measure.specs.declared.numbers.Buffer.{Buffer}
