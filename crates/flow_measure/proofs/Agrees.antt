@@ -16,7 +16,7 @@ use Rattle.flow_measure.proofs.Bounds.{IsGreatest-same, IsLeast-same}
 use Rattle.flow_measure.proofs.Counted.{count_of-same}
 
 -- the sum of numbers that are the same at those places
-sum_of-same : (numbers others : ℕ → ℤ) (count : ℕ) → ((i : ℕ) → i < count → others i ≡ numbers i) → sum_of others count ≡ sum_of numbers count
+pub sum_of-same : (numbers others : ℕ → ℤ) (count : ℕ) → ((i : ℕ) → i < count → others i ≡ numbers i) → sum_of others count ≡ sum_of numbers count
 sum_of-same numbers others zero same = refl
 sum_of-same numbers others (suc count) same =
     let before = sum_of-same numbers others count (λ i few. same i (omega (arith, few))) in

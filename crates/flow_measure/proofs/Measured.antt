@@ -1,20 +1,28 @@
 -- What holds of the numbers of every run.
-use Rattle.std.proofs.Common.{◌≡◌, ◌<◌, ◌≤◌, ◌↔◌, ◌⊎◌, ℕ, ℤ, Bool, true, false, List, length, Option, Some, None, inl, inr, refl, ap, ◌∙◌, sym, arith}
+use Rattle.std.proofs.Common.{◌≡◌, ◌<◌, ◌≤◌, ◌+◌, ◌-◌, ◌↔◌, ℕ, ℤ, Bool, true, false, List, length, Option, Some, None, MatchOption, inl, inr}
+use Rattle.std.proofs.Common.{refl, ap, ◌∙◌, sym, arith}
 use Rattle.std.proofs.lemmas.Bool.{cases_lt}
+use Rattle.std.proofs.lemmas.List.{ext_get_or}
 use Rattle.timing_base.specs.Media.{IsMedia, Media}
 use Rattle.timing_base.specs.declared.media.Kind.{Kind}
 use Rattle.sender_params.specs.Keeps.{KeepsBuffer}
 use Rattle.sender_params.specs.Limits.{c_max_of, gapped_of, vrx_full_of}
 use Rattle.sender_params.specs.Ticks.{KeepsBucket, NeverFall}
-use Rattle.flow_measure.specs.Bins.{above_limit, below_zero}
+use Rattle.flow_measure.specs.Bins.{AreBins, above_limit, below_zero}
+use Rattle.flow_measure.specs.Classes.{AreClasses}
 use Rattle.flow_measure.specs.First.{IsFirst}
 use Rattle.flow_measure.specs.Kinds.{AreBinsOf}
-use Rattle.flow_measure.specs.Occupancy.{AreOccupancies, buckets_of, late_of}
+use Rattle.flow_measure.specs.Occupancy.{AreOccupancies, buckets_of, margin_of}
 use Rattle.flow_measure.specs.Run.{IsBuffer, IsKind}
+use Rattle.flow_measure.specs.Summary.{IsSummary}
 use Rattle.flow_measure.specs.declared.bins.Bins.{Bins}
 use Rattle.flow_measure.specs.declared.numbers.Buffer.{Buffer}
 use Rattle.flow_measure.specs.declared.numbers.KindNumbers.{KindNumbers}
-use Rattle.flow_measure.proofs.Passes.{bucket-passes, buffer-passes}
+use Rattle.flow_measure.specs.declared.summary.Summary.{Summary}
+use Rattle.flow_measure.proofs.Agrees.{bins-agree, sum_of-same}
+use Rattle.flow_measure.proofs.Bounds.{IsGreatest-same, IsLeast-same}
+use Rattle.flow_measure.proofs.Passes.{bucket-passes, buffer-passes, occupancy-once}
+use Rattle.flow_measure.proofs.Unique.{least-once, summary-once}
 
 -- what bins count above their limit and below 0
 pub above-is : (limit count : ℕ) (numbers : ℕ → ℤ) (b : Bins) → AreBinsOf limit numbers count b → b.above ≡ above_limit limit numbers count
@@ -64,3 +72,110 @@ first-once test count (Some i) (Some j) h k = elim (cases_lt i j) as (λ _. Some
     | inr same ↦ let e : i ≡ j = omega (arith, late, same) in ap (λ x. Some x) e
   ]
 ]
+
+-- a summary of numbers that are the same at those places
+summary-same : (numbers others : ℕ → ℤ) (count : ℕ) (s : Summary) → ((i : ℕ) → i < count → others i ≡ numbers i) → IsSummary numbers count s
+    → IsSummary others count s
+summary-same numbers others count s same h = record {
+  some = h.some;
+  least = IsLeast-same numbers others (λ i. i < count) s.least same h.least;
+  greatest = IsGreatest-same numbers others (λ i. i < count) s.greatest same h.greatest;
+  sum_is = h.sum_is ∙ sym (sum_of-same numbers others count same);
+  first = h.first ∙ sym (same 0 h.some);
+  last = h.last ∙ sym (same (count - 1) (omega (arith, h.some)));
+}
+
+-- there is one occupancy at each packet
+occupancies-once : (m : Media) (n : ℕ) (stamps : List ℕ) (gapped : Bool) (occupancy others : ℕ → ℤ)
+    → AreOccupancies m n stamps gapped occupancy
+    → AreOccupancies m n stamps gapped others
+    → (i : ℕ)
+    → i < length stamps
+    → occupancy i ≡ others i
+occupancies-once m n stamps gapped occupancy others are be i few =
+    occupancy-once m n stamps gapped i (occupancy i) (others i) (are i few) (be i few)
+
+-- the buffer that has these
+abbrev buffer_with : Summary → (slack : ℤ) → (late : ℕ) → Buffer
+buffer_with s slack late = record { occupancy = s; margins = record { slack = slack; late = late } }
+
+-- there is one buffer
+pub buffer-once : (m : Media) (n : ℕ) (stamps : List ℕ) (gapped : Bool) (occupancy others : ℕ → ℤ) (b other : Buffer)
+    → IsBuffer m n stamps gapped occupancy b
+    → IsBuffer m n stamps gapped others other
+    → b ≡ other
+buffer-once m n stamps gapped occupancy others b other h k =
+    let same = occupancies-once m n stamps gapped occupancy others h.are k.are in
+    let there = summary-same others occupancy (length stamps) other.occupancy same k.summary in
+    let held = summary-once occupancy (length stamps) b.occupancy other.occupancy h.summary there in
+    let slack =
+    least-once (margin_of m n stamps gapped) (λ i. i < length stamps) b.margins.slack other.margins.slack h.slack k.slack in
+    ap (λ s. buffer_with s b.margins.slack b.margins.late) held
+    ∙ ap (λ z. buffer_with other.occupancy z b.margins.late) slack
+    ∙ ap (buffer_with other.occupancy other.margins.slack) (h.late ∙ sym k.late)
+
+-- there is one summary, or none
+pub option-once : (numbers : ℕ → ℤ) (count : ℕ) (s t : Option Summary)
+    → MatchOption s (count ≡ 0) (IsSummary numbers count)
+    → MatchOption t (count ≡ 0) (IsSummary numbers count)
+    → s ≡ t
+option-once numbers count None None h k = refl
+option-once numbers count None (Some t) h k = absurd (omega (arith, h, k.some))
+option-once numbers count (Some s) None h k = absurd (omega (arith, k, h.some))
+option-once numbers count (Some s) (Some t) h k = ap (λ x. Some x) (summary-once numbers count s t h k)
+
+-- the numbers of a type are those by each list of its occupancies
+pub kind-same : (m : Media) (n groups : ℕ) (stamps records : List ℕ) (occupancy others : ℕ → ℤ) (kind : Kind) (named : Option ℕ) (k : KindNumbers)
+    → AreOccupancies m n stamps (gapped_of kind) occupancy
+    → AreOccupancies m n stamps (gapped_of kind) others
+    → IsKind m n groups stamps records occupancy kind named k
+    → IsKind m n groups stamps records others kind named k
+kind-same m n groups stamps records occupancy others kind named k are be h =
+    let same = occupancies-once m n stamps (gapped_of kind) others occupancy be are in
+    record {
+      groups_broken = h.groups_broken;
+      bucket = h.bucket;
+      buffer = record {
+        limit_is = h.buffer.limit_is;
+        seen = h.buffer.seen;
+        counts = bins-agree k.buffer occupancy others (λ i few. same i (omega (arith, few, h.buffer.seen))) h.buffer.counts;
+      };
+      first_bucket = h.first_bucket;
+      first_over = h.first_over;
+      first_empty = h.first_empty;
+      named_is = h.named_is;
+    }
+
+-- there is one list of bins, and one of classes
+pub bins-once : (limit : ℕ) (numbers : ℕ → ℤ) (count : ℕ) (counts other : List ℕ)
+    → AreBins limit numbers count counts
+    → AreBins limit numbers count other
+    → counts ≡ other
+bins-once limit numbers count counts other h k =
+    let long : length counts ≡ length other = h.length_is ∙ sym k.length_is in
+    ext_get_or 0 counts other long (λ bin few. h.each bin few ∙ sym (k.each bin (omega (arith, few, long))))
+
+classes-most : (numbers : ℕ → ℕ) (count : ℕ) (counts other : List ℕ)
+    → AreClasses numbers count counts
+    → AreClasses numbers count other
+    → length other ≤ length counts
+classes-most numbers count counts other h k =
+    elim (cases_lt (length counts) (length other)) as (λ _. length other ≤ length counts) [
+      | inl longer ↦
+          let last = length other - 1 in
+          let size : length other ≡ last + 1 = omega (arith, longer) in
+          let none = h.rest last (omega (arith, longer)) in
+          let some = k.ends last size in
+          let is = k.each last (omega (arith, size)) in
+          absurd (omega (arith, none, some, is))
+      | inr shorter ↦ shorter
+    ]
+
+pub classes-once : (numbers : ℕ → ℕ) (count : ℕ) (counts other : List ℕ)
+    → AreClasses numbers count counts
+    → AreClasses numbers count other
+    → counts ≡ other
+classes-once numbers count counts other h k =
+    let long : length counts ≡ length other =
+    omega (arith, classes-most numbers count counts other h k, classes-most numbers count other counts k h) in
+    ext_get_or 0 counts other long (λ class few. h.each class few ∙ sym (k.each class (omega (arith, few, long))))

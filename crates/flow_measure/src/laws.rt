@@ -3,8 +3,8 @@
 
 ghost use Rattle.std.specs.Prelude.{◌≡◌, ◌<◌, ◌≤◌, ◌+◌, ◌∷◌, [], ◌↔◌, ℕ, ℤ, pos, negsuc, ◌≤ℤ◌};
 ghost use Rattle.std.specs.Prelude.{Bool, List, Option, length, true, false, ◌==◌, ◌||◌};
-ghost use Rattle.flow_measure.specs.Bins.{above_limit, below_zero, bin_count, bin_width, in_bin};
-ghost use Rattle.flow_measure.specs.Classes.{in_class};
+ghost use Rattle.flow_measure.specs.Bins.{AreBins, above_limit, below_zero, bin_count, bin_width, in_bin};
+ghost use Rattle.flow_measure.specs.Classes.{AreClasses, in_class};
 ghost use Rattle.flow_measure.specs.Columns.{AreColumns, AreCurve, AreEye, column_at, greatest_at};
 ghost use Rattle.flow_measure.specs.Columns.{least_at, width_of};
 ghost use Rattle.std.specs.Int.{int_max};
@@ -25,7 +25,6 @@ ghost use Rattle.flow_measure.specs.declared.classes.Classes.{Classes};
 ghost use Rattle.flow_measure.specs.declared.columns.Columns.{Columns};
 ghost use Rattle.flow_measure.specs.declared.summary.SummaryMeter.{SummaryMeter};
 ghost use Rattle.flow_measure.specs.Summary.{IsGreatest, IsLeast, IsSummary};
-ghost use Rattle.flow_measure.specs.First.{IsFirst};
 ghost use Rattle.flow_measure.specs.Run.{IsBuffer, IsKind, IsMeasured};
 ghost use Rattle.flow_measure.specs.declared.numbers.Buffer.{Buffer};
 ghost use Rattle.flow_measure.specs.declared.numbers.KindNumbers.{KindNumbers};
@@ -238,25 +237,31 @@ pub fn numbers_have_the_peaks()
         → int_max (pos 0) x.linear.occupancy.greatest ≡ pos p }
 {}
 
-/// A run has one summary of its bucket, one of each number of its groups, and one target; a type one number of
-/// broken groups, one first packet that breaks each model, one place, and one count above each limit.
+/// A run has one of each of its numbers: summaries, steps, target, counts, first packets and places.
 pub fn one_measure()
     ensures bucket { (m : Media) (n groups : ℕ) (stamps records timestamps : List ℕ) (named : List (Option ℕ))
         (x other : RunNumbers) → IsMeasured m n groups stamps records timestamps named x
         → IsMeasured m n groups stamps records timestamps named other → x.bucket ≡ other.bucket }
+    ensures buffer { (m : Media) (n : ℕ) (stamps : List ℕ) (gapped : Bool) (occupancy others : ℕ → ℤ)
+        (b other : Buffer) → IsBuffer m n stamps gapped occupancy b → IsBuffer m n stamps gapped others other
+        → b ≡ other }
     ensures groups { (m : Media) (n groups : ℕ) (stamps records timestamps : List ℕ) (named : List (Option ℕ))
         (x other : RunNumbers) → IsMeasured m n groups stamps records timestamps named x
         → IsMeasured m n groups stamps records timestamps named other
         → (x.first ≡ other.first) × (x.last ≡ other.last) × (x.target ≡ other.target)
-        × (x.offset ≡ other.offset) × (x.latency ≡ other.latency) }
-    ensures first { (test : ℕ → Bool) (count : ℕ) (found other : Option ℕ)
-        → IsFirst test count found → IsFirst test count other → found ≡ other }
-    ensures kind { (m : Media) (n groups : ℕ) (stamps records : List ℕ) (occupancy : ℕ → ℤ) (kind : Kind)
-        (named : Option ℕ) (k other : KindNumbers)
+        × (x.step ≡ other.step) × (x.offset ≡ other.offset) × (x.latency ≡ other.latency) }
+    ensures kind { (m : Media) (n groups : ℕ) (stamps records : List ℕ) (occupancy others : ℕ → ℤ)
+        (kind : Kind) (named : Option ℕ) (k other : KindNumbers)
+        → AreOccupancies m n stamps (gapped_of kind) occupancy
+        → AreOccupancies m n stamps (gapped_of kind) others
         → IsKind m n groups stamps records occupancy kind named k
-        → IsKind m n groups stamps records occupancy kind named other
+        → IsKind m n groups stamps records others kind named other
         → (k.groups_broken ≡ other.groups_broken) × (k.first_bucket ≡ other.first_bucket)
         × (k.first_over ≡ other.first_over) × (k.first_empty ≡ other.first_empty) × (k.named ≡ other.named)
         × (k.bucket.above ≡ other.bucket.above) × (k.buffer.above ≡ other.buffer.above)
         × (k.buffer.below ≡ other.buffer.below) }
+    ensures bins { (limit : ℕ) (numbers : ℕ → ℤ) (count : ℕ) (counts other : List ℕ)
+        → AreBins limit numbers count counts → AreBins limit numbers count other → counts ≡ other }
+    ensures classes { (numbers : ℕ → ℕ) (count : ℕ) (counts other : List ℕ)
+        → AreClasses numbers count counts → AreClasses numbers count other → counts ≡ other }
 {}

@@ -1,9 +1,9 @@
-use Rattle.std.proofs.Common.{length, slice_index, ◌∙◌, sym}
+use Rattle.std.proofs.Common.{◌-◌, length, slice_index, ◌∙◌, sym}
 use Rattle.sender_params.specs.Limits.{c_max_of, vrx_full_of}
-use Rattle.flow_measure.specs.Groups.{firsts_of, lasts_of, latency_at, offset_at, since_at}
+use Rattle.flow_measure.specs.Groups.{firsts_of, lasts_of, latency_at, offset_at, since_at, step_after}
 use Rattle.flow_measure.specs.Occupancy.{buckets_of}
 use Rattle.flow_measure.specs.Run.{anchor_in, packets_of}
-use Rattle.flow_measure.proofs.Measured.{above-is, below-is, first-once}
+use Rattle.flow_measure.proofs.Measured.{above-is, below-is, bins-once, buffer-once, classes-once, first-once, kind-same, option-once}
 use Rattle.flow_measure.proofs.Unique.{summary-once}
 use Rattle.flow_measure.proofs.laws.one_measure.Goals as goal
 
@@ -19,15 +19,23 @@ returns-clause-groups c = λ m n groups stamps records timestamps named x other 
       summary-once (since_at m anchor (firsts_of n stamp)) groups x.first other.first h.first k.first,
       summary-once (since_at m anchor (lasts_of n stamp)) groups x.last other.last h.last k.last,
       h.target ∙ sym k.target,
+      option-once (step_after (firsts_of n timestamp)) (groups - 1) x.step other.step h.step k.step,
       summary-once (offset_at m anchor (firsts_of n timestamp)) groups x.offset other.offset h.offset k.offset,
       summary-once (latency_at (firsts_of n stamp) (firsts_of n timestamp)) groups x.latency other.latency h.latency k.latency,
     )
 
-pub returns-clause-first : goal.returns-clause-first
-returns-clause-first c = first-once
+pub returns-clause-buffer : goal.returns-clause-buffer
+returns-clause-buffer c = buffer-once
+
+pub returns-clause-bins : goal.returns-clause-bins
+returns-clause-bins c = bins-once
+
+pub returns-clause-classes : goal.returns-clause-classes
+returns-clause-classes c = classes-once
 
 pub returns-clause-kind : goal.returns-clause-kind
-returns-clause-kind c = λ m n groups stamps records occupancy kind named k other h i.
+returns-clause-kind c = λ m n groups stamps records occupancy others kind named k other are be h there.
+    let i = kind-same m n groups stamps records others occupancy kind named other be are there in
     let p = packets_of m n stamps records occupancy kind in
     let count = length stamps in
     let c_max = c_max_of m n kind in
