@@ -1,6 +1,6 @@
--- Numbers that are worked by hand: two frames of 20 packets at 50 frames per second, after a packet with the marker. Frame
--- k begins k * 20 ms after second 1,600,000,000, its packet j comes 764,000 + 960,000 j ns later, and its timestamp is
--- 1800 (k + 1).
+-- Numbers that are worked by hand: two frames of 20 packets at 50 frames per second, after a packet with the marker.
+-- Frame k begins k * 20 ms after second 1,600,000,000, its packet j comes 764,000 + 960,000 j ns later, and its
+-- timestamp is 1800 (k + 1).
 use Rattle.std.specs.Prelude.{ℕ, zero, suc, ◌-◌, ◌*◌, pos, neg_ℤ, List, [], ◌∷◌, ◌++◌, Option, Some, None}
 use Rattle.timing_base.specs.Examples.{plain_media}
 use Rattle.timing_base.specs.Media.{Media}

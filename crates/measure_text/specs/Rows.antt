@@ -1,7 +1,7 @@
--- The rows of a flow, packet by packet or group by group, as comma-separated values (RFC 4180): a header first, and each
--- row ends with a line feed alone. No field needs quotes. Runs and records count from 1; packets, groups and places in
--- a group from 0. Stamps, `first` and `last` are nanoseconds; `timestamp`, `step`, `offset` and `latency` are ticks of
--- 90 kHz; `bucket` and the columns of the buffer, `gapped` and `linear`, are packets.
+-- The rows of a flow, packet by packet or group by group, as comma-separated values (RFC 4180): a header first, and
+-- each row ends with a line feed alone. No field needs quotes. Runs and records count from 1; packets, groups and
+-- places in a group from 0. Stamps, `first` and `last` are nanoseconds; `timestamp`, `step`, `offset` and `latency` are
+-- ticks of 90 kHz; `bucket` and the columns of the buffer, `gapped` and `linear`, are packets.
 -- This project's profile: the columns.
 use Rattle.std.specs.Prelude.{ℕ, ℤ, List, ◌++◌, Option, Some, None, codes}
 use Rattle.std.specs.Fmt.{decimal, signed_decimal}

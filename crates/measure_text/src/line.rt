@@ -8,8 +8,8 @@ use itoa::{Buffer, write_digits};
 /// The bytes that a line may have.
 const ROOM: usize = 512;
 
-/// A line of at most 512 bytes. It is written from its end to its front, since the length of a number is known only when
-/// its digits are.
+/// A line of at most 512 bytes. It is written from its end to its front, since the length of a number is known only
+/// when its digits are.
 #[derive(Clone, Copy, Debug)]
 pub(crate) struct Line {
     bytes: [u8; ROOM],

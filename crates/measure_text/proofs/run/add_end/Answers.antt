@@ -12,4 +12,5 @@ returns c =
     let run = run_told c.args.run.now in
     added_ok c.write.result (string_bytes c.args.text.now) (string_bytes c.write.new.self)
     (end_pieces run c.judged.inside.tail (string_bytes c.in_ok-types.types)) _ c.write.ensures.bytes
-    (end-is run _ _ _ _ (ap (λ (j : Judged). j.tail) c.judged.view_is) (c.in_ok-types.ensures ∙ ap (λ (ks : List KindNumbers). kinds_text c.args.judged.now (map kind_told ks)) c.as_slice.ensures))
+    (end-is run _ _ _ _ (ap (λ (j : Judged). j.tail) c.judged.view_is)
+    (c.in_ok-types.ensures ∙ ap (λ (ks : List KindNumbers). kinds_text c.args.judged.now (map kind_told ks)) c.as_slice.ensures))
