@@ -4,12 +4,12 @@ pub mod Columns
 pub mod Counts
 pub mod Bins
 pub mod Classes
+pub mod Told
 pub mod Occupancy
 pub mod Frames
 pub mod Broken
 pub mod Stands
 pub mod Followed
-pub mod Told
 -- numbers that are worked by hand
 pub mod Worked
 -- these only serve proofs
