@@ -20,7 +20,7 @@ lt-of-mul d x y h = elim (cases_lt x y) as (λ _. x < y) [
 ]
 
 -- a quotient over another denominator
-quotient-scaled : (x y big small : ℕ) → 0 < big → 0 < small → small * x ≡ big * y → x / big ≡ y / small
+pub quotient-scaled : (x y big small : ℕ) → 0 < big → 0 < small → small * x ≡ big * y → x / big ≡ y / small
 quotient-scaled x y big small some few same =
     let q = x / big in
     let split = div-add-mod' x big in

@@ -6,10 +6,15 @@ pub mod ByHand
 pub mod Counted
 pub mod Drawn
 pub mod Epoch
+pub mod Filled
 pub mod Floors
 pub mod Followed
+pub mod Grouped
 pub mod Lateness
+pub mod Measured
+pub mod Packets
 pub mod Passes
+pub mod Runs
 pub mod Summarized
 pub mod Unique
 pub mod Widths

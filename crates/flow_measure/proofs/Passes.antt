@@ -40,7 +40,7 @@ bucket-passes m n stamps kind falls =
     )
 
 -- what the buffer holds, and the occupancy
-held-is : (m : Media) (n : ℕ) (stamps : List ℕ) (gapped : Bool) (occupancy : ℕ → ℤ) (i : ℕ)
+pub held-is : (m : Media) (n : ℕ) (stamps : List ℕ) (gapped : Bool) (occupancy : ℕ → ℤ) (i : ℕ)
     → AreOccupancies m n stamps gapped occupancy
     → i < length stamps
     → pos (held_at m n stamps gapped i) ≡ int_max (pos 0) (occupancy i)

@@ -1,5 +1,5 @@
 -- The width of columns.
-use Rattle.std.proofs.Common.{◌≡◌, ◌≤◌, ◌<◌, ◌+◌, ◌*◌, ℕ, inl, inr, ap, arith}
+use Rattle.std.proofs.Common.{◌≡◌, ◌≤◌, ◌<◌, ◌+◌, ◌*◌, ◌/◌, ℕ, inl, inr, ap, arith}
 use Rattle.std.proofs.Math.Nat.{mul-le-mul_right}
 use Rattle.std.proofs.lemmas.Bool.{cases_lt}
 use Rattle.std.proofs.lemmas.Grind.{div_ceil_times}
@@ -31,3 +31,9 @@ ceil-back a b some few =
 -- they take all of it
 pub ceil-room : (a b : ℕ) → 1 ≤ b → a ≤ div_ceil a b * b
 ceil-room a b some = (div_ceil_times a b (omega (arith, some))).0
+
+-- the width of bins, without a sum that may be too great
+pub width-next : (limit : ℕ) → limit / 64 + 1 ≡ div_ceil (limit + 1) 64
+width-next limit =
+    let fits = div_ceil_times (limit + 1) 64 (omega arith) in
+    omega (arith, fits.0, fits.1)

@@ -8,8 +8,17 @@ pub mod Told
 pub mod Occupancy
 pub mod Frames
 pub mod Broken
+pub mod First
 pub mod Stands
 pub mod Followed
+pub mod Gaps
+pub mod Groups
+pub mod Kinds
+pub mod Fed
+pub mod Filled
+pub mod Metered
+pub mod Run
+pub mod RunStands
 -- numbers that are worked by hand
 pub mod Worked
 -- these only serve proofs

@@ -29,21 +29,19 @@ pub struct Bins {
     pub below: u64,
     /// The numbers fed.
     pub seen: u64,
-    ghost limit_small: { limit < 2 ^ 63 },
     ghost width_is: { width ≡ bin_width limit },
     ghost few: { seen ≤ 2 ^ 41 },
     ghost all_counted: { sum counts + above + below ≡ seen },
 }
 
 impl Bins {
-    ghost use Rattle.flow_measure.specs.Bins.{AreBins, above_limit, below_zero};
+    ghost use Rattle.flow_measure.specs.Bins.{AreBins, above_limit, below_zero, is_above};
     ghost use Rattle.flow_measure.specs.Places.{IsWithin, place_of};
     ghost use Rattle.flow_measure.specs.Stands.{Counts};
     ghost use Rattle.flow_measure.specs.Told.{bin_counts};
 
     /// The bins for a limit, before the first number: at most 64, as narrow as that allows.
     pub fn new(limit: u64) -> Bins
-        requires { limit < 2 ^ 63 }
         ensures limit { result.limit ≡ limit }
         ensures width { result.width ≡ bin_width limit }
         ensures seen { result.seen ≡ 0 }
@@ -51,7 +49,7 @@ impl Bins {
     {
         Bins {
             limit,
-            width: (limit + 1).div_ceil(MOST as u64),
+            width: limit / MOST as u64 + 1,
             counts: [0; MOST],
             above: 0,
             below: 0,
@@ -77,6 +75,14 @@ impl Bins {
             Place::Bin(bin) => self.counts[bin] += 1,
             Place::Above => self.above += 1,
         }
+    }
+
+    /// Whether a number is above the limit.
+    #[inline(always)]
+    pub fn is_above(&self, number: i128) -> bool
+        ensures { result ≡ is_above self.now.limit number }
+    {
+        number > i128::from(self.limit)
     }
 
     /// Where a number belongs.

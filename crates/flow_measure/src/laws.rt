@@ -2,7 +2,7 @@
 //! theorem: it does nothing, and its clauses are proved.
 
 ghost use Rattle.std.specs.Prelude.{◌≡◌, ◌<◌, ◌≤◌, ◌+◌, ◌∷◌, [], ◌↔◌, ℕ, ℤ, pos, negsuc, ◌≤ℤ◌};
-ghost use Rattle.std.specs.Prelude.{Bool, List, length, true, false, ◌==◌, ◌||◌};
+ghost use Rattle.std.specs.Prelude.{Bool, List, Option, length, true, false, ◌==◌, ◌||◌};
 ghost use Rattle.flow_measure.specs.Bins.{above_limit, below_zero, bin_count, bin_width, in_bin};
 ghost use Rattle.flow_measure.specs.Classes.{in_class};
 ghost use Rattle.flow_measure.specs.Columns.{AreColumns, AreCurve, AreEye, column_at, greatest_at};
@@ -25,6 +25,11 @@ ghost use Rattle.flow_measure.specs.declared.classes.Classes.{Classes};
 ghost use Rattle.flow_measure.specs.declared.columns.Columns.{Columns};
 ghost use Rattle.flow_measure.specs.declared.summary.SummaryMeter.{SummaryMeter};
 ghost use Rattle.flow_measure.specs.Summary.{IsGreatest, IsLeast, IsSummary};
+ghost use Rattle.flow_measure.specs.First.{IsFirst};
+ghost use Rattle.flow_measure.specs.Run.{IsBuffer, IsKind, IsMeasured};
+ghost use Rattle.flow_measure.specs.declared.numbers.Buffer.{Buffer};
+ghost use Rattle.flow_measure.specs.declared.numbers.KindNumbers.{KindNumbers};
+ghost use Rattle.flow_measure.specs.declared.numbers.RunNumbers.{RunNumbers};
 ghost use Rattle.flow_measure.specs.Worked.{column, listed, naturals, summary};
 ghost use Rattle.flow_measure.specs.declared.summary.Summary.{Summary};
 ghost use Rattle.flow_measure.specs.declared.columns.Extremes.{Extremes};
@@ -202,4 +207,56 @@ pub fn what_was_fed_decides()
         → ((i : ℕ) → i < c.seen → others i ≡ numbers i) → Draws c numbers → Draws c others }
     ensures broken { (b : BrokenGroups) (broken others : ℕ → Bool)
         → ((i : ℕ) → i < b.seen → others i ≡ broken i) → CountsBroken b broken → CountsBroken b others }
+{}
+
+/// By the numbers of a run its bucket passes for a type exactly where none is counted above C_MAX, and its
+/// buffer exactly where none is counted above VRX_FULL and no packet is late by the type's reads.
+pub fn numbers_pass()
+    ensures bucket { (m : Media) (n groups : ℕ) (stamps records : List ℕ) (occupancy : ℕ → ℤ) (kind : Kind)
+        (named : Option ℕ) (k : KindNumbers) → NeverFall stamps
+        → IsKind m n groups stamps records occupancy kind named k
+        → KeepsBucket m n stamps kind ↔ (k.bucket.above ≡ 0) }
+    ensures buffer { (m : Media) (n groups : ℕ) (stamps records : List ℕ) (occupancy : ℕ → ℤ) (kind : Kind)
+        (named : Option ℕ) (k : KindNumbers) (b : Buffer) → IsMedia m → 1 ≤ n → NeverFall stamps
+        → IsBuffer m n stamps (gapped_of kind) occupancy b
+        → IsKind m n groups stamps records occupancy kind named k
+        → KeepsBuffer m n stamps kind ↔ ((k.buffer.above ≡ 0) × (b.margins.late ≡ 0)) }
+{}
+
+/// The greatest numbers of a run are the peaks of its row; a buffer that never held a packet has the peak 0.
+pub fn numbers_have_the_peaks()
+    ensures bucket { (m : Media) (n groups : ℕ) (stamps records timestamps : List ℕ) (named : List (Option ℕ))
+        (x : RunNumbers) (p : ℕ) → IsMeasured m n groups stamps records timestamps named x
+        → IsPeak (bucket_of m n stamps) (length stamps) p → x.bucket.greatest ≡ pos p }
+    ensures gapped { (m : Media) (n groups : ℕ) (stamps records timestamps : List ℕ) (named : List (Option ℕ))
+        (x : RunNumbers) (p : ℕ) → IsMeasured m n groups stamps records timestamps named x
+        → IsPeak (held_at m n stamps true) (length stamps) p
+        → int_max (pos 0) x.gapped.occupancy.greatest ≡ pos p }
+    ensures linear { (m : Media) (n groups : ℕ) (stamps records timestamps : List ℕ) (named : List (Option ℕ))
+        (x : RunNumbers) (p : ℕ) → IsMeasured m n groups stamps records timestamps named x
+        → IsPeak (held_at m n stamps false) (length stamps) p
+        → int_max (pos 0) x.linear.occupancy.greatest ≡ pos p }
+{}
+
+/// A run has one summary of its bucket, one of each number of its groups, and one target; a type one number of
+/// broken groups, one first packet that breaks each model, one place, and one count above each limit.
+pub fn one_measure()
+    ensures bucket { (m : Media) (n groups : ℕ) (stamps records timestamps : List ℕ) (named : List (Option ℕ))
+        (x other : RunNumbers) → IsMeasured m n groups stamps records timestamps named x
+        → IsMeasured m n groups stamps records timestamps named other → x.bucket ≡ other.bucket }
+    ensures groups { (m : Media) (n groups : ℕ) (stamps records timestamps : List ℕ) (named : List (Option ℕ))
+        (x other : RunNumbers) → IsMeasured m n groups stamps records timestamps named x
+        → IsMeasured m n groups stamps records timestamps named other
+        → (x.first ≡ other.first) × (x.last ≡ other.last) × (x.target ≡ other.target)
+        × (x.offset ≡ other.offset) × (x.latency ≡ other.latency) }
+    ensures first { (test : ℕ → Bool) (count : ℕ) (found other : Option ℕ)
+        → IsFirst test count found → IsFirst test count other → found ≡ other }
+    ensures kind { (m : Media) (n groups : ℕ) (stamps records : List ℕ) (occupancy : ℕ → ℤ) (kind : Kind)
+        (named : Option ℕ) (k other : KindNumbers)
+        → IsKind m n groups stamps records occupancy kind named k
+        → IsKind m n groups stamps records occupancy kind named other
+        → (k.groups_broken ≡ other.groups_broken) × (k.first_bucket ≡ other.first_bucket)
+        × (k.first_over ≡ other.first_over) × (k.first_empty ≡ other.first_empty) × (k.named ≡ other.named)
+        × (k.bucket.above ≡ other.bucket.above) × (k.buffer.above ≡ other.buffer.above)
+        × (k.buffer.below ≡ other.buffer.below) }
 {}

@@ -2,22 +2,33 @@
 //!
 //! A [`SummaryMeter`], [`Columns`], [`Bins`] and [`Classes`] are fed whole numbers, one by one and in
 //! order. A [`ScheduleMeter`] and a [`MarginMeter`] are fed the stamps of the judged packets, and
-//! [`BrokenGroups`] whether each is broken. None keeps a history: their size doesn't grow with what they
-//! are fed. Stamps are nanoseconds of TAI; numbers, packets and groups are counted from 0.
+//! [`BrokenGroups`] whether each is broken. A [`RunMeter`] has all numbers of a judged run. None keeps a
+//! history: their size doesn't grow with what they are fed. Stamps are nanoseconds of TAI; numbers, packets
+//! and groups are counted from 0.
 #![tactic(auto)]
 
 mod bins;
 mod broken;
+mod bucket_meter;
 mod classes;
 mod columns;
+mod first;
+mod firsts;
 mod frames;
+mod gaps;
+mod group_meter;
 mod groups;
+mod kind;
 pub mod laws;
 mod margin;
+mod meters;
 mod numbers;
 mod occupancy;
 mod reader;
+mod run;
+mod steps;
 mod summary;
+mod target;
 
 pub use bins::Bins;
 pub use broken::BrokenGroups;
@@ -27,5 +38,9 @@ pub use frames::{latency_of, offset_of, since_start, step_of};
 pub use margin::{MarginMeter, Margins};
 pub use numbers::{Buffer, Gaps, KindNumbers, MeasuredFlow, MeasuredRun, Place, RunNumbers};
 pub use occupancy::occupancy_of;
-pub use reader::ScheduleMeter;
+pub use reader::{Held, ScheduleMeter};
+pub use run::RunMeter;
 pub use summary::{Summary, SummaryMeter};
+
+#[cfg(test)]
+mod tests;

@@ -164,7 +164,9 @@ pub struct MarginMeter {
 impl MarginMeter {
     ghost use Rattle.std.specs.Prelude.{Bool};
     ghost use Rattle.std.specs.Int.{int_min};
+    ghost use Rattle.fraction128.specs.Fractions.{below, whole};
     ghost use Rattle.timing_base.specs.Media.{Media};
+    ghost use Rattle.sender_params.specs.Reads.{read_of};
     ghost use Rattle.flow_measure.specs.Occupancy.{IsSlack, late_of};
     ghost use Rattle.flow_measure.specs.Stands.{Times};
 
@@ -184,15 +186,19 @@ impl MarginMeter {
         }
     }
 
-    /// Takes in the packet that came at `at`, in nanoseconds of TAI. One that comes at its own read isn't
-    /// late (SMPTE ST 2110-21, virtual receiver buffer; this project's profile).
+    /// Takes in the packet that came at `at`, in nanoseconds of TAI, and answers whether it is late. One that
+    /// comes at its own read isn't (SMPTE ST 2110-21, virtual receiver buffer; this project's profile).
     #[inline(always)]
-    pub fn feed(&mut self, at: u64)
+    pub fn feed(&mut self, at: u64) -> bool
         requires in_time { at < 2 ^ 62 }
         requires few { self.old.seen < 2 ^ 41 }
         ensures seen { self.new.seen ≡ self.old.seen + 1 }
 
-        // Whatever packets the meter was fed, it was now fed this one, too.
+        // Whatever packets the meter was fed, this says whether the next one is late, and it was now fed
+        // that one, too.
+        ensures late { (m : Media) (n : ℕ) (anchor : ℤ) (gapped : Bool) (stamps : List ℕ)
+            → Times m n anchor gapped self.old stamps
+            → result ≡ below (read_of m n anchor gapped (length stamps)) (whole at) }
         ensures stands { (m : Media) (n : ℕ) (anchor : ℤ) (gapped : Bool) (stamps : List ℕ)
             → Times m n anchor gapped self.old stamps
             → Times m n anchor gapped self.new (stamps ++ at ∷ []) }
@@ -202,7 +208,9 @@ impl MarginMeter {
         self.own.advance();
         self.seen += 1;
         self.least = least;
-        self.late += u64::from(margin < 0);
+        let late = margin < 0;
+        self.late += u64::from(late);
+        late
     }
 
     /// The least margin, with this one.

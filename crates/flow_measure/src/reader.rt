@@ -1,15 +1,25 @@
 //! What the reads of one schedule say of a flow.
 
 ghost use Rattle.std.specs.Prelude.{◌≡◌, ◌<◌, ◌≤◌, ◌+◌, ◌^◌, ◌++◌, ◌∷◌, [], ℕ, ℤ, Bool, List, length};
-ghost use Rattle.std.specs.Prelude.{slice_index, pos, negsuc, ◌≤ℤ◌, MatchOption};
+ghost use Rattle.std.specs.Prelude.{slice_index, pos, negsuc, neg_ℤ, ◌≤ℤ◌, MatchOption};
 ghost use Rattle.timing_base.specs.Media.{Media};
 ghost use Rattle.sender_params.specs.Reads.{anchor_of};
 
 use crate::margin::{MarginMeter, Margins};
+use crate::numbers::Buffer;
 use crate::occupancy::occupancy_of;
 use crate::summary::{Summary, SummaryMeter};
 use read_schedule::Schedule;
 use sender_params::Params;
+
+/// What the buffer says of one packet.
+#[derive(Clone, Copy, Debug, PartialEq, Eq)]
+pub struct Held {
+    /// What it holds just after the packet came, in packets; below 0 where the reads are more.
+    pub occupancy: i128,
+    /// Whether the packet came after its own read.
+    pub late: bool,
+}
 
 /// The reads of one schedule and the packets so far of one flow: the occupancy and the margins of each.
 #[derive(Clone, Copy, Debug, PartialEq, Eq)]
@@ -24,8 +34,9 @@ pub struct ScheduleMeter {
 }
 
 impl ScheduleMeter {
-    ghost use Rattle.flow_measure.specs.Occupancy.{AreOccupancies, IsOccupancy, IsSlack, late_of};
+    ghost use Rattle.flow_measure.specs.Occupancy.{AreOccupancies, IsOccupancy, IsSlack, is_late, late_of};
     ghost use Rattle.flow_measure.specs.Followed.{CanFollow, Follows};
+    ghost use Rattle.flow_measure.specs.Run.{IsBuffer};
     ghost use Rattle.flow_measure.specs.Summary.{IsSummary};
 
     /// The meter of a flow whose first packet is of group `n0`, before that packet: of its gapped schedule
@@ -45,21 +56,27 @@ impl ScheduleMeter {
     }
 
     /// Takes in the packet that came at `at`, in nanoseconds of TAI, and answers what the buffer holds just
-    /// after it, below 0 where the reads are more.
+    /// after it, below 0 where the reads are more, and whether it came after its own read.
     ///
     /// Feed one meter with stamps that never fall, the first of them of the group that `new` was given: the
     /// clauses say nothing of others.
     #[inline(always)]
-    pub fn feed(&mut self, at: u64) -> i128
+    pub fn feed(&mut self, at: u64) -> Held
         requires in_time { at < 2 ^ 62 }
         requires few { self.old.seen < 2 ^ 41 }
         ensures seen { self.new.seen ≡ self.old.seen + 1 }
 
-        // Whatever packets the meter was fed, this is the occupancy of the next one, and it was now fed
-        // that one, too.
+        ensures low { neg_ℤ (pos (2 ^ 84)) ≤ℤ result.occupancy }
+        ensures high { result.occupancy ≤ℤ pos (2 ^ 84) }
+
+        // Whatever packets the meter was fed, this is said of the next one, and it was now fed that one,
+        // too.
         ensures occupancy { (m : Media) (n : ℕ) (anchor : ℤ) (gapped : Bool) (stamps : List ℕ)
             → Follows m n anchor gapped self.old stamps → CanFollow m anchor stamps at
-            → IsOccupancy m n (stamps ++ at ∷ []) gapped (length stamps) result }
+            → IsOccupancy m n (stamps ++ at ∷ []) gapped (length stamps) result.occupancy }
+        ensures late { (m : Media) (n : ℕ) (anchor : ℤ) (gapped : Bool) (stamps : List ℕ)
+            → Follows m n anchor gapped self.old stamps → CanFollow m anchor stamps at
+            → result.late ≡ is_late m n (stamps ++ at ∷ []) gapped (length stamps) }
         ensures stands { (m : Media) (n : ℕ) (anchor : ℤ) (gapped : Bool) (stamps : List ℕ)
             → Follows m n anchor gapped self.old stamps → CanFollow m anchor stamps at
             → Follows m n anchor gapped self.new (stamps ++ at ∷ []) }
@@ -67,9 +84,9 @@ impl ScheduleMeter {
         let due = self.schedule.advance(at);
         let occupancy = occupancy_of(self.seen, due);
         self.occupancy.feed(occupancy);
-        self.margins.feed(at);
+        let late = self.margins.feed(at);
         self.seen += 1;
-        occupancy
+        Held { occupancy, late }
     }
 
     /// The summary of the occupancies, if there is a packet.
@@ -79,6 +96,19 @@ impl ScheduleMeter {
             → MatchOption result (length stamps ≡ 0) (IsSummary occupancy (length stamps)) }
     {
         self.occupancy.finish()
+    }
+
+    /// What the buffer held, if there is a packet, where the first of them is of the group that `new` was
+    /// given.
+    pub fn finish(&self) -> Option<Buffer>
+        ensures { (m : Media) (n : ℕ) (gapped : Bool) (stamps : List ℕ) (occupancy : ℕ → ℤ)
+            → Follows m n (anchor_of m (slice_index stamps 0)) gapped self.now stamps
+            → AreOccupancies m n stamps gapped occupancy
+            → MatchOption result (length stamps ≡ 0) (IsBuffer m n stamps gapped occupancy) }
+    {
+        let occupancy = self.occupancy()?;
+        let margins = self.margins()?;
+        Some(Buffer { occupancy, margins })
     }
 
     /// The margins, if there is a packet.

@@ -1,6 +1,8 @@
-use Rattle.std.proofs.Common.{◌≡◌, ◌≤◌, ◌+◌, ◌++◌, ◌∷◌, [], length, FitsSigned, ap, ◌∙◌, sym, subst, rules, arith, length-append}
+use Rattle.std.proofs.Common.{◌≡◌, ◌≤◌, ◌+◌, ◌++◌, ◌∷◌, [], length, slice_index, FitsSigned, ap, ◌∙◌, sym, subst, rules, arith, length-append}
 use Rattle.std.proofs.lemmas.Int.{to_z-of_z}
 use Rattle.std.specs.Int.{w128}
+use Rattle.fraction128.specs.Fractions.{below, whole}
+use Rattle.sender_params.specs.Reads.{anchor_of, read_of}
 use Rattle.flow_measure.specs.Occupancy.{IsOccupancy}
 use Rattle.flow_measure.proofs.Followed.{anchor-is, last-is, occupancies-front, occupancy-here}
 use Rattle.flow_measure.proofs.Passes.{occupancy-once}
@@ -15,6 +17,14 @@ returns-clause-occupancy c = λ m n anchor gapped stamps h can.
     let fits : FitsSigned w128 x = search rules in
     let here = occupancy-here m n anchor gapped b stamps c.args.at c.advance-due.result x h can due c.occupancy_of-occupancy.ensures.value in
     subst (IsOccupancy m n (stamps ++ c.args.at ∷ []) gapped (length stamps)) (sym (to_z-of_z w128 x fits)) here
+
+pub returns-clause-late : goal.returns-clause-late
+returns-clause-late c = λ m n anchor gapped stamps h can.
+    let at = c.args.at in
+    let new = stamps ++ at ∷ [] in
+    c.feed-late.ensures.late m n anchor gapped stamps h.margins
+    ∙ ap (λ a. below (read_of m n a gapped (length stamps)) (whole at)) (anchor-is m n anchor gapped c.args.self.now stamps at h can)
+    ∙ ap (λ t. below (read_of m n (anchor_of m (slice_index new 0)) gapped (length stamps)) (whole t)) (sym (last-is stamps at))
 
 pub returns-clause-stands : goal.returns-clause-stands
 returns-clause-stands c = λ m n anchor gapped stamps h can.
@@ -38,5 +48,5 @@ returns-clause-stands c = λ m n anchor gapped stamps h can.
           let place : b.occupancy.seen ≡ length stamps = omega (arith, b.occupancy_is, h.seen) in
           c.feed.ensures.stands occupancy (h.occupancy occupancy (occupancies-front m n gapped stamps at occupancy are))
           (ap occupancy place ∙ last ∙ sym (to_z-of_z w128 x fits));
-      margins = c.feed-2.ensures.stands m n anchor gapped stamps h.margins;
+      margins = c.feed-late.ensures.stands m n anchor gapped stamps h.margins;
     }

@@ -1,0 +1,62 @@
+use Rattle.std.proofs.Common.{◌≡◌, ◌+◌, ◌++◌, ◌∷◌, [], true, false, length, None, FitsSigned, refl, ap, ◌∙◌, sym, rules, arith}
+use Rattle.std.proofs.Common.{length-append}
+use Rattle.std.proofs.lemmas.Int.{to_z-of_z}
+use Rattle.std.specs.Int.{w128}
+use Rattle.std.specs.List.{slice_index_or}
+use Rattle.timing_base.specs.declared.media.Kind.TheVariants.{N, NL, W}
+use Rattle.sender_params.specs.Limits.{c_max_of, vrx_full_of}
+use Rattle.sender_params.specs.Reads.{anchor_of}
+use Rattle.flow_measure.specs.Followed.{CanFollow}
+use Rattle.flow_measure.proofs.Packets.{listed-front, listed-last, packet-last, packets-front}
+use Rattle.flow_measure.proofs.meters.RunMeters.feed.Goals as goal
+
+pub returns-clause-stands : goal.returns-clause-stands
+returns-clause-stands c =
+    let s = c.args.self.now in
+    let m = c.args.params.now.media in
+    let n = c.args.params.now.n in
+    let at = c.args.at in
+    let rec = c.args.«record» in
+    let fits : FitsSigned w128 c.feed-bucket.result = search rules in
+    let narrow = simp to_z-of_z at c.feed.ensures.stands in
+    let narrow_linear = simp to_z-of_z at c.feed-2.ensures.stands in
+    let wide = simp to_z-of_z at c.feed-3.ensures.stands in
+    λ named origin stamps records timestamps h next.
+    let anchor = anchor_of m origin in
+    let count = c.feed-bucket.ensures.count origin stamps h.bucket next in
+    let can : CanFollow m anchor stamps at = record { first = λ none. ap (anchor_of m) (sym (next.first none)); later = next.later } in
+    let gapped = c.feed-gapped.ensures in
+    let linear = c.feed-linear.ensures in
+    let gapped_held = gapped.occupancy m n anchor true stamps h.gapped can in
+    let gapped_late = gapped.late m n anchor true stamps h.gapped can in
+    let linear_held = linear.occupancy m n anchor false stamps h.linear can in
+    let linear_late = linear.late m n anchor false stamps h.linear can in
+    let long : length (stamps ++ at ∷ []) ≡ length stamps + 1 = length-append stamps (at ∷ []) in
+    let records_long : length (records ++ rec ∷ []) ≡ length records + 1 = length-append records (rec ∷ []) in
+    let timestamps_long : length (timestamps ++ c.args.ticks ∷ []) ≡ length timestamps + 1 = length-append timestamps (c.args.ticks ∷ []) in
+    record {
+      seen = omega (arith, h.seen, long);
+      records_are = omega (arith, h.records_are, long, records_long);
+      timestamps_are = omega (arith, h.timestamps_are, long, timestamps_long);
+      bucket = c.feed-bucket.ensures.stands origin stamps h.bucket next;
+      gapped = gapped.stands m n anchor true stamps h.gapped can;
+      linear = linear.stands m n anchor false stamps h.linear can;
+      narrow = λ p are. narrow n (c_max_of m n N) (vrx_full_of m n N) (slice_index_or named 0 None) p
+          (h.narrow p (packets-front m n stamps records at rec N p are))
+          (packet-last m n stamps records at rec s.narrow.seen N p _ c.feed-bucket.result c.feed-gapped.result (s.narrow_is ∙ h.seen) h.records_are are
+          refl refl count gapped_held gapped_late);
+      narrow_linear = λ p are. narrow_linear n (c_max_of m n NL) (vrx_full_of m n NL) (slice_index_or named 1 None) p
+          (h.narrow_linear p (packets-front m n stamps records at rec NL p are))
+          (packet-last m n stamps records at rec s.narrow_linear.seen NL p _ c.feed-bucket.result c.feed-linear.result (s.narrow_linear_is ∙ h.seen)
+          h.records_are are refl refl count linear_held linear_late);
+      wide = λ p are. wide n (c_max_of m n W) (vrx_full_of m n W) (slice_index_or named 2 None) p
+          (h.wide p (packets-front m n stamps records at rec W p are))
+          (packet-last m n stamps records at rec s.wide.seen W p _ c.feed-bucket.result c.feed-linear.result (s.wide_is ∙ h.seen) h.records_are are
+          refl refl count linear_held linear_late);
+      groups = λ stamp timestamp a b. c.feed-4.ensures.stands n anchor stamp timestamp
+          (h.groups stamp timestamp (listed-front stamps at stamp a) (listed-front timestamps c.args.ticks timestamp b))
+          (listed-last stamps at s.groups.seen stamp (s.groups_are ∙ h.seen) a)
+          (listed-last timestamps c.args.ticks s.groups.seen timestamp (s.groups_are ∙ h.seen ∙ sym h.timestamps_are) b);
+      gaps = λ stamp a. c.feed-5.ensures.stands stamp (h.gaps stamp (listed-front stamps at stamp a))
+          (listed-last stamps at s.gaps.seen stamp (s.gaps_are ∙ h.seen) a);
+    }

@@ -1,0 +1,100 @@
+use Rattle.std.proofs.Common.{◌≡◌, ◌≤◌, true, false, MatchOption, length, slice_index, None, ◌∙◌, sym, subst, refl}
+use Rattle.std.specs.List.{slice_index_or}
+use Rattle.timing_base.specs.declared.media.Kind.TheVariants.{N, NL, W}
+use Rattle.sender_params.specs.Limits.{c_max_of, vrx_full_of}
+use Rattle.sender_params.specs.Reads.{anchor_of}
+use Rattle.flow_measure.specs.Fed.{MeasuresGroups}
+use Rattle.flow_measure.specs.Followed.{Follows}
+use Rattle.flow_measure.specs.Gaps.{AreGapsOf}
+use Rattle.flow_measure.specs.Kinds.{AreKindNumbers}
+use Rattle.flow_measure.specs.Run.{IsMeasured, packets_of}
+use Rattle.flow_measure.proofs.Packets.{none-of, occupancies, packets-are}
+use Rattle.flow_measure.proofs.meters.RunMeters.finish.Goals as goal
+
+pub returns-in_err-bucket : goal.returns-in_err-bucket
+returns-in_err-bucket c = λ groups named origin stamps records timestamps h whole.
+    let p = c.args.params.now in
+    let empty = none-of p.n groups (length stamps) p.n_some whole (c.in_err-bucket.ensures p origin stamps h.bucket) in
+    subst (λ o. MatchOption o (groups ≡ 0) (IsMeasured p.media p.n groups stamps records timestamps named)) (sym c.from_residual.ensures) empty
+
+pub returns-in_err-gapped : goal.returns-in_err-gapped
+returns-in_err-gapped c = λ groups named origin stamps records timestamps h whole.
+    let s = c.args.self.now in
+    let p = c.args.params.now in
+    let first = (c.in_ok-bucket.ensures p origin stamps h.bucket).some in
+    let follows = subst (λ a. Follows p.media p.n a true s.gapped stamps) (h.gapped.anchor_is first) h.gapped in
+    let o = occupancies p.media p.n stamps true p.media_is p.n_some in
+    let empty = none-of p.n groups (length stamps) p.n_some whole (c.in_err-gapped.ensures p.media p.n true stamps o.0 follows o.1) in
+    subst (λ o. MatchOption o (groups ≡ 0) (IsMeasured p.media p.n groups stamps records timestamps named))
+    (sym c.from_residual-in_err-gapped.ensures) empty
+
+pub returns-in_err-linear : goal.returns-in_err-linear
+returns-in_err-linear c = λ groups named origin stamps records timestamps h whole.
+    let s = c.args.self.now in
+    let p = c.args.params.now in
+    let first = (c.in_ok-bucket.ensures p origin stamps h.bucket).some in
+    let follows = subst (λ a. Follows p.media p.n a false s.linear stamps) (h.linear.anchor_is first) h.linear in
+    let o = occupancies p.media p.n stamps false p.media_is p.n_some in
+    let empty = none-of p.n groups (length stamps) p.n_some whole (c.in_err-linear.ensures p.media p.n false stamps o.0 follows o.1) in
+    subst (λ o. MatchOption o (groups ≡ 0) (IsMeasured p.media p.n groups stamps records timestamps named))
+    (sym c.from_residual-in_err-linear.ensures) empty
+
+pub returns-in_err-groups : goal.returns-in_err-groups
+returns-in_err-groups c = λ groups named origin stamps records timestamps h whole.
+    let s = c.args.self.now in
+    let p = c.args.params.now in
+    let fed = h.groups (slice_index stamps) (slice_index timestamps) (λ i few. refl) (λ i few. refl) in
+    let empty = c.in_err-groups.ensures p.media p.n (anchor_of p.media origin) groups (slice_index stamps) (slice_index timestamps) fed
+    (s.groups_are ∙ h.seen ∙ whole) in
+    subst (λ o. MatchOption o (groups ≡ 0) (IsMeasured p.media p.n groups stamps records timestamps named))
+    (sym c.from_residual-in_err-groups.ensures) empty
+
+pub returns : goal.returns
+returns c = λ groups named origin stamps records timestamps h whole.
+    let s = c.args.self.now in
+    let p = c.args.params.now in
+    let m = p.media in
+    let n = p.n in
+    let stamp = slice_index stamps in
+    let timestamp = slice_index timestamps in
+    let bucket = c.in_ok-bucket.ensures p origin stamps h.bucket in
+    let anchor = h.gapped.anchor_is bucket.some in
+    let gapped_follows = subst (λ a. Follows m n a true s.gapped stamps) anchor h.gapped in
+    let linear_follows = subst (λ a. Follows m n a false s.linear stamps) anchor h.linear in
+    let g = occupancies m n stamps true p.media_is p.n_some in
+    let l = occupancies m n stamps false p.media_is p.n_some in
+    let fed = subst (λ a. MeasuresGroups m n a s.groups stamp timestamp) anchor (h.groups stamp timestamp (λ i few. refl) (λ i few. refl)) in
+    let numbers = c.in_ok-groups.ensures m n (anchor_of m (slice_index stamps 0)) groups stamp timestamp fed (s.groups_are ∙ h.seen ∙ whole) in
+    let narrow = c.finish-5.ensures n (c_max_of m n N) (vrx_full_of m n N) groups (slice_index_or named 0 None)
+    (packets_of m n stamps records g.0 N) (h.narrow (packets_of m n stamps records g.0 N) (packets-are m n stamps records g.0 N g.1))
+    (s.narrow_is ∙ h.seen ∙ whole) in
+    let narrow_linear = c.finish-6.ensures n (c_max_of m n NL) (vrx_full_of m n NL) groups (slice_index_or named 1 None)
+    (packets_of m n stamps records l.0 NL) (h.narrow_linear (packets_of m n stamps records l.0 NL) (packets-are m n stamps records l.0 NL l.1))
+    (s.narrow_linear_is ∙ h.seen ∙ whole) in
+    let wide = c.finish-7.ensures n (c_max_of m n W) (vrx_full_of m n W) groups (slice_index_or named 2 None)
+    (packets_of m n stamps records l.0 W) (h.wide (packets_of m n stamps records l.0 W) (packets-are m n stamps records l.0 W l.1))
+    (s.wide_is ∙ h.seen ∙ whole) in
+    record {
+      whole = whole;
+      gapped_at = g.0;
+      linear_at = l.0;
+      bucket = bucket;
+      gapped = c.in_ok-gapped.ensures m n true stamps g.0 gapped_follows g.1;
+      linear = c.in_ok-linear.ensures m n false stamps l.0 linear_follows l.1;
+      kinds = (
+        subst (λ k. AreKindNumbers n groups k (c_max_of m n N) (vrx_full_of m n N) (slice_index_or named 0 None)
+            (packets_of m n stamps records g.0 N) c.finish-5.result) (s.narrow_is ∙ h.seen) narrow,
+        subst (λ k. AreKindNumbers n groups k (c_max_of m n NL) (vrx_full_of m n NL) (slice_index_or named 1 None)
+            (packets_of m n stamps records l.0 NL) c.finish-6.result) (s.narrow_linear_is ∙ h.seen) narrow_linear,
+        subst (λ k. AreKindNumbers n groups k (c_max_of m n W) (vrx_full_of m n W) (slice_index_or named 2 None)
+            (packets_of m n stamps records l.0 W) c.finish-7.result) (s.wide_is ∙ h.seen) wide,
+      );
+      first = numbers.first;
+      last = numbers.last;
+      target = c.target_of.ensures;
+      step = numbers.step;
+      offset = numbers.offset;
+      latency = numbers.latency;
+      gap = subst (λ k. MatchOption c.finish-8.result (k ≤ 1) (AreGapsOf stamp k)) (s.gaps_are ∙ h.seen)
+          (c.finish-8.ensures stamp (h.gaps stamp (λ i few. refl)));
+    }

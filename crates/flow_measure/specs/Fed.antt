@@ -1,0 +1,66 @@
+-- What the meters of a run's parts say of the packets that they were fed, which are counted from 0.
+use Rattle.std.specs.Prelude.{◌≡◌, ◌<◌, ◌-◌, ℕ, ℤ, pos, Option}
+use Rattle.timing_base.specs.Media.{Media}
+use Rattle.flow_measure.specs.Bins.{is_above}
+use Rattle.flow_measure.specs.First.{IsFirst}
+use Rattle.flow_measure.specs.Gaps.{gap_after}
+use Rattle.flow_measure.specs.Groups.{firsts_of, lasts_of, latency_at, offset_at, since_at, step_after}
+use Rattle.flow_measure.specs.Kinds.{Packets, breaks, place_below}
+use Rattle.flow_measure.specs.Stands.{Classifies, Counts, CountsBroken, Summarizes}
+use Rattle.flow_measure.specs.declared.firsts.FirstMeter.{FirstMeter}
+use Rattle.flow_measure.specs.declared.gaps.GapMeter.{GapMeter}
+use Rattle.flow_measure.specs.declared.group_meter.GroupMeter.{GroupMeter}
+use Rattle.flow_measure.specs.declared.kind.KindMeter.{KindMeter}
+use Rattle.flow_measure.specs.declared.numbers.Place.{Place}
+use Rattle.flow_measure.specs.declared.reader.Held.{Held}
+use Rattle.flow_measure.specs.declared.steps.StepMeter.{StepMeter}
+
+-- the meter was fed packets with these stamps
+pub record MeasuresGaps (meter : GapMeter) (stamp : ℕ → ℕ) : Type 0 where
+  pub last : 0 < meter.seen → meter.last ≡ stamp (meter.seen - 1)
+  pub summary : Summarizes meter.summary (λ i. pos (gap_after stamp i))
+  pub classes : Classifies meter.classes (gap_after stamp)
+
+-- the meter was fed groups with these timestamps
+pub record MeasuresSteps (meter : StepMeter) (timestamp : ℕ → ℕ) : Type 0 where
+  pub last : 0 < meter.seen → meter.last ≡ timestamp (meter.seen - 1)
+  pub summary : Summarizes meter.summary (step_after timestamp)
+
+-- the meter was fed groups whose first packets have these stamps and timestamps
+pub record MeasuresFirsts (m : Media) (anchor : ℤ) (meter : FirstMeter) (stamp timestamp : ℕ → ℕ) : Type 0 where
+  pub first : Summarizes meter.first (since_at m anchor stamp)
+  pub offset : Summarizes meter.offset (offset_at m anchor timestamp)
+  pub latency : Summarizes meter.latency (latency_at stamp timestamp)
+  pub step : MeasuresSteps meter.step timestamp
+
+-- the meter, of groups of n packets, was fed packets with these stamps and timestamps
+pub record MeasuresGroups (m : Media) (n : ℕ) (anchor : ℤ) (meter : GroupMeter) (stamp timestamp : ℕ → ℕ)
+    : Type 0 where
+  pub n_is : meter.n ≡ n
+  pub anchor_is : meter.n0 ≡ anchor
+  pub firsts : MeasuresFirsts m anchor meter.firsts (firsts_of n stamp) (firsts_of n timestamp)
+  pub last : Summarizes meter.last (since_at m anchor (lasts_of n stamp))
+
+-- packet i is so, where the type has these limits
+pub record IsPacket (c_max full : ℕ) (p : Packets) (i : ℕ) (place : Place) (bucket : ℤ) (held : Held) : Type 0 where
+  pub bucket_is : p.bucket i ≡ bucket
+  pub occupancy_is : p.occupancy i ≡ held.occupancy
+  pub overfull_is : p.overfull i ≡ is_above c_max bucket
+  pub over_is : p.over i ≡ is_above full held.occupancy
+  pub empty_is : p.empty i ≡ held.late
+  pub rec_is : p.rec i ≡ place.«record»
+  pub stamp_is : p.stamp i ≡ place.stamp
+
+-- the meter, of a type with these limits and groups of n packets, was fed these packets
+pub record MeasuresKind (n c_max full : ℕ) (to : Option ℕ) (meter : KindMeter) (p : Packets) : Type 0 where
+  pub n_is : meter.broken.n ≡ n
+  pub c_max_is : meter.bucket.limit ≡ c_max
+  pub full_is : meter.buffer.limit ≡ full
+  pub to_is : meter.to ≡ to
+  pub bucket : Counts meter.bucket p.bucket
+  pub buffer : Counts meter.buffer p.occupancy
+  pub broken : CountsBroken meter.broken (breaks p)
+  pub first_bucket : IsFirst p.overfull meter.seen meter.first_bucket
+  pub first_over : IsFirst p.over meter.seen meter.first_over
+  pub first_empty : IsFirst p.empty meter.seen meter.first_empty
+  pub named : meter.named ≡ place_below p.rec p.stamp meter.seen to

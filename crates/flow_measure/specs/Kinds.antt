@@ -1,0 +1,48 @@
+-- How near the packets of one flow come to the limits of one sender type, and how often they break them (SMPTE
+-- ST 2110-21). Packets are counted from 0, `count` says how many there are, and n is the number of packets in a group.
+use Rattle.std.specs.Prelude.{◌≡◌, ℕ, ℤ, Bool, ◌||◌, cond, nat_lt, Option, Some, None}
+use Rattle.flow_measure.specs.Broken.{broken_groups}
+use Rattle.flow_measure.specs.First.{IsFirst}
+use Rattle.flow_measure.specs.Stands.{Counts}
+use Rattle.flow_measure.specs.declared.bins.Bins.{Bins}
+use Rattle.flow_measure.specs.declared.numbers.KindNumbers.{KindNumbers}
+use Rattle.flow_measure.specs.declared.numbers.Place.{Place}
+
+-- what is known of each packet
+pub record Packets : Type 0 where
+  -- what the bucket and the buffer of the type hold just after it came
+  pub bucket : ℕ → ℤ
+  pub occupancy : ℕ → ℤ
+  -- whether the bucket then holds more than C_MAX, the buffer more than VRX_FULL, and its own read found nothing
+  pub overfull : ℕ → Bool
+  pub over : ℕ → Bool
+  pub empty : ℕ → Bool
+  -- the record in the capture, counted from 1, and the stamp in nanoseconds
+  pub rec : ℕ → ℕ
+  pub stamp : ℕ → ℕ
+
+-- a packet breaks a model
+abbrev pub breaks : Packets → ℕ → Bool
+breaks p i = (p.overfull i || p.over i) || p.empty i
+
+-- the bins have the first `count` numbers, up to this limit
+pub record AreBinsOf (limit : ℕ) (numbers : ℕ → ℤ) (count : ℕ) (b : Bins) : Type 0 where
+  pub limit_is : b.limit ≡ limit
+  pub seen : b.seen ≡ count
+  pub counts : Counts b numbers
+
+-- where a packet stands, if one is named that is among the first `count`
+abbrev pub place_below : (rec stamp : ℕ → ℕ) → (count : ℕ) → Option ℕ → Option Place
+place_below rec stamp count None = None
+place_below rec stamp count (Some i) = cond (nat_lt i count) (Some record { «record» = rec i; stamp = stamp i }) None
+
+-- the numbers of the type, where it has these limits and packet `named` is asked for
+pub record AreKindNumbers (n groups count c_max full : ℕ) (named : Option ℕ) (p : Packets) (k : KindNumbers)
+    : Type 0 where
+  pub groups_broken : k.groups_broken ≡ broken_groups n (breaks p) groups
+  pub bucket : AreBinsOf c_max p.bucket count k.bucket
+  pub buffer : AreBinsOf full p.occupancy count k.buffer
+  pub first_bucket : IsFirst p.overfull count k.first_bucket
+  pub first_over : IsFirst p.over count k.first_over
+  pub first_empty : IsFirst p.empty count k.first_empty
+  pub named_is : k.named ≡ place_below p.rec p.stamp count named
