@@ -4,6 +4,7 @@ pub mod Columns
 pub mod Counts
 pub mod Bins
 pub mod Classes
+pub mod Told
 pub mod Occupancy
 pub mod Frames
 pub mod Broken
@@ -18,7 +19,6 @@ pub mod Filled
 pub mod Metered
 pub mod Run
 pub mod RunStands
-pub mod Told
 -- numbers that are worked by hand
 pub mod Worked
 -- these only serve proofs

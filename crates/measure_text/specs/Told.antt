@@ -1,0 +1,127 @@
+-- What is told of a measured flow: its numbers, with bins and classes as lists of their counts. Units and meanings are
+-- those of the fields of `MeasuredFlow`, `MeasuredRun`, `RunNumbers`, `KindNumbers` and `Bins`, which have these names.
+use Rattle.std.specs.Prelude.{ℕ, List, map, Option, option_map}
+use Rattle.timing_base.specs.Verdicts.{Judged}
+use Rattle.timing_base.specs.declared.row.Verdict.{Verdict}
+use Rattle.flow_measure.specs.Told.{bin_counts, class_counts}
+use Rattle.flow_measure.specs.declared.bins.Bins.{Bins}
+use Rattle.flow_measure.specs.declared.numbers.Buffer.{Buffer}
+use Rattle.flow_measure.specs.declared.numbers.Gaps.{Gaps}
+use Rattle.flow_measure.specs.declared.numbers.KindNumbers.{KindNumbers}
+use Rattle.flow_measure.specs.declared.numbers.MeasuredFlow.{MeasuredFlow}
+use Rattle.flow_measure.specs.declared.numbers.MeasuredRun.{MeasuredRun}
+use Rattle.flow_measure.specs.declared.numbers.Place.{Place}
+use Rattle.flow_measure.specs.declared.numbers.RunNumbers.{RunNumbers}
+use Rattle.flow_measure.specs.declared.summary.Summary.{Summary}
+
+-- how often numbers come, up to a limit
+pub record ToldBins : Type 0 where
+  pub limit : ℕ
+  pub width : ℕ
+  pub counts : List ℕ
+  pub above : ℕ
+  pub below : ℕ
+
+-- where in a capture a packet stands
+pub record ToldPlace : Type 0 where
+  pub rec : ℕ
+  pub stamp : ℕ
+
+-- how near a run comes to the limits of a type, and how often it breaks them
+pub record ToldKind : Type 0 where
+  pub groups_broken : ℕ
+  pub bucket : ToldBins
+  pub buffer : ToldBins
+  pub first_bucket : Option ℕ
+  pub first_over : Option ℕ
+  pub first_empty : Option ℕ
+  pub named : Option ToldPlace
+
+-- the times from each packet to the next
+pub record ToldGaps : Type 0 where
+  pub summary : Summary
+  pub classes : List ℕ
+
+-- the numbers of a run
+pub record ToldNumbers : Type 0 where
+  pub bucket : Summary
+  pub gapped : Buffer
+  pub linear : Buffer
+  -- of the types N, NL and W
+  pub kinds : List ToldKind
+  pub first : Summary
+  pub last : Summary
+  pub target : ℕ
+  pub step : Option Summary
+  pub offset : Summary
+  pub latency : Summary
+  pub gap : Option ToldGaps
+
+-- a judged run
+pub record ToldRun : Type 0 where
+  pub run : ℕ
+  pub rec : ℕ
+  pub number : ℕ
+  pub judged : Judged
+  pub numbers : ToldNumbers
+
+-- a flow, and its judged runs
+pub record ToldFlow : Type 0 where
+  pub media : ℕ
+  pub packets : ℕ
+  pub ssrc : Option ℕ
+  pub verdict : Verdict
+  pub runs : List ToldRun
+
+abbrev pub bins_told : Bins → ToldBins
+bins_told b = record { limit = b.limit; width = b.width; counts = bin_counts b; above = b.above; below = b.below }
+
+abbrev pub place_told : Place → ToldPlace
+place_told p = record { rec = p.«record»; stamp = p.stamp }
+
+abbrev pub kind_told : KindNumbers → ToldKind
+kind_told k = record {
+  groups_broken = k.groups_broken;
+  bucket = bins_told k.bucket;
+  buffer = bins_told k.buffer;
+  first_bucket = k.first_bucket;
+  first_over = k.first_over;
+  first_empty = k.first_empty;
+  named = option_map place_told k.named;
+}
+
+abbrev pub gaps_told : Gaps → ToldGaps
+gaps_told g = record { summary = g.summary; classes = class_counts g.classes }
+
+abbrev pub numbers_told : RunNumbers → ToldNumbers
+numbers_told n = record {
+  bucket = n.bucket;
+  gapped = n.gapped;
+  linear = n.linear;
+  kinds = map kind_told n.kinds;
+  first = n.first;
+  last = n.last;
+  target = n.target;
+  step = n.step;
+  offset = n.offset;
+  latency = n.latency;
+  gap = option_map gaps_told n.gap;
+}
+
+abbrev pub run_told : MeasuredRun → ToldRun
+run_told r = record {
+  run = r.run;
+  rec = r.«record»;
+  number = r.number;
+  judged = r.judged;
+  numbers = numbers_told r.numbers;
+}
+
+abbrev pub flow_told : MeasuredFlow → ToldFlow
+flow_told f = record {
+  media = f.media;
+  packets = f.packets;
+  ssrc = f.ssrc;
+  verdict = f.verdict;
+  runs = map run_told f.runs;
+}
