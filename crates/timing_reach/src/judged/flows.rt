@@ -10,7 +10,7 @@ ghost use Rattle.pcap_reader.specs.Taken.{TakesFew};
 ghost use Rattle.pcapng_reader.specs.Classic.{classic_texts};
 ghost use Rattle.timing_steps.specs.Answers.{OnReadFault};
 ghost use Rattle.udp_rtp.specs.Flow.{flow_packet};
-ghost use Rattle.timing_reach.specs.judged.Flows.{TakesIn};
+ghost use Rattle.timing_reach.specs.judged.Flows.{TakesIn, next_of};
 
 use crate::judged::captures::take_capture;
 use pcap_reader::Taker;
@@ -66,7 +66,9 @@ struct FlowOf<F: Drop> {
 }
 
 /// What the packet behind this one reads as, where it goes on in the same frame or field.
-fn next_of(packet: &FlowPacket) -> Option<Rtp> {
+fn next_of(packet: &FlowPacket) -> Option<Rtp>
+    ensures { result ≡ next_of packet.now.rtp }
+{
     match packet.rtp {
         Ok(rtp) if !rtp.marker => Some(Rtp {
             number: rtp.number.wrapping_add(1),
