@@ -1,8 +1,9 @@
 -- Texts that are cut at a byte: what stands before its first place, and after it.
-use Rattle.std.proofs.Common.{◌≡◌, ◌≢◌, ◌∙◌, ℕ, zero, suc, ◌+◌, ◌<◌, Bool, true, false, ◌==◌, ◌&&◌, List, [], ◌∷◌, ◌++◌, length, get_or, refl, sym, ap, arith, take, drop}
+use Rattle.std.proofs.Common.{◌≡◌, ◌≢◌, ◌∙◌, ℕ, zero, suc, ◌+◌, ◌<◌, Bool, true, false, ◌==◌, ◌&&◌, List, [], ◌∷◌, ◌++◌, length, get_or, refl, sym}
+use Rattle.std.proofs.Common.{ap, arith, take, drop}
 use Rattle.std.specs.Prelude.{not}
-use Rattle.std.specs.List.{list_all, list_any, slice_split, before_first, after_first, position_or_len}
-use Rattle.std.proofs.lemmas.List.{take_at, drop_at, take_all, drop_all, append_assoc, get_or_append_left, get_or_at, length_push}
+use Rattle.std.specs.List.{list_all, slice_split, position_or_len}
+use Rattle.std.proofs.lemmas.List.{take_at, drop_at, take_all, append_assoc, get_or_append_left, get_or_at, length_push}
 use Rattle.std.proofs.lemmas.List.Sums.{position_or_len_is}
 use Rattle.std.proofs.lemmas.Bool.Decides.{nat_tests}
 use Rattle.std.proofs.lemmas.Grind.{common_steps}

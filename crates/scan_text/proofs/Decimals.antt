@@ -1,6 +1,7 @@
 -- Decimal numbers, as a description reads them.
-use Rattle.std.proofs.Common.{◌≡◌, ◌≢◌, ◌∙◌, ℕ, ◌+◌, ◌-◌, ◌*◌, ◌/◌, ◌%◌, ◌^◌, ◌<◌, ◌≤◌, Bool, true, false, ◌==◌, ◌&&◌, List, [], ◌∷◌, ◌++◌, length, refl, sym, ap, ap₂, arith, Some, None}
-use Rattle.std.specs.Prelude.{fold, if◌then◌else◌, nat_le, not, Option}
+use Rattle.std.proofs.Common.{◌≡◌, ◌≢◌, ◌∙◌, ℕ, ◌+◌, ◌-◌, ◌*◌, ◌%◌, ◌^◌, ◌<◌, ◌≤◌, Bool, true, false, ◌==◌, ◌&&◌, [], ◌∷◌, length, refl, ap, ap₂}
+use Rattle.std.proofs.Common.{arith, Some, None}
+use Rattle.std.specs.Prelude.{if◌then◌else◌, nat_le, not}
 use Rattle.std.specs.Option.{option_and_then}
 use Rattle.std.specs.Fmt.{decimal}
 use Rattle.std.specs.List.{list_all}
@@ -37,7 +38,8 @@ at_most a b h = grind (arith, nat_tests)
 
 digits-are : (n : ℕ) → n < 2 ^ 64 → list_all is_digit (decimal n) ≡ true
 digits-are n small =
-    digits-all is_digit (λ d l. and_true (nat_le 48 (48 + d)) (nat_le (48 + d) 57) (at_most 48 (48 + d) (omega arith)) (at_most (48 + d) 57 (omega (arith, l)))) n small
+    digits-all is_digit (λ d l. and_true (nat_le 48 (48 + d)) (nat_le (48 + d) 57) (at_most 48 (48 + d) (omega arith))
+    (at_most (48 + d) 57 (omega (arith, l)))) n small
 
 value-is : (n : ℕ) → n < 2 ^ 64 → value_of (decimal n) ≡ n
 value-is n small =

@@ -1,5 +1,6 @@
 -- A draft has no fault, its parts are its videos, and what is read of them is what they were written from.
-use Rattle.std.proofs.Common.{◌≡◌, ◌∙◌, ℕ, ◌+◌, ◌-◌, ◌*◌, ◌/◌, ◌%◌, ◌^◌, ◌<◌, ◌≤◌, Bool, true, false, ◌==◌, ◌&&◌, ◌||◌, List, [], ◌∷◌, ◌++◌, length, drop, map, refl, sym, ap, ap₂, arith, codes}
+use Rattle.std.proofs.Common.{◌≡◌, ◌∙◌, ℕ, ◌+◌, ◌*◌, ◌/◌, ◌%◌, ◌^◌, ◌<◌, ◌≤◌, Bool, true, false, ◌==◌, ◌&&◌, ◌||◌, List, [], ◌∷◌, ◌++◌, length, map}
+use Rattle.std.proofs.Common.{refl, sym, ap, ap₂, arith, codes}
 use Rattle.std.proofs.Common.{Some, None, Option, Ok, Err, length-append}
 use Rattle.std.specs.Prelude.{All, if◌then◌else◌, not, nat_lt, nat_le, is_some, is_none}
 use Rattle.std.specs.Char.{is_ascii_lowercase}
@@ -16,11 +17,13 @@ use Rattle.timing_base.specs.Media.{Media}
 use Rattle.timing_base.specs.declared.target.Target.{Target}
 use Rattle.sdp_reader.proofs.Items.{filter_map-cons}
 use Rattle.sdp_reader.specs.Parameters.{Item, at_most_one, item_faults, repeated_faults, unless, value_rate, value_size}
-use Rattle.sdp_reader.specs.Parts.{Part, RawPart, connection_line as connection_of, media_from as media_found, media_of as media_of_part, media_with as media_built, own_lines}
+use Rattle.sdp_reader.specs.Parts.{Part, RawPart, connection_line as connection_of, media_from as media_found, media_of as media_of_part}
+use Rattle.sdp_reader.specs.Parts.{media_with as media_built, own_lines}
 use Rattle.sdp_reader.specs.Parts.{connection_faults, is_missing, is_raw_map, part_faults, parts, raw_of, raw_part, raw_with}
 use Rattle.sdp_reader.specs.Session.{answer, destination_of, faults, first_too_many, have_one_target, raw_faults, raw_parts, session, streams}
 use Rattle.sdp_reader.specs.Session.{target_at, target_faults, too_many_faults, unless_fault}
-use Rattle.sdp_reader.specs.declared.fault.SdpCause.TheVariants.{BadAddress, BadLine, BadMedia, BadParameter, BadRate, MissingParameter, NotText, SameTarget, TooLarge}
+use Rattle.sdp_reader.specs.declared.fault.SdpCause.TheVariants.{BadAddress, BadLine, BadMedia, BadParameter, BadRate, MissingParameter, NotText}
+use Rattle.sdp_reader.specs.declared.fault.SdpCause.TheVariants.{SameTarget, TooLarge}
 use Rattle.sdp_reader.specs.declared.fault.SdpFault.{SdpFault}
 use Rattle.scan_text.specs.Draft.{connection_line, draft_text, has_target, interlace_text, is_multicast, map_line, media_line, octets_text}
 use Rattle.scan_text.specs.Draft.{parameter_line, session_text, video_text}
@@ -32,7 +35,8 @@ use Rattle.scan_text.proofs.Cutting.{both_true}
 use Rattle.scan_text.proofs.Decimals.{at_most}
 use Rattle.scan_text.proofs.DraftLines.{body_lines, connection_text, inner-parameter, is_inner, line_at, lines-draft, list_text, map_text, media_text}
 use Rattle.scan_text.proofs.DraftLines.{parameter_text, reads-connection, reads-map, reads-media, session_lines, video_lines}
-use Rattle.scan_text.proofs.DraftParts.{ExactFrameRate, Given, Height, Interlace, Name, Rate, Video, Width, fields_text, interlace_items, item_with, items_found, parameters-are, rate_found, read-address, read-video}
+use Rattle.scan_text.proofs.DraftParts.{ExactFrameRate, Given, Height, Interlace, Rate, Video, Width, fields_text, interlace_items, item_with}
+use Rattle.scan_text.proofs.DraftParts.{items_found, parameters-are, rate_found, read-address, read-video}
 use Rattle.scan_text.proofs.DraftParts.{reads-raw, value-height, value-ratio, value-width, video_found}
 
 -- ---- parts
@@ -148,10 +152,12 @@ videos-clean n [] are = refl
 videos-clean n (v ∷ rest) are =
     let d = All-head IsDrafted v rest are in
     five-none (line_faults (line_at n (media_text v))) (line_faults (line_at (n + 1) (connection_text v))) (line_faults (line_at (n + 2) (map_text v)))
-    (line_faults (line_at (n + 3) (parameter_text v))) (flat_map line_faults (video_lines (n + 4) rest)) (line-clean n (media_text v) (reads-media v d).inner (begun 109 (fields_text v) refl) (media-good n v d))
+    (line_faults (line_at (n + 3) (parameter_text v))) (flat_map line_faults (video_lines (n + 4) rest))
+    (line-clean n (media_text v) (reads-media v d).inner (begun 109 (fields_text v) refl) (media-good n v d))
     (line-clean (n + 1) (connection_text v) (reads-connection v d).inner (begun 99 (codes "IN IP4 " ++ octets_text v.target.address) refl) refl)
     (line-clean (n + 2) (map_text v) (reads-map v d).inner (begun 97 (codes "rtpmap:" ++ (decimal v.pt ++ codes " raw/90000")) refl) refl)
-    (line-clean (n + 3) (parameter_text v) (inner-parameter v d) (begun 97 (codes "fmtp:" ++ (decimal v.pt ++ (codes " " ++ list_text v))) refl) refl) (videos-clean (n + 4) rest (All-tail IsDrafted v rest are))
+    (line-clean (n + 3) (parameter_text v) (inner-parameter v d) (begun 97 (codes "fmtp:" ++ (decimal v.pt ++ (codes " " ++ list_text v))) refl) refl)
+    (videos-clean (n + 4) rest (All-tail IsDrafted v rest are))
 
 -- ---- faults of parts
 
@@ -179,7 +185,8 @@ part-clean n v d =
     let items = items_found line v in
     four-none (connection_faults n (Some (line_at (n + 1) (connection_text v)))) (at n MissingParameter (is_missing items)) (flat_map item_faults items)
     (repeated_faults items) (ap (λ a. at (n + 1) BadAddress (is_none a)) (read-address (n + 1) v.target.address d.address)) refl
-    (items-clean line (decimal v.width) (decimal v.height) (ratio_text v.rate) v.interlaced (ap is_some (value-width line v d)) (ap is_some (value-height line v d))
+    (items-clean line (decimal v.width) (decimal v.height) (ratio_text v.rate) v.interlaced (ap is_some (value-width line v d))
+    (ap is_some (value-height line v d))
     (ap is_some (value-ratio line v d)))
     (repeats-none line (decimal v.width) (decimal v.height) (ratio_text v.rate) v.interlaced)
 
@@ -239,7 +246,8 @@ not-many n videos few =
 
 raw-clean : (videos : List DraftVideo) → All IsDrafted videos → HaveOwnTargets videos → length videos ≤ 64 → raw_faults (raws_found 5 videos) ≡ []
 raw-clean videos are own few =
-    ap₂ (λ (a : List SdpFault) (ds : List Destination). a ++ (target_faults ds ++ too_many_faults ds)) (parts-clean 5 videos are) (destinations-are 5 videos are)
+    ap₂ (λ (a : List SdpFault) (ds : List Destination). a ++ (target_faults ds ++ too_many_faults ds)) (parts-clean 5 videos are)
+    (destinations-are 5 videos are)
     ∙ ap₂ (λ (a b : List SdpFault). a ++ b) (targets-clean 5 videos own) (not-many 5 videos few)
 
 faults-none : (videos : List DraftVideo) → All IsDrafted videos → HaveOwnTargets videos → length videos ≤ 64
@@ -342,7 +350,8 @@ short-media v d =
     short-append 8 40 50 (codes "m=video ") _ (omega arith)
     (short-append 10 30 40 (decimal v.target.port) _ (short-decimal v.target.port (omega (arith, d.port)))
     (short-append 9 20 30 (codes " RTP/AVP ") _ (omega arith)
-    (short-append 10 1 20 (decimal v.pt) (codes "\n") (short-decimal v.pt (omega (arith, d.pt))) (record { most = omega arith }) (omega arith)) (omega arith)) (omega arith))
+    (short-append 10 1 20 (decimal v.pt) (codes "\n") (short-decimal v.pt (omega (arith, d.pt))) (record { most = omega arith })
+    (omega arith)) (omega arith)) (omega arith))
     (omega arith)
 
 short-octets : (a : ℕ) → a < 2 ^ 32 → Short 60 (octets_text a)
@@ -359,13 +368,15 @@ short-octets a small =
 short-connection : (v : DraftVideo) → IsDrafted v → Short 80 (connection_line v)
 short-connection v d =
     short-append 9 61 80 (codes "c=IN IP4 ") _ (omega arith)
-    (short-append 60 1 61 (octets_text v.target.address) (codes "\n") (short-octets v.target.address d.address).most (record { most = omega arith }) (omega arith))
+    (short-append 60 1 61 (octets_text v.target.address) (codes "\n") (short-octets v.target.address d.address).most (record { most = omega arith })
+    (omega arith))
     (omega arith)
 
 short-map : (v : DraftVideo) → IsDrafted v → Short 40 (map_line v)
 short-map v d =
     short-append 9 30 40 (codes "a=rtpmap:") _ (omega arith)
-    (short-append 10 20 30 (decimal v.pt) (codes " raw/90000\n") (short-decimal v.pt (omega (arith, d.pt))) (record { most = omega arith }) (omega arith)) (omega arith)
+    (short-append 10 20 30 (decimal v.pt) (codes " raw/90000\n") (short-decimal v.pt (omega (arith, d.pt))) (record { most = omega arith })
+    (omega arith)) (omega arith)
 
 short-parameter : (v : DraftVideo) → IsDrafted v → Short 130 (parameter_line v)
 short-parameter v d =

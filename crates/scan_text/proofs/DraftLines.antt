@@ -1,15 +1,16 @@
 -- The lines of a draft.
-use Rattle.std.proofs.Common.{◌≡◌, ◌∙◌, ℕ, ◌+◌, ◌*◌, ◌/◌, ◌%◌, ◌^◌, ◌<◌, ◌≤◌, Bool, true, false, ◌==◌, ◌&&◌, ◌||◌, List, [], ◌∷◌, ◌++◌, length, refl, sym, ap, arith, append_assoc, codes, cond, ap₂}
+use Rattle.std.proofs.Common.{◌≡◌, ◌∙◌, ℕ, ◌+◌, ◌*◌, ◌/◌, ◌%◌, ◌^◌, ◌<◌, ◌≤◌, Bool, true, false, ◌==◌, ◌&&◌, ◌||◌, List, [], ◌∷◌, ◌++◌, length, refl}
+use Rattle.std.proofs.Common.{sym, ap, arith, append_assoc, codes, ap₂}
 use Rattle.std.specs.Prelude.{All, if◌then◌else◌, not}
 use Rattle.std.proofs.lemmas.List.Elements.{All-head, All-tail}
 use Rattle.std.specs.Fmt.{decimal}
 use Rattle.std.specs.List.{flat_map, list_all, slice_split}
 use Rattle.std.proofs.lemmas.Fmt.{decimal_nonempty}
-use Rattle.std.proofs.lemmas.Bool.Decides.{nat_tests}
 use Rattle.sdp_reader.specs.Bytes.{is_blank, onto_trimmed, trim_end}
 use Rattle.sdp_reader.specs.Lines.{TextLine, lines, numbered, without_cr}
 use Rattle.sdp_reader.proofs.Numbering.{numbered-line}
-use Rattle.scan_text.specs.Draft.{connection_line, draft_text, interlace_text, is_multicast, map_line, media_line, octets_text, parameter_line, session_text, video_text}
+use Rattle.scan_text.specs.Draft.{connection_line, draft_text, interlace_text, is_multicast, map_line, media_line, octets_text, parameter_line}
+use Rattle.scan_text.specs.Draft.{video_text}
 use Rattle.scan_text.specs.Rates.{ratio_text}
 use Rattle.scan_text.specs.ReadBack.{IsDrafted}
 use Rattle.scan_text.specs.declared.draft.DraftVideo.{DraftVideo}
@@ -58,7 +59,8 @@ neither false b h k = k
 
 pub stays-decimal : (n : ℕ) → n < 2 ^ 64 → Stays (decimal n)
 stays-decimal n small = record {
-  same = trims-none (decimal n) (digits-all (λ x. not (is_blank x)) (λ d l. neither (48 + d == 32) (48 + d == 9) (digit-above d 32 (omega arith)) (digit-above d 9 (omega arith))) n small);
+  same = trims-none (decimal n) (digits-all (λ x. not (is_blank x)) (λ d l. neither (48 + d == 32) (48 + d == 9) (digit-above d 32 (omega arith))
+      (digit-above d 9 (omega arith))) n small);
   some = decimal_nonempty n small;
 }
 
@@ -352,7 +354,8 @@ abbrev pub session_lines : List TextLine
 session_lines =
     line_at 1 (codes "v=0") ∷ line_at 2 (codes "o=- 0 0 IN IP4 0.0.0.0") ∷ line_at 3 (codes "s=draft") ∷ line_at 4 (codes "t=0 0") ∷ []
 
-plain-line : (n : ℕ) (text rest : List ℕ) → list_all is_inner text ≡ true → trim_end text ≡ text → rest_at n (text ++ 10 ∷ rest) ≡ line_at n text ∷ rest_at (n + 1) rest
+plain-line : (n : ℕ) (text rest : List ℕ) → list_all is_inner text ≡ true → trim_end text ≡ text
+    → rest_at n (text ++ 10 ∷ rest) ≡ line_at n text ∷ rest_at (n + 1) rest
 plain-line n text rest inner trimmed = read-line n text text rest (record { inner = inner; trimmed = trimmed })
 
 -- the lines of a draft

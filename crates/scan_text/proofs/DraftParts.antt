@@ -1,25 +1,26 @@
 -- What a description's reader finds in the lines of a video.
-use Rattle.std.proofs.Common.{◌≡◌, ◌∙◌, ℕ, ◌+◌, ◌*◌, ◌/◌, ◌%◌, ◌^◌, ◌<◌, ◌≤◌, Bool, true, false, ◌==◌, ◌&&◌, ◌||◌, List, [], ◌∷◌, ◌++◌, length, refl, sym, ap, ap₂, arith, append_assoc, codes, Some, None, Option}
-use Rattle.std.specs.Prelude.{if◌then◌else◌, not, nat_le, is_some, is_none}
+use Rattle.std.proofs.Common.{◌≡◌, ◌∙◌, ℕ, ◌+◌, ◌*◌, ◌/◌, ◌%◌, ◌^◌, ◌<◌, ◌≤◌, Bool, true, false, ◌==◌, ◌&&◌, List, [], ◌∷◌, ◌++◌, refl, sym, ap, ap₂}
+use Rattle.std.proofs.Common.{arith, append_assoc, codes, Some, None, Option}
+use Rattle.std.specs.Prelude.{if◌then◌else◌, not, nat_le, is_some}
 use Rattle.std.specs.Fmt.{decimal}
-use Rattle.std.specs.List.{filter_map, list_all, list_any, slice_split}
+use Rattle.std.specs.List.{filter_map, slice_split}
 use Rattle.std.specs.Option.{option_and_then}
-use Rattle.std.proofs.lemmas.Fmt.{decimal_nonempty, length-decimal-le}
+use Rattle.std.proofs.lemmas.Fmt.{length-decimal-le}
 use Rattle.std.proofs.lemmas.Bool.{false≢true}
 use Rattle.std.proofs.lemmas.Bool.Decides.{nat_tests}
-use Rattle.sdp_reader.specs.Bytes.{after, before, holds, number, number_within, trim_end, trim_start, is_blank, within, digits_of}
-use Rattle.sdp_reader.specs.Lines.{TextLine, format_of, port_of, protocol_of, video_at, video_of}
+use Rattle.sdp_reader.specs.Bytes.{after, before, number, number_within, trim_start, within}
+use Rattle.sdp_reader.specs.Lines.{format_of, port_of, protocol_of, video_at, video_of}
 use Rattle.std.specs.Str.{bytes_eq, str_eq_ignore_ascii_case}
 use Rattle.sdp_reader.proofs.Items.{filter_map-cons}
-use Rattle.sdp_reader.specs.Parameters.{Item, is_the, item_at, item_of, items_of, list_of, named, of_format, parameters, rate_at, rate_of, table_name}
+use Rattle.sdp_reader.specs.Parameters.{Item, is_the, item_at, item_of, items_of, list_of, named, parameters, rate_at, rate_of, table_name}
 use Rattle.sdp_reader.specs.Parameters.{value_rate, value_size}
-use Rattle.sdp_reader.specs.Parts.{address_at, address_from, RawPart, address_of, dotted, is_raw_map, is_raw_map_at, is_ttl, octet}
+use Rattle.sdp_reader.specs.Parts.{address_at, address_from, RawPart, address_of, dotted, is_raw_map, is_ttl, octet}
 use Rattle.scan_text.specs.Draft.{is_multicast, octets_text}
 use Rattle.scan_text.specs.Rates.{denominator, numerator, ratio_text}
 use Rattle.scan_text.specs.ReadBack.{IsDrafted}
 use Rattle.scan_text.specs.declared.draft.DraftVideo.{DraftVideo}
 use Rattle.scan_text.specs.declared.rate.FrameRate.{FrameRate}
-use Rattle.scan_text.proofs.Cutting.{after-at, all-append, and_true, before-at, before-lacks, holds-at, holds-lacks, lacks, split-at, split-lacks}
+use Rattle.scan_text.proofs.Cutting.{after-at, all-append, before-at, before-lacks, holds-at, holds-lacks, lacks, split-at}
 use Rattle.scan_text.proofs.Decimals.{above-digits, at_most, below-digits, read-digits, read-number, read-within, within-is}
 use Rattle.scan_text.proofs.DraftLines.{Stays, body_lines, list_text, parameter_text, map_text, stays-after, stays-decimal, tail_text}
 
@@ -110,7 +111,8 @@ reads-raw n v d =
 
 octet-is : (n : ℕ) → n < 256 → octet (decimal n) ≡ Some n
 octet-is n small =
-    ap (option_and_then (within 0 255)) (read-digits 3 n (omega (arith, small)) (length-decimal-le 3 n (omega arith) (omega (arith, small)) (omega (arith, small))))
+    ap (option_and_then (within 0 255)) (read-digits 3 n (omega (arith, small)) (length-decimal-le 3 n (omega arith) (omega (arith, small))
+    (omega (arith, small))))
     ∙ within-is 0 255 n (omega arith) (omega (arith, small))
 
 -- the last octet, with or without a TTL
@@ -132,9 +134,11 @@ last-ttl n false small =
     (holds-lacks 47 (decimal n) (below-digits 47 n (omega arith) (omega (arith, small))))
 
 last-octet : (n : ℕ) (b : Bool) → n < 256 → octet (before 47 (last_text n b)) ≡ Some n
-last-octet n true small = ap octet (before-at 47 (decimal n) (codes "32") (below-digits 47 n (omega arith) (omega (arith, small)))) ∙ octet-is n small
+last-octet n true small = ap octet (before-at 47 (decimal n) (codes "32") (below-digits 47 n (omega arith) (omega (arith, small))))
+    ∙ octet-is n small
 last-octet n false small =
-    ap octet (ap (before 47) (nothing-after (decimal n)) ∙ before-lacks 47 (decimal n) (below-digits 47 n (omega arith) (omega (arith, small)))) ∙ octet-is n small
+    ap octet (ap (before 47) (nothing-after (decimal n)) ∙ before-lacks 47 (decimal n) (below-digits 47 n (omega arith) (omega (arith, small))))
+    ∙ octet-is n small
 
 dots : (a b c d : ℕ) (ttl : Bool) → a < 256 → b < 256 → c < 256 → d < 256
     → address_at (decimal a ++ (codes "." ++ (decimal b ++ (codes "." ++ (decimal c ++ (codes "." ++ last_text d ttl))))))
@@ -152,7 +156,8 @@ dots a b c d ttl sa sb sc sd =
     let a3 : before 46 third ≡ decimal c = before-at 46 (decimal c) (last_text d ttl) lc in
     let r3 : after 46 third ≡ last_text d ttl = after-at 46 (decimal c) (last_text d ttl) lc in
     parted (decimal a ++ 46 ∷ second) second third (decimal a) (decimal b) (decimal c) (last_text d ttl) a1 r1 a2 r2 a3 r3
-    ∙ four-octets (decimal a) (decimal b) (decimal c) (last_text d ttl) (octet-is a sa) (octet-is b sb) (octet-is c sc) (last-ttl d ttl sd) (last-octet d ttl sd)
+    ∙ four-octets (decimal a) (decimal b) (decimal c) (last_text d ttl) (octet-is a sa) (octet-is b sb) (octet-is c sc) (last-ttl d ttl sd)
+    (last-octet d ttl sd)
   where
     parted : (all second third a b c last : List ℕ) → before 46 all ≡ a → after 46 all ≡ second → before 46 second ≡ b → after 46 second ≡ third
         → before 46 third ≡ c → after 46 third ≡ last → address_at all ≡ dotted a b c last
@@ -255,14 +260,16 @@ rate-item : (line : ℕ) (r : FrameRate) → r.whole ≤ 240 → item_at line (c
     ≡ Some (item_with line ExactFrameRate (ratio_text r))
 rate-item line r most =
     item-trimmed line (codes " exactframerate=" ++ ratio_text r) (codes "exactframerate=" ++ ratio_text r) _
-    (stays-after (codes " exactframerate=") (ratio_text r) (stays-ratio r most)) refl (valued line (codes "exactframerate") (ratio_text r) ExactFrameRate refl refl)
+    (stays-after (codes " exactframerate=") (ratio_text r) (stays-ratio r most)) refl
+    (valued line (codes "exactframerate") (ratio_text r) ExactFrameRate refl refl)
 
 -- no `;` stands in a rate
 lacks-ratio : (r : FrameRate) → r.whole ≤ 240 → lacks 59 (ratio_text r) ≡ true
 lacks-ratio r most = by-test r.slowed
   where
     by-test : (b : Bool) → lacks 59 (if b then decimal (r.whole * 1000) ++ codes "/1001" else decimal r.whole) ≡ true
-    by-test true = all-append (λ x. not (x == 59)) (decimal (r.whole * 1000)) (codes "/1001") (above-digits 59 (r.whole * 1000) (omega arith) (omega (arith, most))) refl
+    by-test true = all-append (λ x. not (x == 59)) (decimal (r.whole * 1000)) (codes "/1001")
+        (above-digits 59 (r.whole * 1000) (omega arith) (omega (arith, most))) refl
     by-test false = above-digits 59 r.whole (omega arith) (omega (arith, most))
 
 -- the pieces behind the rate
@@ -322,7 +329,8 @@ list-items : (line : ℕ) (v : DraftVideo) → IsDrafted v → items_of line (li
 list-items line v d =
     ap (filter_map (item_at line)) (pieces-are v d)
     ∙ filter-three (item_at line) (codes "width=" ++ decimal v.width) (codes " height=" ++ decimal v.height) (codes " exactframerate=" ++ ratio_text v.rate)
-    (item_with line Width (decimal v.width)) (item_with line Height (decimal v.height)) (item_with line ExactFrameRate (ratio_text v.rate)) (last_pieces v.interlaced) (interlace_items line v.interlaced)
+    (item_with line Width (decimal v.width)) (item_with line Height (decimal v.height)) (item_with line ExactFrameRate (ratio_text v.rate))
+    (last_pieces v.interlaced) (interlace_items line v.interlaced)
     (width-item line v.width (omega (arith, d.width))) (height-item line v.height (omega (arith, d.height))) (rate-item line v.rate d.rate)
     (last-items line v.interlaced)
 

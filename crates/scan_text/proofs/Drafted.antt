@@ -1,5 +1,6 @@
 -- The videos of streams are at most 64, have the ranges of a description, and targets of their own.
-use Rattle.std.proofs.Common.{◌≡◌, ◌∙◌, ℕ, ◌+◌, ◌*◌, ◌/◌, ◌^◌, ◌<◌, ◌≤◌, Bool, true, false, ◌==◌, ◌&&◌, ◌||◌, List, [], ◌∷◌, ◌++◌, length, refl, sym, ap, ap₂, arith, Some, None, Option}
+use Rattle.std.proofs.Common.{◌≡◌, ◌∙◌, ℕ, ◌+◌, ◌*◌, ◌/◌, ◌<◌, ◌≤◌, Bool, true, false, ◌==◌, ◌&&◌, ◌||◌, List, [], ◌∷◌, ◌++◌, length, refl, ap, ap₂}
+use Rattle.std.proofs.Common.{arith, Some, None, Option}
 use Rattle.std.specs.Prelude.{⊤, All, fold, if◌then◌else◌, max, min, nat_le, nat_lt, not}
 use Rattle.std.proofs.lemmas.List.{length_push}
 use Rattle.std.proofs.lemmas.List.Elements.{All-cons, All-head, All-nil, All-tail}
@@ -9,7 +10,7 @@ use Rattle.capture_scan.specs.declared.stream.Pace.{Pace}
 use Rattle.capture_scan.specs.declared.stream.Rate.{Rate}
 use Rattle.capture_scan.specs.declared.stream.Stream.{Stream}
 use Rattle.scan_text.specs.Draft.{can_be_drafted, has_target, height_of, is_added, rate_of, video_of, videos_of, width_of, with_stream}
-use Rattle.scan_text.specs.Rates.{faster, is_slow, nearest_from, slowest}
+use Rattle.scan_text.specs.Rates.{exact, faster, is_slow, nearest_from, slowed, slowest}
 use Rattle.scan_text.specs.ReadBack.{HasBits, HaveOwnTargets, IsDrafted}
 use Rattle.scan_text.specs.declared.draft.DraftVideo.{DraftVideo}
 use Rattle.scan_text.specs.declared.rate.FrameRate.{FrameRate}
@@ -53,7 +54,8 @@ abbrev AreKnown : List FrameRate → Type 0
 AreKnown [] = ⊤
 AreKnown (r ∷ rest) = IsKnown r × AreKnown rest
 
-known-from : (fields : Bool) (rate : Rate) (slow : FrameRate) (rest : List FrameRate) → IsKnown slow → AreKnown rest → IsKnown (nearest_from fields rate slow rest)
+known-from : (fields : Bool) (rate : Rate) (slow : FrameRate) (rest : List FrameRate) → IsKnown slow → AreKnown rest
+    → IsKnown (nearest_from fields rate slow rest)
 known-from fields rate slow [] h k = h
 known-from fields rate slow (next ∷ rest) h k = by-test (is_slow fields rate slow next) (known-from fields rate next rest k.0 k.1)
   where
@@ -61,9 +63,14 @@ known-from fields rate slow (next ∷ rest) h k = by-test (is_slow fields rate s
     by-test true later = h
     by-test false later = later
 
+hundreds-are : AreKnown (exact 100 7200 ∷ slowed 120 6006 ∷ exact 120 6000 ∷ [])
+hundreds-are = ((omega arith, omega arith), ((omega arith, omega arith), ((omega arith, omega arith), tt)))
+
+fast-are : AreKnown (exact 50 14400 ∷ slowed 60 12012 ∷ exact 60 12000 ∷ exact 100 7200 ∷ slowed 120 6006 ∷ exact 120 6000 ∷ [])
+fast-are = ((omega arith, omega arith), ((omega arith, omega arith), ((omega arith, omega arith), hundreds-are)))
+
 faster-are : AreKnown faster
-faster-are =
-    ((omega arith, omega arith), ((omega arith, omega arith), ((omega arith, omega arith), ((omega arith, omega arith), ((omega arith, omega arith), ((omega arith, omega arith), ((omega arith, omega arith), ((omega arith, omega arith), ((omega arith, omega arith), ((omega arith, omega arith), tt))))))))))
+faster-are = ((omega arith, omega arith), ((omega arith, omega arith), ((omega arith, omega arith), ((omega arith, omega arith), fast-are))))
 
 known-rate : (fields : Bool) (pace : Option Pace) → IsKnown (rate_of fields pace)
 known-rate fields None = (omega arith, omega arith)
