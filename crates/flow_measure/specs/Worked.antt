@@ -2,6 +2,7 @@
 use Rattle.std.specs.Prelude.{ℕ, ℤ, pos, List, slice_index}
 use Rattle.std.specs.List.{slice_index_or}
 use Rattle.flow_measure.specs.declared.columns.Extremes.{Extremes}
+use Rattle.flow_measure.specs.declared.numbers.Place.{Place}
 use Rattle.flow_measure.specs.declared.summary.Summary.{Summary}
 
 -- the numbers of a list, by their places
@@ -24,3 +25,7 @@ summary least greatest sum first last = record {
 -- the column that has these
 abbrev pub column : (least greatest : ℤ) → Extremes
 column least greatest = record { least = least; greatest = greatest }
+
+-- the place in a capture that has these
+abbrev pub place : (rec stamp : ℕ) → Place
+place rec stamp = record { «record» = rec; stamp = stamp }

@@ -2,7 +2,7 @@
 //! theorem: it does nothing, and its clauses are proved.
 
 ghost use Rattle.std.specs.Prelude.{◌≡◌, ◌<◌, ◌≤◌, ◌+◌, ◌∷◌, [], ◌↔◌, ℕ, ℤ, pos, negsuc, ◌≤ℤ◌};
-ghost use Rattle.std.specs.Prelude.{Bool, List, Option, length, true, false, ◌==◌, ◌||◌};
+ghost use Rattle.std.specs.Prelude.{Bool, List, Option, Some, None, nat_lt, length, true, false, ◌==◌, ◌||◌};
 ghost use Rattle.flow_measure.specs.Bins.{AreBins, above_limit, below_zero, bin_count, bin_width, in_bin};
 ghost use Rattle.flow_measure.specs.Classes.{AreClasses, in_class};
 ghost use Rattle.flow_measure.specs.Columns.{AreColumns, AreCurve, AreEye, column_at, greatest_at};
@@ -25,11 +25,16 @@ ghost use Rattle.flow_measure.specs.declared.classes.Classes.{Classes};
 ghost use Rattle.flow_measure.specs.declared.columns.Columns.{Columns};
 ghost use Rattle.flow_measure.specs.declared.summary.SummaryMeter.{SummaryMeter};
 ghost use Rattle.flow_measure.specs.Summary.{IsGreatest, IsLeast, IsSummary};
-ghost use Rattle.flow_measure.specs.Run.{IsBuffer, IsKind, IsMeasured};
+ghost use Rattle.timing_base.specs.declared.media.Kind.TheVariants.{N, NL};
+ghost use Rattle.flow_measure.specs.First.{IsFirst};
+ghost use Rattle.flow_measure.specs.Gaps.{gap_after};
+ghost use Rattle.flow_measure.specs.Groups.{firsts_of, lasts_of, step_after};
+ghost use Rattle.flow_measure.specs.Kinds.{breaks, place_below};
+ghost use Rattle.flow_measure.specs.Run.{IsBuffer, IsKind, IsMeasured, is_overfull, packets_of};
 ghost use Rattle.flow_measure.specs.declared.numbers.Buffer.{Buffer};
 ghost use Rattle.flow_measure.specs.declared.numbers.KindNumbers.{KindNumbers};
 ghost use Rattle.flow_measure.specs.declared.numbers.RunNumbers.{RunNumbers};
-ghost use Rattle.flow_measure.specs.Worked.{column, listed, naturals, summary};
+ghost use Rattle.flow_measure.specs.Worked.{column, listed, naturals, place, summary};
 ghost use Rattle.flow_measure.specs.declared.summary.Summary.{Summary};
 ghost use Rattle.flow_measure.specs.declared.columns.Extremes.{Extremes};
 
@@ -105,7 +110,8 @@ pub fn what_fits_is_itself()
     ensures length { (most : ℕ) (numbers : ℕ → ℤ) (count : ℕ) (columns : List Extremes) → count ≤ most
         → AreCurve most numbers count columns → length columns ≡ count }
     ensures each { (most : ℕ) (numbers : ℕ → ℤ) (count i : ℕ) (columns : List Extremes)
-        → count ≤ most → i < count → AreCurve most numbers count columns → column_at columns i ≡ column (numbers i) (numbers i) }
+        → count ≤ most → i < count → AreCurve most numbers count columns
+        → column_at columns i ≡ column (numbers i) (numbers i) }
 {}
 
 /// No number is counted as above a limit exactly where none is above it, and none as below 0 where none is.
@@ -206,6 +212,25 @@ pub fn what_was_fed_decides()
         → ((i : ℕ) → i < c.seen → others i ≡ numbers i) → Draws c numbers → Draws c others }
     ensures broken { (b : BrokenGroups) (broken others : ℕ → Bool)
         → ((i : ℕ) → i < b.seen → others i ≡ broken i) → CountsBroken b broken → CountsBroken b others }
+{}
+
+/// Five packets at once are one more than C_MAX of type N at 50 frames per second with 20 packets per frame.
+/// Packet 1 of a linear sender, a million nanoseconds after packet 0, breaks N alone, and stands in record 3.
+/// Of two groups of two packets the second begins with packet 2 and ends with packet 3.
+pub fn runs_by_hand()
+    ensures five { is_overfull hd_50 20 (7 ∷ 7 ∷ 7 ∷ 7 ∷ 7 ∷ []) N 4 ≡ true }
+    ensures four { is_overfull hd_50 20 (7 ∷ 7 ∷ 7 ∷ 7 ∷ 7 ∷ []) N 3 ≡ false }
+    ensures breaks { breaks (packets_of hd_50 20 linear_two (2 ∷ 3 ∷ []) (listed (pos 1 ∷ pos 0 ∷ [])) N) 1 ≡ true }
+    ensures keeps { breaks (packets_of hd_50 20 linear_two (2 ∷ 3 ∷ []) (listed (pos 1 ∷ pos 1 ∷ [])) NL) 1 ≡ false }
+    ensures named { place_below (naturals (2 ∷ 3 ∷ [])) (naturals linear_two) 2 (Some 1)
+        ≡ Some (place 3 1600000000001764000) }
+    ensures beyond { place_below (naturals (2 ∷ 3 ∷ [])) (naturals linear_two) 2 (Some 2) ≡ None }
+    ensures gap { gap_after (naturals linear_two) 0 ≡ 1000000 }
+    ensures begins { firsts_of 2 (naturals (10 ∷ 11 ∷ 20 ∷ 21 ∷ [])) 1 ≡ 20 }
+    ensures ends { lasts_of 2 (naturals (10 ∷ 11 ∷ 20 ∷ 21 ∷ [])) 1 ≡ 21 }
+    ensures step { step_after (naturals (1800 ∷ 3600 ∷ [])) 0 ≡ pos 1800 }
+    ensures first { IsFirst (nat_lt 1) 4 (Some 2) }
+    ensures none { IsFirst (nat_lt 9) 4 None }
 {}
 
 /// By the numbers of a run its bucket passes for a type exactly where none is counted above C_MAX, and its

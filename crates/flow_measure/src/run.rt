@@ -55,7 +55,8 @@ impl RunMeter {
         // Whatever packets the meter was fed, it was now fed this one, too.
         ensures stands { (m : Media) (n : ℕ) (named : List (Option ℕ)) (stamps records timestamps : List ℕ)
             → StandsFor m n named self.old stamps records timestamps → IsLatest stamps at
-            → StandsFor m n named self.new (stamps ++ at ∷ []) (records ++ «record» ∷ []) (timestamps ++ timestamp ∷ []) }
+            → StandsFor m n named self.new (stamps ++ at ∷ []) (records ++ «record» ∷ [])
+            (timestamps ++ timestamp ∷ []) }
     {
         self.begin(at);
         self.meters.feed(&self.params, record, at, timestamp);
