@@ -1,0 +1,28 @@
+-- A picture that is worked by hand: the bucket of 40 packets of two frames, where the first five packets of the second
+-- frame come at one instant (1 throughout, but 1 to 5 at the packets 20 to 24), in columns of 6, over an axis from 0 to 5
+-- with a tick at each. A number stands 20 units lower than the next greater one, and a packet takes 2 units.
+use Rattle.std.specs.Prelude.{pos, List, [], ◌∷◌}
+use Rattle.flow_measure.specs.Worked.{column}
+use Rattle.flow_measure.specs.declared.columns.Extremes.{Extremes}
+use Rattle.flow_page.specs.declared.lines.Limit.{Limit}
+use Rattle.flow_page.specs.declared.lines.LineName.TheVariants.{BothNarrow, Empty}
+use Rattle.flow_page.specs.declared.plot.Plot.{Plot}
+
+abbrev pub burst_plot : Plot
+burst_plot = record {
+  panel = record { left = 300; width = 800; top = 200; height = 1000 };
+  axis = record { low = pos 0; step = 1; steps = 5 };
+  across = record { start = 0; count = 40; each = 6 };
+}
+
+abbrev pub burst_columns : List Extremes
+burst_columns =
+    column (pos 1) (pos 1) ∷ column (pos 1) (pos 1) ∷ column (pos 1) (pos 1) ∷ column (pos 1) (pos 4)
+    ∷ column (pos 1) (pos 5) ∷ column (pos 1) (pos 1) ∷ column (pos 1) (pos 1) ∷ []
+
+-- the limit of a narrow sender's bucket, and a buffer that holds nothing
+abbrev pub limit_of_4 : Limit
+limit_of_4 = record { name = BothNarrow; at = pos 4 }
+
+abbrev pub nothing : Limit
+nothing = record { name = Empty; at = pos 0 }

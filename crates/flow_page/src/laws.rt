@@ -1,0 +1,52 @@
+//! The pictures tried by hand. Each function is a theorem: it does nothing, and its clauses are proved.
+
+ghost use Rattle.std.specs.Prelude.{◌≡◌, ◌++◌, ◌∷◌, [], codes, pos};
+ghost use Rattle.flow_page.specs.Curve.{band_text};
+ghost use Rattle.flow_page.specs.Escapes.{escaped};
+ghost use Rattle.flow_page.specs.Lines.{lines_text};
+ghost use Rattle.flow_page.specs.Marks.{mark, place, tenths_text, y_of};
+ghost use Rattle.flow_page.specs.Worked.{burst_columns, burst_plot, limit_of_4, nothing};
+
+/// Tenths in digits.
+#[tactic(auto, unfolding(crate::proofs::Numerals::numerals))]
+pub fn tenths_by_hand()
+    ensures whole { tenths_text 1740 ≡ codes "174" }
+    ensures part { tenths_text 1745 ≡ codes "174.5" }
+    ensures small { tenths_text 3 ≡ codes "0.3" }
+{}
+
+/// Marks: the ends of the axis are the ends of the picture, places are rounded down, and what is above or below the
+/// axis stands at its end.
+#[tactic(auto, unfolding(crate::proofs::Numerals::numerals))]
+pub fn marks_by_hand()
+    ensures low { y_of burst_plot (pos 0) ≡ 1200 }
+    ensures high { y_of burst_plot (pos 5) ≡ 200 }
+    ensures limit { y_of burst_plot (pos 4) ≡ 400 }
+    ensures above { y_of burst_plot (pos 6) ≡ 200 }
+    ensures down { mark 100 (record { low = pos 0; step = 1; steps = 3 }) (pos 1) ≡ 66 }
+    ensures left { place 800 40 0 ≡ 0 }
+    ensures right { place 800 40 40 ≡ 800 }
+    ensures third { place 100 3 1 ≡ 33 }
+{}
+
+/// The band of a burst: along the greatest numbers to the last column's end, and along the least ones back.
+#[tactic(auto, unfolding(crate::proofs::Numerals::numerals))]
+pub fn band_by_hand()
+    ensures { band_text burst_plot burst_columns
+        ≡ codes "<path class=\"band\" d=\"M30 100V100H42V100H54V100H66V40H78V20H90V100H102V100H110"
+        ++ codes "V100H102V100H90V100H78V100H66V100H54V100H42V100H30Z\"/>" }
+{}
+
+/// The lines of its limits: names stand side by side.
+#[tactic(auto, unfolding(crate::proofs::Numerals::numerals))]
+pub fn lines_by_hand()
+    ensures { lines_text burst_plot 0 (limit_of_4 ∷ nothing ∷ [])
+        ≡ codes "<path class=\"lim\" d=\"M30 40H110\"/><text class=\"lim\" x=\"36\" y=\"36\">N, NL 4</text>"
+        ++ codes "<path class=\"lim\" d=\"M30 120H110\"/><text class=\"lim\" x=\"146\" y=\"116\">empty</text>" }
+{}
+
+/// A name that HTML would read as markup.
+#[tactic(auto, unfolding(crate::proofs::Numerals::numerals))]
+pub fn escapes_by_hand()
+    ensures { escaped (codes "<b>&'\"") ≡ codes "&lt;b&gt;&amp;&#39;&quot;" }
+{}
