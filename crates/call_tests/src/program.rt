@@ -19,6 +19,7 @@ mod pairs;
 mod pcapng;
 mod readings;
 mod refused;
+mod scans;
 mod self_tests;
 mod senders;
 mod several;

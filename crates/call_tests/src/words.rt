@@ -73,6 +73,10 @@ fn shown(alloc: Global, request: &Request) -> Result<String, AllocError> {
             let (media, pair) = (job.media, job.pair);
             format!(in alloc; "skew {sdp} {media} {pair}:{captures}")
         }
+        Request::Scan(job) => {
+            let (capture, form) = (job.capture.as_str(), job.form);
+            format!(in alloc; "scan {form:?}: {capture}")
+        }
         Request::Help(command) => format!(in alloc; "help {command:?}"),
     }
 }
@@ -125,7 +129,7 @@ fn out_of_range_words(rt: HostRuntime) -> Result<(), Fail> {
     Ok(())
 }
 
-static ROWS: [(&str, &str); 86] = [
+static ROWS: [(&str, &str); 91] = [
     // both forms of an option, in any order, and after names
     ("check|--sdp|p|c", "check p 4 0 false false: c"),
     ("check|--sdp=p|c", "check p 4 0 false false: c"),
@@ -246,6 +250,12 @@ static ROWS: [(&str, &str); 86] = [
         "check p 4 0 false false: c c c c c c c c c c c c c c c c",
     ),
     ("check|--sdp|p|c|c|c|c|c|c|c|c|c|c|c|c|c|c|c|c|c", "Usage"),
+    // how a scan prints
+    ("scan|c", "scan Lines: c"),
+    ("scan|c|--json", "scan Json: c"),
+    ("scan|--draft|--|-c", "scan Draft: -c"),
+    ("scan|--json|--draft|c", "Usage"),
+    ("scan|--draft=x|c", "Usage"),
 ];
 
 // The lines of the commands but `check`.

@@ -1,6 +1,6 @@
 -- What follows for `scan` from what was found in its capture, and that a text has one answer.
 use Rattle.std.specs.Prelude.{IfErr, IfOk, Result, Ok, Err}
-use Rattle.std.proofs.Common.{◌≡◌, ◌^◌, ◌==◌, ◌||◌, if◌then◌else◌, ℕ, Bool, true, false, List, [], Some, refl, ap, ◌∙◌, sym, subst}
+use Rattle.std.proofs.Common.{◌≡◌, ◌^◌, ◌==◌, ◌||◌, if◌then◌else◌, ℕ, Bool, true, false, List, [], refl, ap, ◌∙◌, sym, subst}
 use Rattle.timing_base.specs.Captures.{Record}
 use Rattle.timing_base.specs.Jobs.{ScanJob}
 use Rattle.timing_base.specs.declared.capture.FileNote.{FileNote}
@@ -16,9 +16,6 @@ use Rattle.pcap_reader.specs.Records.{Records}
 use Rattle.pcap_reader.specs.declared.records.Taken.{Taken}
 use Rattle.pcap_reader.proofs.Lists.{only_by, some_by}
 use Rattle.scan_text.specs.Contents.{Contents, contents_of}
-use Rattle.scan_text.specs.Draft.{draft_text, videos_of}
-use Rattle.scan_text.specs.Json.{json_text}
-use Rattle.scan_text.specs.Text.{contents_text}
 use Rattle.timing_report.specs.Outcomes.{is_refused}
 use Rattle.timing_report.specs.declared.status.Status.{Status}
 use Rattle.timing_report.specs.declared.status.Status.TheVariants as status
