@@ -1,7 +1,7 @@
 -- What is shown of the arguments of a parser is what the grammar has.
-use Rattle.std.proofs.Common.{◌≡◌, ◌∙◌, refl, sym, ap, List, [], ◌∷◌, ◌++◌, map, true, false, Bool, codes}
+use Rattle.std.proofs.Common.{◌≡◌, ◌∙◌, refl, ap, List, [], ◌∷◌, ◌++◌, map, true, false, Bool, codes}
 use Rattle.std.specs.List.{flat_map}
-use Rattle.clap.specs.Words.{App, Rule, app_of}
+use Rattle.clap.specs.Words.{App, Rule}
 use Rattle.clap.specs.Walk.{rule_of}
 use Rattle.clap.specs.declared.builder.arg.Arg.{Arg}
 use Rattle.timing_words.specs.Clap.{app, names_told, told as told_rule}

@@ -1,7 +1,7 @@
 -- What `help` prints: of all commands their words, the statuses and where to read on; of one command more. The words
 -- are the options and flags that the grammar has for it.
 -- This project's profile: the whole text.
-use Rattle.std.specs.Prelude.{Bool, false, true, ◌||◌, if◌then◌else◌, List, [], ◌∷◌, ◌++◌, Option, Some, None, codes}
+use Rattle.std.specs.Prelude.{Bool, ◌||◌, if◌then◌else◌, ◌++◌, Option, Some, None, codes}
 use Rattle.std.specs.List.{flat_map}
 use Rattle.std.specs.Str.{bytes_eq}
 use Rattle.timing_words.specs.Line.{Sort, Text}
