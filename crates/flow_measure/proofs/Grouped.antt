@@ -5,6 +5,7 @@ use Rattle.std.proofs.lemmas.Nat.{div-add-mod'}
 use Rattle.std.proofs.Math.Nat.{mul-div_cancel_left, mul_comm}
 use Rattle.timing_base.specs.Media.{Media}
 use Rattle.flow_measure.specs.Fed.{MeasuresFirsts}
+use Rattle.flow_measure.specs.Groups.{firsts_of}
 use Rattle.flow_measure.specs.declared.firsts.FirstMeter.{FirstMeter}
 
 -- of packets in groups of d, which is n
@@ -53,3 +54,24 @@ none-left seen n d groups some same whole =
     let all : (seen / d) * d ≡ groups * d = ap (λ x. x * d) (groups-are seen n d groups some same whole) in
     let product : seen ≡ groups * d = whole ∙ ap (λ x. x * groups) (sym same) ∙ mul_comm d groups in
     omega (arith, all, product, div-add-mod' seen d)
+
+-- so with one packet more, at this place in a group of d, which is n
+pub firsts-next : (m : Media) (n d seen place : ℕ) (n0 anchor : ℤ) (old new : FirstMeter) (stamp timestamp : ℕ → ℕ) (at ticks : ℕ)
+    → n0 ≡ anchor
+    → d ≡ n
+    → seen % d ≡ place
+    → (place ≡ 0 → old.seen ≡ seen / d)
+    → (0 < place → new ≡ old)
+    → ((s t : ℕ → ℕ) → place ≡ 0 → MeasuresFirsts m n0 old s t → s old.seen ≡ at → t old.seen ≡ ticks → MeasuresFirsts m n0 new s t)
+    → stamp seen ≡ at
+    → timestamp seen ≡ ticks
+    → MeasuresFirsts m anchor old (firsts_of n stamp) (firsts_of n timestamp)
+    → MeasuresFirsts m anchor new (firsts_of n stamp) (firsts_of n timestamp)
+firsts-next m n d seen place n0 anchor old new stamp timestamp at ticks same whole place_is begun_is kept begins at_is ticks_is h =
+    let first = firsts_of n stamp in
+    let ticks_first = firsts_of n timestamp in
+    let lifted = subst (λ a. MeasuresFirsts m a old first ticks_first) (sym same) h in
+    let here : place ≡ 0 → old.seen * n ≡ seen = λ none. first-is seen n d old.seen whole (place_is ∙ none) (begun_is none) in
+    subst (λ a. MeasuresFirsts m a new first ticks_first) same
+    (firsts-more m n0 old new place first ticks_first kept
+    (λ none. begins first ticks_first none lifted (ap stamp (here none) ∙ at_is) (ap timestamp (here none) ∙ ticks_is)) lifted)

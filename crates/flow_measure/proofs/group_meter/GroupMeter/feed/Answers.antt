@@ -1,11 +1,10 @@
-use Rattle.std.proofs.Common.{◌≡◌, ◌<◌, ◌+◌, ◌*◌, ◌%◌, FitsSigned, ap, ◌∙◌, sym, subst, rules, arith}
+use Rattle.std.proofs.Common.{◌≡◌, ◌<◌, ◌+◌, ◌%◌, FitsSigned, ap, ◌∙◌, sym, rules, arith}
 use Rattle.std.proofs.lemmas.Int.{to_z-of_z}
 use Rattle.std.specs.Int.{w128}
 use Rattle.sender_params.proofs.Turns.{next_group, same_group}
-use Rattle.flow_measure.specs.Fed.{MeasuresFirsts}
 use Rattle.flow_measure.specs.Frames.{after_start}
-use Rattle.flow_measure.specs.Groups.{firsts_of, lasts_of, since_at}
-use Rattle.flow_measure.proofs.Grouped.{ahead-is, first-is, firsts-more, last-is}
+use Rattle.flow_measure.specs.Groups.{lasts_of, since_at}
+use Rattle.flow_measure.proofs.Grouped.{ahead-is, firsts-next, last-is}
 use Rattle.flow_measure.proofs.group_meter.GroupMeter.feed.Goals as goal
 
 pub invariant_of-self : goal.invariant_of-self
@@ -51,50 +50,35 @@ invariant_of-self-2 c =
 pub returns-then-self-clause-stands : goal.returns-then-self-clause-stands
 returns-then-self-clause-stands c =
     let s = c.args.self.now in
-    let m = c.args.params.now.media in
     let n0_fits : FitsSigned w128 s.n0 = search rules in
-    let stands = simp to_z-of_z at c.feed_at.ensures.stands in
-    λ n anchor stamp timestamp h at_is ticks_is.
-    let first = firsts_of n stamp in
-    let ticks = firsts_of n timestamp in
-    let firsts = subst (λ a. MeasuresFirsts m a s.firsts first ticks) (sym h.anchor_is) h.firsts in
-    let place : s.place ≡ 0 → s.firsts.seen * n ≡ s.seen =
-    λ none. first-is s.seen n s.n s.firsts.seen h.n_is (s.place_is ∙ none) (s.firsts_are none ∙ s.last_is) in
-    let more = firsts-more m s.n0 s.firsts c.feed_at.new.self s.place first ticks c.feed_at.ensures.kept
-    (λ none. stands first ticks none firsts (ap stamp (place none) ∙ at_is) (ap timestamp (place none) ∙ ticks_is)) firsts in
-    record {
+    let begins = simp to_z-of_z at c.feed_at.ensures.stands in
+    λ n anchor stamp timestamp h at_is ticks_is. record {
       n_is = h.n_is;
       anchor_is = h.anchor_is;
-      firsts = subst (λ a. MeasuresFirsts m a c.feed_at.new.self first ticks) h.anchor_is more;
+      firsts = firsts-next c.args.params.now.media n s.n s.seen s.place s.n0 anchor s.firsts c.feed_at.new.self stamp timestamp c.args.at c.args.ticks
+          h.anchor_is h.n_is s.place_is (λ none. s.firsts_are none ∙ s.last_is) c.feed_at.ensures.kept begins at_is ticks_is h.firsts;
       last = h.last;
     }
 
 pub returns-clause-stands : goal.returns-clause-stands
 returns-clause-stands c =
     let s = c.args.self.now in
-    let m = c.args.params.now.media in
     let n0_fits : FitsSigned w128 s.n0 = search rules in
-    let stands = simp to_z-of_z at c.feed_at.ensures.stands in
+    let begins = simp to_z-of_z at c.feed_at.ensures.stands in
     let since_fits : FitsSigned w128 c.since_start-since.result = search rules in
     let value = simp to_z-of_z at c.since_start-since.ensures.value in
     λ n anchor stamp timestamp h at_is ticks_is.
-    let first = firsts_of n stamp in
-    let ticks = firsts_of n timestamp in
-    let firsts = subst (λ a. MeasuresFirsts m a s.firsts first ticks) (sym h.anchor_is) h.firsts in
-    let place : s.place ≡ 0 → s.firsts.seen * n ≡ s.seen =
-    λ none. first-is s.seen n s.n s.firsts.seen h.n_is (s.place_is ∙ none) (s.firsts_are none ∙ s.last_is) in
-    let more = firsts-more m s.n0 s.firsts c.feed_at.new.self s.place first ticks c.feed_at.ensures.kept
-    (λ none. stands first ticks none firsts (ap stamp (place none) ∙ at_is) (ap timestamp (place none) ∙ ticks_is)) firsts in
     let outside : s.place + 1 ≡ s.n = omega (arith, s.place_within, c.if-self.false) in
     let last = last-is s.seen n s.n s.last.seen s.place h.n_is s.place_is outside s.last_is in
-    let since : since_at m anchor (lasts_of n stamp) s.last.seen ≡ c.since_start-since.result =
-    ap (after_start m anchor s.last.seen) (ap stamp last ∙ at_is)
-    ∙ ap (λ a. after_start m a s.last.seen c.args.at) (sym h.anchor_is)
+    let since : since_at c.args.params.now.media anchor (lasts_of n stamp) s.last.seen ≡ c.since_start-since.result =
+    ap (after_start c.args.params.now.media anchor s.last.seen) (ap stamp last ∙ at_is)
+    ∙ ap (λ a. after_start c.args.params.now.media a s.last.seen c.args.at) (sym h.anchor_is)
     ∙ sym value in
     record {
       n_is = h.n_is;
       anchor_is = h.anchor_is;
-      firsts = subst (λ a. MeasuresFirsts m a c.feed_at.new.self first ticks) h.anchor_is more;
-      last = c.feed.ensures.stands (since_at m anchor (lasts_of n stamp)) h.last
+      firsts = firsts-next c.args.params.now.media n s.n s.seen s.place s.n0 anchor s.firsts c.feed_at.new.self stamp timestamp c.args.at c.args.ticks
+          h.anchor_is h.n_is s.place_is (λ none. s.firsts_are none ∙ s.last_is) c.feed_at.ensures.kept begins at_is ticks_is h.firsts;
+      last = c.feed.ensures.stands (since_at c.args.params.now.media anchor (lasts_of n stamp)) h.last
           (since ∙ sym (to_z-of_z w128 c.since_start-since.result since_fits));
     }
