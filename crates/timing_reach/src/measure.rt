@@ -5,6 +5,7 @@ pub mod flow;
 pub mod gauge;
 pub mod open;
 pub mod plan;
+pub mod same;
 pub mod second;
 pub mod walk;
 
