@@ -1,3 +1,4 @@
 pub mod Metering
 pub mod Plan
+pub mod Seconds
 pub mod Walks

@@ -5,7 +5,10 @@ pub mod flow;
 pub mod gauge;
 pub mod open;
 pub mod plan;
+pub mod same;
+pub mod second;
 pub mod walk;
 
 pub use flow::FlowMeter;
 pub use gauge::RunGauge;
+pub use second::{SecondFound, SecondMeter};
