@@ -1,5 +1,5 @@
 -- The lines behind the numbers: of each tick of the axis, with its number, of places side by side, and of frames.
--- Numbers are told in the unit of the axis: whole milliseconds or microseconds where each tick is one, else nanoseconds.
+-- Nanoseconds are told as whole milliseconds or microseconds where each tick is one.
 use Rattle.std.specs.Prelude.{ℕ, ℤ, pos, ◌+◌, ◌-◌, ◌*◌, ◌/◌, ◌%◌, ◌==◌, nat_le, nat_lt, int_div, max}
 use Rattle.std.specs.Prelude.{if◌then◌else◌, List, [], ◌++◌, codes}
 use Rattle.std.specs.Fmt.{decimal, signed_decimal}
@@ -66,7 +66,7 @@ grid_text p unit = upto (grid_line p unit) p.axis.steps ++ grid_line p unit p.ax
 
 -- from one tick across to the next
 unfoldable pub step_across : Across → ℕ
-step_across a = round_up (div_ceil a.count 6)
+step_across a = round_up (div_ceil a.count 7)
 
 -- a tick across, counted from 0 at the first multiple of the step that stands here; it is so far from the left end
 unfoldable pub tick_across : Across → ℕ → ℕ
@@ -103,8 +103,8 @@ units_text p unit across =
 -- a line at the end of a frame with so many packets, counted from 0
 abbrev pub frame_rule : Plot → ℕ → ℕ → List ℕ
 frame_rule p every k =
-    codes "<path class=\"fr\" d=\"M" ++ (tenths_text (x_of p (every * (k + 1))) ++ (codes " " ++ (tenths_text p.panel.top
-    ++ (codes "V" ++ (tenths_text (bottom_of p.panel) ++ codes "\"/>")))))
+    codes "<path class=\"fr\" d=\"M" ++ (tenths_text (x_of p (every * (k + 1))) ++ (codes " "
+    ++ (tenths_text p.panel.top ++ (codes "V" ++ (tenths_text (bottom_of p.panel) ++ codes "\"/>")))))
 
 -- all of them, where frames are four units wide at least
 abbrev pub frame_rules : Plot → ℕ → List ℕ

@@ -1,5 +1,5 @@
--- Where numbers stand in a picture. Places are tenths of a unit of the picture, rounded down; x grows to the right, and y
--- downward, as in SVG. This project's own.
+-- Where numbers stand in a picture. Places are tenths of a unit of the picture, rounded down; x grows to the right,
+-- and y downward, as in SVG. This project's own.
 use Rattle.std.specs.Prelude.{ℕ, ℤ, pos, ◌+ℤ◌, ◌-ℤ◌, ◌+◌, ◌-◌, ◌*◌, ◌/◌, ◌%◌, ◌==◌, min, max, int_lt}
 use Rattle.std.specs.Prelude.{unsigned_abs, if◌then◌else◌, List, ◌++◌, codes}
 use Rattle.std.specs.Fmt.{decimal}

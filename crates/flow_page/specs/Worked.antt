@@ -1,6 +1,6 @@
--- A picture that is worked by hand: the bucket of 40 packets of two frames, where the first five packets of the second
--- frame come at one instant (1 throughout, but 1 to 5 at the packets 20 to 24), in columns of 6, over an axis from 0 to 5
--- with a tick at each. A number stands 20 units lower than the next greater one, and a packet takes 2 units.
+-- A picture that is worked by hand: the bucket of 40 packets of two frames, where the first five packets of the
+-- second frame come at one instant (1 throughout, but 1 to 5 at the packets 20 to 24), in columns of 6, over an axis
+-- from 0 to 5 with a tick at each. A number stands 20 units below the next greater one, and a packet takes 2 units.
 use Rattle.std.specs.Prelude.{pos, List, [], ◌∷◌}
 use Rattle.flow_measure.specs.Worked.{column}
 use Rattle.flow_measure.specs.declared.columns.Extremes.{Extremes}

@@ -151,7 +151,7 @@ impl Across {
         ensures value { result ≡ step_across self }
         ensures some { 1 ≤ result }
     {
-        round_up(self.count.div_ceil(6))
+        round_up(self.count.div_ceil(7))
     }
 
     /// How far a tick is from the left end; ticks count from 0 at the first multiple of the step.

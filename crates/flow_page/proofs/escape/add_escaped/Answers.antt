@@ -9,6 +9,7 @@ use Rattle.flow_page.proofs.escape.add_escaped.Goals as goal
 
 pub returns : goal.returns
 returns c =
-    let t = YieldsList-end (YieldsList-from_chars c.args.plain.now c.utf8.plain cc) c.loop-c.yielded _ c.loop-c.yielded_by _ _ c.in-None.is c.next.ensures.steps in
+    let all = YieldsList-from_chars c.args.plain.now c.utf8.plain cc in
+    let t = YieldsList-end all c.loop-c.yielded _ c.loop-c.yielded_by _ _ c.in-None.is c.next.ensures.steps in
     c.loop-c.invariant
     ∙ ap (λ cs. string_bytes c.args.text.now ++ flat_map (λ x. encode_utf8_all (written x)) cs) (sym (map-id c.loop-c.yielded) ∙ t.0)
