@@ -3,33 +3,22 @@
 ghost use Rattle.std.specs.Prelude.{◌≡◌, IfOk, true};
 ghost use Rattle.scan_text.specs.Contents.{contents_of};
 ghost use Rattle.scan_text.specs.Draft.{videos_of};
-ghost use Rattle.timing_report.specs.Outcomes.{is_refused};
 ghost use Rattle.timing_reach.specs.Scanned.{drafted, scan_ends, scan_status, scanned};
 
 use crate::scan::Scanned;
 use capture_scan::Found;
 use scan_text::{Draft, json_of, text_of};
 use std::alloc::{AllocError as OutOfMemory, Global};
-use timing_base::{FileNote, PcapFault, ScanForm, ScanJob};
-use timing_report::Status;
+use timing_base::{FileNote, ScanForm, ScanJob};
+use timing_report::{Status, any_refused};
 use timing_steps::Answer;
-
-/// Whether a capture was refused for its bytes.
-fn is_refused(note: FileNote) -> bool
-    ensures { result ≡ is_refused note }
-{
-    match note {
-        FileNote::Refused(fault) => !matches!(fault, PcapFault::ReadFault),
-        FileNote::End | FileNote::Cut { .. } => false,
-    }
-}
 
 /// The status beside so many streams, or videos of a draft, of a capture that ends so.
 fn status_of(note: FileNote, told: usize) -> Status
     ensures status { result ≡ scan_status note told }
     ensures ends { scan_ends result ≡ true }
 {
-    if told == 0 || is_refused(note) {
+    if told == 0 || any_refused(&[note]) {
         Status::NotAllJudged
     } else {
         Status::Pass
