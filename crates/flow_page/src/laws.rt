@@ -1,11 +1,22 @@
 //! The pictures tried by hand. Each function is a theorem: it does nothing, and its clauses are proved.
 
-ghost use Rattle.std.specs.Prelude.{◌≡◌, ◌++◌, ◌∷◌, [], codes, pos};
+ghost use Rattle.std.specs.Prelude.{◌≡◌, ◌≤◌, ◌++◌, ◌∷◌, ℕ, ℤ, [], codes, neg_ℤ, pos};
+ghost use Rattle.flow_page.specs.Axes.{axis_of};
 ghost use Rattle.flow_page.specs.Curve.{band_text};
 ghost use Rattle.flow_page.specs.Escapes.{escaped};
 ghost use Rattle.flow_page.specs.Lines.{lines_text};
-ghost use Rattle.flow_page.specs.Marks.{mark, place, tenths_text, y_of};
+ghost use Rattle.flow_page.specs.Marks.{mark, place, rise, tenths_text, y_of};
+ghost use Rattle.flow_page.specs.declared.axis.Axis.{Axis};
 ghost use Rattle.flow_page.specs.Worked.{burst_columns, burst_plot, limit_of_4, nothing};
+
+/// Axes: with a tick at each number, below 0 in fives, of one number alone, and far from 0.
+#[tactic(auto, unfolding(crate::proofs::Numerals::numerals))]
+pub fn axes_by_hand()
+    ensures burst { axis_of (pos 1) (pos 5) ≡ record { low = pos 1; step = 1; steps = 4 } }
+    ensures below { axis_of (neg_ℤ (pos 11)) (pos 8) ≡ record { low = neg_ℤ (pos 15); step = 5; steps = 5 } }
+    ensures flat { axis_of (pos 1800) (pos 1800) ≡ record { low = pos 1800; step = 1; steps = 3 } }
+    ensures far { axis_of (pos 758731) (pos 766209) ≡ record { low = pos 758000; step = 2000; steps = 5 } }
+{}
 
 /// Tenths in digits.
 #[tactic(auto, unfolding(crate::proofs::Numerals::numerals))]
@@ -27,6 +38,12 @@ pub fn marks_by_hand()
     ensures left { place 800 40 0 ≡ 0 }
     ensures right { place 800 40 40 ≡ 800 }
     ensures third { place 100 3 1 ≡ 33 }
+{}
+
+/// Marks rise with numbers: of two numbers the one that is farther above the low end of an axis never stands below the
+/// other, nor below its line.
+pub fn marks_rise()
+    ensures { (height : ℕ) (a : Axis) (x y : ℤ) → rise a x ≤ rise a y → mark height a y ≤ mark height a x }
 {}
 
 /// The band of a burst: along the greatest numbers to the last column's end, and along the least ones back.
