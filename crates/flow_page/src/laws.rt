@@ -10,7 +10,7 @@ ghost use Rattle.flow_page.specs.declared.axis.Axis.{Axis};
 ghost use Rattle.flow_page.specs.Worked.{burst_columns, burst_plot, limit_of_4, nothing};
 
 /// Axes: with a tick at each number, below 0 in fives, of one number alone, and far from 0.
-#[tactic(auto, unfolding(crate::proofs::Numerals::numerals))]
+#[tactic(auto, unfolding(crate::proofs::Numerals::numerals, crate::proofs::Numerals::places))]
 pub fn axes_by_hand()
     ensures burst { axis_of (pos 1) (pos 5) ≡ record { low = pos 1; step = 1; steps = 4 } }
     ensures below { axis_of (neg_ℤ (pos 11)) (pos 8) ≡ record { low = neg_ℤ (pos 15); step = 5; steps = 5 } }
@@ -19,7 +19,7 @@ pub fn axes_by_hand()
 {}
 
 /// Tenths in digits.
-#[tactic(auto, unfolding(crate::proofs::Numerals::numerals))]
+#[tactic(auto, unfolding(crate::proofs::Numerals::numerals, crate::proofs::Numerals::places))]
 pub fn tenths_by_hand()
     ensures whole { tenths_text 1740 ≡ codes "174" }
     ensures part { tenths_text 1745 ≡ codes "174.5" }
@@ -28,7 +28,7 @@ pub fn tenths_by_hand()
 
 /// Marks: the ends of the axis are the ends of the picture, places are rounded down, and what is above or below the
 /// axis stands at its end.
-#[tactic(auto, unfolding(crate::proofs::Numerals::numerals))]
+#[tactic(auto, unfolding(crate::proofs::Numerals::numerals, crate::proofs::Numerals::places))]
 pub fn marks_by_hand()
     ensures low { y_of burst_plot (pos 0) ≡ 1200 }
     ensures high { y_of burst_plot (pos 5) ≡ 200 }
@@ -47,7 +47,7 @@ pub fn marks_rise()
 {}
 
 /// The band of a burst: along the greatest numbers to the last column's end, and along the least ones back.
-#[tactic(auto, unfolding(crate::proofs::Numerals::numerals))]
+#[tactic(auto, unfolding(crate::proofs::Numerals::numerals, crate::proofs::Numerals::places))]
 pub fn band_by_hand()
     ensures { band_text burst_plot burst_columns
         ≡ codes "<path class=\"band\" d=\"M30 100V100H42V100H54V100H66V40H78V20H90V100H102V100H110"
@@ -55,7 +55,7 @@ pub fn band_by_hand()
 {}
 
 /// The lines of its limits: names stand side by side.
-#[tactic(auto, unfolding(crate::proofs::Numerals::numerals))]
+#[tactic(auto, unfolding(crate::proofs::Numerals::numerals, crate::proofs::Numerals::places))]
 pub fn lines_by_hand()
     ensures { lines_text burst_plot 0 (limit_of_4 ∷ nothing ∷ [])
         ≡ codes "<path class=\"lim\" d=\"M30 40H110\"/><text class=\"lim\" x=\"36\" y=\"36\">N, NL 4</text>"
@@ -63,7 +63,7 @@ pub fn lines_by_hand()
 {}
 
 /// A name that HTML would read as markup.
-#[tactic(auto, unfolding(crate::proofs::Numerals::numerals))]
+#[tactic(auto, unfolding(crate::proofs::Numerals::numerals, crate::proofs::Numerals::places))]
 pub fn escapes_by_hand()
     ensures { escaped (codes "<b>&'\"") ≡ codes "&lt;b&gt;&amp;&#39;&quot;" }
 {}
