@@ -3,10 +3,16 @@ use Rattle.std.specs.Fmt.{digits}
 use Rattle.std.specs.Char.{encode_utf8}
 use Rattle.std.specs.Prelude.{⊤}
 use Rattle.std.specs.Str.{chars}
+use Rattle.flow_page.specs.Axes.{low_at, round_up, step_of, steps_at}
 use Rattle.flow_page.specs.Lines.{name_piece, stroke_piece}
 use Rattle.flow_page.specs.Marks.{above_of, base_of, below, beside, bottom_of, edge, mark, name_x, place, right_of, tenths_text, x_of, y_of}
 
--- decimal numerals, where marks stand, and characters
+-- decimal numerals, axes, characters, and texts of lines
 unfoldable pub numerals : ⊤
-unfolding chars encode_utf8 name_piece stroke_piece digits above_of base_of below beside bottom_of edge mark name_x place right_of tenths_text x_of y_of
+unfolding digits low_at round_up step_of steps_at chars encode_utf8 name_piece stroke_piece tenths_text
 numerals = tt
+
+-- where marks stand
+unfoldable pub places : ⊤
+unfolding above_of base_of below beside bottom_of edge mark name_x place right_of x_of y_of
+places = tt

@@ -1,7 +1,7 @@
 //! Axes with round ends.
 
-ghost use Rattle.std.specs.Prelude.{◌≡◌, ◌≤◌, ◌^◌};
-ghost use Rattle.flow_page.specs.Axes.{round_up, tick};
+ghost use Rattle.std.specs.Prelude.{◌≡◌, ◌<◌, ◌≤◌, ◌+◌, ◌*◌, ◌^◌, pos, neg_ℤ, ◌≤ℤ◌};
+ghost use Rattle.flow_page.specs.Axes.{axis_of, low_at, round_up, step_of, steps_at, tick};
 
 /// An axis: its low end, how far it is from one tick to the next, and how many steps there are up to its high end. All
 /// have the unit of the numbers.
@@ -20,6 +20,7 @@ pub(crate) fn round_up(wanted: u64) -> u64
     requires { wanted ≤ 2 ^ 60 }
     ensures value { result ≡ round_up wanted }
     ensures some { 1 ≤ result }
+    ensures near { result ≤ 3 * wanted + 1 }
 {
     let mut power: u64 = 1;
     for tried in 0..19u32 {
@@ -37,7 +38,54 @@ pub(crate) fn round_up(wanted: u64) -> u64
     power
 }
 
+/// The greatest multiple of the step that isn't above the least number.
+#[tactic(auto, unfolding(crate::specs::Axes::low_at))]
+fn low_at(least: i64, step: u64) -> i64
+    requires low { neg_ℤ (pos (2 ^ 61)) ≤ℤ least }
+    requires high { least ≤ℤ pos (2 ^ 61) }
+    requires some { 1 ≤ step }
+    requires small { step < 2 ^ 62 }
+    ensures { result ≡ low_at least step }
+{
+    least - least.rem_euclid(step as i64)
+}
+
+/// The steps from the low end up to the greatest number, three at least and eight at most.
+#[tactic(auto, unfolding(crate::specs::Axes::steps_at))]
+fn steps_at(low: i64, greatest: i64, step: u64) -> u32
+    requires { 1 ≤ step }
+    ensures { result ≡ steps_at low greatest step }
+{
+    greatest.abs_diff(low).div_ceil(step).max(3).min(8) as u32
+}
+
 impl Axis {
+    /// From one tick to the next, for numbers from the least to the greatest.
+    #[tactic(auto, unfolding(crate::specs::Axes::step_of))]
+    fn step_of(least: i64, greatest: i64) -> u64
+        requires low { neg_ℤ (pos (2 ^ 61)) ≤ℤ least }
+        requires ordered { least ≤ℤ greatest }
+        requires high { greatest ≤ℤ pos (2 ^ 61) }
+        ensures value { result ≡ step_of least greatest }
+        ensures some { 1 ≤ result }
+        ensures bound { result < 2 ^ 62 }
+    {
+        round_up(greatest.abs_diff(least).div_ceil(6))
+    }
+
+    /// The axis of numbers from the least to the greatest, with a tick at each multiple of its step.
+    pub fn of(least: i64, greatest: i64) -> Axis
+        requires low { neg_ℤ (pos (2 ^ 61)) ≤ℤ least }
+        requires ordered { least ≤ℤ greatest }
+        requires high { greatest ≤ℤ pos (2 ^ 61) }
+        ensures { result ≡ axis_of least greatest }
+    {
+        let step = Axis::step_of(least, greatest);
+        let low = low_at(least, step);
+        let steps = steps_at(low, greatest, step);
+        Axis { low, step, steps }
+    }
+
     /// A tick, counted from 0 at the low end.
     pub fn tick(self, number: u32) -> i128
         ensures { result ≡ tick self number }

@@ -1,14 +1,25 @@
 //! The pictures tried by hand. Each function is a theorem: it does nothing, and its clauses are proved.
 
-ghost use Rattle.std.specs.Prelude.{◌≡◌, ◌++◌, ◌∷◌, [], codes, pos};
+ghost use Rattle.std.specs.Prelude.{◌≡◌, ◌≤◌, ◌++◌, ◌∷◌, ℕ, ℤ, [], codes, neg_ℤ, pos};
+ghost use Rattle.flow_page.specs.Axes.{axis_of};
 ghost use Rattle.flow_page.specs.Curve.{band_text};
 ghost use Rattle.flow_page.specs.Escapes.{escaped};
 ghost use Rattle.flow_page.specs.Lines.{lines_text};
-ghost use Rattle.flow_page.specs.Marks.{mark, place, tenths_text, y_of};
+ghost use Rattle.flow_page.specs.Marks.{mark, place, rise, tenths_text, y_of};
+ghost use Rattle.flow_page.specs.declared.axis.Axis.{Axis};
 ghost use Rattle.flow_page.specs.Worked.{burst_columns, burst_plot, limit_of_4, nothing};
 
+/// Axes: with a tick at each number, below 0 in fives, of one number alone, and far from 0.
+#[tactic(auto, unfolding(crate::proofs::Numerals::numerals, crate::proofs::Numerals::places))]
+pub fn axes_by_hand()
+    ensures burst { axis_of (pos 1) (pos 5) ≡ record { low = pos 1; step = 1; steps = 4 } }
+    ensures below { axis_of (neg_ℤ (pos 11)) (pos 8) ≡ record { low = neg_ℤ (pos 15); step = 5; steps = 5 } }
+    ensures flat { axis_of (pos 1800) (pos 1800) ≡ record { low = pos 1800; step = 1; steps = 3 } }
+    ensures far { axis_of (pos 758731) (pos 766209) ≡ record { low = pos 758000; step = 2000; steps = 5 } }
+{}
+
 /// Tenths in digits.
-#[tactic(auto, unfolding(crate::proofs::Numerals::numerals))]
+#[tactic(auto, unfolding(crate::proofs::Numerals::numerals, crate::proofs::Numerals::places))]
 pub fn tenths_by_hand()
     ensures whole { tenths_text 1740 ≡ codes "174" }
     ensures part { tenths_text 1745 ≡ codes "174.5" }
@@ -17,7 +28,7 @@ pub fn tenths_by_hand()
 
 /// Marks: the ends of the axis are the ends of the picture, places are rounded down, and what is above or below the
 /// axis stands at its end.
-#[tactic(auto, unfolding(crate::proofs::Numerals::numerals))]
+#[tactic(auto, unfolding(crate::proofs::Numerals::numerals, crate::proofs::Numerals::places))]
 pub fn marks_by_hand()
     ensures low { y_of burst_plot (pos 0) ≡ 1200 }
     ensures high { y_of burst_plot (pos 5) ≡ 200 }
@@ -29,8 +40,14 @@ pub fn marks_by_hand()
     ensures third { place 100 3 1 ≡ 33 }
 {}
 
+/// Marks rise with numbers: of two numbers the one that is farther above the low end of an axis never stands below the
+/// other, nor below its line.
+pub fn marks_rise()
+    ensures { (height : ℕ) (a : Axis) (x y : ℤ) → rise a x ≤ rise a y → mark height a y ≤ mark height a x }
+{}
+
 /// The band of a burst: along the greatest numbers to the last column's end, and along the least ones back.
-#[tactic(auto, unfolding(crate::proofs::Numerals::numerals))]
+#[tactic(auto, unfolding(crate::proofs::Numerals::numerals, crate::proofs::Numerals::places))]
 pub fn band_by_hand()
     ensures { band_text burst_plot burst_columns
         ≡ codes "<path class=\"band\" d=\"M30 100V100H42V100H54V100H66V40H78V20H90V100H102V100H110"
@@ -38,7 +55,7 @@ pub fn band_by_hand()
 {}
 
 /// The lines of its limits: names stand side by side.
-#[tactic(auto, unfolding(crate::proofs::Numerals::numerals))]
+#[tactic(auto, unfolding(crate::proofs::Numerals::numerals, crate::proofs::Numerals::places))]
 pub fn lines_by_hand()
     ensures { lines_text burst_plot 0 (limit_of_4 ∷ nothing ∷ [])
         ≡ codes "<path class=\"lim\" d=\"M30 40H110\"/><text class=\"lim\" x=\"36\" y=\"36\">N, NL 4</text>"
@@ -46,7 +63,7 @@ pub fn lines_by_hand()
 {}
 
 /// A name that HTML would read as markup.
-#[tactic(auto, unfolding(crate::proofs::Numerals::numerals))]
+#[tactic(auto, unfolding(crate::proofs::Numerals::numerals, crate::proofs::Numerals::places))]
 pub fn escapes_by_hand()
     ensures { escaped (codes "<b>&'\"") ≡ codes "&lt;b&gt;&amp;&#39;&quot;" }
 {}
