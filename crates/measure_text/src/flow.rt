@@ -4,7 +4,7 @@ ghost use Rattle.std.specs.Prelude.{◌≡◌, ◌++◌, IfOk, false, map, strin
 ghost use Rattle.serde_json.specs.View.{view};
 ghost use Rattle.timing_json.specs.Json.{object_of, unjudged_members};
 ghost use Rattle.timing_json.specs.Members.{Puts};
-ghost use Rattle.measure_text.specs.Json.{flow_end, flow_front, flow_members, items_text, judged_text, list_text, run_text, runs_member, ssrc_members, unjudged_text, verdict_flow};
+ghost use Rattle.measure_text.specs.Json.{flow_front, flow_members, items_text, judged_text, list_text, run_text, runs_member, ssrc_members, unjudged_text, verdict_flow};
 ghost use Rattle.measure_text.specs.Told.{flow_told, run_told};
 
 use crate::run::add_run;
@@ -109,7 +109,12 @@ fn add_judged(
 {
     add_flow_front(text, flow)?;
     add_runs_member(text, alloc, media, flow.runs.as_slice())?;
-    add_flow_end(text, media, flow, word)
+    let ssrc = Source { ssrc: flow.ssrc };
+    let target = media.target();
+    write!(
+        text,
+        "{ssrc}\"target\":\"{target}\",\"verdict\":\"{word}\"}}"
+    )
 }
 
 /// Adds a flow up to its runs.
@@ -119,24 +124,6 @@ fn add_flow_front(text: &mut String, flow: &MeasuredFlow) -> Result<(), OutOfMem
 {
     let number = u64::from(flow.media) + 1;
     write!(text, "{{\"media\":{number},\"packets\":{},", flow.packets)
-}
-
-/// Adds what stands after its runs.
-fn add_flow_end(
-    text: &mut String,
-    media: &Media,
-    flow: &MeasuredFlow,
-    word: &str,
-) -> Result<(), OutOfMemory>
-    ensures { IfOk result (λ _. string_bytes text.new
-        ≡ string_bytes text.old ++ flow_end media.now (flow_told flow.now) word.now) }
-{
-    let ssrc = Source { ssrc: flow.ssrc };
-    let target = media.target();
-    write!(
-        text,
-        "{ssrc}\"target\":\"{target}\",\"verdict\":\"{word}\"}}"
-    )
 }
 
 /// The source of a flow, where there is one.

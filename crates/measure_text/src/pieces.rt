@@ -242,18 +242,13 @@ impl fmt::Display for Proof {
     ghost output = { λ p. Some (proof_text p.proof (option_map place_told p.place)) };
 
     fn fmt<W: fmt::Write>(&self, f: &mut fmt::Formatter<W>) -> fmt::Result {
-        let FailProof {
-            model,
-            from,
-            to,
-            count,
-            limit,
-        } = self.proof;
-        let model = model_name(model);
+        let proof = self.proof;
+        let model = model_name(proof.model);
         let named = Named { place: self.place };
         write!(
             f,
-            "{{\"count\":{count},\"from\":{from},\"limit\":{limit},\"model\":\"{model}\",{named}\"to\":{to}}}"
+            "{{\"count\":{},\"from\":{},\"limit\":{},\"model\":\"{model}\",{named}\"to\":{}}}",
+            proof.count, proof.from, proof.limit, proof.to
         )
     }
 }
