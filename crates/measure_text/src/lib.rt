@@ -15,3 +15,6 @@ mod run;
 
 pub use json::json_of;
 pub use rows::{GroupRow, PacketRow, RowText, group_header, packet_header};
+
+#[cfg(test)]
+mod tests;
