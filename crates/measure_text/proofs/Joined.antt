@@ -1,10 +1,10 @@
 -- Texts that are put together from pieces that are known otherwise.
 use Rattle.std.proofs.Common.{◌≡◌, ℕ, List, [], ◌∷◌, ◌++◌, length, false, refl, ap, ◌∙◌, append_assoc, true≢false}
-use Rattle.std.specs.Prelude.{Result, Ok, Err, IfOk, codes, map, ◌==◌}
+use Rattle.std.specs.Prelude.{Result, Ok, Err, Some, None, IfOk, codes, map, ◌==◌}
 use Rattle.std.specs.Fmt.{decimal}
 use Rattle.timing_base.specs.Media.{Media}
 use Rattle.flow_measure.specs.declared.numbers.MeasuredRun.{MeasuredRun}
-use Rattle.measure_text.specs.Json.{buffer_text, level_text, list_text, run_text, runs_member, step_member, summary_text, summary_with}
+use Rattle.measure_text.specs.Json.{buffer_text, level_text, list_text, run_text, runs_member, step_member, summary_text}
 use Rattle.measure_text.specs.Told.{ToldNumbers, ToldRun, run_told}
 
 -- a text that is another one
@@ -31,7 +31,7 @@ kind-is a b c d e f g h i k bucket buffer breaks outcome name =
 -- the front of a run
 abbrev pub front_pieces : ToldNumbers → (frames : ℕ) (gap : List ℕ) → List ℕ
 front_pieces n frames gap =
-    codes "{\"bucket\":" ++ (level_text n.bucket ++ (codes ",\"first\":" ++ (summary_with n.first n.target ++ (codes ",\"frames\":"
+    codes "{\"bucket\":" ++ (level_text n.bucket ++ (codes ",\"first\":" ++ (summary_text n.first (Some n.target) ++ (codes ",\"frames\":"
     ++ (decimal frames ++ (codes "," ++ gap))))))
 
 pub front-is : (n : ToldNumbers) (a b : ℕ) (e f : List ℕ) → a ≡ b → e ≡ f → front_pieces n a e ≡ front_pieces n b f
@@ -41,7 +41,7 @@ front-is n a b e f frames gap = ap (λ x. front_pieces n x e) frames ∙ ap (λ 
 abbrev pub middle_pieces : ToldNumbers → (head : ℕ) (interlaced : List ℕ) → List ℕ
 middle_pieces n head interlaced =
     codes "\"gapped\":" ++ (buffer_text n.gapped ++ (codes ",\"head\":" ++ (decimal head ++ (codes ",\"interlaced\":" ++ (interlaced
-    ++ (codes ",\"last\":" ++ (summary_text n.last ++ (codes ",\"latency\":" ++ summary_text n.latency))))))))
+    ++ (codes ",\"last\":" ++ (summary_text n.last None ++ (codes ",\"latency\":" ++ summary_text n.latency None))))))))
 
 pub middle-is : (n : ToldNumbers) (a b : ℕ) (e f : List ℕ) → a ≡ b → e ≡ f → middle_pieces n a e ≡ middle_pieces n b f
 middle-is n a b e f head interlaced = ap (λ x. middle_pieces n x e) head ∙ ap (λ x. middle_pieces n b x) interlaced
@@ -50,7 +50,7 @@ middle-is n a b e f head interlaced = ap (λ x. middle_pieces n x e) head ∙ ap
 abbrev pub rest_pieces : ToldRun → (n packets : ℕ) → List ℕ
 rest_pieces r n packets =
     codes ",\"linear\":" ++ (buffer_text r.numbers.linear ++ (codes ",\"n\":" ++ (decimal n ++ (codes ",\"number\":" ++ (decimal r.number
-    ++ (codes ",\"offset\":" ++ (summary_text r.numbers.offset ++ (codes ",\"packets\":" ++ decimal packets))))))))
+    ++ (codes ",\"offset\":" ++ (summary_text r.numbers.offset None ++ (codes ",\"packets\":" ++ decimal packets))))))))
 
 pub rest-is : (r : ToldRun) (a b c d : ℕ) → a ≡ b → c ≡ d → rest_pieces r a c ≡ rest_pieces r b d
 rest-is r a b c d n packets = ap (λ x. rest_pieces r x c) n ∙ ap (λ x. rest_pieces r b x) packets

@@ -66,19 +66,17 @@ buffer_text b =
     ++ (codes ",\"least\":" ++ (signed_decimal b.occupancy.least ++ (codes ",\"slack\":"
     ++ (signed_decimal b.margins.slack ++ (codes ",\"sum\":" ++ (signed_decimal b.occupancy.sum ++ codes "}")))))))))
 
--- all of a summary, without the end of the object
-abbrev pub summary_front : Summary → List ℕ
-summary_front s =
+-- the end of a summary: what its numbers are held against, where there is something
+abbrev pub target_end : Option ℕ → List ℕ
+target_end None = codes "}"
+target_end (Some target) = codes ",\"target\":" ++ (decimal target ++ codes "}")
+
+-- all of a summary
+abbrev pub summary_text : Summary → (target : Option ℕ) → List ℕ
+summary_text s target =
     codes "{\"first\":" ++ (signed_decimal s.first ++ (codes ",\"greatest\":" ++ (signed_decimal s.greatest
     ++ (codes ",\"last\":" ++ (signed_decimal s.last ++ (codes ",\"least\":" ++ (signed_decimal s.least
-    ++ (codes ",\"sum\":" ++ signed_decimal s.sum))))))))
-
-abbrev pub summary_text : Summary → List ℕ
-summary_text s = summary_front s ++ codes "}"
-
--- a summary, and what the numbers are held against
-abbrev pub summary_with : Summary → (target : ℕ) → List ℕ
-summary_with s target = summary_front s ++ (codes ",\"target\":" ++ (decimal target ++ codes "}"))
+    ++ (codes ",\"sum\":" ++ (signed_decimal s.sum ++ target_end target)))))))))
 
 -- the steps of the timestamp, where there are two groups
 abbrev pub step_member : Option Summary → List ℕ
@@ -95,16 +93,10 @@ gap_member (Some g) =
     ++ (signed_decimal g.summary.greatest ++ (codes ",\"least\":" ++ (signed_decimal g.summary.least
     ++ (codes ",\"sum\":" ++ (signed_decimal g.summary.sum ++ codes "},")))))))
 
--- the bins of the bucket, which is never below 0
-abbrev pub bucket_bins : ToldBins → List ℕ
-bucket_bins b =
-    codes "{\"above\":" ++ (decimal b.above ++ (codes ",\"counts\":" ++ (list_text decimal b.counts
-    ++ (codes ",\"limit\":" ++ (decimal b.limit ++ (codes ",\"width\":" ++ (decimal b.width ++ codes "}")))))))
-
--- the bins of the buffer
-abbrev pub buffer_bins : ToldBins → List ℕ
-buffer_bins b =
-    codes "{\"above\":" ++ (decimal b.above ++ (codes ",\"below\":" ++ (decimal b.below ++ (codes ",\"counts\":"
+-- bins, and how many numbers are below 0, where that is told
+abbrev pub bins_text : ToldBins → (below : Option ℕ) → List ℕ
+bins_text b below =
+    codes "{\"above\":" ++ (decimal b.above ++ (codes "," ++ (member_if (codes "below") below ++ (codes "\"counts\":"
     ++ (list_text decimal b.counts ++ (codes ",\"limit\":" ++ (decimal b.limit ++ (codes ",\"width\":"
     ++ (decimal b.width ++ codes "}")))))))))
 
@@ -132,12 +124,12 @@ breaks_text k =
     member_if (codes "first_bucket") k.first_bucket ++ (member_if (codes "first_empty") k.first_empty
     ++ (member_if (codes "first_over") k.first_over ++ (codes "\"frames_broken\":" ++ decimal k.groups_broken)))
 
--- a type
+-- a type; its bucket is never below 0
 unfoldable pub kind_text : Kind → KindVerdict → ToldKind → List ℕ
 kind_text kind outcome k =
-    codes "{\"bucket\":" ++ (bucket_bins k.bucket ++ (codes ",\"buffer\":" ++ (buffer_bins k.buffer ++ (codes ","
-    ++ (breaks_text k ++ (codes "," ++ (outcome_text outcome k.named ++ (codes ",\"type\":\"" ++ (kind_name kind
-    ++ codes "\"}")))))))))
+    codes "{\"bucket\":" ++ (bins_text k.bucket None ++ (codes ",\"buffer\":"
+    ++ (bins_text k.buffer (Some k.buffer.below) ++ (codes "," ++ (breaks_text k ++ (codes ","
+    ++ (outcome_text outcome k.named ++ (codes ",\"type\":\"" ++ (kind_name kind ++ codes "\"}")))))))))
 
 -- the type at this place of N, NL and W
 abbrev pub kind_at : ℕ → Kind
@@ -159,21 +151,21 @@ kinds_text judged ks = codes "[" ++ (kinds_from judged 0 ks ++ codes "]")
 -- the members of a run from `bucket` to `gap`
 abbrev pub run_front : Judged → ToldNumbers → List ℕ
 run_front judged n =
-    codes "{\"bucket\":" ++ (level_text n.bucket ++ (codes ",\"first\":" ++ (summary_with n.first n.target
+    codes "{\"bucket\":" ++ (level_text n.bucket ++ (codes ",\"first\":" ++ (summary_text n.first (Some n.target)
     ++ (codes ",\"frames\":" ++ (decimal judged.frames ++ (codes "," ++ gap_member n.gap))))))
 
 -- from `gapped` to `latency`
 abbrev pub run_middle : Media → Judged → ToldNumbers → List ℕ
 run_middle media judged n =
     codes "\"gapped\":" ++ (buffer_text n.gapped ++ (codes ",\"head\":" ++ (decimal judged.head
-    ++ (codes ",\"interlaced\":" ++ (flag_text media.interlaced ++ (codes ",\"last\":" ++ (summary_text n.last
-    ++ (codes ",\"latency\":" ++ summary_text n.latency))))))))
+    ++ (codes ",\"interlaced\":" ++ (flag_text media.interlaced ++ (codes ",\"last\":" ++ (summary_text n.last None
+    ++ (codes ",\"latency\":" ++ summary_text n.latency None))))))))
 
 -- from `linear` to `packets`
 abbrev pub run_rest : Judged → ToldRun → List ℕ
 run_rest judged r =
     codes ",\"linear\":" ++ (buffer_text r.numbers.linear ++ (codes ",\"n\":" ++ (decimal judged.n
-    ++ (codes ",\"number\":" ++ (decimal r.number ++ (codes ",\"offset\":" ++ (summary_text r.numbers.offset
+    ++ (codes ",\"number\":" ++ (decimal r.number ++ (codes ",\"offset\":" ++ (summary_text r.numbers.offset None
     ++ (codes ",\"packets\":" ++ decimal judged.packets))))))))
 
 -- from `record` to `types`

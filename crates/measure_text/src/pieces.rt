@@ -93,17 +93,38 @@ impl fmt::Display for Held {
     }
 }
 
-/// All of a summary, without the end of the object.
+/// The end of a summary: what its numbers are held against, where there is something.
 #[derive(Clone, Copy, Debug)]
-pub(crate) struct SummaryFront {
-    pub(crate) summary: Summary,
+struct TargetEnd {
+    target: Option<u64>,
 }
 
-impl fmt::Display for SummaryFront {
+impl fmt::Display for TargetEnd {
     ghost use Rattle.std.specs.Prelude.{Some};
-    ghost use Rattle.measure_text.specs.Json.{summary_front};
+    ghost use Rattle.measure_text.specs.Json.{target_end};
 
-    ghost output = { λ front. Some (summary_front front.summary) };
+    ghost output = { λ end. Some (target_end end.target) };
+
+    fn fmt<W: fmt::Write>(&self, f: &mut fmt::Formatter<W>) -> fmt::Result {
+        match self.target {
+            None => f.write_str("}"),
+            Some(target) => write!(f, ",\"target\":{target}}}"),
+        }
+    }
+}
+
+/// All of a summary, and what its numbers are held against, where there is something.
+#[derive(Clone, Copy, Debug)]
+pub(crate) struct Whole {
+    pub(crate) summary: Summary,
+    pub(crate) target: Option<u64>,
+}
+
+impl fmt::Display for Whole {
+    ghost use Rattle.std.specs.Prelude.{Some};
+    ghost use Rattle.measure_text.specs.Json.{summary_text};
+
+    ghost output = { λ whole. Some (summary_text whole.summary whole.target) };
 
     fn fmt<W: fmt::Write>(&self, f: &mut fmt::Formatter<W>) -> fmt::Result {
         let Summary {
@@ -113,51 +134,13 @@ impl fmt::Display for SummaryFront {
             first,
             last,
         } = self.summary;
+        let end = TargetEnd {
+            target: self.target,
+        };
         write!(
             f,
-            "{{\"first\":{first},\"greatest\":{greatest},\"last\":{last},\"least\":{least},\"sum\":{sum}"
+            "{{\"first\":{first},\"greatest\":{greatest},\"last\":{last},\"least\":{least},\"sum\":{sum}{end}"
         )
-    }
-}
-
-/// All of a summary.
-#[derive(Clone, Copy, Debug)]
-pub(crate) struct Whole {
-    pub(crate) summary: Summary,
-}
-
-impl fmt::Display for Whole {
-    ghost use Rattle.std.specs.Prelude.{Some};
-    ghost use Rattle.measure_text.specs.Json.{summary_text};
-
-    ghost output = { λ whole. Some (summary_text whole.summary) };
-
-    fn fmt<W: fmt::Write>(&self, f: &mut fmt::Formatter<W>) -> fmt::Result {
-        let front = SummaryFront {
-            summary: self.summary,
-        };
-        write!(f, "{front}}}")
-    }
-}
-
-/// All of a summary, and what its numbers are held against.
-#[derive(Clone, Copy, Debug)]
-pub(crate) struct Against {
-    pub(crate) summary: Summary,
-    pub(crate) target: u64,
-}
-
-impl fmt::Display for Against {
-    ghost use Rattle.std.specs.Prelude.{Some};
-    ghost use Rattle.measure_text.specs.Json.{summary_with};
-
-    ghost output = { λ a. Some (summary_with a.summary a.target) };
-
-    fn fmt<W: fmt::Write>(&self, f: &mut fmt::Formatter<W>) -> fmt::Result {
-        let front = SummaryFront {
-            summary: self.summary,
-        };
-        write!(f, "{front},\"target\":{}}}", self.target)
     }
 }
 
@@ -185,23 +168,23 @@ impl fmt::Display for Steps {
     }
 }
 
-/// The first packet that breaks a model, where one does.
+/// A number that may be missing, with its key and the comma after it.
 #[derive(Clone, Copy, Debug)]
-pub(crate) struct FirstBroken {
+pub(crate) struct NumberIf {
     pub(crate) key: &'static str,
-    pub(crate) packet: Option<u64>,
+    pub(crate) number: Option<u64>,
 }
 
-impl fmt::Display for FirstBroken {
+impl fmt::Display for NumberIf {
     ghost use Rattle.std.specs.Prelude.{Some};
     ghost use Rattle.measure_text.specs.Json.{member_if};
 
-    ghost output = { λ first. Some (member_if first.key.now first.packet) };
+    ghost output = { λ member. Some (member_if member.key.now member.number) };
 
     fn fmt<W: fmt::Write>(&self, f: &mut fmt::Formatter<W>) -> fmt::Result {
-        match self.packet {
+        match self.number {
             None => Ok(()),
-            Some(packet) => write!(f, "\"{}\":{packet},", self.key),
+            Some(number) => write!(f, "\"{}\":{number},", self.key),
         }
     }
 }

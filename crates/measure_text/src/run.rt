@@ -2,37 +2,28 @@
 
 ghost use Rattle.std.specs.Prelude.{◌≡◌, ◌++◌, IfOk, map, option_map, string_bytes};
 ghost use Rattle.timing_report.specs.Outcomes.{verdict_on};
-ghost use Rattle.measure_text.specs.Json.{breaks_text, bucket_bins, buffer_bins, gap_member, kind_at, kind_text, kinds_from, kinds_text, run_end, run_front, run_middle, run_rest, run_text};
+ghost use Rattle.measure_text.specs.Json.{bins_text, breaks_text, gap_member, kind_at, kind_text, kinds_from, kinds_text, run_end, run_front, run_middle, run_rest, run_text};
 ghost use Rattle.measure_text.specs.Told.{bins_told, gaps_told, kind_told, numbers_told, run_told};
 
-use crate::pieces::{
-    Against, FirstBroken, Held, Level, Outcome, Steps, Whole, counts_of, flag_name,
-};
+use crate::pieces::{Held, Level, NumberIf, Outcome, Steps, Whole, counts_of, flag_name};
 use flow_measure::{Bins, Gaps, KindNumbers, MeasuredRun, RunNumbers};
 use std::alloc::{AllocError as OutOfMemory, Global};
 use timing_base::{Judged, Kind, Media};
 use timing_json::comma_if;
 use timing_report::{kind_name, verdict_on};
 
-/// The bins of the bucket.
-fn bucket_bins(alloc: Global, bins: &Bins) -> Result<String, OutOfMemory>
-    ensures { IfOk result (λ s. string_bytes s ≡ bucket_bins (bins_told bins.now)) }
+/// Bins, and how many numbers are below 0, where that is told.
+fn bins_of(alloc: Global, bins: &Bins, below: Option<u64>) -> Result<String, OutOfMemory>
+    ensures { IfOk result (λ s. string_bytes s ≡ bins_text (bins_told bins.now) below) }
 {
     let counts = counts_of(alloc, bins.counts())?;
+    let below = NumberIf {
+        key: "below",
+        number: below,
+    };
     format!(in alloc;
-        "{{\"above\":{},\"counts\":{counts},\"limit\":{},\"width\":{}}}",
+        "{{\"above\":{},{below}\"counts\":{counts},\"limit\":{},\"width\":{}}}",
         bins.above, bins.limit, bins.width
-    )
-}
-
-/// The bins of the buffer.
-fn buffer_bins(alloc: Global, bins: &Bins) -> Result<String, OutOfMemory>
-    ensures { IfOk result (λ s. string_bytes s ≡ buffer_bins (bins_told bins.now)) }
-{
-    let counts = counts_of(alloc, bins.counts())?;
-    format!(in alloc;
-        "{{\"above\":{},\"below\":{},\"counts\":{counts},\"limit\":{},\"width\":{}}}",
-        bins.above, bins.below, bins.limit, bins.width
     )
 }
 
@@ -56,17 +47,17 @@ fn gap_member(alloc: Global, gap: Option<Gaps>) -> Result<String, OutOfMemory>
 fn breaks_of(alloc: Global, numbers: &KindNumbers) -> Result<String, OutOfMemory>
     ensures { IfOk result (λ s. string_bytes s ≡ breaks_text (kind_told numbers.now)) }
 {
-    let bucket = FirstBroken {
+    let bucket = NumberIf {
         key: "first_bucket",
-        packet: numbers.first_bucket,
+        number: numbers.first_bucket,
     };
-    let empty = FirstBroken {
+    let empty = NumberIf {
         key: "first_empty",
-        packet: numbers.first_empty,
+        number: numbers.first_empty,
     };
-    let over = FirstBroken {
+    let over = NumberIf {
         key: "first_over",
-        packet: numbers.first_over,
+        number: numbers.first_over,
     };
     format!(in alloc;
         "{bucket}{empty}{over}\"frames_broken\":{}",
@@ -84,8 +75,8 @@ fn kind_of(
     ensures { IfOk result (λ s. string_bytes s
         ≡ kind_text kind (verdict_on judged.now kind) (kind_told numbers.now)) }
 {
-    let bucket = bucket_bins(alloc, &numbers.bucket)?;
-    let buffer = buffer_bins(alloc, &numbers.buffer)?;
+    let bucket = bins_of(alloc, &numbers.bucket, None)?;
+    let buffer = bins_of(alloc, &numbers.buffer, Some(numbers.buffer.below))?;
     let breaks = breaks_of(alloc, numbers)?;
     let outcome = Outcome {
         verdict: verdict_on(judged, kind),
@@ -179,9 +170,9 @@ fn add_front(
     let bucket = Level {
         summary: numbers.bucket,
     };
-    let first = Against {
+    let first = Whole {
         summary: numbers.first,
-        target: numbers.target,
+        target: Some(numbers.target),
     };
     let gap = gap_member(alloc, numbers.gap)?;
     write!(
@@ -207,9 +198,11 @@ fn add_middle(
     let interlaced = flag_name(media.interlaced);
     let last = Whole {
         summary: numbers.last,
+        target: None,
     };
     let latency = Whole {
         summary: numbers.latency,
+        target: None,
     };
     write!(
         text,
@@ -228,6 +221,7 @@ fn add_rest(text: &mut String, judged: &Judged, run: &MeasuredRun) -> Result<(),
     };
     let offset = Whole {
         summary: run.numbers.offset,
+        target: None,
     };
     write!(
         text,
