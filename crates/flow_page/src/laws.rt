@@ -1,11 +1,11 @@
 //! The pictures tried by hand. Each function is a theorem: it does nothing, and its clauses are proved.
 
-ghost use Rattle.std.specs.Prelude.{◌≡◌, ◌≤◌, ◌++◌, ◌∷◌, ℕ, ℤ, [], codes, neg_ℤ, pos};
+ghost use Rattle.std.specs.Prelude.{◌≡◌, ◌<◌, ◌≤◌, ◌≤ℤ◌, ◌++◌, ◌∷◌, ℕ, ℤ, [], codes, neg_ℤ, pos};
 ghost use Rattle.flow_page.specs.Axes.{axis_of};
 ghost use Rattle.flow_page.specs.Curve.{band_text};
 ghost use Rattle.flow_page.specs.Escapes.{escaped};
 ghost use Rattle.flow_page.specs.Lines.{lines_text};
-ghost use Rattle.flow_page.specs.Marks.{mark, place, rise, tenths_text, y_of};
+ghost use Rattle.flow_page.specs.Marks.{high, mark, place, rise, span, tenths_text, y_of};
 ghost use Rattle.flow_page.specs.declared.axis.Axis.{Axis};
 ghost use Rattle.flow_page.specs.Worked.{burst_columns, burst_plot, limit_of_4, nothing};
 
@@ -40,10 +40,14 @@ pub fn marks_by_hand()
     ensures third { place 100 3 1 ≡ 33 }
 {}
 
-/// Marks rise with numbers: of two numbers the one that is farther above the low end of an axis never stands below the
-/// other, nor below its line.
+/// Marks rise with numbers: of two numbers the greater one is no less far above the low end of an axis, and never stands
+/// below the other, nor below its line. The ends of the axis stand at the ends of the picture.
 pub fn marks_rise()
-    ensures { (height : ℕ) (a : Axis) (x y : ℤ) → rise a x ≤ rise a y → mark height a y ≤ mark height a x }
+    ensures rises { (a : Axis) (x y : ℤ) → x ≤ℤ y → rise a x ≤ rise a y }
+    ensures falls { (height : ℕ) (a : Axis) (x y : ℤ) → x ≤ℤ y → mark height a y ≤ mark height a x }
+    ensures low { (height : ℕ) (a : Axis) → 0 < span a → mark height a a.low ≡ height }
+    ensures high { (height : ℕ) (a : Axis) → mark height a (high a) ≡ 0 }
+    ensures within { (height : ℕ) (a : Axis) (x : ℤ) → mark height a x ≤ height }
 {}
 
 /// The band of a burst: along the greatest numbers to the last column's end, and along the least ones back.
