@@ -4,15 +4,16 @@ use Rattle.std.specs.Char.{encode_utf8}
 use Rattle.std.specs.Prelude.{⊤}
 use Rattle.std.specs.Str.{chars}
 use Rattle.flow_page.specs.Axes.{low_at, round_up, step_of, steps_at}
+use Rattle.flow_page.specs.Bars.{bar_label, bar_piece, bar_x, label_step, limit_line, limit_number}
 use Rattle.flow_page.specs.Lines.{name_piece, stroke_piece}
 use Rattle.flow_page.specs.Marks.{above_of, base_of, below, beside, bottom_of, edge, mark, name_x, place, right_of, tenths_text, x_of, y_of}
 
 -- decimal numerals, axes, characters, and texts of lines
 unfoldable pub numerals : ⊤
-unfolding digits low_at round_up step_of steps_at chars encode_utf8 name_piece stroke_piece tenths_text
+unfolding digits low_at round_up step_of steps_at chars encode_utf8 name_piece stroke_piece tenths_text bar_label bar_piece limit_line limit_number
 numerals = tt
 
 -- where marks stand
 unfoldable pub places : ⊤
-unfolding above_of base_of below beside bottom_of edge mark name_x place right_of x_of y_of
+unfolding above_of bar_x label_step base_of below beside bottom_of edge mark name_x place right_of x_of y_of
 places = tt

@@ -1,9 +1,11 @@
 -- Marks rise with numbers.
-use Rattle.std.proofs.Common.{◌<◌, ◌≤◌, ◌-◌, ◌*◌, ◌/◌, ℕ, max, arith}
+use Rattle.std.proofs.Common.{◌≡◌, ◌<◌, ◌≤◌, ◌-◌, ◌*◌, ◌/◌, ℕ, max, ap, ◌∙◌, ◌≤ℤ◌, arith}
+use Rattle.std.proofs.lemmas.Bool.Decides.{nat_tests}
+use Rattle.std.proofs.lemmas.Int.{ints}
 use Rattle.std.proofs.lemmas.Nat.{le-div, mul-le}
-use Rattle.std.proofs.Math.Nat.{div-mul-le_self}
+use Rattle.std.proofs.Math.Nat.{div-le_of_le-mul, div-mul-le_self, mul-div_cancel}
 use Rattle.std.specs.Prelude.{ℤ}
-use Rattle.flow_page.specs.Marks.{mark, rise, span}
+use Rattle.flow_page.specs.Marks.{high, mark, rise, span}
 use Rattle.flow_page.specs.declared.axis.Axis.{Axis}
 
 falls : (n m k : ℕ) → 0 < k → n ≤ m → n / k ≤ m / k
@@ -21,3 +23,39 @@ mark_falls height a x y more =
     let some : 0 < max 1 (span a) = omega arith in
     let product : height * (span a - rise a y) ≤ height * (span a - rise a x) = mul-le height (span a - rise a y) height (span a - rise a x) same left in
     falls (height * (span a - rise a y)) (height * (span a - rise a x)) (max 1 (span a)) some product
+
+-- the greater number is no less far above the low end
+pub rises : (a : Axis) (x y : ℤ) → x ≤ℤ y → rise a x ≤ rise a y
+rises a x y up = grind (arith, ints, nat_tests)
+
+-- the ends rise by nothing and by the span
+low_rises : (a : Axis) → rise a a.low ≡ 0
+low_rises a = grind (arith, ints, nat_tests)
+
+high_rises : (a : Axis) → rise a (high a) ≡ span a
+high_rises a = grind (arith, ints, nat_tests)
+
+pub low_stands : (height : ℕ) (a : Axis) → 0 < span a → mark height a a.low ≡ height
+unfolding mark
+low_stands height a some =
+    let same : max 1 (span a) ≡ span a = omega arith in
+    let whole : span a - rise a a.low ≡ span a = omega (arith, low_rises a) in
+    ap (λ n. height * n / max 1 (span a)) whole ∙ ap (λ n. height * span a / n) same ∙ mul-div_cancel height some
+
+pub high_stands : (height : ℕ) (a : Axis) → mark height a (high a) ≡ 0
+unfolding mark
+high_stands height a =
+    let none : span a - rise a (high a) ≡ 0 = omega (arith, high_rises a) in
+    let nothing : height * 0 ≤ max 1 (span a) * 0 = omega arith in
+    let least : height * 0 / max 1 (span a) ≤ 0 = div-le_of_le-mul (max 1 (span a)) nothing in
+    omega (arith, ap (λ n. height * n / max 1 (span a)) none, least)
+
+-- each mark stands in the picture
+pub stands_within : (height : ℕ) (a : Axis) (x : ℤ) → mark height a x ≤ height
+unfolding mark
+stands_within height a x =
+    let part : span a - rise a x ≤ max 1 (span a) = omega arith in
+    let same : height ≤ height = omega arith in
+    let product : height * (span a - rise a x) ≤ height * max 1 (span a) = mul-le height (span a - rise a x) height (max 1 (span a)) same part in
+    let turned : height * (span a - rise a x) ≤ max 1 (span a) * height = omega (arith, product) in
+    div-le_of_le-mul (max 1 (span a)) turned

@@ -11,7 +11,7 @@ use Rattle.flow_page.specs.declared.axis.Axis.{Axis}
 use Rattle.flow_page.specs.declared.grid.Unit.{Unit}
 use Rattle.flow_page.specs.declared.grid.Unit.TheVariants.{Packets, Nanoseconds, Ticks}
 use Rattle.flow_page.specs.declared.grid.UnitAcross.{UnitAcross}
-use Rattle.flow_page.specs.declared.grid.UnitAcross.TheVariants.{Packet, Place, Frame}
+use Rattle.flow_page.specs.declared.grid.UnitAcross.TheVariants.{Packet, Place, Frame, Bucket, Buffer, Gap}
 use Rattle.flow_page.specs.declared.plot.Across.{Across}
 use Rattle.flow_page.specs.declared.plot.Plot.{Plot}
 
@@ -37,6 +37,9 @@ abbrev pub across_name : UnitAcross → List ℕ
 across_name Packet = codes "judged packet"
 across_name Place = codes "place in the frame"
 across_name Frame = codes "frame"
+across_name Bucket = codes "packets in the bucket"
+across_name Buffer = codes "packets in the buffer"
+across_name Gap = codes "ns from packet to packet"
 
 -- the number of a tick as it is told
 unfoldable pub shown : Unit → Axis → ℕ → ℤ

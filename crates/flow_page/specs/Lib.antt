@@ -6,6 +6,7 @@ pub mod Escapes
 pub mod Grid
 pub mod Lines
 pub mod Curve
+pub mod Bars
 pub mod Page
 -- what is worked by hand
 pub mod Worked

@@ -34,8 +34,9 @@ styles =
     ++ (codes "idth:.7;stroke-dasharray:2 3}.band{fill:var(--band);fill-opacity:.45;stroke:var(--peak);stroke-width:1;s"
     ++ (codes "troke-linejoin:round}path.lim{stroke:var(--lim);stroke-width:1.4;stroke-dasharray:7 4;fill:none}path.w{s"
     ++ (codes "troke:var(--wide);stroke-dasharray:2 3}text.lim{fill:var(--lim);paint-order:stroke;stroke:var(--card);st"
-    ++ (codes "roke-width:4px;stroke-linejoin:round}text.w{fill:var(--wide)}</style></head><body><h1>Sender timing: <bd"
-    ++ codes "i>")))))))))))))))
+    ++ (codes "roke-width:4px;stroke-linejoin:round}text.w{fill:var(--wide)}.bar{fill:var(--band);stroke:var(--band);st"
+    ++ (codes "roke-width:1}.bar.over{fill:var(--lim);stroke:var(--lim)}</style></head><body><h1>Sender timing: <bd"
+    ++ codes "i>"))))))))))))))))
 
 -- from the first byte to the heading, for a capture of this name
 unfoldable pub front : List ℕ

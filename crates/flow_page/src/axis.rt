@@ -1,7 +1,8 @@
 //! Axes with round ends.
 
-ghost use Rattle.std.specs.Prelude.{◌≡◌, ◌<◌, ◌≤◌, ◌+◌, ◌*◌, ◌^◌, pos, neg_ℤ, ◌≤ℤ◌};
+ghost use Rattle.std.specs.Prelude.{◌≡◌, ◌<◌, ◌≤◌, ◌+◌, ◌*◌, ◌^◌, pos, neg_ℤ, ◌+ℤ◌, ◌-ℤ◌, ◌≤ℤ◌, ◌<ℤ◌, unsigned_abs};
 ghost use Rattle.flow_page.specs.Axes.{axis_of, low_at, round_up, step_of, steps_at, tick};
+ghost use Rattle.flow_page.specs.Marks.{high};
 
 /// An axis: its low end, how far it is from one tick to the next, and how many steps there are up to its high end. All
 /// have the unit of the numbers.
@@ -21,6 +22,7 @@ pub(crate) fn round_up(wanted: u64) -> u64
     ensures value { result ≡ round_up wanted }
     ensures some { 1 ≤ result }
     ensures near { result ≤ 3 * wanted + 1 }
+    ensures reaches { wanted ≤ result }
 {
     let mut power: u64 = 1;
     for tried in 0..19u32 {
@@ -45,7 +47,9 @@ fn low_at(least: i64, step: u64) -> i64
     requires high { least ≤ℤ pos (2 ^ 61) }
     requires some { 1 ≤ step }
     requires small { step < 2 ^ 62 }
-    ensures { result ≡ low_at least step }
+    ensures value { result ≡ low_at least step }
+    ensures below { result ≤ℤ least }
+    ensures near { least <ℤ (result +ℤ pos step) }
 {
     least - least.rem_euclid(step as i64)
 }
@@ -54,7 +58,8 @@ fn low_at(least: i64, step: u64) -> i64
 #[tactic(auto, unfolding(crate::specs::Axes::steps_at))]
 fn steps_at(low: i64, greatest: i64, step: u64) -> u32
     requires { 1 ≤ step }
-    ensures { result ≡ steps_at low greatest step }
+    ensures value { result ≡ steps_at low greatest step }
+    ensures room { unsigned_abs (greatest -ℤ low) ≤ 7 * step → unsigned_abs (greatest -ℤ low) ≤ step * result }
 {
     greatest.abs_diff(low).div_ceil(step).max(3).min(8) as u32
 }
@@ -69,16 +74,20 @@ impl Axis {
         ensures value { result ≡ step_of least greatest }
         ensures some { 1 ≤ result }
         ensures bound { result < 2 ^ 62 }
+        ensures reaches { unsigned_abs (greatest -ℤ least) ≤ 6 * result }
     {
         round_up(greatest.abs_diff(least).div_ceil(6))
     }
 
-    /// The axis of numbers from the least to the greatest, with a tick at each multiple of its step.
+    /// The axis of numbers from the least to the greatest, with a tick at each multiple of its step. It reaches from the
+    /// one to the other.
     pub fn of(least: i64, greatest: i64) -> Axis
         requires low { neg_ℤ (pos (2 ^ 61)) ≤ℤ least }
         requires ordered { least ≤ℤ greatest }
         requires high { greatest ≤ℤ pos (2 ^ 61) }
-        ensures { result ≡ axis_of least greatest }
+        ensures value { result ≡ axis_of least greatest }
+        ensures down { result.low ≤ℤ least }
+        ensures up { greatest ≤ℤ high result }
     {
         let step = Axis::step_of(least, greatest);
         let low = low_at(least, step);

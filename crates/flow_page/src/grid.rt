@@ -26,6 +26,12 @@ pub enum UnitAcross {
     Place,
     /// Frames, from 0.
     Frame,
+    /// What a bucket holds.
+    Bucket,
+    /// What a buffer holds.
+    Buffer,
+    /// Nanoseconds from a packet to the next.
+    Gap,
 }
 
 /// The nanoseconds of the unit in which nanoseconds are told.
@@ -84,6 +90,9 @@ impl UnitAcross {
             UnitAcross::Packet => "judged packet",
             UnitAcross::Place => "place in the frame",
             UnitAcross::Frame => "frame",
+            UnitAcross::Bucket => "packets in the bucket",
+            UnitAcross::Buffer => "packets in the buffer",
+            UnitAcross::Gap => "ns from packet to packet",
         }
     }
 }

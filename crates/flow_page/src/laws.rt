@@ -1,13 +1,14 @@
 //! The pictures tried by hand. Each function is a theorem: it does nothing, and its clauses are proved.
 
-ghost use Rattle.std.specs.Prelude.{◌≡◌, ◌≤◌, ◌++◌, ◌∷◌, ℕ, ℤ, [], codes, neg_ℤ, pos};
+ghost use Rattle.std.specs.Prelude.{◌≡◌, ◌<◌, ◌≤◌, ◌≤ℤ◌, ◌++◌, ◌∷◌, ℕ, ℤ, [], codes, neg_ℤ, pos};
 ghost use Rattle.flow_page.specs.Axes.{axis_of};
+ghost use Rattle.flow_page.specs.Bars.{bars_text};
 ghost use Rattle.flow_page.specs.Curve.{band_text};
 ghost use Rattle.flow_page.specs.Escapes.{escaped};
 ghost use Rattle.flow_page.specs.Lines.{lines_text};
-ghost use Rattle.flow_page.specs.Marks.{mark, place, rise, tenths_text, y_of};
+ghost use Rattle.flow_page.specs.Marks.{high, mark, place, rise, span, tenths_text, y_of};
 ghost use Rattle.flow_page.specs.declared.axis.Axis.{Axis};
-ghost use Rattle.flow_page.specs.Worked.{burst_columns, burst_plot, limit_of_4, nothing};
+ghost use Rattle.flow_page.specs.Worked.{bars_plot, burst_bars, burst_columns, burst_plot, limit_of_4, nothing};
 
 /// Axes: with a tick at each number, below 0 in fives, of one number alone, and far from 0.
 #[tactic(auto, unfolding(crate::proofs::Numerals::numerals, crate::proofs::Numerals::places))]
@@ -40,10 +41,14 @@ pub fn marks_by_hand()
     ensures third { place 100 3 1 ≡ 33 }
 {}
 
-/// Marks rise with numbers: of two numbers the one that is farther above the low end of an axis never stands below the
-/// other, nor below its line.
+/// Marks rise with numbers: of two numbers the greater one is no less far above the low end of an axis, and never stands
+/// below the other, nor below its line. The ends of the axis stand at the ends of the picture.
 pub fn marks_rise()
-    ensures { (height : ℕ) (a : Axis) (x y : ℤ) → rise a x ≤ rise a y → mark height a y ≤ mark height a x }
+    ensures rises { (a : Axis) (x y : ℤ) → x ≤ℤ y → rise a x ≤ rise a y }
+    ensures falls { (height : ℕ) (a : Axis) (x y : ℤ) → x ≤ℤ y → mark height a y ≤ mark height a x }
+    ensures low { (height : ℕ) (a : Axis) → 0 < span a → mark height a a.low ≡ height }
+    ensures high { (height : ℕ) (a : Axis) → mark height a (high a) ≡ 0 }
+    ensures within { (height : ℕ) (a : Axis) (x : ℤ) → mark height a x ≤ height }
 {}
 
 /// The band of a burst: along the greatest numbers to the last column's end, and along the least ones back.
@@ -60,6 +65,22 @@ pub fn lines_by_hand()
     ensures { lines_text burst_plot 0 (limit_of_4 ∷ nothing ∷ [])
         ≡ codes "<path class=\"lim\" d=\"M30 40H110\"/><text class=\"lim\" x=\"36\" y=\"36\">N, NL 4</text>"
         ++ codes "<path class=\"lim\" d=\"M30 120H110\"/><text class=\"lim\" x=\"146\" y=\"116\">empty</text>" }
+{}
+
+/// The bars of how often its bucket holds each number: nothing is drawn of 0, the limit stands before what is above it,
+/// and each third bar has its name.
+#[tactic(auto, unfolding(crate::proofs::Numerals::numerals, crate::proofs::Numerals::places))]
+pub fn bars_by_hand()
+    ensures { bars_text bars_plot 0 burst_bars
+        ≡ codes "<text x=\"40\" y=\"136\" text-anchor=\"middle\">0</text>"
+        ++ (codes "<path class=\"bar\" d=\"M52 120V30H68V120Z\"><title>1: 36</title></path>"
+        ++ (codes "<path class=\"bar\" d=\"M72 120V117.5H88V120Z\"><title>2: 1</title></path>"
+        ++ (codes "<path class=\"bar\" d=\"M92 120V117.5H108V120Z\"><title>3: 1</title></path>"
+        ++ (codes "<text x=\"100\" y=\"136\" text-anchor=\"middle\">3</text>"
+        ++ (codes "<path class=\"bar\" d=\"M112 120V117.5H128V120Z\"><title>4: 1</title></path>"
+        ++ (codes "<path class=\"bar over\" d=\"M132 120V117.5H148V120Z\"><title>above 4: 1</title></path>"
+        ++ (codes "<path class=\"lim\" d=\"M130 20V120\"/>"
+        ++ codes "<text class=\"lim\" x=\"126\" y=\"30\" text-anchor=\"end\">limit 4</text>"))))))) }
 {}
 
 /// A name that HTML would read as markup.

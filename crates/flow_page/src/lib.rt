@@ -6,6 +6,7 @@
 #![tactic(auto)]
 
 mod axis;
+mod bars;
 mod curve;
 mod escape;
 mod grid;
@@ -15,6 +16,7 @@ mod page;
 mod plot;
 
 pub use axis::Axis;
+pub use bars::{Bar, BarName, add_bars};
 pub use escape::add_escaped;
 pub use grid::{Unit, UnitAcross};
 pub use lines::{Limit, LineName};

@@ -1,5 +1,6 @@
 use Rattle.std.proofs.Common.{◌≤◌, arith}
 use Rattle.std.proofs.lemmas.Bool.Decides.{nat_tests}
+use Rattle.flow_page.proofs.Reaches.{round_reaches}
 use Rattle.flow_page.proofs.Texts.{one_power, round_begins, round_ends}
 use Rattle.flow_page.proofs.axis.round_up.Goals as goal
 
@@ -26,3 +27,9 @@ pub returns-clause-value : goal.returns-clause-value
 returns-clause-value c =
     let past : 19 ≤ c.loop-tried.tried = omega arith in
     let e = round_ends c.loop-tried.tried c.loop-tried.power c.args.wanted past in grind arith
+
+pub returns-clause-reaches : goal.returns-clause-reaches
+returns-clause-reaches c =
+    let past : 19 ≤ c.loop-tried.tried = omega arith in
+    let e = round_ends c.loop-tried.tried c.loop-tried.power c.args.wanted past in
+    let f = round_reaches c.args.wanted c.requires in grind arith

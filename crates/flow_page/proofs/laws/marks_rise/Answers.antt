@@ -1,5 +1,11 @@
-use Rattle.flow_page.proofs.Rises.{mark_falls}
+use Rattle.flow_page.proofs.Rises.{high_stands, low_stands, mark_falls, rises, stands_within}
 use Rattle.flow_page.proofs.laws.marks_rise.Goals as goal
 
 pub returns : goal.returns
-returns c = mark_falls
+returns c = record {
+  rises = rises;
+  falls = λ height a x y up. mark_falls height a x y (rises a x y up);
+  low = low_stands;
+  high = high_stands;
+  within = stands_within;
+}
