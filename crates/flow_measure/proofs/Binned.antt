@@ -3,19 +3,20 @@ use Rattle.std.proofs.Common.{◌≡◌, ◌<◌, ◌≤◌, ◌+◌, ◌/◌, �
 use Rattle.std.proofs.Common.{nat_le, nat_lt, List, length, get_or, set, sum, take, max, ap, ◌∙◌, sym, refl, subst, inl, inr, arith}
 use Rattle.std.proofs.Math.ListN.{get_or-eq_default}
 use Rattle.std.proofs.Math.Nat.{div-mul-le_self, pow-le-pow_right}
-use Rattle.std.proofs.lemmas.Bool.{and_parts, cases_Bool, cases_eq, cases_lt, cases_order, cond-false, cond-true, eqb-true}
+use Rattle.std.proofs.lemmas.Bool.{and_parts, cases_Bool, cases_eq, cases_lt, cases_order, cond-false, cond-true, eq-eqb, eqb-true}
 use Rattle.std.proofs.lemmas.Bool.{le-leb, le-ltb, leb-true, lt-leb, lt-ltb, ltb-true, ne_eqb}
 use Rattle.std.proofs.lemmas.Nat.{le-div, pow_pos}
 use Rattle.std.proofs.lemmas.List.{get_or-set_other, get_or-set_same}
-use Rattle.flow_measure.specs.Bins.{bin_width, in_bin, is_above, is_below, is_in_bin}
+use Rattle.flow_measure.specs.Bins.{above_limit, below_zero, bin_width, in_bin, is_above, is_below, is_in_bin}
 use Rattle.flow_measure.specs.Classes.{in_class, is_in_class}
 use Rattle.flow_measure.specs.Counts.{count_of}
 use Rattle.flow_measure.specs.Places.{place_of}
-use Rattle.flow_measure.specs.Stands.{Classifies}
+use Rattle.flow_measure.specs.Stands.{Classifies, Counts}
 use Rattle.flow_measure.specs.declared.classes.Classes.{Classes}
+use Rattle.flow_measure.specs.declared.bins.Bins.{Bins}
 use Rattle.flow_measure.specs.declared.bins.Place.{Place}
 use Rattle.flow_measure.specs.declared.bins.Place.TheVariants.{Above, Below, Bin}
-use Rattle.flow_measure.proofs.Counted.{count-next, count-same, count_of-no, count_of-yes, none-count_of, sum-take}
+use Rattle.flow_measure.proofs.Counted.{count-next, count-same, count_of-no, count_of-times, count_of-yes, none-count_of, sum-take}
 use Rattle.flow_measure.proofs.Widths.{ceil-some}
 
 -- what the tests say of a number that belongs there
@@ -59,6 +60,100 @@ counts-set test count here counts within each passes others k few =
           get_or-set_other counts here k new 0 other
           ∙ count-same (test k) count (get_or counts k 0) (each k few) (others k other)
     ]
+
+-- a list of counts, where its item at one place goes up so much
+pub set-times : (counts : List ℕ) (here k times : ℕ) → here < length counts
+    → get_or (set counts here (get_or counts here 0 + times)) k 0 ≡ get_or counts k 0 + cond (here == k) times 0
+set-times counts here k times within =
+    let new = get_or counts here 0 + times in
+    elim (cases_eq here k) as (λ _. get_or (set counts here new) k 0 ≡ get_or counts k 0 + cond (here == k) times 0) [
+      | inl same ↦
+          let there : get_or (set counts here new) here 0 ≡ get_or counts here 0 + cond (here == here) times 0 =
+          get_or-set_same counts here new 0 within ∙ ap (λ t. get_or counts here 0 + t) (sym (cond-true (here == here) times 0 (eq-eqb here here refl))) in
+          subst (λ j. get_or (set counts here new) j 0 ≡ get_or counts j 0 + cond (here == j) times 0) same there
+      | inr other ↦
+          let none : cond {A = ℕ} (here == k) times 0 ≡ 0 = cond-false (here == k) times 0 (ne_eqb here k other) in
+          let kept = get_or-set_other counts here k new 0 (λ e. other (sym e)) in
+          omega (arith, none, kept)
+    ]
+
+-- of a number at a place, which comes so many times, so many belong to a bin, are above the limit, and below 0
+abbrev pub times_of : Place → (bin times : ℕ) → ℕ
+times_of Below bin times = 0
+times_of (Bin here) bin times = cond (here == bin) times 0
+times_of Above bin times = 0
+
+abbrev pub times_above : Place → (times : ℕ) → ℕ
+times_above Below times = 0
+times_above (Bin here) times = 0
+times_above Above times = times
+
+abbrev pub times_below : Place → (times : ℕ) → ℕ
+times_below Below times = times
+times_below (Bin here) times = 0
+times_below Above times = 0
+
+-- the tests say so
+tests-told : (limit times : ℕ) (x : ℤ) (place : Place) → place ≡ place_of limit x
+    → ((bin : ℕ) → times_of place bin times ≡ cond (is_in_bin limit bin x) times 0)
+    × (times_above place times ≡ cond (is_above limit x) times 0)
+    × (times_below place times ≡ cond (is_below x) times 0)
+tests-told limit times x Below e =
+    let t : IsTold limit x Below = subst (IsTold limit x) (sym e) (told limit x) in (
+      λ bin. sym (cond-false (is_in_bin limit bin x) times 0 (t.2 bin)),
+      sym (cond-false (is_above limit x) times 0 t.1),
+      sym (cond-true (is_below x) times 0 t.0),
+    )
+tests-told limit times x (Bin here) e =
+    let t : IsTold limit x (Bin here) = subst (IsTold limit x) (sym e) (told limit x) in (
+      λ bin. ap (λ (q : Bool). cond q times 0) (sym (t.2 bin)),
+      sym (cond-false (is_above limit x) times 0 t.1),
+      sym (cond-false (is_below x) times 0 t.0),
+    )
+tests-told limit times x Above e =
+    let t : IsTold limit x Above = subst (IsTold limit x) (sym e) (told limit x) in (
+      λ bin. sym (cond-false (is_in_bin limit bin x) times 0 (t.2 bin)),
+      sym (cond-true (is_above limit x) times 0 t.1),
+      sym (cond-false (is_below x) times 0 t.0),
+    )
+
+-- what bins count of a number that comes so many times more
+pub record TakesTimes (b c : Bins) (times : ℕ) (place : Place) : Type 0 where
+  pub limit : c.limit ≡ b.limit
+  pub seen : c.seen ≡ b.seen + times
+  pub each : (bin : ℕ) → bin < 64 → get_or c.counts bin 0 ≡ get_or b.counts bin 0 + times_of place bin times
+  pub above : c.above ≡ b.above + times_above place times
+  pub below : c.below ≡ b.below + times_below place times
+
+pub counts-times : (b c : Bins) (numbers : ℕ → ℤ) (x : ℤ) (times : ℕ) (place : Place)
+    → place ≡ place_of b.limit x
+    → TakesTimes b c times place
+    → ((j : ℕ) → j < times → numbers (b.seen + j) ≡ x)
+    → Counts b numbers
+    → Counts c numbers
+counts-times b c numbers x times place e t same h =
+    let limit = b.limit in
+    let tests = tests-told limit times x place e in
+    let goes = λ (test : ℤ → Bool). count_of-times (λ i. test (numbers i)) b.seen times (test x) (λ j few. ap test (same j few)) in
+    record {
+      each = λ bin few.
+          let all : in_bin limit bin numbers c.seen ≡ in_bin limit bin numbers b.seen + cond (is_in_bin limit bin x) times 0 =
+          ap (in_bin limit bin numbers) t.seen ∙ goes (is_in_bin limit bin) in
+          let now : get_or c.counts bin 0 ≡ get_or b.counts bin 0 + times_of place bin times = t.each bin few in
+          let before : get_or b.counts bin 0 ≡ in_bin limit bin numbers b.seen = h.each bin few in
+          let added : times_of place bin times ≡ cond (is_in_bin limit bin x) times 0 = tests.0 bin in
+          let there : get_or c.counts bin 0 ≡ in_bin limit bin numbers c.seen = omega (arith, all, now, before, added) in
+          there ∙ ap (λ l. in_bin l bin numbers c.seen) (sym t.limit);
+      above =
+          let all : above_limit limit numbers c.seen ≡ above_limit limit numbers b.seen + cond (is_above limit x) times 0 =
+          ap (above_limit limit numbers) t.seen ∙ goes (is_above limit) in
+          let there : c.above ≡ above_limit limit numbers c.seen = omega (arith, all, t.above, h.above, tests.1) in
+          there ∙ ap (λ l. above_limit l numbers c.seen) (sym t.limit);
+      below =
+          let all : below_zero numbers c.seen ≡ below_zero numbers b.seen + cond (is_below x) times 0 =
+          ap (below_zero numbers) t.seen ∙ goes is_below in
+          omega (arith, all, t.below, h.below, tests.2);
+    }
 
 -- a number has one class
 above-powers : (k c x : ℕ) → k < c → 2 ^ c ≤ x → x < 2 ^ suc k → ⊥

@@ -21,6 +21,34 @@ count_of-no test count e =
     let same = count_of-more test count ∙ ap (λ b. count_of test count + cond b 1 0) e in
     omega (arith, same)
 
+cond-same : (b : Bool) (x : ℕ) → cond b x x ≡ x
+cond-same true x = refl
+cond-same false x = refl
+
+-- a count with so many places more, of which each passes or none does
+pub count_of-times : (test : ℕ → Bool) (count times : ℕ) (passes : Bool)
+    → ((j : ℕ) → j < times → test (count + j) ≡ passes)
+    → count_of test (count + times) ≡ count_of test count + cond passes times 0
+count_of-times test count zero passes h =
+    let same : count + zero ≡ count = omega arith in
+    let none : cond {A = ℕ} passes 0 0 ≡ 0 = cond-same passes 0 in
+    let e = ap (count_of test) same in
+    omega (arith, e, none)
+count_of-times test count (suc k) true h =
+    let next : count + suc k ≡ (count + k) + 1 = omega arith in
+    let before : count_of test (count + k) ≡ count_of test count + k = count_of-times test count k true (λ j few. h j (omega (arith, few))) in
+    let last = count_of-yes test (count + k) (h k (omega arith)) in
+    let e = ap (count_of test) next in
+    let all : count_of test (count + suc k) ≡ count_of test count + suc k = omega (arith, e, before, last) in
+    all
+count_of-times test count (suc k) false h =
+    let next : count + suc k ≡ (count + k) + 1 = omega arith in
+    let before : count_of test (count + k) ≡ count_of test count + 0 = count_of-times test count k false (λ j few. h j (omega (arith, few))) in
+    let last = count_of-no test (count + k) (h k (omega arith)) in
+    let e = ap (count_of test) next in
+    let all : count_of test (count + suc k) ≡ count_of test count + 0 = omega (arith, e, before, last) in
+    all
+
 -- what one place adds
 cond-one : (b : Bool) → b ≡ true → let one : ℕ = 1 in let none : ℕ = 0 in cond b one none ≡ one
 cond-one b e = cond-true b 1 0 e

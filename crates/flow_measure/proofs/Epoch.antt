@@ -3,55 +3,45 @@
 use Rattle.std.proofs.Common.{◌≡◌, ◌≤◌, ◌<◌, ◌+◌, ◌*◌, ◌^◌, ℕ, ℤ, pos, ◌+ℤ◌, ◌-ℤ◌, ◌*ℤ◌, ap, ◌∙◌, sym, refl, arith}
 use Rattle.std.proofs.Math.Nat.{mul-le-mul_left, mul-le-mul_right}
 use Rattle.std.proofs.lemmas.Int.{ints}
-use Rattle.fraction128.specs.Fractions.{floor_of_signed}
-use Rattle.timing_base.specs.Media.{Media}
-use Rattle.sender_params.specs.Times.{group_time}
+use Rattle.fraction128.specs.Fractions.{Fraction, floor, floor_of_signed, minus, whole}
 use Rattle.sender_params.proofs.Floors.{sub-times}
-use Rattle.flow_measure.specs.Frames.{after_start, clock_at, frame_start}
+use Rattle.flow_measure.specs.Frames.{clock_at}
 
-since-num : (at k lift num den : ℕ) (anchor : ℤ) → pos lift ≡ anchor +ℤ pos 480
-    → (pos at *ℤ pos den) -ℤ (((anchor +ℤ pos k) *ℤ pos num) *ℤ pos 1) ≡ pos (at * den + 480 * num) -ℤ pos ((lift + k) * num)
-since-num at k lift num den anchor e =
+-- the instant with which a group begins
+pub start-num : (lift k num : ℕ) (anchor : ℤ) → pos lift ≡ anchor +ℤ pos 480
+    → (anchor +ℤ pos k) *ℤ pos num ≡ pos ((lift + k) * num) -ℤ pos (480 * num)
+start-num lift k num anchor e =
     let shifted : anchor +ℤ pos k ≡ pos (lift + k) -ℤ pos 480 = omega (arith, ints, e) in
-    let first = sub-times (lift + k) 480 num in
-    let second = sub-times ((lift + k) * num) (480 * num) 1 in
-    rw (shifted, first, second) (omega (arith, ints))
+    ap (λ z. z *ℤ pos num) shifted ∙ sub-times (lift + k) 480 num
 
--- an instant after the begin of a group
-pub since-is : (m : Media) (anchor : ℤ) (k at lift num den : ℕ)
-    → num ≡ (group_time m).0
-    → den ≡ (group_time m).1
-    → pos lift ≡ anchor +ℤ pos 480
-    → floor_of_signed (pos (at * den + 480 * num) -ℤ pos ((lift + k) * num)) den ≡ after_start m anchor k at
-since-is m anchor k at lift num den en ed e =
-    let n = (group_time m).0 in
-    let d = (group_time m).1 in
-    let whole : 1 * d ≡ d = omega arith in
-    ap (λ x. floor_of_signed (pos (at * den + 480 * x) -ℤ pos ((lift + k) * x)) den) en
-    ∙ ap (λ y. floor_of_signed (pos (at * y + 480 * n) -ℤ pos ((lift + k) * n)) y) ed
-    ∙ ap (λ z. floor_of_signed z d) (sym (since-num at k lift n d anchor e))
-    ∙ ap (floor_of_signed ((pos at *ℤ pos d) -ℤ (((anchor +ℤ pos k) *ℤ pos n) *ℤ pos 1))) (sym whole)
+since-num : (at num before den : ℕ)
+    → (pos at *ℤ pos den) -ℤ ((pos num -ℤ pos before) *ℤ pos 1) ≡ pos (at * den + before) -ℤ pos num
+since-num at num before den =
+    let product : pos at *ℤ pos den ≡ pos (at * den) = refl in
+    let same = sub-times num before 1 in
+    omega (arith, ints, product, same)
 
-clock-num : (k lift num : ℕ) (anchor : ℤ) → pos lift ≡ anchor +ℤ pos 480
-    → ((anchor +ℤ pos k) *ℤ pos num) *ℤ pos 9 ≡ pos ((lift + k) * num * 9) -ℤ pos (480 * num * 9)
-clock-num k lift num anchor e =
-    let shifted : anchor +ℤ pos k ≡ pos (lift + k) -ℤ pos 480 = omega (arith, ints, e) in
-    let first = sub-times (lift + k) 480 num in
-    let second = sub-times ((lift + k) * num) (480 * num) 9 in
-    rw (shifted, first, second) refl
+-- a whole nanosecond after an instant, rounded down
+pub since-is : (start : Fraction) (at num before den : ℕ)
+    → start.num ≡ pos num -ℤ pos before
+    → start.den ≡ den
+    → floor_of_signed (pos (at * den + before) -ℤ pos num) den ≡ floor (minus (whole at) start)
+since-is start at num before den en ed =
+    let one : 1 * den ≡ den = omega arith in
+    ap (λ z. floor_of_signed z den) (sym (since-num at num before den))
+    ∙ ap (floor_of_signed ((pos at *ℤ pos den) -ℤ ((pos num -ℤ pos before) *ℤ pos 1))) (sym one)
+    ∙ ap (λ z. floor_of_signed ((pos at *ℤ pos den) -ℤ (z *ℤ pos 1)) (1 * den)) (sym en)
+    ∙ ap (λ d. floor_of_signed ((pos at *ℤ pos d) -ℤ (start.num *ℤ pos 1)) (1 * d)) (sym ed)
 
--- the media clock at the begin of a group
-pub clock-is : (m : Media) (anchor : ℤ) (k lift num den : ℕ)
-    → num ≡ (group_time m).0
-    → den ≡ (group_time m).1
-    → pos lift ≡ anchor +ℤ pos 480
-    → floor_of_signed (pos ((lift + k) * num * 9) -ℤ pos (480 * num * 9)) (den * 100000) ≡ clock_at (frame_start m anchor k)
-clock-is m anchor k lift num den en ed e =
-    let n = (group_time m).0 in
-    let d = (group_time m).1 in
-    ap (λ x. floor_of_signed (pos ((lift + k) * x * 9) -ℤ pos (480 * x * 9)) (den * 100000)) en
-    ∙ ap (λ y. floor_of_signed (pos ((lift + k) * n * 9) -ℤ pos (480 * n * 9)) (y * 100000)) ed
-    ∙ ap (λ z. floor_of_signed z (d * 100000)) (sym (clock-num k lift n anchor e))
+-- the media clock at an instant
+pub clock-is : (start : Fraction) (num before den : ℕ)
+    → start.num ≡ pos num -ℤ pos before
+    → start.den ≡ den
+    → floor_of_signed (pos (num * 9) -ℤ pos (before * 9)) (den * 100000) ≡ clock_at start
+clock-is start num before den en ed =
+    ap (λ z. floor_of_signed z (den * 100000)) (sym (sub-times num before 9))
+    ∙ ap (λ z. floor_of_signed (z *ℤ pos 9) (den * 100000)) (sym en)
+    ∙ ap (λ d. floor_of_signed (start.num *ℤ pos 9) (d * 100000)) (sym ed)
 
 -- the numbers of the code are small
 pub start-small : (lift k num : ℕ) → lift ≤ 2 ^ 42 + 480 → k < 2 ^ 41 → num < 2 ^ 40 → (lift + k) * num < 2 ^ 83

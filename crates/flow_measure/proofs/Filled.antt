@@ -1,10 +1,11 @@
 -- A bucket's meter with one packet more.
-use Rattle.std.proofs.Common.{◌≡◌, ◌≤◌, ◌<◌, ◌+◌, ◌-◌, ◌++◌, ◌∷◌, [], ℕ, ℤ, pos, List, length, slice_index, inl, inr, ap, ◌∙◌, arith, length-append}
+use Rattle.std.proofs.Common.{◌≡◌, ◌≤◌, ◌<◌, ◌+◌, ◌-◌, ◌++◌, ◌∷◌, [], ℕ, ℤ, pos, List, length, slice_index}
+use Rattle.std.proofs.Common.{max, inl, inr, ap, ◌∙◌, sym, subst, arith, length-append}
 use Rattle.std.proofs.lemmas.Bool.{cases_eq}
 use Rattle.timing_base.specs.Media.{Media}
 use Rattle.sender_params.specs.Ticks.{ticks_at, ticks_of}
 use Rattle.sender_params.specs.declared.params.Params.{Params}
-use Rattle.drain_bucket.specs.Stands.{StandsFor}
+use Rattle.drain_bucket.specs.Stands.{CanFollow, StandsFor}
 use Rattle.drain_bucket.specs.Word.{bucket_of}
 use Rattle.drain_bucket.specs.declared.bucket.Bucket.{Bucket}
 use Rattle.drain_bucket.proofs.Reich.{count_after-same}
@@ -48,3 +49,19 @@ not-before params b origin stamps at is s next = elim (cases_eq (length stamps) 
       let size : length stamps ≡ i + 1 = omega (arith, some) in
       omega (arith, (s.fed i size).origin, next.later 0 (omega (arith, some)))
 ]
+
+-- the bucket with the packet, which was fed at the later of its instant and the origin
+pub bucket-more : (params : Params) (b c : Bucket) (origin : ℕ) (stamps : List ℕ) (at begun : ℕ)
+    → b.origin ≡ origin
+    → StandsFor params b stamps
+    → IsNext origin stamps at
+    → begun ≡ max at b.origin
+    → ((s : List ℕ) → StandsFor params b s → CanFollow b s begun → StandsFor params c (s ++ begun ∷ []))
+    → StandsFor params c (stamps ++ at ∷ [])
+bucket-more params b c origin stamps at begun is s next later fed =
+    let low : b.origin ≤ at = not-before params b origin stamps at is s next in
+    let same : begun ≡ at = omega (arith, later, low) in
+    subst (λ t. StandsFor params c (stamps ++ t ∷ [])) same (fed stamps s (record {
+      first = λ none. same ∙ next.first none ∙ sym is;
+      later = λ i size. omega (arith, same, next.later i (omega (arith, size)));
+    }))

@@ -1,5 +1,5 @@
 -- The first and the last packet of a group.
-use Rattle.std.proofs.Common.{◌≡◌, ◌<◌, ◌+◌, ◌-◌, ◌*◌, ◌/◌, ◌%◌, ℕ, ℤ, inl, inr, ap, ◌∙◌, sym, subst, arith}
+use Rattle.std.proofs.Common.{◌≡◌, ◌<◌, ◌≤◌, ◌+◌, ◌-◌, ◌*◌, ◌/◌, ◌%◌, ℕ, ℤ, inl, inr, ap, ◌∙◌, sym, subst, arith}
 use Rattle.std.proofs.lemmas.Bool.{cases_lt}
 use Rattle.std.proofs.lemmas.Nat.{div-add-mod'}
 use Rattle.std.proofs.Math.Nat.{mul-div_cancel_left, mul_comm}
@@ -7,6 +7,7 @@ use Rattle.timing_base.specs.Media.{Media}
 use Rattle.flow_measure.specs.Fed.{MeasuresFirsts}
 use Rattle.flow_measure.specs.Groups.{firsts_of}
 use Rattle.flow_measure.specs.declared.firsts.FirstMeter.{FirstMeter}
+use Rattle.flow_measure.specs.declared.group_meter.GroupMeter.{GroupMeter}
 
 -- of packets in groups of d, which is n
 pub first-is : (seen n d k : ℕ) → d ≡ n → seen % d ≡ 0 → k ≡ seen / d → k * n ≡ seen
@@ -35,6 +36,15 @@ ahead-is old new place whole kept begun are ahead = elim (cases_lt 0 place) as (
   | inl more ↦ ap (λ (f : FirstMeter). f.seen) (kept more) ∙ ahead more
   | inr none ↦ let zero : place ≡ 0 = omega (arith, none) in omega (arith, begun zero, are zero)
 ]
+
+-- so in a meter of groups, which are no more than its packets
+pub groups-begun : (s : GroupMeter) (new : FirstMeter)
+    → (0 < s.place → new ≡ s.firsts)
+    → (s.place ≡ 0 → new.seen ≡ s.firsts.seen + 1)
+    → (new.seen ≡ s.last.seen + 1) × (new.seen ≤ s.seen + 1)
+groups-begun s new kept begun =
+    let ahead = ahead-is s.firsts new s.place s.last.seen kept begun s.firsts_are s.firsts_ahead in
+    (ahead, omega (arith, ahead, s.last_few))
 
 -- what was fed to the meter of the groups that have begun
 pub firsts-more : (m : Media) (anchor : ℤ) (old new : FirstMeter) (place : ℕ) (stamp timestamp : ℕ → ℕ)

@@ -4,7 +4,7 @@ use Rattle.std.proofs.Common.{List, length, slice_index, pos, ◌-ℤ◌, ◌*�
 use Rattle.std.specs.Prelude.{int_lt}
 use Rattle.std.specs.Int.{int_min}
 use Rattle.std.proofs.Math.Seq.{get_or-append_seam}
-use Rattle.std.proofs.Math.Nat.{div-mul-le_self, mul-le-mul, mul-le-mul_left, mul-le-mul_right}
+use Rattle.std.proofs.Math.Nat.{div-mul-le_self, mul-le-mul_left, mul-le-mul_right}
 use Rattle.std.proofs.lemmas.Bool.{cases_eq, cases_lt, false_from_ne_true}
 use Rattle.std.proofs.lemmas.Int.{ints}
 use Rattle.std.proofs.lemmas.List.{get_or_append_left}
@@ -14,11 +14,8 @@ use Rattle.fraction128.proofs.Order.{at_most-true, true-at_most}
 use Rattle.timing_base.specs.Media.{Media}
 use Rattle.sender_params.specs.Reads.{anchor_of, read_of}
 use Rattle.sender_params.specs.Sizes.{AreSizes, HavePer}
-use Rattle.sender_params.specs.Times.{group_time, offset_time, read_step}
-use Rattle.sender_params.proofs.Compare.{instant-scaled, read-scaled}
 use Rattle.sender_params.proofs.Floors.{sub-times}
-use Rattle.sender_params.proofs.Lines.{early_of, late_of, parts_at, parts_of, per_of, read_of-num, reads-by-place}
-use Rattle.sender_params.proofs.Parts.{group-exact, step-exact}
+use Rattle.sender_params.proofs.Lines.{early_of, late_of, parts_at, parts_of, per_of, read_of-num, reads-by-place, sizes-scaled}
 use Rattle.flow_measure.specs.Counts.{count_of}
 use Rattle.flow_measure.specs.Occupancy.{IsSlack, margin_of}
 use Rattle.flow_measure.specs.Own.{AreReadsOf, margin_in_parts}
@@ -48,32 +45,17 @@ pub margin-by-parts : (m : Media) (n : ℕ) (anchor : ℤ) (gapped : Bool) (a de
     → floor (minus (read_of m n anchor gapped x) (whole t))
     ≡ floor_of_signed (pos (parts_at a group offset step n x) -ℤ pos (parts_of 480 den group t)) den
 margin-by-parts m n anchor gapped a den group step offset x t have are some is =
-    let gn = (group_time m).0 in
-    let gd = (group_time m).1 in
-    let on = (offset_time m).0 in
-    let od = (offset_time m).1 in
-    let sn = (read_step m n gapped).0 in
-    let sd = (read_step m n gapped).1 in
+    let s = sizes-scaled m n gapped a 480 den group step offset x t have are some in
     let per = per_of m n gapped in
-    let eg : group * gd ≡ gn * den = rw (are.group_is, are.den_is) (group-exact m n) in
-    let es : step * sd ≡ sn * den = rw (are.step_is, are.den_is) (step-exact m n gapped) in
-    let pair : 1 * 1 ≤ gd * od = mul-le-mul have.group have.offset in
-    let both : 1 ≤ gd * od = omega (arith, pair) in
-    let product : 1 * 1 ≤ per = mul-le-mul both have.step in
-    let per_some : 0 < per = omega (arith, product) in
-    let den_some : 0 < den = omega (arith, some) in
     let late = late_of m n gapped a x in
     let early = t * per + early_of m n gapped 480 in
-    let first : den * late ≡ per * parts_at a group offset step n x =
-    read-scaled a (x / n) (x % n) gn gd on od sn sd den group offset step eg are.offset_is es in
-    let second : den * early ≡ per * parts_of 480 den group t = instant-scaled 480 t gn gd od sd den group eg in
     let num = read_of-num m n anchor gapped a 480 x is in
     let whole_num : (minus (read_of m n anchor gapped x) (whole t)).num ≡ pos late -ℤ pos early =
     ap (λ z. z *ℤ pos 1 -ℤ (pos t *ℤ pos per)) num ∙ minus-whole late (early_of m n gapped 480) t per in
     let whole_den : (minus (read_of m n anchor gapped x) (whole t)).den ≡ per = omega arith in
     ap (λ z. floor_of_signed z (per * 1)) whole_num
     ∙ ap (floor_of_signed (pos late -ℤ pos early)) whole_den
-    ∙ floor-scaled late early (parts_at a group offset step n x) (parts_of 480 den group t) per den per_some den_some first second
+    ∙ floor-scaled late early (parts_at a group offset step n x) (parts_of 480 den group t) per den s.per_some s.den_some s.read s.instant
 
 -- a read by the reads of a meter
 place-same : (m : Media) (n : ℕ) (anchor : ℤ) (gapped : Bool) (r : Reads) (x : ℕ) (h : AreReadsOf m n anchor gapped r)

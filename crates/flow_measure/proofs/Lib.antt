@@ -17,4 +17,5 @@ pub mod Passes
 pub mod Runs
 pub mod Summarized
 pub mod Unique
+pub mod Waiting
 pub mod Widths

@@ -1,6 +1,6 @@
 -- What is known of packets, with one packet more.
-use Rattle.std.proofs.Common.{◌≡◌, ◌<◌, ◌≤◌, ◌+◌, ◌*◌, ◌++◌, ◌∷◌, [], ℕ, ℤ, pos, negsuc, List, length, slice_index, Bool, nat_lt, refl, ap, ◌∙◌, sym, arith}
-use Rattle.std.proofs.Common.{length-append}
+use Rattle.std.proofs.Common.{◌≡◌, ◌<◌, ◌≤◌, ◌+◌, ◌*◌, ◌++◌, ◌∷◌, [], ℕ, ℤ, pos, negsuc, List, length, slice_index, Bool, true, false}
+use Rattle.std.proofs.Common.{Option, nat_lt, refl, ap, ◌∙◌, sym, subst, arith, length-append}
 use Rattle.std.specs.Int.{int_max}
 use Rattle.std.proofs.Math.Nat.{mul-le-mul_right}
 use Rattle.std.proofs.lemmas.Bool.{le-ltb}
@@ -8,16 +8,18 @@ use Rattle.std.proofs.lemmas.Int.{clamps, ints}
 use Rattle.fraction128.specs.Fractions.{below, whole}
 use Rattle.timing_base.specs.Media.{IsMedia, Media}
 use Rattle.timing_base.specs.declared.media.Kind.{Kind}
+use Rattle.timing_base.specs.declared.media.Kind.TheVariants.{N, NL, W}
 use Rattle.sender_params.specs.Keeps.{held_at}
 use Rattle.sender_params.specs.Limits.{c_max_of, gapped_of, vrx_full_of}
 use Rattle.sender_params.specs.Reads.{anchor_of, read_of}
 use Rattle.flow_measure.specs.Bins.{is_above}
-use Rattle.flow_measure.specs.Fed.{IsPacket}
+use Rattle.flow_measure.specs.Fed.{Finds, IsLike, Names}
 use Rattle.flow_measure.specs.Kinds.{Packets}
-use Rattle.flow_measure.specs.Metered.{AreListed, ArePackets}
+use Rattle.flow_measure.specs.Metered.{AreListed, ArePackets, IsNamed}
 use Rattle.flow_measure.specs.Occupancy.{AreOccupancies, IsOccupancy, buckets_of, is_late}
 use Rattle.flow_measure.specs.Run.{packets_of}
-use Rattle.flow_measure.specs.declared.numbers.Place.{Place}
+use Rattle.flow_measure.specs.declared.kinds.Level.{Level}
+use Rattle.flow_measure.specs.declared.named.Named.{Named}
 use Rattle.flow_measure.specs.declared.reader.Held.{Held}
 use Rattle.flow_measure.proofs.Filled.{buckets-front}
 use Rattle.flow_measure.proofs.Followed.{front-is, last-is, occupancies-front}
@@ -60,17 +62,14 @@ packets-front m n stamps records at rec kind p are =
     }
 
 -- the last one
-pub packet-last : (m : Media) (n : ℕ) (stamps records : List ℕ) (at rec k : ℕ) (kind : Kind) (p : Packets) (place : Place) (bucket : ℤ) (held : Held)
+like-last : (m : Media) (n : ℕ) (stamps records : List ℕ) (at rec k : ℕ) (kind : Kind) (p : Packets) (bucket : ℤ) (held : Held)
     → k ≡ length stamps
-    → length records ≡ length stamps
     → ArePackets m n (stamps ++ at ∷ []) (records ++ rec ∷ []) kind p
-    → place.«record» ≡ rec
-    → place.stamp ≡ at
     → bucket ≡ buckets_of m n (stamps ++ at ∷ []) (length stamps)
     → IsOccupancy m n (stamps ++ at ∷ []) (gapped_of kind) (length stamps) held.occupancy
     → held.late ≡ is_late m n (stamps ++ at ∷ []) (gapped_of kind) (length stamps)
-    → IsPacket (c_max_of m n kind) (vrx_full_of m n kind) p k place bucket held
-packet-last m n stamps records at rec k kind p place bucket held e same are here there count occupancy late =
+    → IsLike (c_max_of m n kind) (vrx_full_of m n kind) p k bucket held
+like-last m n stamps records at rec k kind p bucket held e are count occupancy late =
     let new = stamps ++ at ∷ [] in
     let last = ends stamps at in
     let filled : p.bucket (length stamps) ≡ bucket = are.bucket (length stamps) last ∙ sym count in
@@ -82,9 +81,37 @@ packet-last m n stamps records at rec k kind p place bucket held e same are here
       overfull_is = ap p.overfull e ∙ are.overfull (length stamps) last ∙ ap (is_above (c_max_of m n kind)) filled;
       over_is = ap p.over e ∙ are.over (length stamps) last ∙ ap (is_above (vrx_full_of m n kind)) holds;
       empty_is = ap p.empty e ∙ are.empty (length stamps) last ∙ sym late;
-      rec_is = listed-last records rec k p.rec (e ∙ sym same) are.rec ∙ sym here;
-      stamp_is = listed-last stamps at k p.stamp e are.stamp ∙ sym there;
     }
+
+pub level-last : (kind : Kind) (m : Media) (n : ℕ) (stamps records : List ℕ) (at rec k : ℕ) (p : Packets) (level : Level)
+    → k ≡ length stamps
+    → ArePackets m n (stamps ++ at ∷ []) (records ++ rec ∷ []) kind p
+    → level.bucket ≡ buckets_of m n (stamps ++ at ∷ []) (length stamps)
+    → IsOccupancy m n (stamps ++ at ∷ []) true (length stamps) level.gapped.occupancy
+    → level.gapped.late ≡ is_late m n (stamps ++ at ∷ []) true (length stamps)
+    → IsOccupancy m n (stamps ++ at ∷ []) false (length stamps) level.linear.occupancy
+    → level.linear.late ≡ is_late m n (stamps ++ at ∷ []) false (length stamps)
+    → Finds kind (c_max_of m n kind) (vrx_full_of m n kind) p k level
+level-last N m n stamps records at rec k p level e are count gapped gapped_late linear linear_late =
+    like-last m n stamps records at rec k N p level.bucket level.gapped e are count gapped gapped_late
+level-last NL m n stamps records at rec k p level e are count gapped gapped_late linear linear_late =
+    like-last m n stamps records at rec k NL p level.bucket level.linear e are count linear linear_late
+level-last W m n stamps records at rec k p level e are count gapped gapped_late linear linear_late =
+    like-last m n stamps records at rec k W p level.bucket level.linear e are count linear linear_late
+
+-- the packet that is asked for, with one more
+pub named-more : (to : Option ℕ) (old new : Named) (stamps records : List ℕ) (at r k : ℕ)
+    → k ≡ length stamps
+    → length records ≡ length stamps
+    → ((to : Option ℕ) (rec stamp : ℕ → ℕ) → Names to old rec stamp k → rec k ≡ r → stamp k ≡ at → Names to new rec stamp (k + 1))
+    → IsNamed stamps records to old
+    → IsNamed (stamps ++ at ∷ []) (records ++ r ∷ []) to new
+named-more to old new stamps records at r k e same fed h = λ rec stamp recs are.
+    let long : length (stamps ++ at ∷ []) ≡ length stamps + 1 = length-append stamps (at ∷ []) in
+    let size : k + 1 ≡ length (stamps ++ at ∷ []) = omega (arith, e, long) in
+    let before = h rec stamp (listed-front records r rec recs) (listed-front stamps at stamp are) in
+    subst (Names to new rec stamp) size
+    (fed to rec stamp (subst (Names to old rec stamp) (sym e) before) (listed-last records r k rec (e ∙ sym same) recs) (listed-last stamps at k stamp e are))
 
 -- more than a limit is held exactly where the occupancy is above it
 above-held : (full held : ℕ) (x : ℤ) → pos held ≡ int_max (pos 0) x → nat_lt full held ≡ is_above full x

@@ -1,7 +1,7 @@
 -- A summary of one number more.
 use Rattle.std.proofs.Common.{◌≡◌, ◌<◌, ◌+◌, ◌-◌, ℕ, ℤ, suc, ◌+ℤ◌, ◌⊎◌, inl, inr, ap, ◌∙◌, sym, arith}
 use Rattle.std.proofs.lemmas.Bool.{cases_lt}
-use Rattle.std.proofs.lemmas.Int.{ints}
+use Rattle.std.proofs.lemmas.Int.{clamps, ints}
 use Rattle.std.specs.Int.{int_max, int_min}
 use Rattle.flow_measure.specs.Summary.{IsSummary, sum_of}
 use Rattle.flow_measure.specs.declared.summary.Summary.{Summary}
@@ -60,3 +60,22 @@ IsSummary-more numbers count old new h el eg es ef ez =
       first = ef ∙ h.first;
       last = ez ∙ ap numbers back;
     }
+
+-- a summary with the last number again
+pub IsSummary-again : (numbers : ℕ → ℤ) (count : ℕ) (old new : Summary)
+    → IsSummary numbers count old
+    → numbers count ≡ old.last
+    → new.least ≡ old.least
+    → new.greatest ≡ old.greatest
+    → new.sum ≡ old.sum +ℤ numbers count
+    → new.first ≡ old.first
+    → new.last ≡ old.last
+    → IsSummary numbers (count + 1) new
+IsSummary-again numbers count old new h again el eg es ef ez =
+    let place : count - 1 < count = omega (arith, h.some) in
+    let low = h.least.least (count - 1) place in
+    let high = h.greatest.greatest (count - 1) place in
+    IsSummary-more numbers count old new h
+    (omega (arith, ints, clamps, el, low, h.last, again))
+    (omega (arith, ints, clamps, eg, high, h.last, again))
+    es ef (ez ∙ sym again)

@@ -4,18 +4,17 @@ use Rattle.std.specs.Prelude.{◌≡◌, ◌<◌, ℕ, true, false, List, length
 use Rattle.std.specs.List.{slice_index_or}
 use Rattle.timing_base.specs.Media.{Media}
 use Rattle.timing_base.specs.declared.media.Kind.{Kind}
-use Rattle.timing_base.specs.declared.media.Kind.TheVariants.{N, NL, W}
 use Rattle.sender_params.specs.Limits.{c_max_of, gapped_of, vrx_full_of}
 use Rattle.sender_params.specs.Reads.{anchor_of}
 use Rattle.sender_params.specs.declared.params.Params.{Params}
 use Rattle.flow_measure.specs.Bins.{is_above}
-use Rattle.flow_measure.specs.Fed.{MeasuresGaps, MeasuresGroups, MeasuresKind}
+use Rattle.flow_measure.specs.Fed.{MeasuresGaps, MeasuresGroups, MeasuresType, Names}
 use Rattle.flow_measure.specs.Filled.{AreBuckets, FillsBucket}
 use Rattle.flow_measure.specs.Followed.{Follows}
 use Rattle.flow_measure.specs.Kinds.{Packets}
 use Rattle.flow_measure.specs.Occupancy.{AreOccupancies, is_late}
-use Rattle.flow_measure.specs.declared.kind.KindMeter.{KindMeter}
 use Rattle.flow_measure.specs.declared.meters.RunMeters.{RunMeters}
+use Rattle.flow_measure.specs.declared.named.Named.{Named}
 
 -- what a list has at each of its places
 abbrev pub AreListed : List ℕ → (ℕ → ℕ) → Type 0
@@ -31,10 +30,10 @@ pub record ArePackets (m : Media) (n : ℕ) (stamps records : List ℕ) (kind : 
   pub rec : AreListed records p.rec
   pub stamp : AreListed stamps p.stamp
 
--- the meter of a sender type was fed these packets
-abbrev pub MeasuresType : Media → (n : ℕ) → (stamps records : List ℕ) → Kind → (named : Option ℕ) → KindMeter → Type 0
-MeasuresType m n stamps records kind named meter = (p : Packets) → ArePackets m n stamps records kind p
-    → MeasuresKind n (c_max_of m n kind) (vrx_full_of m n kind) named meter p
+-- the packet that is asked for has this place
+abbrev pub IsNamed : (stamps records : List ℕ) → (to : Option ℕ) → Named → Type 0
+IsNamed stamps records to named = (rec stamp : ℕ → ℕ) → AreListed records rec → AreListed stamps stamp
+    → Names to named rec stamp (length stamps)
 
 -- the meters of a run whose first packet comes at `origin` were fed these packets
 pub record Measures (params : Params) (named : List (Option ℕ)) (origin : ℕ) (meters : RunMeters)
@@ -45,10 +44,12 @@ pub record Measures (params : Params) (named : List (Option ℕ)) (origin : ℕ)
   pub bucket : FillsBucket params origin meters.bucket stamps
   pub gapped : Follows params.media params.n (anchor_of params.media origin) true meters.gapped stamps
   pub linear : Follows params.media params.n (anchor_of params.media origin) false meters.linear stamps
-  pub narrow : MeasuresType params.media params.n stamps records N (slice_index_or named 0 None) meters.narrow
-  pub narrow_linear : MeasuresType params.media params.n stamps records NL (slice_index_or named 1 None)
-      meters.narrow_linear
-  pub wide : MeasuresType params.media params.n stamps records W (slice_index_or named 2 None) meters.wide
+  pub kinds : (kind : Kind) (p : Packets) → ArePackets params.media params.n stamps records kind p
+      → MeasuresType kind params.n (c_max_of params.media params.n kind) (vrx_full_of params.media params.n kind)
+      meters.kinds p
+  pub narrow : IsNamed stamps records (slice_index_or named 0 None) meters.narrow
+  pub narrow_linear : IsNamed stamps records (slice_index_or named 1 None) meters.narrow_linear
+  pub wide : IsNamed stamps records (slice_index_or named 2 None) meters.wide
   pub groups : (stamp timestamp : ℕ → ℕ) → AreListed stamps stamp → AreListed timestamps timestamp
       → MeasuresGroups params.media params.n (anchor_of params.media origin) meters.groups stamp timestamp
   pub gaps : (stamp : ℕ → ℕ) → AreListed stamps stamp → MeasuresGaps meters.gaps stamp

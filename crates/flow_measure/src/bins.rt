@@ -57,23 +57,22 @@ impl Bins {
         }
     }
 
-    /// Counts the next number.
-    #[inline(always)]
-    pub fn feed(&mut self, number: i128)
-        requires few { self.old.seen < 2 ^ 41 }
+    /// Counts the next number, which comes so many times.
+    pub fn feed(&mut self, number: i128, times: u64)
+        requires few { self.old.seen + times ≤ 2 ^ 41 }
         ensures limit { self.new.limit ≡ self.old.limit }
-        ensures seen { self.new.seen ≡ self.old.seen + 1 }
+        ensures seen { self.new.seen ≡ self.old.seen + times }
 
-        // Whatever numbers the bins were fed, they were now fed this one, too.
+        // Whatever numbers the bins were fed, they were now fed this one so many times, too.
         ensures stands { (numbers : ℕ → ℤ) → Counts self.old numbers
-            → numbers self.old.seen ≡ number → Counts self.new numbers }
+            → ((j : ℕ) → j < times → numbers (self.old.seen + j) ≡ number) → Counts self.new numbers }
     {
         let place = self.place_of(number);
-        self.seen += 1;
+        self.seen += times;
         match place {
-            Place::Below => self.below += 1,
-            Place::Bin(bin) => self.counts[bin] += 1,
-            Place::Above => self.above += 1,
+            Place::Below => self.below += times,
+            Place::Bin(bin) => self.counts[bin] += times,
+            Place::Above => self.above += times,
         }
     }
 

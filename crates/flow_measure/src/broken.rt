@@ -1,6 +1,6 @@
 //! The groups that have a broken packet.
 
-ghost use Rattle.std.specs.Prelude.{◌≡◌, ◌<◌, ◌≤◌, ◌+◌, ◌%◌, ◌/◌, ◌^◌, ℕ, Bool};
+ghost use Rattle.std.specs.Prelude.{◌≡◌, ◌<◌, ◌≤◌, ◌+◌, ◌%◌, ◌/◌, ◌^◌, ◌||◌, ℕ, Bool};
 
 /// The groups so far that have a broken packet.
 #[derive(Clone, Copy, Debug, PartialEq, Eq)]
@@ -41,20 +41,21 @@ impl BrokenGroups {
         }
     }
 
-    /// Takes the next packet in, which is broken or not.
-    #[inline(always)]
-    pub fn feed(&mut self, is_broken: bool)
-        requires few { self.old.seen < 2 ^ 41 }
+    /// Takes in so many packets of one group, of which each is broken or none is.
+    pub fn feed(&mut self, is_broken: bool, times: u64)
+        requires few { self.old.seen + times ≤ 2 ^ 41 }
+        requires some { 1 ≤ times }
+        requires within { self.old.seen % self.old.n + times ≤ self.old.n }
         ensures n { self.new.n ≡ self.old.n }
-        ensures seen { self.new.seen ≡ self.old.seen + 1 }
+        ensures seen { self.new.seen ≡ self.old.seen + times }
 
-        // Whatever packets the meter was fed, it was now fed this one, too.
+        // Whatever packets the meter was fed, it was now fed these, too.
         ensures stands { (broken : ℕ → Bool) → CountsBroken self.old broken
-            → broken self.old.seen ≡ is_broken → CountsBroken self.new broken }
+            → ((j : ℕ) → j < times → broken (self.old.seen + j) ≡ is_broken) → CountsBroken self.new broken }
     {
-        let here = self.here || is_broken;
-        self.seen += 1;
-        self.place += 1;
+        let here = either(self.here, is_broken);
+        self.seen += times;
+        self.place += times as u32;
         if self.place < self.n {
             self.here = here;
             return;
@@ -64,6 +65,15 @@ impl BrokenGroups {
         self.here = false;
     }
 
+    /// The packets that the next one's group lacks.
+    #[inline(always)]
+    pub fn left(&self) -> u64
+        ensures value { result + self.now.seen % self.now.n ≡ self.now.n }
+        ensures some { 1 ≤ result }
+    {
+        u64::from(self.n - self.place)
+    }
+
     /// How many groups have a broken packet, of the whole groups that were fed.
     pub fn count(&self) -> u64
         ensures { (broken : ℕ → Bool) → CountsBroken self.now broken
@@ -71,4 +81,12 @@ impl BrokenGroups {
     {
         self.before
     }
+}
+
+/// Whether one of two tests passes.
+#[inline(always)]
+pub fn either(first: bool, second: bool) -> bool
+    ensures { result ≡ first || second }
+{
+    first || second
 }

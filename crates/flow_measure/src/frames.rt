@@ -2,7 +2,7 @@
 
 ghost use Rattle.std.specs.Prelude.{◌≡◌, ◌<◌, ◌≤◌, ◌^◌, pos, negsuc, neg_ℤ, ◌≤ℤ◌, ◌<ℤ◌, ◌-ℤ◌};
 ghost use Rattle.fraction128.specs.Fractions.{floor_of_signed};
-ghost use Rattle.flow_measure.specs.Frames.{after_start, timestamp_latency, timestamp_offset};
+ghost use Rattle.flow_measure.specs.Frames.{after_start, frame_start, timestamp_latency, timestamp_offset};
 ghost use Rattle.flow_measure.specs.Frames.{timestamp_step, wrapped};
 
 use crate::groups::{GROUPS_BEFORE, lifted};
@@ -21,6 +21,16 @@ const TICKS: u128 = 9;
 /// The nanoseconds in which the media clock ticks `TICKS` times.
 const NANOS: u128 = 100_000;
 
+/// The instant with which a group begins: `(num - before) / den` nanoseconds of TAI.
+#[derive(Clone, Copy)]
+struct Start {
+    /// So much is counted from `GROUPS_BEFORE` groups before 0 of TAI.
+    num: u128,
+    /// These groups.
+    before: u128,
+    den: u128,
+}
+
 /// By how many nanoseconds `at`, in nanoseconds of TAI, is after the instant with which the k-th judged
 /// group begins, rounded down, where the first packet is of group `n0`; below 0 where it is before.
 pub fn since_start(params: &Params, n0: i128, k: u64, at: u64) -> i128
@@ -32,10 +42,9 @@ pub fn since_start(params: &Params, n0: i128, k: u64, at: u64) -> i128
     ensures low { neg_ℤ (pos (2 ^ 84)) ≤ℤ result }
     ensures high { result ≤ℤ pos (2 ^ 84) }
 {
-    let (num, den) = params.group();
-    let reached = u128::from(at) * den + u128::from(GROUPS_BEFORE) * num;
-    let start = (lifted(n0) + u128::from(k)) * num;
-    floor_difference(reached, start, den)
+    let start = start_of(params, n0, k);
+    let reached = u128::from(at) * start.den + start.before;
+    floor_difference(reached, start.num, start.den)
 }
 
 /// By how many ticks of 90 kHz the timestamp of the k-th judged group is after that of the instant with
@@ -48,10 +57,9 @@ pub fn offset_of(params: &Params, n0: i128, k: u64, timestamp: u32) -> i128
     ensures low { neg_ℤ (pos (2 ^ 31)) ≤ℤ result }
     ensures high { result <ℤ pos (2 ^ 31) }
 {
-    let (num, den) = params.group();
-    let start = (lifted(n0) + u128::from(k)) * num;
-    let before = u128::from(GROUPS_BEFORE) * num;
-    wrap(i128::from(timestamp) - floor_difference(start * TICKS, before * TICKS, den * NANOS))
+    let start = start_of(params, n0, k);
+    let clock = floor_difference(start.num * TICKS, start.before * TICKS, start.den * NANOS);
+    wrap(i128::from(timestamp) - clock)
 }
 
 /// By how many ticks of 90 kHz a first packet at `at`, in nanoseconds of TAI, comes after its timestamp:
@@ -70,6 +78,26 @@ pub fn step_of(before: u32, timestamp: u32) -> u32
     ensures { result ≡ timestamp_step before timestamp }
 {
     timestamp.wrapping_sub(before)
+}
+
+/// The instant with which the k-th judged group begins, where the first packet is of group `n0`.
+fn start_of(params: &Params, n0: i128, k: u64) -> Start
+    requires low { negsuc 479 ≤ℤ n0 }
+    requires high { n0 ≤ℤ pos (2 ^ 42) }
+    requires few { k < 2 ^ 41 }
+    ensures num { (frame_start params.now.media n0 k).num ≡ pos result.num -ℤ pos result.before }
+    ensures den { (frame_start params.now.media n0 k).den ≡ result.den }
+    ensures num_small { result.num < 2 ^ 83 }
+    ensures before_small { result.before < 2 ^ 49 }
+    ensures den_some { 1 ≤ result.den }
+    ensures den_small { result.den < 2 ^ 19 }
+{
+    let (num, den) = params.group();
+    Start {
+        num: (lifted(n0) + u128::from(k)) * num,
+        before: u128::from(GROUPS_BEFORE) * num,
+        den,
+    }
 }
 
 /// `(up - down) / den`, rounded towards minus infinity.

@@ -1,10 +1,9 @@
 //! How near packets come to the limits of one sender type.
 
-ghost use Rattle.std.specs.Prelude.{◌≡◌, ◌<◌, ◌+◌, ◌*◌, ◌^◌, ◌||◌, ℕ, Bool, Option};
-ghost use Rattle.flow_measure.specs.Kinds.{place_below};
+ghost use Rattle.std.specs.Prelude.{◌≡◌, ◌<◌, ◌≤◌, ◌+◌, ◌*◌, ◌%◌, ◌^◌, ℕ, Option};
 
 use crate::bins::Bins;
-use crate::broken::BrokenGroups;
+use crate::broken::{BrokenGroups, either};
 use crate::first::first_with;
 use crate::numbers::{KindNumbers, Place};
 use crate::reader::Held;
@@ -19,14 +18,10 @@ pub struct KindMeter {
     pub seen: u64,
     bucket: Bins,
     buffer: Bins,
-    broken: BrokenGroups,
+    pub broken: BrokenGroups,
     first_bucket: Option<u64>,
     first_over: Option<u64>,
     first_empty: Option<u64>,
-    /// The packet whose place is asked for.
-    to: Option<u64>,
-    /// Its place, once it was fed.
-    named: Option<Place>,
     ghost bucket_is: { bucket.seen ≡ seen },
     ghost buffer_is: { buffer.seen ≡ seen },
     ghost broken_is: { broken.seen ≡ seen },
@@ -34,15 +29,15 @@ pub struct KindMeter {
 
 impl KindMeter {
     ghost use Rattle.sender_params.specs.Limits.{c_max_of, vrx_full_of};
-    ghost use Rattle.flow_measure.specs.Fed.{IsPacket, MeasuresKind};
-    ghost use Rattle.flow_measure.specs.Kinds.{AreKindNumbers, Packets};
+    ghost use Rattle.flow_measure.specs.Fed.{AreLike, MeasuresKind};
+    ghost use Rattle.flow_measure.specs.Kinds.{AreKindNumbers, Packets, place_below};
 
-    /// The meter of this sender type before the first packet. It tells the place of packet `to`, if there is
-    /// one.
-    pub fn new(params: &Params, kind: Kind, to: Option<u64>) -> KindMeter
+    /// The meter of this sender type before the first packet.
+    pub fn new(params: &Params, kind: Kind) -> KindMeter
         ensures seen { result.seen ≡ 0 }
+        ensures n { result.broken.n ≡ params.now.n }
         ensures stands { let m = params.now.media in let n = params.now.n in (packets : Packets)
-            → MeasuresKind n (c_max_of m n kind) (vrx_full_of m n kind) to result packets }
+            → MeasuresKind n (c_max_of m n kind) (vrx_full_of m n kind) result packets }
     {
         KindMeter {
             seen: 0,
@@ -52,41 +47,41 @@ impl KindMeter {
             first_bucket: None,
             first_over: None,
             first_empty: None,
-            to,
-            named: None,
         }
     }
 
-    /// Takes in the next packet: where it stands, what the bucket holds just after it, and what the buffer
-    /// says of it by the reads of the type.
-    #[inline(always)]
-    pub fn feed(&mut self, place: Place, bucket: i128, held: Held)
-        requires few { self.old.seen < 2 ^ 41 }
-        ensures seen { self.new.seen ≡ self.old.seen + 1 }
+    /// Takes in so many packets of one group, with what the bucket holds just after each, and what the buffer says
+    /// of each by the reads of the type.
+    pub fn feed(&mut self, bucket: i128, held: Held, times: u64)
+        requires few { self.old.seen + times ≤ 2 ^ 41 }
+        requires some { 1 ≤ times }
+        requires within { self.old.broken.seen % self.old.broken.n + times ≤ self.old.broken.n }
+        ensures n { self.new.broken.n ≡ self.old.broken.n }
+        ensures seen { self.new.seen ≡ self.old.seen + times }
 
-        // Whatever packets the meter was fed, it was now fed this one, too.
-        ensures stands { (n c_max full : ℕ) (to : Option ℕ) (packets : Packets)
-            → MeasuresKind n c_max full to self.old packets
-            → IsPacket c_max full packets self.old.seen place bucket held
-            → MeasuresKind n c_max full to self.new packets }
+        // Whatever packets the meter was fed, it was now fed these, too.
+        ensures stands { (n c_max full : ℕ) (packets : Packets) → MeasuresKind n c_max full self.old packets
+            → AreLike c_max full packets self.old.seen (self.old.seen + times) bucket held
+            → MeasuresKind n c_max full self.new packets }
     {
         let packet = self.seen;
         let overfull = self.bucket.is_above(bucket);
         let over = self.buffer.is_above(held.occupancy);
-        self.bucket.feed(bucket);
-        self.buffer.feed(held.occupancy);
-        self.broken.feed(one_of(overfull, over, held.late));
-        self.first_bucket = first_with(self.first_bucket, packet, overfull);
-        self.first_over = first_with(self.first_over, packet, over);
-        self.first_empty = first_with(self.first_empty, packet, held.late);
-        self.named = named_with(self.named, self.to, packet, place);
-        self.seen += 1;
+        self.bucket.feed(bucket, times);
+        self.buffer.feed(held.occupancy, times);
+        let broken = either(either(overfull, over), held.late);
+        self.broken.feed(broken, times);
+        self.first_bucket = first_with(self.first_bucket, packet, times, overfull);
+        self.first_over = first_with(self.first_over, packet, times, over);
+        self.first_empty = first_with(self.first_empty, packet, times, held.late);
+        self.seen += times;
     }
 
-    /// The numbers of the type, of whole groups.
-    pub fn finish(&self) -> KindNumbers
+    /// The numbers of the type, of whole groups, where the packet that is named stands here.
+    pub fn finish(&self, named: Option<Place>) -> KindNumbers
         ensures { (n c_max full groups : ℕ) (to : Option ℕ) (packets : Packets)
-            → MeasuresKind n c_max full to self.now packets → self.now.seen ≡ n * groups
+            → MeasuresKind n c_max full self.now packets → self.now.seen ≡ n * groups
+            → named ≡ place_below packets.rec packets.stamp self.now.seen to
             → AreKindNumbers n groups self.now.seen c_max full to packets result }
     {
         KindNumbers {
@@ -96,30 +91,7 @@ impl KindMeter {
             first_bucket: self.first_bucket,
             first_over: self.first_over,
             first_empty: self.first_empty,
-            named: self.named,
+            named,
         }
-    }
-}
-
-/// Whether one of the three models is broken.
-#[inline(always)]
-fn one_of(overfull: bool, over: bool, empty: bool) -> bool
-    ensures { result ≡ (overfull || over) || empty }
-{
-    overfull || over || empty
-}
-
-/// The place of packet `to`, with one packet more, which stands here. Packets are counted from 0.
-#[inline(always)]
-fn named_with(named: Option<Place>, to: Option<u64>, packet: u64, place: Place) -> Option<Place>
-    requires { packet < 2 ^ 41 }
-    ensures { (rec stamp : ℕ → ℕ) → named ≡ place_below rec stamp packet to
-        → rec packet ≡ place.«record» → stamp packet ≡ place.stamp
-        → result ≡ place_below rec stamp (packet + 1) to }
-{
-    if to == Some(packet) {
-        Some(place)
-    } else {
-        named
     }
 }

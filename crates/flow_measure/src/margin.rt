@@ -7,15 +7,19 @@ ghost use Rattle.sender_params.specs.Reads.{anchor_of};
 ghost use Rattle.flow_measure.specs.Parts.{parts_of_read};
 
 use crate::groups::{GROUPS_BEFORE, lifted};
+use crate::summary::lessen;
 use fraction128::floor_signed;
 use sender_params::{Params, sizes_of};
+
+/// The least margin before the first packet: none is as great.
+const NONE: i128 = i128::MAX;
 
 /// The reads of one schedule in parts of a nanosecond, from `GROUPS_BEFORE` groups before 0 of TAI on: read
 /// k * `n` + j is at `start + k * group + j * step`.
 #[derive(Clone, Copy, Debug, PartialEq, Eq)]
 struct Reads {
     /// The parts of a nanosecond.
-    den: u128,
+    den: u64,
     /// The reads of one group.
     n: u64,
     /// From one group to the next.
@@ -24,6 +28,8 @@ struct Reads {
     step: u128,
     /// Read 0.
     start: u128,
+    /// 0 of TAI.
+    epoch: u128,
     ghost den_some: { 1 ≤ den },
     ghost den_small: { den < 2 ^ 48 },
     ghost n_some: { 1 ≤ n },
@@ -32,6 +38,7 @@ struct Reads {
     ghost group_fits: { n * step ≤ group },
     ghost group_small: { group ≤ n * 2 ^ 51 },
     ghost start_small: { start < 2 ^ 113 },
+    ghost epoch_is: { epoch ≡ 480 * group },
 }
 
 impl Reads {
@@ -45,11 +52,12 @@ impl Reads {
     {
         let sizes = sizes_of(params, gapped);
         Reads {
-            den: sizes.den,
+            den: sizes.den as u64,
             n: u64::from(params.n()),
             group: sizes.group,
             step: sizes.step,
             start: lifted(n0) * sizes.group + sizes.offset,
+            epoch: u128::from(GROUPS_BEFORE) * sizes.group,
         }
     }
 }
@@ -102,7 +110,7 @@ impl OwnRead {
         ensures value { result ≡ at * self.now.reads.den + 480 * self.now.reads.group }
         ensures small { result < 2 ^ 114 }
     {
-        u128::from(at) * self.reads.den + u128::from(GROUPS_BEFORE) * self.reads.group
+        u128::from(at) * u128::from(self.reads.den) + self.reads.epoch
     }
 
     /// Goes on to the next read.
@@ -153,17 +161,17 @@ pub struct MarginMeter {
     pub seen: u64,
     /// The next packet's own read.
     own: OwnRead,
-    /// The least margin, in parts of a nanosecond; 0 before the first packet.
+    /// The least margin, in parts of a nanosecond; `NONE` before the first packet.
     least: i128,
     /// The late packets.
     late: u64,
     ghost seen_is: { own.number ≡ seen },
     ghost late_few: { late ≤ seen },
+    ghost none_least: { seen ≡ 0 → pos (2 ^ 120) ≤ℤ least },
 }
 
 impl MarginMeter {
     ghost use Rattle.std.specs.Prelude.{Bool};
-    ghost use Rattle.std.specs.Int.{int_min};
     ghost use Rattle.fraction128.specs.Fractions.{below, whole};
     ghost use Rattle.timing_base.specs.Media.{Media};
     ghost use Rattle.sender_params.specs.Reads.{read_of};
@@ -181,7 +189,7 @@ impl MarginMeter {
         MarginMeter {
             seen: 0,
             own: OwnRead::first(Reads::of(params, gapped, n0)),
-            least: 0,
+            least: NONE,
             late: 0,
         }
     }
@@ -204,25 +212,12 @@ impl MarginMeter {
             → Times m n anchor gapped self.new (stamps ++ at ∷ []) }
     {
         let margin = self.own.margin(at);
-        let least = self.least_with(margin);
+        lessen(&mut self.least, margin);
         self.own.advance();
         self.seen += 1;
-        self.least = least;
         let late = margin < 0;
         self.late += u64::from(late);
         late
-    }
-
-    /// The least margin, with this one.
-    fn least_with(&self, margin: i128) -> i128
-        ensures first { self.now.seen ≡ 0 → result ≡ margin }
-        ensures more { 0 < self.now.seen → result ≡ int_min self.now.least margin }
-    {
-        if self.seen == 0 {
-            margin
-        } else {
-            self.least.min(margin)
-        }
     }
 
     /// The margins of the packets that were fed, if there is one, where the first of them is of the group
@@ -237,7 +232,7 @@ impl MarginMeter {
             return None;
         }
         Some(Margins {
-            slack: floor_signed(self.least, self.own.reads.den),
+            slack: floor_signed(self.least, u128::from(self.own.reads.den)),
             late: self.late,
         })
     }

@@ -6,12 +6,12 @@ ghost use Rattle.std.specs.Prelude.{Option, MatchOption};
 use crate::bucket_meter::BucketMeter;
 use crate::gaps::GapMeter;
 use crate::group_meter::GroupMeter;
-use crate::kind::KindMeter;
+use crate::kinds::{KindMeters, Level};
+use crate::named::Named;
 use crate::numbers::{Place, RunNumbers};
 use crate::reader::ScheduleMeter;
 use crate::target::target_of;
 use sender_params::Params;
-use timing_base::Kind;
 
 /// The meters of one run, once its first packet is known.
 #[derive(Clone, Copy, Debug, PartialEq, Eq)]
@@ -21,17 +21,17 @@ pub struct RunMeters {
     bucket: BucketMeter,
     gapped: ScheduleMeter,
     linear: ScheduleMeter,
-    narrow: KindMeter,
-    narrow_linear: KindMeter,
-    wide: KindMeter,
+    kinds: KindMeters,
+    /// The packet of each type whose place is asked for.
+    narrow: Named,
+    narrow_linear: Named,
+    wide: Named,
     groups: GroupMeter,
     gaps: GapMeter,
     ghost bucket_is: { bucket.seen ≡ seen },
     ghost gapped_is: { gapped.seen ≡ seen },
     ghost linear_is: { linear.seen ≡ seen },
-    ghost narrow_is: { narrow.seen ≡ seen },
-    ghost narrow_linear_is: { narrow_linear.seen ≡ seen },
-    ghost wide_is: { wide.seen ≡ seen },
+    ghost kinds_are: { kinds.seen ≡ seen },
     ghost groups_are: { groups.seen ≡ seen },
     ghost gaps_are: { gaps.seen ≡ seen },
 }
@@ -43,6 +43,8 @@ impl RunMeters {
 
     /// The meters of a run whose first packet comes at `origin`, in nanoseconds of TAI, before that packet.
     /// They tell the places of packets `to`, one for each type.
+    #[cold]
+    #[inline(never)]
     pub fn new(params: &Params, to: [Option<u64>; 3], origin: u64) -> RunMeters
         requires { origin < 2 ^ 62 }
         ensures seen { result.seen ≡ 0 }
@@ -55,9 +57,10 @@ impl RunMeters {
             bucket: BucketMeter::new(params, origin),
             gapped: ScheduleMeter::new(params, true, n0),
             linear: ScheduleMeter::new(params, false, n0),
-            narrow: KindMeter::new(params, Kind::N, narrow),
-            narrow_linear: KindMeter::new(params, Kind::NL, narrow_linear),
-            wide: KindMeter::new(params, Kind::W, wide),
+            kinds: KindMeters::new(params),
+            narrow: Named::new(narrow),
+            narrow_linear: Named::new(narrow_linear),
+            wide: Named::new(wide),
             groups: GroupMeter::new(params, n0),
             gaps: GapMeter::new(),
         }
@@ -80,9 +83,14 @@ impl RunMeters {
         let bucket = self.bucket.feed(params, at);
         let gapped = self.gapped.feed(at);
         let linear = self.linear.feed(at);
-        self.narrow.feed(place, bucket, gapped);
-        self.narrow_linear.feed(place, bucket, linear);
-        self.wide.feed(place, bucket, linear);
+        self.kinds.feed(Level {
+            bucket,
+            gapped,
+            linear,
+        });
+        self.narrow.feed(self.seen, place);
+        self.narrow_linear.feed(self.seen, place);
+        self.wide.feed(self.seen, place);
         self.groups.feed(params, at, ticks);
         self.gaps.feed(at);
         self.seen += 1;
@@ -100,14 +108,16 @@ impl RunMeters {
         let gapped = self.gapped.finish()?;
         let linear = self.linear.finish()?;
         let groups = self.groups.finish()?;
+        let mut kinds = self.kinds;
+        kinds.settle();
         Some(RunNumbers {
             bucket,
             gapped,
             linear,
             kinds: [
-                self.narrow.finish(),
-                self.narrow_linear.finish(),
-                self.wide.finish(),
+                kinds.narrow.finish(self.narrow.place),
+                kinds.narrow_linear.finish(self.narrow_linear.place),
+                kinds.wide.finish(self.wide.place),
             ],
             first: groups.first,
             last: groups.last,

@@ -5,10 +5,10 @@ ghost use Rattle.std.specs.Prelude.{slice_index, pos, negsuc, neg_ℤ, ◌≤ℤ
 ghost use Rattle.timing_base.specs.Media.{Media};
 ghost use Rattle.sender_params.specs.Reads.{anchor_of};
 
-use crate::margin::{MarginMeter, Margins};
+use crate::margin::MarginMeter;
 use crate::numbers::Buffer;
 use crate::occupancy::occupancy_of;
-use crate::summary::{Summary, SummaryMeter};
+use crate::summary::SummaryMeter;
 use read_schedule::Schedule;
 use sender_params::Params;
 
@@ -34,10 +34,9 @@ pub struct ScheduleMeter {
 }
 
 impl ScheduleMeter {
-    ghost use Rattle.flow_measure.specs.Occupancy.{AreOccupancies, IsOccupancy, IsSlack, is_late, late_of};
+    ghost use Rattle.flow_measure.specs.Occupancy.{AreOccupancies, IsOccupancy, is_late};
     ghost use Rattle.flow_measure.specs.Followed.{CanFollow, Follows};
     ghost use Rattle.flow_measure.specs.Run.{IsBuffer};
-    ghost use Rattle.flow_measure.specs.Summary.{IsSummary};
 
     /// The meter of a flow whose first packet is of group `n0`, before that packet: of its gapped schedule
     /// or its linear one.
@@ -89,15 +88,6 @@ impl ScheduleMeter {
         Held { occupancy, late }
     }
 
-    /// The summary of the occupancies, if there is a packet.
-    pub fn occupancy(&self) -> Option<Summary>
-        ensures { (m : Media) (n : ℕ) (anchor : ℤ) (gapped : Bool) (stamps : List ℕ) (occupancy : ℕ → ℤ)
-            → Follows m n anchor gapped self.now stamps → AreOccupancies m n stamps gapped occupancy
-            → MatchOption result (length stamps ≡ 0) (IsSummary occupancy (length stamps)) }
-    {
-        self.occupancy.finish()
-    }
-
     /// What the buffer held, if there is a packet, where the first of them is of the group that `new` was
     /// given.
     pub fn finish(&self) -> Option<Buffer>
@@ -106,18 +96,8 @@ impl ScheduleMeter {
             → AreOccupancies m n stamps gapped occupancy
             → MatchOption result (length stamps ≡ 0) (IsBuffer m n stamps gapped occupancy) }
     {
-        let occupancy = self.occupancy()?;
-        let margins = self.margins()?;
+        let occupancy = self.occupancy.finish()?;
+        let margins = self.margins.finish()?;
         Some(Buffer { occupancy, margins })
-    }
-
-    /// The margins, if there is a packet.
-    pub fn margins(&self) -> Option<Margins>
-        ensures { (m : Media) (n : ℕ) (gapped : Bool) (stamps : List ℕ)
-            → Follows m n (anchor_of m (slice_index stamps 0)) gapped self.now stamps
-            → MatchOption result (length stamps ≡ 0) (λ x. IsSlack m n stamps gapped x.slack
-            × (x.late ≡ late_of m n stamps gapped)) }
-    {
-        self.margins.finish()
     }
 }

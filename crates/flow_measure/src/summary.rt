@@ -1,6 +1,7 @@
 //! The summary of whole numbers.
 
 ghost use Rattle.std.specs.Prelude.{◌≡◌, ◌<◌, ◌≤◌, ◌+◌, ◌*◌, ◌^◌, ℕ, ℤ, pos, neg_ℤ, ◌≤ℤ◌, MatchOption};
+ghost use Rattle.std.specs.Int.{int_max, int_min};
 
 /// The summary of whole numbers, of which there is one at least. It has their unit.
 #[derive(Clone, Copy, Debug, PartialEq, Eq)]
@@ -36,16 +37,20 @@ impl Summary {
     }
 }
 
+/// The last number before the first, which none is.
+const NONE: i128 = i128::MAX;
+
 /// The summary of the numbers so far.
 #[derive(Clone, Copy, Debug, PartialEq, Eq)]
 pub struct SummaryMeter {
     /// The numbers fed.
     pub seen: u64,
-    /// Their summary; all 0 before the first.
+    /// Their summary; before the first, 0 and the last one `NONE`.
     so_far: Summary,
     ghost few: { seen ≤ 2 ^ 41 },
     ghost sum_low: { neg_ℤ (pos (seen * 2 ^ 84)) ≤ℤ so_far.sum },
     ghost sum_high: { so_far.sum ≤ℤ pos (seen * 2 ^ 84) },
+    ghost none_last: { seen ≡ 0 → pos (2 ^ 85) ≤ℤ so_far.last },
 }
 
 impl SummaryMeter {
@@ -57,10 +62,9 @@ impl SummaryMeter {
         ensures seen { result.seen ≡ 0 }
         ensures stands { (numbers : ℕ → ℤ) → Summarizes result numbers }
     {
-        SummaryMeter {
-            seen: 0,
-            so_far: Summary::of(0),
-        }
+        let mut so_far = Summary::of(0);
+        so_far.last = NONE;
+        SummaryMeter { seen: 0, so_far }
     }
 
     /// Takes the next number in.
@@ -75,14 +79,19 @@ impl SummaryMeter {
         ensures stands { (numbers : ℕ → ℤ) → Summarizes self.old numbers
             → numbers self.old.seen ≡ number → Summarizes self.new numbers }
     {
+        if number == self.so_far.last {
+            self.seen += 1;
+            self.so_far.sum += number;
+            return;
+        }
         if self.seen == 0 {
             self.seen = 1;
             self.so_far = Summary::of(number);
             return;
         }
         self.seen += 1;
-        self.so_far.least = self.so_far.least.min(number);
-        self.so_far.greatest = self.so_far.greatest.max(number);
+        lessen(&mut self.so_far.least, number);
+        raise(&mut self.so_far.greatest, number);
         self.so_far.sum += number;
         self.so_far.last = number;
     }
@@ -93,5 +102,25 @@ impl SummaryMeter {
             → MatchOption result (self.now.seen ≡ 0) (IsSummary numbers self.now.seen) }
     {
         (self.seen > 0).then_some(self.so_far)
+    }
+}
+
+/// Takes a number in the place of a greater one.
+#[inline(always)]
+pub fn lessen(least: &mut i128, number: i128)
+    ensures { least.new ≡ int_min least.old number }
+{
+    if number < *least {
+        *least = number;
+    }
+}
+
+/// Takes a number in the place of one that is less.
+#[inline(always)]
+pub fn raise(greatest: &mut i128, number: i128)
+    ensures { greatest.new ≡ int_max greatest.old number }
+{
+    if *greatest < number {
+        *greatest = number;
     }
 }

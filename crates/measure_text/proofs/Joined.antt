@@ -1,7 +1,8 @@
 -- Texts that are put together from pieces that are known otherwise.
-use Rattle.std.proofs.Common.{◌≡◌, ℕ, List, [], ◌∷◌, ◌++◌, length, false, refl, ap, ◌∙◌, append_assoc, true≢false}
+use Rattle.std.proofs.Common.{◌≡◌, ◌≤◌, ℕ, List, [], ◌∷◌, ◌++◌, drop, length, false, refl, ap, ◌∙◌, sym, append-nil, append_assoc, true≢false}
 use Rattle.std.specs.Prelude.{Result, Ok, Err, Some, None, IfOk, codes, map, ◌==◌}
 use Rattle.std.specs.Fmt.{decimal}
+use Rattle.std.proofs.lemmas.List.{at_drop_all}
 use Rattle.timing_base.specs.Media.{Media}
 use Rattle.flow_measure.specs.declared.numbers.MeasuredRun.{MeasuredRun}
 use Rattle.measure_text.specs.Json.{buffer_text, level_text, list_text, run_text, runs_member, step_member, summary_text}
@@ -63,6 +64,12 @@ end_pieces r tail types =
 
 pub end-is : (r : ToldRun) (a b : ℕ) (g h : List ℕ) → a ≡ b → g ≡ h → end_pieces r a g ≡ end_pieces r b h
 end-is r a b g h tail types = ap (λ x. end_pieces r x g) tail ∙ ap (λ x. end_pieces r b x) types
+
+-- what a loop over a list has added once it is past the end
+pub whole_list : {X : Type 0} (F : List X → List ℕ) (text start all : List ℕ) (i : ℕ) (xs : List X) → F [] ≡ [] → length xs ≤ i
+    → text ++ F (drop i xs) ≡ start ++ all → text ≡ start ++ all
+whole_list F text start all i xs none past e =
+    sym (append-nil text) ∙ (ap (λ t. text ++ t) (sym (at_drop_all F xs i past ∙ none)) ∙ e)
 
 -- a list of runs, and the member that it is
 listed : (old items s1 s2 s3 : List ℕ) → s1 ≡ old ++ codes "\"runs\":[" → s2 ≡ s1 ++ items → s3 ≡ s2 ++ codes "],"

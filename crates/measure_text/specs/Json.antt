@@ -22,12 +22,11 @@ use Rattle.timing_base.specs.declared.row.Unjudged.{Unjudged}
 use Rattle.timing_base.specs.declared.row.Verdict.{Verdict}
 use Rattle.timing_base.specs.declared.row.Verdict.TheVariants as verdict
 use Rattle.timing_report.specs.Outcomes.{verdict_on}
-use Rattle.timing_report.specs.Words.{kind_name, model_name, note_text}
+use Rattle.timing_report.specs.Words.{kind_name, model_name, note_text, ssrc_text}
 use Rattle.timing_json.specs.Json.{Member, count, object_of, unjudged_members}
 use Rattle.flow_measure.specs.declared.numbers.Buffer.{Buffer}
 use Rattle.flow_measure.specs.declared.numbers.MeasuredFlow.{MeasuredFlow}
 use Rattle.flow_measure.specs.declared.summary.Summary.{Summary}
-use Rattle.scan_text.specs.Contents.{ssrc_text}
 use Rattle.measure_text.specs.Told.{ToldBins, ToldFlow, ToldGaps, ToldKind, ToldNumbers, ToldPlace, ToldRun}
 
 -- a text, in quotes and with escapes

@@ -1,20 +1,20 @@
 //! A measured flow as JSON.
 
-ghost use Rattle.std.specs.Prelude.{◌≡◌, ◌++◌, IfOk, false, map, string_bytes};
+ghost use Rattle.std.specs.Prelude.{◌≡◌, ◌++◌, IfOk, map, string_bytes};
 ghost use Rattle.serde_json.specs.View.{view};
 ghost use Rattle.timing_json.specs.Json.{object_of, unjudged_members};
 ghost use Rattle.timing_json.specs.Members.{Puts};
-ghost use Rattle.measure_text.specs.Json.{flow_front, flow_members, items_text, judged_text, list_text, run_text, runs_member, ssrc_members, unjudged_text, verdict_flow};
+ghost use Rattle.measure_text.specs.Json.{flow_front, flow_members, judged_text, runs_member, ssrc_members, unjudged_text, verdict_flow};
 ghost use Rattle.measure_text.specs.Told.{flow_told, run_told};
 
 use crate::run::add_run;
 use flow_measure::{MeasuredFlow, MeasuredRun};
-use scan_text::SsrcText;
 use serde_json::Value;
 use std::alloc::{AllocError as OutOfMemory, Global};
 use std::fmt;
 use timing_base::{Media, Unjudged, Verdict};
 use timing_json::{Object, add_value, comma_if, put_unjudged};
+use timing_report::SsrcText;
 
 /// Adds a flow of this media.
 pub(crate) fn add_flow(
@@ -149,7 +149,7 @@ impl fmt::Display for Source {
     }
 }
 
-/// Adds the judged runs of a flow, where there is one.
+/// Adds the judged runs of a flow, with a comma between two, where there is one.
 fn add_runs_member(
     text: &mut String,
     alloc: Global,
@@ -163,23 +163,9 @@ fn add_runs_member(
         return Ok(());
     }
     text.push_str("\"runs\":[")?;
-    add_runs(text, alloc, media, runs)?;
-    write!(text, "],")
-}
-
-/// Adds runs, with a comma between two.
-fn add_runs(
-    text: &mut String,
-    alloc: Global,
-    media: &Media,
-    runs: &[MeasuredRun],
-) -> Result<(), OutOfMemory>
-    ensures { IfOk result (λ _. string_bytes text.new
-        ≡ string_bytes text.old ++ items_text (run_text media.now) false (map run_told runs.now)) }
-{
     for (index, run) in runs.iter().enumerate() {
         text.push_str(comma_if(index > 0))?;
         add_run(text, alloc, media, run)?;
     }
-    Ok(())
+    write!(text, "],")
 }

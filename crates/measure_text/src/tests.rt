@@ -29,7 +29,7 @@ fn ones(rt: &impl Abort, limit: u64) -> Bins {
     for _ in 0..40 {
         // Asserts what `feed` requires, since a proof does not count the turns.
         assert!(rt; bins.seen < 1 << 41);
-        bins.feed(1);
+        bins.feed(1, 1);
     }
     bins
 }

@@ -1,8 +1,10 @@
 -- Lemmas on the part of a buffer that is held.
 use Rattle.std.proofs.Common.{subst, ◌≡◌, ◌≤◌, ◌+◌, ◌-◌, ℕ, List, ◌++◌, length, take, drop, None, Some, sym, ap, ◌∙◌, arith, append_assoc, length-drop}
-use Rattle.std.proofs.lemmas.List.{drop-take, drop-drop, drop-append-le, take-append-le, length-take}
+use Rattle.std.proofs.lemmas.List.{drop-take, drop-drop, drop-append-le, take-append-le, length-take, length-take-le, nil_from_length}
+use Rattle.std.proofs.lemmas.List.Edits.{take-paste}
 use Rattle.std.proofs.Math.Seq.{take-append-add}
 use Rattle.std.proofs.lemmas.Grind.{common_steps}
+use Rattle.std.specs.List.{copy_within}
 use Rattle.std.specs.Prelude.{Option}
 use Rattle.std.specs.Io.KnownBytes.{Consumes, Keeps, prepend_known}
 
@@ -11,6 +13,19 @@ pub held-after_skip : (f s c : ℕ) (xs : List ℕ) → s + c ≤ f → take (f 
 held-after_skip f s c xs h =
     let e : c + (f - (s + c)) ≡ f - s = omega arith in
     sym (ap (λ k. drop c (take k (drop s xs))) (sym e) ∙ drop-take c (f - (s + c)) (drop s xs) ∙ ap (take (f - (s + c))) (drop-drop c s xs))
+
+-- what is held after it was moved down to p
+pub held-moved : (f s p : ℕ) (xs ys : List ℕ) → s ≤ f → f ≤ length xs → p ≤ s → ys ≡ copy_within xs s f p
+    → take ((p + (f - s)) - p) (drop p ys) ≡ take (f - s) (drop s xs)
+held-moved f s p xs ys h m l e =
+    let n = f - s in
+    let bare : (p + n) - p ≡ n = omega arith in
+    let long : length (take p xs) ≡ p = length-take-le p xs (omega arith) in
+    let front : take (p + n) ys ≡ take p xs ++ take n (drop s xs) =
+    ap (take (p + n)) e ∙ take-paste xs p (drop s xs) n (omega arith) (omega (arith, length-drop s xs)) in
+    ap (λ k. take k (drop p ys)) bare ∙ sym (drop-take p n ys) ∙ ap (drop p) front
+    ∙ drop-append-le p (take p xs) (take n (drop s xs)) (omega (arith, long))
+    ∙ ap (λ x. x ++ take n (drop s xs)) (nil_from_length (drop p (take p xs)) (omega (arith, length-drop p (take p xs), long)))
 
 -- of two takes the shorter counts
 pub take-take_shorter : (c n : ℕ) (xs : List ℕ) → c ≤ n → take c (take n xs) ≡ take c xs

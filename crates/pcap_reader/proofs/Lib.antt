@@ -1,5 +1,6 @@
 pub mod Buffers
 pub mod Captures
+pub mod Ends
 pub mod Lists
 pub mod Notes
 pub mod Reading

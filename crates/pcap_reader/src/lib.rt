@@ -16,6 +16,7 @@
 mod heads;
 pub mod laws;
 mod layout;
+mod pages;
 mod reader;
 mod records;
 mod run;
@@ -24,6 +25,7 @@ mod taker;
 mod window;
 
 pub use heads::{file_head, record_head};
+pub use pages::before_page;
 pub use reader::{MOST, PcapReader, Step};
 pub use records::{Taken, take_records};
 pub use taker::Taker;

@@ -42,7 +42,7 @@ impl<S: Source> PcapReader<S> {
     ghost use Rattle.pcap_reader.specs.contracts.reader.PcapReader.{the_row};
 
     /// A reader at the start of its source, for captures of at most `most` bytes. It takes the one
-    /// buffer of 327,696 bytes that the reader ever has, and reads nothing. `Err` is want of
+    /// buffer of 331,792 bytes that the reader ever has, and reads nothing. `Err` is want of
     /// memory, and hands the source back as it was.
     pub fn start(alloc: Global, source: S, most: u64) -> Result<PcapReader<S>, S>
         requires least { 24 ≤ most }

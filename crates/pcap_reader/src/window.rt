@@ -5,13 +5,14 @@ ghost use Rattle.pcap_reader.specs.declared.stage.Stage.TheVariants as stage;
 ghost use Rattle.std.specs.Prelude.{◌≡◌, ◌≤◌, ◌<◌, ◌+◌, ◌-◌, ◌*◌, ◌^◌, ◌++◌, ℕ, [], IfOk, IfErr, IfSome, Some, None, IsTrue, true, false, vec_len, vec_capacity, length, take, drop};
 
 use crate::layout::Layout;
+use crate::pages::before_page;
 use crate::stage::{Head, Stage};
 use std::alloc::{AllocError, Global};
 use timing_base::{FileNote, PcapFault};
 use timing_outside::{Failed, Source};
 
-/// The capacity of the buffer: a whole record of the greatest length, and then a whole read.
-const ROOM: usize = 327_696;
+/// The capacity of the buffer: a page, a whole record of the greatest length, and then a whole read.
+const ROOM: usize = 331_792;
 
 /// The most bytes that one read asks for.
 const READ: u64 = 65_536;
@@ -32,7 +33,7 @@ pub struct Window {
     pub stage: Stage,
     ghost ordered: { start ≤ filled },
     ghost within: { filled ≤ vec_len buf },
-    ghost roomy: { 327696 ≤ vec_capacity buf },
+    ghost roomy: { 331792 ≤ vec_capacity buf },
     ghost long: { 24 ≤ most },
     ghost short: { most ≤ 2 ^ 40 },
     ghost begins: { is_begun stage ≡ false → place ≡ 0 },
@@ -200,16 +201,18 @@ impl Window {
         self.count += records;
     }
 
-    /// Moves what is held to the front of the buffer.
+    /// Moves what is held down near the front of the buffer, so that it ends where a page does.
     fn compact(&mut self)
         ensures bytes { held_bytes self.new ≡ held_bytes self.old }
-        ensures start { self.new.start ≡ 0 }
-        ensures filled { self.new.filled ≡ self.old.filled - self.old.start }
+        ensures start { self.new.start ≤ 4095 }
+        ensures filled { self.new.filled ≡ self.new.start + (self.old.filled - self.old.start) }
         ensures same { SameRecord self.old self.new }
     {
-        self.buf.copy_within(self.start..self.filled, 0);
-        self.filled -= self.start;
-        self.start = 0;
+        let held = self.filled - self.start;
+        let place = before_page(held).min(self.start);
+        self.buf.copy_within(self.start..self.filled, place);
+        self.start = place;
+        self.filled = place + held;
     }
 
     /// How many bytes the next read asks for: no more than a capture of the greatest length and the
@@ -227,7 +230,7 @@ impl Window {
 
     /// Lets the buffer reach to `end`, within its capacity. What was never read into is not written before.
     fn reach(&mut self, end: usize)
-        requires { end ≤ 327696 }
+        requires { end ≤ 331792 }
         ensures bytes { held_bytes self.new ≡ held_bytes self.old }
         ensures room { end ≤ vec_len self.new.buf }
         ensures start { self.new.start ≡ self.old.start }
@@ -243,7 +246,7 @@ impl Window {
 
     /// Reads once behind what is held.
     fn read_more<S: Source>(&mut self, source: &mut S) -> Result<usize, Failed>
-        requires room { self.old.filled + 65536 ≤ 327696 }
+        requires room { self.old.filled + 65536 ≤ 331792 }
         requires taken { self.old.place + (self.old.filled - self.old.start) < self.old.most + 16 }
         ensures bytes { Keeps (prepend_known (held_bytes self.old) (S.left source.old))
             (prepend_known (held_bytes self.new) (S.left source.new)) }
@@ -261,7 +264,7 @@ impl Window {
         Ok(got)
     }
 
-    /// Moves what is held to the front of the buffer, reads until so many bytes are held, and
+    /// Moves what is held down near the front of the buffer, reads until so many bytes are held, and
     /// answers whether there are so many.
     pub fn fill<S: Source>(&mut self, source: &mut S, need: usize) -> Result<bool, Failed>
         requires need { need ≤ 262160 }
@@ -278,7 +281,7 @@ impl Window {
         ensures end { IfOk result (λ b. b ≡ false → IsAtEnd (S.left source.new)) }
     {
         self.compact();
-        while self.filled < need {
+        while self.filled - self.start < need {
             let got = self.read_more(source)?;
             if got == 0 {
                 return Ok(false);

@@ -162,6 +162,23 @@ same_ends b true x y h = refl
 same_ends true false x y h = refl
 same_ends false false x y h = h refl
 
+-- a block whose end stands, and what it gives is known
+pub head-whole : (o : Order) (k : Kind) (total : ℕ) (s : Section) (a : List ℕ) (x : Given) → is_length k total ≡ true → total ≤ length a
+    → number o 4 (total - 4) a ≡ total → content k o s (take total a) ≡ x → head_text o k total s a ≡ go_on (λ next. blocks next (drop total a)) x
+unfolding head_text
+head-whole o k total s a x e l n h =
+    let long : nat_lt (length a) total ≡ false = grind (arith, nat_tests) in
+    ap (λ b. go_on (λ next. blocks next (drop total a))
+    (if not b then broken
+    else if nat_lt (length a) total then cut
+    else if not (number o 4 (total - 4) a == total) then broken
+    else content k o s (take total a))) e
+    ∙ ap (λ b. go_on (λ next. blocks next (drop total a))
+    (if b then cut else if not (number o 4 (total - 4) a == total) then broken else content k o s (take total a))) long
+    ∙ ap (λ b. go_on (λ next. blocks next (drop total a)) (if not b then broken else content k o s (take total a)))
+    (is_same (number o 4 (total - 4) a) total n)
+    ∙ ap (go_on (λ next. blocks next (drop total a))) h
+
 -- the first bytes of a block are let go, and what it gives is known
 pub head-passes : (o : Order) (k : Kind) (total n : ℕ) (s : Section) (a : List ℕ) (x : Given) → is_length k total ≡ true → n + 4 ≤ total → n ≤ length a
     → (total ≤ length a → content k o s (take total a) ≡ x)

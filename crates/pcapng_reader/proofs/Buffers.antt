@@ -1,5 +1,5 @@
 -- Lemmas on the parts of a buffer, after bytes were written into it.
-use Rattle.std.proofs.Common.{◌≡◌, ◌≤◌, ◌+◌, ◌-◌, ℕ, List, ◌++◌, length, take, drop, sym, ap, ◌∙◌, arith, rules}
+use Rattle.std.proofs.Common.{◌≡◌, ◌≤◌, ◌+◌, ◌-◌, ℕ, List, ◌++◌, length, take, drop, sym, ap, ◌∙◌, arith, rules, append_assoc}
 use Rattle.std.proofs.lemmas.List.{same_lists, places, drop-take, drop-drop}
 use Rattle.std.proofs.lemmas.Grind.{common_steps}
 
@@ -57,20 +57,30 @@ held-read s f n xs ys e h m =
     range-join s f (f + n) ys h (omega arith) m ∙ ap (λ l. l ++ range f (f + n) ys) (range-front f s f xs ys e (omega arith)) ∙ ap
     (λ k. range s f xs ++ take k (drop f ys)) d
 
--- what is held after both parts were moved down
-pub held-moved : (k e s f : ℕ) (xs ys zs : List ℕ) → k ≤ e → e ≤ s → s ≤ f → f ≤ length xs
+-- what is held after both parts were moved down, the second one to p
+pub held-moved : (k e s f p : ℕ) (xs ys zs : List ℕ) → k ≤ e → e ≤ s → s ≤ f → f ≤ length xs → p ≤ s
     → ys ≡ take 0 xs ++ (range k e xs ++ drop (0 + (e - k)) xs)
-    → zs ≡ take (e - k) ys ++ (range s f ys ++ drop ((e - k) + (f - s)) ys)
-    → range (e - k) ((e - k) + (f - s)) zs ≡ range s f xs
-held-moved k e s f xs ys zs a b c d first second =
+    → zs ≡ take p ys ++ (range s f ys ++ drop (p + (f - s)) ys)
+    → range p (p + (f - s)) zs ≡ range s f xs
+held-moved k e s f p xs ys zs a b c d q first second =
     let long : length (range k e xs) ≡ e - k = search (rules, places) in
     let first_is : ys ≡ take 0 xs ++ (range k e xs ++ drop (0 + length (range k e xs)) xs) = first ∙ ap (λ n. take 0 xs ++ (range k e xs ++ drop (0 + n) xs))
     (sym long) in
     let same : range s f ys ≡ range s f xs = ap (range s f) first_is ∙ range-put_after 0 s f xs (range k e xs) (omega (arith, long)) (omega (arith, long)) in
     let total : length ys ≡ length xs = ap length first ∙ moved_length k e xs a (omega arith) in
     let part : length (range s f ys) ≡ f - s = ap length same ∙ search (rules, places) in
-    ap (range (e - k) ((e - k) + (f - s))) second
-    ∙ range-put (e - k) ((e - k) + (f - s)) ys (range s f ys) _ (omega (arith, total)) (omega (arith, part)) ∙ same
+    ap (range p (p + (f - s))) second ∙ range-put p (p + (f - s)) ys (range s f ys) _ (omega (arith, total)) (omega (arith, part)) ∙ same
+
+-- and what is kept
+pub kept-moved : (k e s f p : ℕ) (xs ys zs r : List ℕ) → k ≤ e → e ≤ s → s ≤ f → f ≤ length xs → p ≤ s → e - k ≤ p
+    → ys ≡ take 0 xs ++ (range k e xs ++ drop (0 + (e - k)) xs)
+    → zs ≡ take p ys ++ r
+    → range 0 (e - k) zs ≡ range k e xs
+kept-moved k e s f p xs ys zs r a b c d q m first second =
+    let long : length (range k e xs) ≡ e - k = search (rules, places) in
+    let total : length ys ≡ length xs = ap length first ∙ moved_length k e xs a (omega arith) in
+    ap (range 0 (e - k)) second ∙ range-put_before p 0 (e - k) ys r m (omega (arith, total))
+    ∙ ap (range 0 (e - k)) first ∙ range-put 0 (e - k) xs (range k e xs) _ (omega arith) (omega (arith, long))
 
 -- the record that is kept
 pub kept-record : (s f c : ℕ) (xs ys head : List ℕ) → s + (28 + c) ≤ f → f ≤ length xs → length head ≡ 16
@@ -99,3 +109,22 @@ held-record s f c xs ys head h m long e =
 -- a part has its length
 pub length-part : (a n : ℕ) (xs : List ℕ) → a + n ≤ length xs → length (take n (drop a xs)) ≡ n
 length-part a n xs h = search (rules, places)
+
+-- the data of a packet, as they are cut out of what is looked at
+pub data-seen : (n : ℕ) (seen h : List ℕ) → seen ≡ h → take ((28 + n) - 28) (drop 28 seen) ≡ take n (drop 28 h)
+data-seen n seen h is =
+    let bare : (28 + n) - 28 ≡ n = omega arith in
+    ap (λ k. take k (drop 28 seen)) bare ∙ ap (λ x. take n (drop 28 x)) is
+
+front-put : (at n : ℕ) (out bs post : List ℕ) → at ≤ length out → length bs ≡ n → take (at + n) (take at out ++ (bs ++ post)) ≡ take at out ++ bs
+front-put at n out bs post l e = same_lists _ _ (search (rules, places)) (λ k d m. grind (arith, places))
+
+-- two pieces that are put one behind the other
+pub pieces-put : (at n m : ℕ) (out mid now a b r : List ℕ) → length a ≡ n → length b ≡ m → at + n + m ≤ length out
+    → mid ≡ take at out ++ (a ++ drop (at + length a) out) → now ≡ take (at + n) mid ++ (b ++ r)
+    → take (at + n + m) now ≡ take at out ++ (a ++ b)
+pieces-put at n m out mid now a b r e f l first second =
+    let long : length mid ≡ length out = ap length first ∙ put_length at out a (omega (arith, e)) in
+    ap (take (at + n + m)) second ∙ front-put (at + n) m mid b r (omega (arith, long)) f
+    ∙ ap (λ x. x ++ b) (ap (take (at + n)) first ∙ front-put at n out a _ (omega arith) e)
+    ∙ append_assoc (take at out) a b

@@ -6,7 +6,7 @@ use Rattle.std.proofs.Math.Seq.{take-append-add}
 use Rattle.std.proofs.lemmas.Bool.{cases_lt}
 use Rattle.std.proofs.lemmas.Bool.Decides.{nat_tests}
 use Rattle.std.proofs.lemmas.List.{drop-append-le, take-append-le, length-take, drop-take, take-take, length-take-le, nil_from_length, take_all}
-use Rattle.std.specs.Prelude.{◌==◌, if◌then◌else◌, slice_get, Option}
+use Rattle.std.specs.Prelude.{◌==◌, ◌%◌, if◌then◌else◌, slice_get, Option}
 use Rattle.pcap_reader.specs.WrittenHeads.{record_head}
 use Rattle.pcapng_reader.specs.declared.block.Interface.{Interface}
 use Rattle.pcapng_reader.specs.declared.block.Order.{Order}
@@ -14,6 +14,7 @@ use Rattle.pcapng_reader.specs.declared.block.Kind.{Kind}
 use Rattle.pcapng_reader.specs.declared.block.Kind.TheVariants as kind
 use Rattle.pcapng_reader.specs.declared.packet.Fate.{Fate}
 use Rattle.pcapng_reader.specs.declared.packet.Fate.TheVariants as fate
+use Rattle.pcapng_reader.specs.declared.packet.Whole.{Whole}
 use Rattle.pcapng_reader.specs.declared.stage.Stage.{Stage}
 use Rattle.pcapng_reader.specs.declared.stage.Stage.TheVariants as stage
 use Rattle.pcapng_reader.specs.declared.stage.Body.{Body}
@@ -24,20 +25,21 @@ use Rattle.pcapng_reader.specs.declared.step.Step.{Step}
 use Rattle.pcapng_reader.specs.declared.step.Step.TheVariants as step
 use Rattle.pcapng_reader.specs.declared.converter.Converter.{Converter}
 use Rattle.pcapng_reader.specs.declared.window.Window.{Window}
-use Rattle.pcapng_reader.specs.Classic.{number, Section, Given, bare_head, broken, gives, options}
-use Rattle.pcapng_reader.specs.Classic.{padded, interface_by, body_from, add_interface, content, is_length}
+use Rattle.pcapng_reader.specs.Classic.{number, begins_section, order_of, kind_of, Section, Given, bare_head, broken, gives, options}
+use Rattle.pcapng_reader.specs.Classic.{padded, interface_by, body_from, add_interface, content, is_length, blocks}
 use Rattle.pcapng_reader.specs.Converting.{found_by, found_with, found_interface, fate_by, fate_given, content_given, options_text, after, head_text}
-use Rattle.pcapng_reader.specs.Texts.{text_by, section_of, ahead, whole, text_of, work, HasRoom, Steps, Waits, IsHead, AtBlock, AtOption}
+use Rattle.pcapng_reader.specs.Texts.{text_by, section_of, ahead, whole, text_of, work, HasRoom, Steps, Waits, IsHead, AtBlock, AtOption, Pours, Puts}
+use Rattle.pcapng_reader.specs.Wholes.{IsWhole}
 use Rattle.pcapng_reader.specs.Windows.{kept_bytes, held_bytes}
 use Rattle.pcapng_reader.proofs.Numbers.{number-front, number-take}
-use Rattle.pcapng_reader.proofs.Blocks.{head-short, head-passes, after-broken, after-short, after-passes, total-least}
+use Rattle.pcapng_reader.proofs.Blocks.{blocks-head, head-short, head-whole, head-passes, after-broken, after-short, after-passes, total-least}
 use Rattle.pcapng_reader.proofs.Options.{option_at, behind, then_found, options-none, options-end, options-past, found-more}
 use Rattle.pcapng_reader.proofs.Packets.{packet-content, block-data}
 use Rattle.std.specs.Option.{option_map}
 use Rattle.std.specs.Io.KnownBytes.{Consumes, Keeps}
 use Rattle.pcapng_reader.specs.Described.{list_of}
 use Rattle.pcapng_reader.specs.Stages.{is_due, rank}
-use Rattle.pcapng_reader.proofs.Texts.{text-at_passing, text-options, text-passing, text-due}
+use Rattle.pcapng_reader.proofs.Texts.{text-at_block, text-at_passing, text-options, text-passing, text-due}
 
 -- nothing is ahead but what is held, where the source has ended
 pub ahead_end : (h : List ℕ) (n : ℕ) (left : List ℕ) → n ≡ 0 → h ++ take n left ≡ h
@@ -463,3 +465,86 @@ front-written at n out o post l m =
     let e : length (take at out) ≡ at = length-take-le at out l in
     ap (λ k. take (k + n) (take at out ++ (o ++ post))) (sym e) ∙ take-append-add (take at out) (o ++ post) n ∙ ap (λ x. take at out ++ x)
     (take-append-le n o post m)
+
+even-length : (total : ℕ) → total % 4 ≡ 0 → 32 ≤ total → is_length kind.Packet total ≡ true
+even-length total e l = grind (arith, nat_tests)
+
+-- the text from a packet on that is held whole: its record, and then what comes of the next block
+pub text-whole : (st : Stage) (s : Section) (kept h r far : List ℕ) (p : Whole) → st ≡ stage.Block → kept ≡ [] → IsWhole s.order s.interfaces h p
+    → text_by st s kept (h ++ r) far ≡ (record_head p.at p.len ++ take p.len (drop 28 h)) ++ blocks s (drop p.total (h ++ r))
+text-whole st s kept h r far p e n w =
+    let o = s.order in
+    let a = h ++ r in
+    let k = record_head p.at p.len ++ take p.len (drop 28 h) in
+    let fits : 32 + p.len ≤ p.total = w.fits.2 in
+    let least : 32 ≤ p.total = omega (arith, fits) in
+    let is_even : is_length kind.Packet p.total ≡ true = even-length p.total w.even least in
+    let long : p.total ≤ length a = omega (arith, w.within, length-append h r) in
+    let held : 32 ≤ length h = omega (arith, least, w.within) in
+    text-at_block st s kept a far e n
+    ∙ blocks-head s h r o (omega (arith, held)) (ap (λ b. if b then order_of h else Some o) w.inside)
+    ∙ ap (λ x. head_text o x (number o 4 4 h) s a) w.kind_is ∙ ap (λ x. head_text o kind.Packet x s a) (sym w.total)
+    ∙ head-whole o kind.Packet p.total s a (gives k s) is_even long
+    (number-front o 4 (p.total - 4) h r (omega (arith, least, w.within)) ∙ w.ends)
+    (record-given o s p.total p.at p.len h r k (omega (arith, fits, w.within)) fits w.tells refl long)
+
+-- its record is put behind the bytes before, and the next block is at the front
+pub text-put : (st : Stage) (s : Section) (kept k h g r far far' : List ℕ) (p : Whole) (n m : ℕ) (out now head : List ℕ) → st ≡ stage.Block → kept ≡ []
+    → IsWhole s.order s.interfaces h p → k ≡ kept → g ≡ drop p.total h → head ≡ record_head p.at p.len
+    → take m now ≡ take n out ++ (head ++ take p.len (drop 28 h))
+    → take m now ++ text_by st s k (g ++ r) far' ≡ take n out ++ text_by st s kept (h ++ r) far
+text-put st s kept k h g r far far' p n m out now head e f w i j head_is put =
+    let told = record_head p.at p.len ++ take p.len (drop 28 h) in
+    let next : text_by st s k (g ++ r) far' ≡ blocks s (drop p.total (h ++ r)) =
+    text-at_block st s k (g ++ r) far' e (i ∙ f) ∙ ap (blocks s) (ahead_pass p.total h g r j w.within) in
+    ap (λ x. x ++ text_by st s k (g ++ r) far') (put ∙ ap (λ x. take n out ++ (x ++ take p.len (drop 28 h))) head_is)
+    ∙ ap (λ x. (take n out ++ told) ++ x) next
+    ∙ append_assoc (take n out) told (blocks s (drop p.total (h ++ r)))
+    ∙ ap (λ x. take n out ++ x) (sym (text-whole st s kept h r far p e f w))
+
+-- what is put in two steps
+pub puts-more : (at end more : ℕ) (first out now : List ℕ) (old mid new : Converter) → Puts at first out old mid end → Puts end out now mid new more
+    → Puts at first now old new more
+puts-more at end more first out now old mid new a b = record {
+  same_length = b.same_length ∙ a.same_length;
+  least = omega (arith, a.least, b.least);
+  most = b.most;
+  text = λ left. b.text left ∙ a.text left;
+  stage = b.stage ∙ a.stage;
+  order = b.order ∙ a.order;
+  kept = b.kept ∙ a.kept;
+  budget = b.budget ∙ a.budget;
+  work = omega (arith, a.work, b.work);
+}
+
+-- what is put in none
+pub puts-none : (at : ℕ) (out : List ℕ) (c : Converter) → at ≤ length out → Puts at out out c c at
+puts-none at out c l = record {
+  same_length = refl;
+  least = omega arith;
+  most = l;
+  text = λ left. refl;
+  stage = refl;
+  order = refl;
+  kept = refl;
+  budget = refl;
+  work = omega arith;
+}
+
+-- a packet that is held whole, by the same byte order
+pub whole-same : (o o' : Order) (is : List Interface) (h : List ℕ) (p : Whole) → o ≡ o' → IsWhole o is h p → IsWhole o' is h p
+whole-same o o' is h p e w = subst (λ x. IsWhole x is h p) e w
+
+-- records that are put behind what was poured
+pub pours-puts : (at end count : ℕ) (first out now : List ℕ) (old mid new : Converter) → Pours at first out old mid end → Puts end out now mid new count
+    → end < length out → Pours at first now old new count
+pours-puts at end count first out now old mid new a b l = record {
+  same_length = b.same_length ∙ a.same_length;
+  least = omega (arith, a.least, b.least);
+  most = b.most;
+  text = λ left. b.text left ∙ a.text left;
+  stage = b.stage ∙ a.stage;
+  budget = b.budget ∙ a.budget;
+  given = λ m d. b.kept ∙ a.given l (ap is_due (sym b.stage) ∙ d);
+  work = omega (arith, a.work, b.work);
+}

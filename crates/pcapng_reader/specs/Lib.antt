@@ -9,4 +9,5 @@ pub mod Examples
 pub mod Gifts
 pub mod Stages
 pub mod Texts
+pub mod Wholes
 pub mod Windows

@@ -1,6 +1,6 @@
 //! From the bytes of a file to its classic text, as far as they are held.
 
-ghost use Rattle.std.specs.Prelude.{◌≡◌, ◌≤◌, ◌<◌, ◌+◌, ◌-◌, ◌*◌, ◌^◌, ℕ, List, [], ◌++◌, ◌==◌, if◌then◌else◌, IfOk, true, length, take, drop, slice_get};
+ghost use Rattle.std.specs.Prelude.{◌≡◌, ◌≤◌, ◌<◌, ◌+◌, ◌-◌, ◌*◌, ◌^◌, ℕ, List, [], ◌++◌, ◌==◌, if◌then◌else◌, IfOk, IfSome, true, length, take, drop, slice_get};
 ghost use Rattle.std.specs.Io.{ReadsAtMost};
 ghost use Rattle.std.specs.Io.KnownBytes.{Keeps, ReadConsumes};
 ghost use Rattle.pcap_reader.specs.WrittenHeads.{file_head};
@@ -11,6 +11,7 @@ ghost use Rattle.pcapng_reader.specs.Converting.{fate_by, content_given, options
 ghost use Rattle.pcapng_reader.specs.Stages.{is_start, is_due, rank};
 ghost use Rattle.pcapng_reader.specs.Windows.{kept_bytes, held_bytes};
 ghost use Rattle.pcapng_reader.specs.Described.{list_of};
+ghost use Rattle.pcapng_reader.specs.Wholes.{IsWhole};
 ghost use Rattle.pcapng_reader.specs.declared.block.Kind.TheVariants as kind;
 ghost use Rattle.pcapng_reader.specs.declared.stage.Stage.TheVariants as stage;
 ghost use Rattle.pcapng_reader.specs.declared.stage.Content.TheVariants as content;
@@ -19,7 +20,7 @@ ghost use Rattle.pcapng_reader.specs.declared.step.Step.TheVariants as step;
 
 use crate::block::{Kind, Order, begins_section};
 use crate::interfaces::Interfaces;
-use crate::packet::{Fate, fate_of};
+use crate::packet::{Fate, Whole, fate_of, whole_packet};
 use crate::reads::Reads;
 use crate::stage::{Body, Content, Found, Stage};
 use crate::step::{Gift, Step};
@@ -79,7 +80,7 @@ pub struct Converter {
 }
 
 impl Converter {
-    ghost use Rattle.pcapng_reader.specs.Texts.{section_of, ahead, text_of, work, HasRoom, Steps, Waits, IsHead, AtBlock, AtOption, Pours, Gives};
+    ghost use Rattle.pcapng_reader.specs.Texts.{section_of, ahead, text_of, work, HasRoom, Steps, Waits, IsHead, AtBlock, AtOption, Pours, Puts, Gives};
 
     /// A converter at the start of a file.
     pub fn new(alloc: Global) -> Result<Converter, AllocError>
@@ -516,6 +517,87 @@ impl Converter {
         at + self.window.give(&mut out[at..])
     }
 
+    /// The packet at the front, of a section of this byte order, where its whole block is held and gives a record.
+    #[inline(always)]
+    fn whole(&self, order: Order) -> Option<Whole>
+        ensures { IfSome result (IsWhole order (list_of self.now.interfaces) (held_bytes self.now.window)) }
+    {
+        whole_packet(order, &self.interfaces, self.window.peek())
+    }
+
+    /// Puts the record of a packet that is held whole behind so many bytes of `out`, and goes on behind its
+    /// block. Answers how many bytes `out` has then.
+    #[inline(always)]
+    fn put_record(&mut self, packet: Whole, out: &mut [u8], at: usize) -> usize
+        requires stage { self.old.stage ≡ stage.Block }
+        requires given { kept_bytes self.old.window ≡ [] }
+        requires whole { IsWhole self.old.order (list_of self.old.interfaces)
+            (held_bytes self.old.window) packet }
+        requires room { at + 16 + packet.len ≤ length out.old }
+        ensures puts { Puts at out.old out.new self.old self.new result }
+        ensures less { work self.new < work self.old }
+    {
+        let captured = packet.len as usize;
+        let total = packet.total as usize;
+        self.window.give_record(
+            &record_head(packet.at, packet.len),
+            captured,
+            total,
+            out,
+            at,
+        );
+        at + 16 + captured
+    }
+
+    /// Puts the records of the packets at the front, of a section of this byte order, as long as they are held
+    /// whole and have room, behind so many bytes of `out`. Answers how many bytes it has then.
+    #[inline(always)]
+    fn put_records(&mut self, order: Order, out: &mut [u8], at: usize) -> usize
+        requires order { order ≡ self.old.order }
+        requires stage { self.old.stage ≡ stage.Block }
+        requires given { is_due self.old.stage ≡ true → kept_bytes self.old.window ≡ [] }
+        requires room { at ≤ length out.old }
+        ensures { Puts at out.old out.new self.old self.new result }
+    {
+        let mut end = at;
+        while let Some(packet) = self.whole(order) {
+            if out.len() - end < 16 + packet.len as usize {
+                break;
+            }
+            end = self.put_record(packet, out, end);
+        }
+        end
+    }
+
+    /// The same at any stage: it puts records where the next block begins and nothing is kept. The loop is
+    /// compiled once for each byte order, so that no packet asks for it.
+    fn put_whole(&mut self, out: &mut [u8], at: usize) -> usize
+        requires given { is_due self.old.stage ≡ true → kept_bytes self.old.window ≡ [] }
+        requires room { at ≤ length out.old }
+        ensures { Puts at out.old out.new self.old self.new result }
+    {
+        let Stage::Block = self.stage else {
+            return at;
+        };
+        match self.order {
+            Order::Big => self.put_records(Order::Big, out, at),
+            Order::Little => self.put_records(Order::Little, out, at),
+        }
+    }
+
+    /// Gives what is to be given, and then the records of the packets that are held whole, as most of a file are, as far
+    /// as there is room, behind so many bytes of `out`. Answers how many bytes it has then.
+    fn fill(&mut self, out: &mut [u8], at: usize) -> usize
+        requires { at ≤ length out.old }
+        ensures { Pours at out.old out.new self.old self.new result }
+    {
+        let end = self.pour(out, at);
+        if end < out.len() {
+            return self.put_whole(out, end);
+        }
+        end
+    }
+
     /// Gives the next bytes of the text into `out`, as many as it answers, from what is held. Where it
     /// gives none it says why.
     pub fn give(&mut self, out: &mut [u8]) -> Gift
@@ -523,7 +605,7 @@ impl Converter {
     {
         let mut at = 0;
         loop {
-            at = self.pour(out, at);
+            at = self.fill(out, at);
             if at == out.len() {
                 return Gift::Bytes(at);
             }

@@ -3,8 +3,11 @@
 ghost use Rattle.std.specs.Prelude.{◌≡◌, ◌≤◌, ◌<◌, ◌*◌, ◌^◌, ◌-◌, None, Some, length, if◌then◌else◌, IfSome};
 ghost use Rattle.pcapng_reader.specs.Classic.{nanos, is_late};
 ghost use Rattle.pcapng_reader.specs.Converting.{fate_by, IsFate};
+ghost use Rattle.pcapng_reader.specs.Described.{list_of};
+ghost use Rattle.pcapng_reader.specs.Wholes.{IsWhole};
 
-use crate::block::{Interface, Order};
+use crate::block::{Interface, Kind, Order, begins_section};
+use crate::interfaces::Interfaces;
 
 /// The link type of Ethernet.
 const ETHERNET: u16 = 1;
@@ -24,6 +27,17 @@ pub enum Fate {
     Late,
     /// A record with this stamp, in nanoseconds since 1970-01-01 00:00:00, of so many bytes.
     Record { at: u64, len: u32 },
+}
+
+/// A packet whose whole block is held, and which gives a record.
+#[derive(Clone, Copy, Debug)]
+pub struct Whole {
+    /// Its stamp, in nanoseconds since 1970-01-01 00:00:00.
+    pub at: u64,
+    /// The bytes of its data that the record has.
+    pub len: u32,
+    /// The bytes of its block.
+    pub total: u32,
 }
 
 impl Interface {
@@ -62,6 +76,7 @@ impl Interface {
 }
 
 /// What the head of a packet's block tells, which has so many bytes.
+#[inline(always)]
 pub fn fate_of(order: Order, total: u32, found: Option<Interface>, head: &[u8]) -> Fate
     requires whole { 28 ≤ length head.now }
     requires total { 32 ≤ total }
@@ -88,5 +103,32 @@ pub fn fate_of(order: Order, total: u32, found: Option<Interface>, head: &[u8]) 
                 0
             },
         },
+    }
+}
+
+/// The packet at the front of what is held, of a section of this byte order with these interfaces, where its
+/// whole block is held and gives a record, as that of most does.
+#[inline(always)]
+pub fn whole_packet(order: Order, interfaces: &Interfaces, held: &[u8]) -> Option<Whole>
+    ensures { IfSome result (IsWhole order (list_of interfaces.now) held.now) }
+{
+    if held.len() < 32 || begins_section(held) {
+        return None;
+    }
+    let Kind::Packet = Kind::of_block(order, held) else {
+        return None;
+    };
+    let total = order.read_u32(held, 4);
+    let size = total as usize;
+    if total % 4 != 0 || total < 32 || held.len() < size {
+        return None;
+    }
+    if order.read_u32(held, size - 4) != total {
+        return None;
+    }
+    let found = interfaces.get(order.read_u32(held, 8));
+    match fate_of(order, total, found, held) {
+        Fate::Record { at, len } => Some(Whole { at, len, total }),
+        Fate::Broken | Fate::Late => None,
     }
 }

@@ -19,7 +19,7 @@ impl<S: Source> Classic<S> {
     ghost use Rattle.pcapng_reader.specs.Sources.{under, left_of};
 
     /// The classic text of what this source has left. It takes all memory that it ever has, two
-    /// pieces of 327,708 and 16,384 bytes, and reads nothing. `Err` is want of memory, and hands the
+    /// pieces of 331,804 and 16,384 bytes, and reads nothing. `Err` is want of memory, and hands the
     /// source back as it was.
     pub fn wrap(alloc: Global, source: S) -> Result<Classic<S>, S>
         ensures left { IfOk result (λ c. left_of S.left c ≡ option_map classic (S.left source)) }

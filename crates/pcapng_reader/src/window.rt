@@ -6,12 +6,12 @@ ghost use Rattle.pcap_reader.specs.WrittenHeads.{file_head};
 ghost use Rattle.timing_outside.specs.Causes.{HasCause};
 
 use crate::reads::Reads;
-use pcap_reader::file_head;
+use pcap_reader::{before_page, file_head};
 use std::alloc::{AllocError, Global};
 use timing_outside::Failed;
 
-/// The capacity of the buffer: the head of a packet's block and its data, and then a whole read.
-const ROOM: usize = 327_708;
+/// The capacity of the buffer: a page, the head of a packet's block and its data, and then a whole read.
+const ROOM: usize = 331_804;
 
 /// The bytes of the head of a packet's block, up to its data.
 const PACKET_HEAD: usize = 28;
@@ -28,7 +28,8 @@ const RECORD_HEAD: usize = 16;
 /// Writes these bytes at a place.
 fn put_at(buf: &mut [u8], place: usize, bytes: &[u8])
     requires { place + length bytes.now ≤ length buf.old }
-    ensures { buf.new ≡ take place buf.old ++ (bytes.now ++ drop (place + length bytes.now) buf.old) }
+    ensures value { buf.new ≡ take place buf.old ++ (bytes.now ++ drop (place + length bytes.now) buf.old) }
+    ensures len { length buf.new ≡ length buf.old }
 {
     buf[place..place + bytes.len()].copy_from_slice(bytes);
 }
@@ -80,8 +81,8 @@ pub struct Window {
     ghost ordered: { start ≤ filled },
     ghost within: { filled ≤ vec_len buf },
     ghost begun: { 24 ≤ vec_len buf },
-    ghost roomy: { 327708 ≤ vec_capacity buf },
-    ghost bounded: { filled ≤ 327708 },
+    ghost roomy: { 331804 ≤ vec_capacity buf },
+    ghost bounded: { filled ≤ 331804 },
     ghost few: { kept_end - kept ≤ 262160 },
 }
 
@@ -186,25 +187,55 @@ impl Window {
         self.start = self.kept_end;
     }
 
-    /// Moves what is kept to the front of the buffer, and what is held behind it.
+    /// Lets a packet's block of so many bytes go, and puts a record behind so many bytes of `out`: its head, and
+    /// so many bytes of the packet's data.
+    #[inline(always)]
+    pub fn give_record(
+        &mut self,
+        head: &[u8; 16],
+        captured: usize,
+        total: usize,
+        out: &mut [u8],
+        at: usize,
+    )
+        requires held { total ≤ length (held_bytes self.old) }
+        requires data { 28 + captured ≤ total }
+        requires room { at + 16 + captured ≤ length out.old }
+        ensures given { take (at + 16 + captured) out.new
+            ≡ take at out.old ++ (head.now ++ take captured (drop 28 (held_bytes self.old))) }
+        ensures len { length out.new ≡ length out.old }
+        ensures kept { kept_bytes self.new ≡ kept_bytes self.old }
+        ensures held { held_bytes self.new ≡ drop total (held_bytes self.old) }
+    {
+        put_at(out, at, head);
+        put_at(
+            out,
+            at + RECORD_HEAD,
+            &self.peek()[PACKET_HEAD..PACKET_HEAD + captured],
+        );
+        self.start += total;
+    }
+
+    /// Moves what is kept to the front of the buffer, and what is held behind it, so that it ends where a page does.
     fn compact(&mut self)
         ensures kept { kept_bytes self.new ≡ kept_bytes self.old }
         ensures held { held_bytes self.new ≡ held_bytes self.old }
-        ensures filled { self.new.filled ≡ length (kept_bytes self.old) + length (held_bytes self.old) }
+        ensures filled { self.new.filled ≤ length (kept_bytes self.old) + length (held_bytes self.old) + 4095 }
     {
         let kept = self.kept_end - self.kept;
         let held = self.filled - self.start;
+        let start = self.start.min(kept + before_page(kept + held));
         shift(&mut self.buf, self.kept, self.kept_end, 0);
-        shift(&mut self.buf, self.start, self.filled, kept);
+        shift(&mut self.buf, self.start, self.filled, start);
         self.kept = 0;
         self.kept_end = kept;
-        self.start = kept;
-        self.filled = kept + held;
+        self.start = start;
+        self.filled = start + held;
     }
 
     /// Lets the buffer reach to `end`, within its capacity. What was never read into is not written before.
     fn reach(&mut self, end: usize)
-        requires { end ≤ 327708 }
+        requires { end ≤ 331804 }
         ensures kept { kept_bytes self.new ≡ kept_bytes self.old }
         ensures held { held_bytes self.new ≡ held_bytes self.old }
         ensures filled { self.new.filled ≡ self.old.filled }
@@ -217,14 +248,14 @@ impl Window {
         }
     }
 
-    /// Makes room for so many bytes behind what is held: moves what is kept and held to the front
+    /// Makes room for so many bytes behind what is held: moves what is kept and held near the front
     /// where that is no more than what was let go, or where there is no room.
     fn make_room(&mut self, most: usize)
         requires { length (kept_bytes self.old) + length (held_bytes self.old) + most ≤ 327708 }
         ensures kept { kept_bytes self.new ≡ kept_bytes self.old }
         ensures held { held_bytes self.new ≡ held_bytes self.old }
         ensures room { self.new.filled + most ≤ vec_len self.new.buf }
-        ensures within { self.new.filled + most ≤ 327708 }
+        ensures within { self.new.filled + most ≤ 331804 }
     {
         let used = (self.kept_end - self.kept) + (self.filled - self.start);
         if used <= self.filled - used || ROOM - self.filled < most {

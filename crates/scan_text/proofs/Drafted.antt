@@ -9,7 +9,7 @@ use Rattle.capture_scan.specs.declared.stream.Lines.{Lines}
 use Rattle.capture_scan.specs.declared.stream.Pace.{Pace}
 use Rattle.capture_scan.specs.declared.stream.Rate.{Rate}
 use Rattle.capture_scan.specs.declared.stream.Stream.{Stream}
-use Rattle.scan_text.specs.Draft.{can_be_drafted, has_target, height_of, is_added, rate_of, video_of, videos_of, width_of, with_stream}
+use Rattle.scan_text.specs.Draft.{can_be_drafted, has_target, height_of, is_added, is_of_frames, lines_of, rate_of, video_of, videos_of, width_of, with_stream}
 use Rattle.scan_text.specs.Rates.{exact, faster, is_slow, nearest_from, slowed, slowest}
 use Rattle.scan_text.specs.ReadBack.{HasBits, HaveOwnTargets, IsDrafted}
 use Rattle.scan_text.specs.declared.draft.DraftVideo.{DraftVideo}
@@ -33,7 +33,8 @@ greatest-of n = (omega arith, omega arith)
 
 size-height : (lines : Option Lines) → IsSize (height_of lines)
 size-height None = (omega arith, omega arith)
-size-height (Some lines) = least-of (if lines.second_field then 2 * (lines.greatest + 1) else lines.greatest + 1) (some lines.second_field)
+size-height (Some lines) =
+    least-of (lines_of lines.second_field (lines.greatest + 1)) (some (lines.second_field && not (is_of_frames (lines.greatest + 1))))
   where
     some : (b : Bool) → 1 ≤ (if b then 2 * (lines.greatest + 1) else lines.greatest + 1)
     some true = omega arith

@@ -1,6 +1,5 @@
--- What a capture holds, as lists, and how an SSRC is written.
-use Rattle.std.specs.Prelude.{ℕ, ◌-◌, ◌^◌, false, List, [], Option}
-use Rattle.std.specs.Fmt.{digits, format_spec, padded_integral}
+-- What a capture holds, as lists.
+use Rattle.std.specs.Prelude.{ℕ, List, Option}
 use Rattle.capture_scan.specs.declared.found.Found.{Found}
 use Rattle.capture_scan.specs.declared.found.PassedOver.{PassedOver}
 use Rattle.capture_scan.specs.declared.found.Span.{Span}
@@ -25,8 +24,3 @@ contents_of found = record {
   unread = found.unread.items;
   more = found.more;
 }
-
--- an SSRC as eight digits of hexadecimal in lower case, with zeros before them: its digits to the base 16, without an
--- alignment or a precision, filled up from the left with 0 (the flag 4) to a width of 8
-abbrev pub ssrc_text : ℕ → List ℕ
-ssrc_text ssrc = padded_integral (format_spec 32 0 4 8 (2 ^ 64 - 1)) false [] (digits 16 false ssrc)

@@ -2,7 +2,7 @@
 -- of a capture. It says no sender type, which can't be seen in packets.
 -- This project's profile: which streams have a video, and what is taken where it isn't seen. Sizes are pixels and
 -- lines.
-use Rattle.std.specs.Prelude.{ℕ, ◌+◌, ◌*◌, ◌/◌, ◌%◌, ◌^◌, ◌==◌, ◌&&◌, nat_le, nat_lt, not, min, max, Bool, false}
+use Rattle.std.specs.Prelude.{ℕ, ◌+◌, ◌*◌, ◌/◌, ◌%◌, ◌^◌, ◌==◌, ◌&&◌, ◌||◌, nat_le, nat_lt, not, min, max, Bool, false}
 use Rattle.std.specs.Prelude.{if◌then◌else◌, List, [], ◌∷◌, ◌++◌, fold, length, Option, Some, None, codes}
 use Rattle.std.specs.Fmt.{decimal}
 use Rattle.std.specs.List.{flat_map, list_any}
@@ -19,11 +19,19 @@ abbrev pub has_fields : Option Lines → Bool
 has_fields None = false
 has_fields (Some lines) = lines.second_field
 
+-- whole frames of so many lines are in use; fields have half as many, which no frame has
+abbrev pub is_of_frames : ℕ → Bool
+is_of_frames n = (n == 2160) || ((n == 1080) || ((n == 720) || ((n == 576) || ((n == 486) || (n == 480)))))
+
+-- the lines of a whole picture whose line numbers are fewer than n, with a second field or without: some senders number
+-- the lines of each field by themselves, and others those of both over the whole frame
+abbrev pub lines_of : Bool → ℕ → ℕ
+lines_of second_field n = if second_field && not (is_of_frames n) then 2 * n else n
+
 -- the lines of a whole picture, as far as they were seen
 abbrev pub height_of : Option Lines → ℕ
 height_of None = 1080
-height_of (Some lines) =
-    min 32767 (if lines.second_field then 2 * (lines.greatest + 1) else lines.greatest + 1)
+height_of (Some lines) = min 32767 (lines_of lines.second_field (lines.greatest + 1))
 
 -- the pixels of a line that go with a height: those of a format that is in use, and else 16 to 9
 abbrev pub width_of : ℕ → ℕ

@@ -1,12 +1,13 @@
 -- The contents of captures that are worked by hand. The first: 41 packets of one sender, 2 frames of 20 packets after a
 -- packet with the marker, at 50 frames per second.
-use Rattle.std.specs.Prelude.{ℕ, true, [], ◌∷◌, Some, None}
+use Rattle.std.specs.Prelude.{ℕ, true, false, [], ◌∷◌, Some, None}
 use Rattle.timing_base.specs.declared.target.Target.{Target}
 use Rattle.capture_scan.specs.Examples.{order_with, pace_with, sender}
 use Rattle.capture_scan.specs.declared.found.PassedOver.{PassedOver}
 use Rattle.capture_scan.specs.declared.stream.Rate.{Rate}
 use Rattle.capture_scan.specs.declared.stream.Stream.{Stream}
 use Rattle.scan_text.specs.Contents.{Contents}
+use Rattle.scan_text.specs.Draft.{height_of}
 
 -- 239.0.0.1, port 50000
 abbrev pub group : Target
@@ -55,6 +56,13 @@ empty_contents = record {
   unread = [];
   more = 0;
 }
+
+-- the height where lines up to this number were seen, counted from 0: of two fields, and of whole frames
+abbrev pub fields_to : ℕ → ℕ
+fields_to greatest = height_of (Some (record { greatest = greatest; second_field = true }))
+
+abbrev pub frames_to : ℕ → ℕ
+frames_to greatest = height_of (Some (record { greatest = greatest; second_field = false }))
 
 -- so many ticks in so many steps
 abbrev pub ticks_in : ℕ → ℕ → Rate

@@ -8,7 +8,7 @@ use Rattle.timing_base.specs.Targets.{target_text}
 use Rattle.timing_base.specs.declared.capture.FileNote.{FileNote}
 use Rattle.timing_base.specs.declared.target.Target.{Target}
 use Rattle.timing_json.specs.Json.{Member, count, list_of, object_of}
-use Rattle.timing_report.specs.Words.{note_text}
+use Rattle.timing_report.specs.Words.{note_text, ssrc_text}
 use Rattle.capture_scan.specs.declared.found.PassedOver.{PassedOver}
 use Rattle.capture_scan.specs.declared.found.Span.{Span}
 use Rattle.capture_scan.specs.declared.found.UnreadTarget.{UnreadTarget}
@@ -19,7 +19,7 @@ use Rattle.capture_scan.specs.declared.stream.Pace.{Pace}
 use Rattle.capture_scan.specs.declared.stream.Range.{Range}
 use Rattle.capture_scan.specs.declared.stream.Rate.{Rate}
 use Rattle.capture_scan.specs.declared.stream.Stream.{Stream}
-use Rattle.scan_text.specs.Contents.{Contents, ssrc_text}
+use Rattle.scan_text.specs.Contents.{Contents}
 
 -- an address and a port
 abbrev pub target_data : Target → Data

@@ -8,14 +8,14 @@ use Rattle.std.specs.Fmt.{decimal}
 use Rattle.std.specs.List.{flat_map}
 use Rattle.timing_base.specs.Targets.{target_text}
 use Rattle.timing_base.specs.declared.capture.FileNote.{FileNote}
-use Rattle.timing_report.specs.Words.{note_text}
+use Rattle.timing_report.specs.Words.{note_text, ssrc_text}
 use Rattle.capture_scan.specs.declared.found.PassedOver.{PassedOver}
 use Rattle.capture_scan.specs.declared.found.UnreadTarget.{UnreadTarget}
 use Rattle.capture_scan.specs.declared.stream.Lines.{Lines}
 use Rattle.capture_scan.specs.declared.stream.Pace.{Pace}
 use Rattle.capture_scan.specs.declared.stream.Range.{Range}
 use Rattle.capture_scan.specs.declared.stream.Stream.{Stream}
-use Rattle.scan_text.specs.Contents.{Contents, ssrc_text}
+use Rattle.scan_text.specs.Contents.{Contents}
 use Rattle.scan_text.specs.Draft.{has_fields}
 use Rattle.scan_text.specs.Rates.{has_steps_of, nearest, rate_text}
 use Rattle.scan_text.specs.declared.rate.FrameRate.{FrameRate}

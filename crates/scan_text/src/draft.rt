@@ -2,7 +2,7 @@
 
 ghost use Rattle.std.specs.Prelude.{◌≡◌, ◌++◌, ◌∷◌, [], ◌≤◌, IfOk, string_bytes};
 ghost use Rattle.std.specs.List.{flat_map};
-ghost use Rattle.scan_text.specs.Draft.{connection_line, draft_text, has_fields, has_target, height_of, is_added, map_line, media_line, parameter_line, rate_of, video_of, video_text, videos_of, width_of};
+ghost use Rattle.scan_text.specs.Draft.{connection_line, draft_text, has_fields, has_target, height_of, is_added, is_of_frames, map_line, media_line, parameter_line, rate_of, video_of, video_text, videos_of, width_of};
 
 use crate::rate::FrameRate;
 use capture_scan::{Lines, Pace, Stream};
@@ -43,7 +43,15 @@ pub(crate) fn has_fields(lines: Option<Lines>) -> bool
     }
 }
 
-/// The lines of a whole picture, as far as they were seen.
+/// Whether whole frames of so many lines are in use. Fields have half as many, which no frame has.
+fn is_of_frames(count: u32) -> bool
+    ensures { result ≡ is_of_frames count }
+{
+    matches!(count, 2160 | 1080 | 720 | 576 | 486 | 480)
+}
+
+/// The lines of a whole picture, as far as they were seen. Some senders number the lines of each field by
+/// themselves, and others those of both over the whole frame.
 fn height_of(lines: Option<Lines>) -> u32
     ensures { result ≡ height_of lines }
 {
@@ -51,7 +59,8 @@ fn height_of(lines: Option<Lines>) -> u32
         return 1080;
     };
     let count = u32::from(lines.greatest) + 1;
-    let height = if lines.second_field { 2 * count } else { count };
+    let halves = lines.second_field && !is_of_frames(count);
+    let height = if halves { 2 * count } else { count };
     height.min(32_767)
 }
 

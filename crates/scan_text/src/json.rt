@@ -7,7 +7,6 @@ ghost use Rattle.timing_json.specs.Members.{Puts};
 ghost use Rattle.scan_text.specs.Contents.{contents_of};
 ghost use Rattle.scan_text.specs.Json.{arrival_data, contents_data, file_members, held_members, json_text, key_members, lines_members, order_members, pace_members, packet_members, passed_over_data, range_data, rate_data, rate_members, span_members, stream_data, target_data, unread_data};
 
-use crate::words::SsrcText;
 use capture_scan::{
     Arrival, Found, Lines, Order, Pace, PassedOver, Range, Rate, Span, Stream, UnreadTarget,
 };
@@ -15,7 +14,7 @@ use serde_json::Value;
 use std::alloc::{AllocError as OutOfMemory, Global};
 use timing_base::{FileNote, Target};
 use timing_json::Object;
-use timing_report::NoteText;
+use timing_report::{NoteText, SsrcText};
 
 /// An address and a port.
 fn target_value(alloc: Global, target: Target) -> Result<Value, OutOfMemory>

@@ -1,24 +1,16 @@
 //! The texts tried by hand. Each function is a theorem: it does nothing, and its clauses are proved.
 
-ghost use Rattle.std.specs.Prelude.{◌≡◌, ◌≤◌, ◌*◌, ◌++◌, ◌∷◌, [], All, List, Ok, codes, false, length, map, true};
+ghost use Rattle.std.specs.Prelude.{◌≡◌, ◌≤◌, ◌*◌, ◌++◌, ◌∷◌, [], All, List, None, Ok, codes, false, length, map, true};
 ghost use Rattle.sdp_reader.specs.Session.{session};
 ghost use Rattle.scan_text.specs.ReadBack.{HasBits, HaveOwnTargets, IsDrafted, media_of};
 ghost use Rattle.capture_scan.specs.declared.stream.Stream.{Stream};
 ghost use Rattle.scan_text.specs.declared.draft.DraftVideo.{DraftVideo};
 ghost use Rattle.timing_base.specs.declared.capture.FileNote.TheVariants as note;
-ghost use Rattle.scan_text.specs.Contents.{ssrc_text};
-ghost use Rattle.scan_text.specs.Draft.{draft_text, videos_of};
-ghost use Rattle.scan_text.specs.Examples.{empty_contents, mixed_contents, plain_contents, plain_stream, stream_of_fields, ticks_in};
+ghost use Rattle.scan_text.specs.Draft.{draft_text, height_of, videos_of};
+ghost use Rattle.scan_text.specs.Examples.{empty_contents, fields_to, frames_to, mixed_contents, plain_contents, plain_stream, stream_of_fields, ticks_in};
 ghost use Rattle.scan_text.specs.Json.{json_text};
 ghost use Rattle.scan_text.specs.Text.{contents_text};
 ghost use Rattle.scan_text.specs.Rates.{denominator, exact, faster, nearest, numerator, rate_text, slowed, slowest};
-
-/// An SSRC in hexadecimal.
-#[tactic(auto, unfolding(crate::proofs::Numerals::scan_texts))]
-pub fn ssrc_by_hand()
-    ensures one { ssrc_text 1 ≡ codes "00000001" }
-    ensures letters { ssrc_text 0xdeadbe0f ≡ codes "deadbe0f" }
-{}
 
 /// The whole JSON of a capture with one stream.
 #[tactic(auto, unfolding(crate::proofs::Numerals::scan_texts))]
@@ -68,6 +60,17 @@ pub fn rates_by_hand()
     ensures video { rate_text (slowed 60 12012) ≡ codes "59.94 frames per second (60000/1001)" }
     ensures fast { rate_text (slowed 120 6006) ≡ codes "119.88 frames per second (120000/1001)" }
     ensures whole { rate_text (exact 50 14400) ≡ codes "50 frames per second" }
+{}
+
+/// The height of a draft by the greatest line number and the second field: fields of 1080, 576, 486 and 480 lines that are
+/// numbered by themselves or over the whole frame, whole frames, heights that aren't in use, and no line.
+pub fn heights_by_hand()
+    ensures fields { map fields_to (539 ∷ 287 ∷ 242 ∷ 239 ∷ []) ≡ 1080 ∷ 576 ∷ 486 ∷ 480 ∷ [] }
+    ensures over_frame { map fields_to (1079 ∷ 575 ∷ 485 ∷ 479 ∷ []) ≡ 1080 ∷ 576 ∷ 486 ∷ 480 ∷ [] }
+    ensures frames { map frames_to (2159 ∷ 1079 ∷ 719 ∷ 479 ∷ []) ≡ 2160 ∷ 1080 ∷ 720 ∷ 480 ∷ [] }
+    ensures others { map fields_to (599 ∷ 1078 ∷ []) ≡ 1200 ∷ 2158 ∷ [] }
+    ensures greatest { map frames_to (32767 ∷ []) ≡ 32767 ∷ [] }
+    ensures no_line { height_of None ≡ 1080 }
 {}
 
 /// The whole draft of a stream.

@@ -9,10 +9,8 @@ mod json;
 pub mod laws;
 mod rate;
 mod text;
-mod words;
 
 pub use draft::{Draft, DraftVideo};
 pub use json::json_of;
 pub use rate::FrameRate;
 pub use text::text_of;
-pub use words::SsrcText;

@@ -8,12 +8,11 @@ ghost use Rattle.scan_text.specs.Draft.{has_fields};
 
 use crate::draft::has_fields;
 use crate::rate::FrameRate;
-use crate::words::SsrcText;
 use capture_scan::{Found, Lines, Pace, PassedOver, Range, Stream, UnreadTarget};
 use std::alloc::{AllocError as OutOfMemory, Global};
 use std::fmt;
 use timing_base::FileNote;
-use timing_report::NoteText;
+use timing_report::{NoteText, SsrcText};
 
 /// Adds the line of the capture.
 fn add_heading(

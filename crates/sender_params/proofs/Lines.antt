@@ -53,6 +53,37 @@ parts_at a group offset step n x = (a + x / n) * group + offset + (x % n) * step
 abbrev pub parts_of : (b den group t : ℕ) → ℕ
 parts_of b den group t = t * den + b * group
 
+-- a read and a whole nanosecond over the denominator of the one, and in parts
+pub record AreScaled (m : Media) (n : ℕ) (gapped : Bool) (a b den group step offset x t : ℕ) : Type 0 where
+  pub per_some : 0 < per_of m n gapped
+  pub den_some : 0 < den
+  pub read : den * late_of m n gapped a x ≡ per_of m n gapped * parts_at a group offset step n x
+  pub instant : den * (t * per_of m n gapped + early_of m n gapped b) ≡ per_of m n gapped * parts_of b den group t
+
+pub sizes-scaled : (m : Media) (n : ℕ) (gapped : Bool) (a b den group step offset x t : ℕ)
+    → HavePer m n gapped
+    → AreSizes m n gapped den group step offset
+    → 1 ≤ den
+    → AreScaled m n gapped a b den group step offset x t
+sizes-scaled m n gapped a b den group step offset x t have are some =
+    let gn = (group_time m).0 in
+    let gd = (group_time m).1 in
+    let on = (offset_time m).0 in
+    let od = (offset_time m).1 in
+    let sn = (read_step m n gapped).0 in
+    let sd = (read_step m n gapped).1 in
+    let eg : group * gd ≡ gn * den = rw (are.group_is, are.den_is) (group-exact m n) in
+    let es : step * sd ≡ sn * den = rw (are.step_is, are.den_is) (step-exact m n gapped) in
+    let pair : 1 * 1 ≤ gd * od = mul-le-mul have.group have.offset in
+    let both : 1 ≤ gd * od = omega (arith, pair) in
+    let product : 1 * 1 ≤ per_of m n gapped = mul-le-mul both have.step in
+    record {
+      per_some = omega (arith, product);
+      den_some = omega (arith, some);
+      read = read-scaled a (x / n) (x % n) gn gd on od sn sd den group offset step eg are.offset_is es;
+      instant = instant-scaled b t gn gd od sd den group eg;
+    }
+
 -- a read stands to a whole nanosecond as their parts do
 reads-by-parts : (m : Media) (n : ℕ) (anchor : ℤ) (gapped : Bool) (a b den group step offset x t : ℕ)
     → HavePer m n gapped
@@ -62,27 +93,14 @@ reads-by-parts : (m : Media) (n : ℕ) (anchor : ℤ) (gapped : Bool) (a b den g
     → (AtMost (read_of m n anchor gapped x) (whole t) ↔ (parts_at a group offset step n x ≤ parts_of b den group t))
     × (AtMost (whole t) (read_of m n anchor gapped x) ↔ (parts_of b den group t ≤ parts_at a group offset step n x))
 reads-by-parts m n anchor gapped a b den group step offset x t have are some is =
-    let gn = (group_time m).0 in
-    let gd = (group_time m).1 in
-    let on = (offset_time m).0 in
-    let od = (offset_time m).1 in
-    let sn = (read_step m n gapped).0 in
-    let sd = (read_step m n gapped).1 in
+    let s = sizes-scaled m n gapped a b den group step offset x t have are some in
     let per = per_of m n gapped in
-    let eg : group * gd ≡ gn * den = rw (are.group_is, are.den_is) (group-exact m n) in
-    let es : step * sd ≡ sn * den = rw (are.step_is, are.den_is) (step-exact m n gapped) in
-    let pair : 1 * 1 ≤ gd * od = mul-le-mul have.group have.offset in
-    let both : 1 ≤ gd * od = omega (arith, pair) in
-    let product : 1 * 1 ≤ per = mul-le-mul both have.step in
-    let per_some : 0 < per = omega (arith, product) in
-    let den_some : 0 < den = omega (arith, some) in
     let late = late_of m n gapped a x in
     let early = t * per + early_of m n gapped b in
-    let first : den * late ≡ per * parts_at a group offset step n x =
-    read-scaled a (x / n) (x % n) gn gd on od sn sd den group offset step eg are.offset_is es in
-    let second : den * early ≡ per * parts_of b den group t = instant-scaled b t gn gd od sd den group eg in
-    let below = le-scaled den per late early (parts_at a group offset step n x) (parts_of b den group t) first second den_some per_some in
-    let above = le-scaled den per early late (parts_of b den group t) (parts_at a group offset step n x) second first den_some per_some in
+    let read = parts_at a group offset step n x in
+    let instant = parts_of b den group t in
+    let below = le-scaled den per late early read instant s.read s.instant s.den_some s.per_some in
+    let above = le-scaled den per early late instant read s.instant s.read s.den_some s.per_some in
     let before = read_of-at_most m n anchor gapped a b x t is in
     let after = read_of-at_least m n anchor gapped a b x t is in (
       (λ h. below.0 (before.0 h), λ h. before.1 (below.1 h)),

@@ -1,5 +1,5 @@
 -- The text of a report is read back as its fails.
-use Rattle.std.proofs.Common.{◌≤◌, ℕ, List, length, refl, ap, ◌∙◌, arith}
+use Rattle.std.proofs.Common.{◌≤◌, List, length, refl, ap, ◌∙◌, arith}
 use Rattle.std.proofs.lemmas.Str.{IsUtf8-append}
 use Rattle.std.specs.Prelude.{All, IsUtf8, codes, option_and_then}
 use Rattle.json.specs.Tree.{depth}

@@ -1,6 +1,6 @@
--- The words of the report: sender types, classes, models, groups, and the faults of packets and captures.
-use Rattle.std.specs.Prelude.{ℕ, List, ◌++◌, Bool, true, false, Option, Some, None, codes}
-use Rattle.std.specs.Fmt.{decimal}
+-- The words of what is told: sender types, classes, models, groups, SSRCs, and the faults of packets and captures.
+use Rattle.std.specs.Prelude.{ℕ, ◌-◌, ◌^◌, List, [], ◌++◌, Bool, true, false, Option, Some, None, codes}
+use Rattle.std.specs.Fmt.{decimal, digits, format_spec, padded_integral}
 use Rattle.timing_base.specs.declared.capture.FileNote.{FileNote}
 use Rattle.timing_base.specs.declared.capture.FileNote.TheVariants.{End, Cut, Refused}
 use Rattle.timing_base.specs.declared.capture.PcapFault.{PcapFault}
@@ -43,6 +43,11 @@ model_name Empty = codes "Empty"
 abbrev pub group_name : Bool → List ℕ
 group_name true = codes "field"
 group_name false = codes "frame"
+
+-- an SSRC as eight digits of hexadecimal in lower case, with zeros before them: its digits to the base 16, without an
+-- alignment or a precision, filled up from the left with 0 (the flag 4) to a width of 8
+abbrev pub ssrc_text : ℕ → List ℕ
+ssrc_text ssrc = padded_integral (format_spec 32 0 4 8 (2 ^ 64 - 1)) false [] (digits 16 false ssrc)
 
 -- the fault of a packet; stamps are in nanoseconds
 abbrev pub packet_fault_text : PacketFault → List ℕ

@@ -19,6 +19,7 @@ ghost use Rattle.timing_report.specs.Verdict.{judged_text, lines_below, type_tex
 ghost use Rattle.timing_report.specs.Worked.{check_of, fail, first_flow, narrow, second_flow, two_frames, two_runs, wide};
 ghost use Rattle.timing_base.specs.Examples.{plain_media as plain, video};
 ghost use Rattle.timing_report.specs.Status.{code_of, error_line};
+ghost use Rattle.timing_report.specs.Words.{ssrc_text};
 ghost use Rattle.timing_report.specs.declared.status.Input.TheVariants.{Sdp, Report, Capture};
 ghost use Rattle.timing_report.specs.declared.status.Status.TheVariants.{Pass, Fail, Usage, SdpRefused, NotAllJudged, ReadFault, WriteFault, OutOfMemory, ReportRefused};
 ghost use Rattle.sdp_reader.specs.declared.fault.SdpCause.TheVariants as cause;
@@ -51,6 +52,13 @@ pub fn lines_by_hand()
     ensures write_fault { error_line WriteFault ≡ codes "write fault\n" }
     ensures out_of_memory { error_line OutOfMemory ≡ codes "out of memory\n" }
     ensures report_refused { error_line ReportRefused ≡ codes "report refused\n" }
+{}
+
+/// An SSRC in hexadecimal.
+#[tactic(auto, unfolding(crate::proofs::Numerals::padded_numerals))]
+pub fn ssrc_by_hand()
+    ensures one { ssrc_text 1 ≡ codes "00000001" }
+    ensures letters { ssrc_text 0xdeadbe0f ≡ codes "deadbe0f" }
 {}
 
 /// Where the report was printed, standard error gets nothing.

@@ -16,4 +16,6 @@ pub use outcomes::{any_refused, buffer_peak, first_passing, media_of, status_of,
 pub use status::{Input, Status};
 pub use text::{add_files, text_of};
 pub use verdict::verdict_of;
-pub use words::{NoteText, PacketFaultText, class_name, declared_name, kind_name, model_name};
+pub use words::{
+    NoteText, PacketFaultText, SsrcText, class_name, declared_name, kind_name, model_name,
+};

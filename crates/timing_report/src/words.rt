@@ -1,4 +1,4 @@
-//! The words of the report: sender types, classes, models, groups, and the faults of packets and
+//! The words of what is told: sender types, classes, models, groups, SSRCs, and the faults of packets and
 //! captures.
 
 ghost use Rattle.std.specs.Prelude.{◌≡◌};
@@ -56,6 +56,23 @@ pub fn group_name(interlaced: bool) -> &'static str
     ensures { result.now ≡ group_name interlaced }
 {
     if interlaced { "field" } else { "frame" }
+}
+
+/// A synchronisation source as eight digits of hexadecimal.
+#[derive(Clone, Copy, Debug)]
+pub struct SsrcText {
+    pub ssrc: u32,
+}
+
+impl fmt::Display for SsrcText {
+    ghost use Rattle.std.specs.Prelude.{Some};
+    ghost use Rattle.timing_report.specs.Words.{ssrc_text};
+
+    ghost output = { λ text. Some (ssrc_text text.ssrc) };
+
+    fn fmt<W: fmt::Write>(&self, f: &mut fmt::Formatter<W>) -> fmt::Result {
+        write!(f, "{:08x}", self.ssrc)
+    }
 }
 
 /// The fault of a packet, as the report writes it.

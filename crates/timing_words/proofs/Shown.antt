@@ -18,14 +18,6 @@ pub framed-same : (u a l p e usage about lines printed example : Text) → u ≡
     → framed u a l p e ≡ framed usage about lines printed example
 framed-same u a l p e usage about lines printed example is_u is_a is_l is_p is_e = rw (is_u, is_a, is_l, is_p, is_e) refl
 
-abbrev pub eight : (a b c d e f g h : Text) → Text
-eight a b c d e f g h = a ++ (b ++ (c ++ (d ++ (e ++ (f ++ (g ++ h))))))
-
-pub eight-same : (a b c d e f g h a2 b2 c2 d2 e2 f2 g2 h2 : Text) → a ≡ a2 → b ≡ b2 → c ≡ c2 → d ≡ d2 → e ≡ e2 → f ≡ f2 → g ≡ g2 → h ≡ h2
-    → eight a b c d e f g h ≡ eight a2 b2 c2 d2 e2 f2 g2 h2
-eight-same a b c d e f g h a2 b2 c2 d2 e2 f2 g2 h2 is_a is_b is_c is_d is_e is_f is_g is_h =
-    rw (is_a, is_b, is_c, is_d, is_e, is_f, is_g, is_h) refl
-
 pub three-same : (a b c a2 b2 c2 : Text) → a ≡ a2 → b ≡ b2 → c ≡ c2 → a ++ (b ++ c) ≡ a2 ++ (b2 ++ c2)
 three-same a b c a2 b2 c2 is_a is_b is_c = rw (is_a, is_b, is_c) refl
 

@@ -1,7 +1,7 @@
 -- What `help` prints: of all commands their words, the statuses and where to read on; of one command more. The words
 -- are the options and flags that the grammar has for it.
 -- This project's profile: the whole text.
-use Rattle.std.specs.Prelude.{Bool, ◌||◌, if◌then◌else◌, ◌++◌, Option, Some, None, codes}
+use Rattle.std.specs.Prelude.{Bool, ◌||◌, if◌then◌else◌, ◌++◌, List, [], ◌∷◌, Option, Some, None, codes}
 use Rattle.std.specs.List.{flat_map}
 use Rattle.std.specs.Str.{bytes_eq}
 use Rattle.timing_words.specs.Line.{Sort, Text}
@@ -140,11 +140,15 @@ usage c = name_of c ++ (flat_map word (sorts c) ++ (codes " " ++ names_shape c))
 abbrev pub summary : Command → Text
 summary c = codes "  " ++ (usage c ++ (codes "\n      " ++ (about c ++ codes "\n")))
 
+-- the commands, in the order in which they are told
+abbrev pub commands : List Command
+commands =
+    command.Check ∷ command.Verify ∷ command.VerifyReport ∷ command.SelfTest ∷ command.Window ∷ command.Shape
+    ∷ command.Skew ∷ command.Scan ∷ []
+
 -- those of all commands
 abbrev pub summaries : Text
-summaries =
-    summary command.Check ++ (summary command.Verify ++ (summary command.VerifyReport ++ (summary command.SelfTest
-    ++ (summary command.Window ++ (summary command.Shape ++ (summary command.Skew ++ summary command.Scan))))))
+summaries = flat_map summary commands
 
 -- the lines before them
 abbrev pub front_text : Text

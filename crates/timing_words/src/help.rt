@@ -283,19 +283,34 @@ fn summary_of(alloc: Global, command: Command) -> Result<String, OutOfMemory>
     format!(in alloc; "  {usage}\n      {about}\n")
 }
 
+/// Those of these commands, in their order.
+fn summaries_in(alloc: Global, commands: &[Command]) -> Result<String, OutOfMemory>
+    ensures { IfOk result (λ s. string_bytes s ≡ flat_map page.summary commands.now) }
+{
+    let mut text = String::new(alloc);
+    for command in commands {
+        text.push_str(summary_of(alloc, *command)?.as_str())?;
+    }
+    Ok(text)
+}
+
 /// Those of all commands.
 fn summaries(alloc: Global) -> Result<String, OutOfMemory>
     ensures { IfOk result (λ s. string_bytes s ≡ page.summaries) }
 {
-    let check = summary_of(alloc, Command::Check)?;
-    let verify = summary_of(alloc, Command::Verify)?;
-    let verify_report = summary_of(alloc, Command::VerifyReport)?;
-    let self_test = summary_of(alloc, Command::SelfTest)?;
-    let window = summary_of(alloc, Command::Window)?;
-    let shape = summary_of(alloc, Command::Shape)?;
-    let skew = summary_of(alloc, Command::Skew)?;
-    let scan = summary_of(alloc, Command::Scan)?;
-    format!(in alloc; "{check}{verify}{verify_report}{self_test}{window}{shape}{skew}{scan}")
+    summaries_in(
+        alloc,
+        &[
+            Command::Check,
+            Command::Verify,
+            Command::VerifyReport,
+            Command::SelfTest,
+            Command::Window,
+            Command::Shape,
+            Command::Skew,
+            Command::Scan,
+        ],
+    )
 }
 
 /// The lines before them.

@@ -1,7 +1,7 @@
 //! What holds of the grammar, and the grammar on words worked by hand. Each function is a theorem: it
 //! does nothing, and its clauses are proved.
 
-ghost use Rattle.std.specs.Prelude.{◌≡◌, List, [], ◌∷◌, ◌++◌, Some, None, codes, false, true};
+ghost use Rattle.std.specs.Prelude.{◌≡◌, List, [], ◌∷◌, ◌++◌, Contains, Some, None, codes, false, true};
 ghost use Rattle.timing_base.specs.declared.fail.Broken.TheVariants as broken;
 ghost use Rattle.timing_words.specs.declared.request.Request.{Request};
 ghost use Rattle.timing_words.specs.declared.request.Request.TheVariants as asks;
@@ -11,7 +11,7 @@ ghost use Rattle.timing_words.specs.declared.command.Command.{Command};
 ghost use Rattle.timing_words.specs.declared.command.Command.TheVariants as command;
 ghost use Rattle.timing_words.specs.Examples.{Asks, IsCut, IsRefused, IsUncut, plain_check, second_flow};
 ghost use Rattle.timing_words.specs.Examples.{sixteen, sixteen_names, words};
-ghost use Rattle.timing_words.specs.Help.{help_text, name_of, usage};
+ghost use Rattle.timing_words.specs.Help.{commands, help_text, name_of, usage};
 ghost use Rattle.timing_words.specs.Limits.{IsWithinLimits};
 ghost use Rattle.timing_words.specs.Line.{Text, flag, line, name, option};
 ghost use Rattle.timing_words.specs.Request.{check_sorts, check_workers, command_named, count, file_name, file_names};
@@ -293,9 +293,10 @@ pub fn help_texts_by_hand()
         ++ codes "Example: ./run selftest 2\n"))) }
 {}
 
-/// The word that `help` shows of a command names it.
+/// The word that `help` shows of a command names it, and `help` shows every command.
 pub fn shown_words_are_read()
-    ensures { (c : Command) → command_named (name_of c) ≡ Some c }
+    ensures read { (c : Command) → command_named (name_of c) ≡ Some c }
+    ensures all { (c : Command) → Contains commands c }
 {}
 
 /// What words ask for is within its limits: 1 to 16 captures, at most 16 workers and 1,000 seconds, and

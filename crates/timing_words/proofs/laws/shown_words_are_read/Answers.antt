@@ -1,12 +1,13 @@
-use Rattle.std.proofs.Common.{◌≡◌, refl, Some}
+use Rattle.std.proofs.Common.{◌≡◌, refl, length, Some, arith}
+use Rattle.std.specs.List.{Contains}
 use Rattle.timing_words.specs.declared.command.Command.{Command}
 use Rattle.timing_words.specs.declared.command.Command.TheVariants as command
-use Rattle.timing_words.specs.Help.{name_of}
+use Rattle.timing_words.specs.Help.{commands, name_of}
 use Rattle.timing_words.specs.Request.{command_named}
 use Rattle.timing_words.proofs.laws.shown_words_are_read.Goals as goal
 
-pub returns : goal.returns
-returns c = go
+pub returns-clause-read : goal.returns-clause-read
+returns-clause-read c = go
   where
     go : (named : Command) → command_named (name_of named) ≡ Some named
     go command.Check = refl
@@ -17,3 +18,19 @@ returns c = go
     go command.Shape = refl
     go command.Skew = refl
     go command.Scan = refl
+
+pub returns-clause-all : goal.returns-clause-all
+returns-clause-all c = go
+  where
+    size : length commands ≡ 8
+    size = refl
+
+    go : (told : Command) → Contains commands told
+    go command.Check = (0, omega (arith, size), refl)
+    go command.Verify = (1, omega (arith, size), refl)
+    go command.VerifyReport = (2, omega (arith, size), refl)
+    go command.SelfTest = (3, omega (arith, size), refl)
+    go command.Window = (4, omega (arith, size), refl)
+    go command.Shape = (5, omega (arith, size), refl)
+    go command.Skew = (6, omega (arith, size), refl)
+    go command.Scan = (7, omega (arith, size), refl)

@@ -5,6 +5,11 @@ use Rattle.flow_measure.specs.Frames.{after_start, timestamp_latency, timestamp_
 use Rattle.flow_measure.specs.Groups.{latency_at, offset_at, since_at}
 use Rattle.flow_measure.proofs.firsts.FirstMeter.feed.Goals as goal
 
+pub feed-requires-2-clause-low : goal.feed-requires-2-clause-low
+feed-requires-2-clause-low c =
+    let fits : FitsSigned w128 c.offset_of.result = search rules in
+    omega (arith, ints, to_z-of_z w128 c.offset_of.result fits, c.offset_of.ensures.low)
+
 pub feed-requires-3-clause-low : goal.feed-requires-3-clause-low
 feed-requires-3-clause-low c =
     let fits : FitsSigned w128 c.latency_of.result = search rules in

@@ -4,7 +4,7 @@ use Rattle.std.specs.Int.{w128}
 use Rattle.sender_params.proofs.Turns.{next_group, same_group}
 use Rattle.flow_measure.specs.Frames.{after_start}
 use Rattle.flow_measure.specs.Groups.{lasts_of, since_at}
-use Rattle.flow_measure.proofs.Grouped.{ahead-is, firsts-next, last-is}
+use Rattle.flow_measure.proofs.Grouped.{firsts-next, groups-begun, last-is}
 use Rattle.flow_measure.proofs.group_meter.GroupMeter.feed.Goals as goal
 
 pub invariant_of-self : goal.invariant_of-self
@@ -12,8 +12,7 @@ invariant_of-self c =
     let s = c.args.self.now in
     let inside : s.seen % s.n + 1 < s.n = omega (arith, s.place_is, c.if-self.true) in
     let same = same_group s.seen s.n inside in
-    let begun = c.feed_at.ensures in
-    let ahead = ahead-is s.firsts c.feed_at.new.self s.place s.last.seen begun.kept begun.seen s.firsts_are s.firsts_ahead in
+    let begun = groups-begun s c.feed_at.new.self c.feed_at.ensures.kept c.feed_at.ensures.seen in
     record {
       n0_low = s.n0_low;
       n0_high = s.n0_high;
@@ -22,9 +21,9 @@ invariant_of-self c =
       place_within = omega (arith, c.if-self.true);
       last_is = s.last_is ∙ sym same.0;
       last_few = omega (arith, s.last_few);
-      firsts_few = omega (arith, ahead, s.last_few);
+      firsts_few = begun.1;
       firsts_are = λ none. absurd (omega (arith, none));
-      firsts_ahead = λ more. ahead;
+      firsts_ahead = λ more. begun.0;
     }
 
 pub invariant_of-self-2 : goal.invariant_of-self-2
@@ -32,8 +31,7 @@ invariant_of-self-2 c =
     let s = c.args.self.now in
     let outside : s.seen % s.n + 1 ≡ s.n = omega (arith, s.place_is, s.place_within, c.if-self.false) in
     let next = next_group s.seen s.n outside in
-    let begun = c.feed_at.ensures in
-    let ahead = ahead-is s.firsts c.feed_at.new.self s.place s.last.seen begun.kept begun.seen s.firsts_are s.firsts_ahead in
+    let begun = groups-begun s c.feed_at.new.self c.feed_at.ensures.kept c.feed_at.ensures.seen in
     record {
       n0_low = s.n0_low;
       n0_high = s.n0_high;
@@ -42,8 +40,8 @@ invariant_of-self-2 c =
       place_within = omega (arith, s.place_within);
       last_is = c.feed.ensures.seen ∙ ap (λ k. k + 1) s.last_is ∙ sym next.0;
       last_few = omega (arith, c.feed.ensures.seen, s.last_few);
-      firsts_few = omega (arith, ahead, s.last_few);
-      firsts_are = λ none. ahead ∙ sym c.feed.ensures.seen;
+      firsts_few = begun.1;
+      firsts_are = λ none. begun.0 ∙ sym c.feed.ensures.seen;
       firsts_ahead = λ more. absurd (omega (arith, more));
     }
 

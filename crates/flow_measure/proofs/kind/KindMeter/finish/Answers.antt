@@ -5,7 +5,7 @@ use Rattle.flow_measure.proofs.Grouped.{groups-are}
 use Rattle.flow_measure.proofs.kind.KindMeter.finish.Goals as goal
 
 pub returns : goal.returns
-returns c = λ n c_max full groups to packets h whole.
+returns c = λ n c_max full groups to packets h whole named.
     let s = c.args.self.now in
     let some : 0 < s.broken.n = omega (arith, s.broken.place_within) in
     let all : s.broken.seen / s.broken.n ≡ groups =
@@ -19,5 +19,5 @@ returns c = λ n c_max full groups to packets h whole.
       first_bucket = h.first_bucket;
       first_over = h.first_over;
       first_empty = h.first_empty;
-      named_is = h.named;
+      named_is = named;
     }

@@ -1,5 +1,5 @@
 use Rattle.std.proofs.Common.{◌≡◌, ◌+◌, ◌*◌, length, pos, ◌-ℤ◌, refl, ap, ◌∙◌, FitsSigned, rules, arith}
-use Rattle.std.proofs.lemmas.Int.{to_z-of_z}
+use Rattle.std.proofs.lemmas.Int.{clamps, ints, to_z-of_z}
 use Rattle.std.specs.Int.{w128}
 use Rattle.fraction128.specs.Fractions.{below, whole}
 use Rattle.sender_params.specs.Reads.{read_of}
@@ -20,12 +20,12 @@ pub returns-clause-stands : goal.returns-clause-stands
 returns-clause-stands c = λ m n anchor gapped stamps h.
     let s = c.args.self.now in
     let margin_fits : FitsSigned w128 c.margin-margin.result = search rules in
-    let least_fits : FitsSigned w128 c.least_with-least.result = search rules in
+    let old_fits : FitsSigned w128 s.least = search rules in
     times-more m n anchor gapped s _ stamps c.args.at c.margin-margin.result (record {
       margin_is = c.margin-margin.ensures;
       reads = c.advance.ensures.reads;
       seen = refl;
-      first = λ none. let e = c.least_with-least.ensures.first none in grind (arith, to_z-of_z, e);
-      more = λ some. let e = c.least_with-least.ensures.more some in grind (arith, to_z-of_z, e);
+      first = λ none. omega (arith, ints, clamps, c.lessen.ensures, s.none_least none, c.margin-margin.ensures, s.own.at_small);
+      more = λ some. grind (arith, to_z-of_z, c.lessen.ensures);
       late = let e = c.from.ensures ∙ number-of _ in grind (arith, to_z-of_z, e);
     }) h

@@ -13,5 +13,5 @@ returns c = λ m n gapped stamps h.
     let least_fits : FitsSigned w128 s.least = search rules in
     let result_fits : FitsSigned w128 c.floor_signed.result = search rules in
     let e : to_z w128 (of_z w128 c.floor_signed.result) ≡ floor_of_signed s.least s.own.reads.den =
-    grind (arith, to_z-of_z, c.floor_signed.ensures) in
+    grind (arith, to_z-of_z, c.floor_signed.ensures, c.from.ensures) in
     (subst (IsSlack m n stamps gapped) (sym e) (slack-is m n gapped s.own.reads stamps s.least h.reads (h.least some)), h.late)

@@ -13,3 +13,6 @@ invariant_of-result-clause-start_small c =
     let s = c.sizes_of-sizes in
     let a : c.lifted.result * s.result.group ≤ (2 ^ 42 + 480) * s.result.group = mul-le-mul_right s.result.group c.lifted.ensures.small in
     omega (arith, a, s.ensures.group_small, s.ensures.offset_small, c.n.ensures.most, c.n.ensures.value)
+
+pub invariant_of-result-clause-epoch_is : goal.invariant_of-result-clause-epoch_is
+invariant_of-result-clause-epoch_is c = ap (λ k. k * c.sizes_of-sizes.result.group) c.from-2.ensures

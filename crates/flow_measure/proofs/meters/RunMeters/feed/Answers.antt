@@ -3,11 +3,10 @@ use Rattle.std.proofs.Common.{length-append}
 use Rattle.std.proofs.lemmas.Int.{to_z-of_z}
 use Rattle.std.specs.Int.{w128}
 use Rattle.std.specs.List.{slice_index_or}
-use Rattle.timing_base.specs.declared.media.Kind.TheVariants.{N, NL, W}
 use Rattle.sender_params.specs.Limits.{c_max_of, vrx_full_of}
 use Rattle.sender_params.specs.Reads.{anchor_of}
 use Rattle.flow_measure.specs.Followed.{CanFollow}
-use Rattle.flow_measure.proofs.Packets.{listed-front, listed-last, packet-last, packets-front}
+use Rattle.flow_measure.proofs.Packets.{level-last, listed-front, listed-last, named-more, packets-front}
 use Rattle.flow_measure.proofs.meters.RunMeters.feed.Goals as goal
 
 pub returns-clause-stands : goal.returns-clause-stands
@@ -18,9 +17,7 @@ returns-clause-stands c =
     let at = c.args.at in
     let rec = c.args.«record» in
     let fits : FitsSigned w128 c.feed-bucket.result = search rules in
-    let narrow = simp to_z-of_z at c.feed.ensures.stands in
-    let narrow_linear = simp to_z-of_z at c.feed-2.ensures.stands in
-    let wide = simp to_z-of_z at c.feed-3.ensures.stands in
+    let kinds = simp to_z-of_z at c.feed.ensures.stands in
     λ named origin stamps records timestamps h next.
     let anchor = anchor_of m origin in
     let count = c.feed-bucket.ensures.count origin stamps h.bucket next in
@@ -41,22 +38,19 @@ returns-clause-stands c =
       bucket = c.feed-bucket.ensures.stands origin stamps h.bucket next;
       gapped = gapped.stands m n anchor true stamps h.gapped can;
       linear = linear.stands m n anchor false stamps h.linear can;
-      narrow = λ p are. narrow n (c_max_of m n N) (vrx_full_of m n N) (slice_index_or named 0 None) p
-          (h.narrow p (packets-front m n stamps records at rec N p are))
-          (packet-last m n stamps records at rec s.narrow.seen N p _ c.feed-bucket.result c.feed-gapped.result (s.narrow_is ∙ h.seen) h.records_are are
-          refl refl count gapped_held gapped_late);
-      narrow_linear = λ p are. narrow_linear n (c_max_of m n NL) (vrx_full_of m n NL) (slice_index_or named 1 None) p
-          (h.narrow_linear p (packets-front m n stamps records at rec NL p are))
-          (packet-last m n stamps records at rec s.narrow_linear.seen NL p _ c.feed-bucket.result c.feed-linear.result (s.narrow_linear_is ∙ h.seen)
-          h.records_are are refl refl count linear_held linear_late);
-      wide = λ p are. wide n (c_max_of m n W) (vrx_full_of m n W) (slice_index_or named 2 None) p
-          (h.wide p (packets-front m n stamps records at rec W p are))
-          (packet-last m n stamps records at rec s.wide.seen W p _ c.feed-bucket.result c.feed-linear.result (s.wide_is ∙ h.seen) h.records_are are
-          refl refl count linear_held linear_late);
-      groups = λ stamp timestamp a b. c.feed-4.ensures.stands n anchor stamp timestamp
+      kinds = λ kind p are. kinds kind n (c_max_of m n kind) (vrx_full_of m n kind) p
+          (h.kinds kind p (packets-front m n stamps records at rec kind p are))
+          (level-last kind m n stamps records at rec s.kinds.seen p _ (s.kinds_are ∙ h.seen) are count gapped_held gapped_late linear_held linear_late);
+      narrow = named-more (slice_index_or named 0 None) s.narrow c.feed-2.new.self stamps records at rec s.seen h.seen h.records_are
+          c.feed-2.ensures h.narrow;
+      narrow_linear = named-more (slice_index_or named 1 None) s.narrow_linear c.feed-3.new.self stamps records at rec s.seen h.seen h.records_are
+          c.feed-3.ensures h.narrow_linear;
+      wide = named-more (slice_index_or named 2 None) s.wide c.feed-4.new.self stamps records at rec s.seen h.seen h.records_are
+          c.feed-4.ensures h.wide;
+      groups = λ stamp timestamp a b. c.feed-5.ensures.stands n anchor stamp timestamp
           (h.groups stamp timestamp (listed-front stamps at stamp a) (listed-front timestamps c.args.ticks timestamp b))
           (listed-last stamps at s.groups.seen stamp (s.groups_are ∙ h.seen) a)
           (listed-last timestamps c.args.ticks s.groups.seen timestamp (s.groups_are ∙ h.seen ∙ sym h.timestamps_are) b);
-      gaps = λ stamp a. c.feed-5.ensures.stands stamp (h.gaps stamp (listed-front stamps at stamp a))
+      gaps = λ stamp a. c.feed-6.ensures.stands stamp (h.gaps stamp (listed-front stamps at stamp a))
           (listed-last stamps at s.gaps.seen stamp (s.gaps_are ∙ h.seen) a);
     }

@@ -1,13 +1,17 @@
-use Rattle.std.proofs.Common.{◌≡◌, ◌≤◌, true, false, MatchOption, length, slice_index, None, ◌∙◌, sym, subst, refl}
+use Rattle.std.proofs.Common.{◌≡◌, ◌≤◌, ℕ, ℤ, true, false, MatchOption, length, slice_index, Option, None, ap, ◌∙◌, sym, subst, refl, arith}
 use Rattle.std.specs.List.{slice_index_or}
+use Rattle.timing_base.specs.declared.media.Kind.{Kind}
 use Rattle.timing_base.specs.declared.media.Kind.TheVariants.{N, NL, W}
-use Rattle.sender_params.specs.Limits.{c_max_of, vrx_full_of}
+use Rattle.sender_params.specs.Limits.{c_max_of, gapped_of, vrx_full_of}
 use Rattle.sender_params.specs.Reads.{anchor_of}
 use Rattle.flow_measure.specs.Fed.{MeasuresGroups}
 use Rattle.flow_measure.specs.Followed.{Follows}
 use Rattle.flow_measure.specs.Gaps.{AreGapsOf}
-use Rattle.flow_measure.specs.Kinds.{AreKindNumbers}
+use Rattle.flow_measure.specs.Kinds.{AreKindNumbers, place_below}
+use Rattle.flow_measure.specs.Metered.{IsNamed}
+use Rattle.flow_measure.specs.Occupancy.{AreOccupancies}
 use Rattle.flow_measure.specs.Run.{IsMeasured, packets_of}
+use Rattle.flow_measure.specs.declared.named.Named.{Named}
 use Rattle.flow_measure.proofs.Packets.{none-of, occupancies, packets-are}
 use Rattle.flow_measure.proofs.meters.RunMeters.finish.Goals as goal
 
@@ -65,15 +69,26 @@ returns c = λ groups named origin stamps records timestamps h whole.
     let l = occupancies m n stamps false p.media_is p.n_some in
     let fed = subst (λ a. MeasuresGroups m n a s.groups stamp timestamp) anchor (h.groups stamp timestamp (λ i few. refl) (λ i few. refl)) in
     let numbers = c.in_ok-groups.ensures m n (anchor_of m (slice_index stamps 0)) groups stamp timestamp fed (s.groups_are ∙ h.seen ∙ whole) in
+    let settled = c.settle.new.self in
+    let all : settled.narrow.seen ≡ length stamps =
+    omega (arith, settled.narrow_is, c.settle.ensures.none, c.settle.ensures.seen, s.kinds_are, h.seen) in
+    let fed = λ (kind : Kind) (occupancy : ℕ → ℤ) (are : AreOccupancies m n stamps (gapped_of kind) occupancy).
+    let p = packets_of m n stamps records occupancy kind in
+    c.settle.ensures.stands kind n (c_max_of m n kind) (vrx_full_of m n kind) p
+    (h.kinds kind p (packets-are m n stamps records occupancy kind are)) in
+    let place = λ (to : Option ℕ) (x : Named) (names : IsNamed stamps records to x).
+    (names (slice_index records) stamp (λ i few. refl) (λ i few. refl)).place in
     let narrow = c.finish-5.ensures n (c_max_of m n N) (vrx_full_of m n N) groups (slice_index_or named 0 None)
-    (packets_of m n stamps records g.0 N) (h.narrow (packets_of m n stamps records g.0 N) (packets-are m n stamps records g.0 N g.1))
-    (s.narrow_is ∙ h.seen ∙ whole) in
+    (packets_of m n stamps records g.0 N) (fed N g.0 g.1).fed (all ∙ whole)
+    (place (slice_index_or named 0 None) s.narrow h.narrow ∙ ap (λ k. place_below (slice_index records) stamp k (slice_index_or named 0 None)) (sym all)) in
     let narrow_linear = c.finish-6.ensures n (c_max_of m n NL) (vrx_full_of m n NL) groups (slice_index_or named 1 None)
-    (packets_of m n stamps records l.0 NL) (h.narrow_linear (packets_of m n stamps records l.0 NL) (packets-are m n stamps records l.0 NL l.1))
-    (s.narrow_linear_is ∙ h.seen ∙ whole) in
+    (packets_of m n stamps records l.0 NL) (fed NL l.0 l.1).fed (settled.narrow_linear_is ∙ all ∙ whole)
+    (place (slice_index_or named 1 None) s.narrow_linear h.narrow_linear
+    ∙ ap (λ k. place_below (slice_index records) stamp k (slice_index_or named 1 None)) (sym (settled.narrow_linear_is ∙ all))) in
     let wide = c.finish-7.ensures n (c_max_of m n W) (vrx_full_of m n W) groups (slice_index_or named 2 None)
-    (packets_of m n stamps records l.0 W) (h.wide (packets_of m n stamps records l.0 W) (packets-are m n stamps records l.0 W l.1))
-    (s.wide_is ∙ h.seen ∙ whole) in
+    (packets_of m n stamps records l.0 W) (fed W l.0 l.1).fed (settled.wide_is ∙ all ∙ whole)
+    (place (slice_index_or named 2 None) s.wide h.wide
+    ∙ ap (λ k. place_below (slice_index records) stamp k (slice_index_or named 2 None)) (sym (settled.wide_is ∙ all))) in
     record {
       whole = whole;
       gapped_at = g.0;
@@ -83,11 +98,11 @@ returns c = λ groups named origin stamps records timestamps h whole.
       linear = c.in_ok-linear.ensures m n false stamps l.0 linear_follows l.1;
       kinds = (
         subst (λ k. AreKindNumbers n groups k (c_max_of m n N) (vrx_full_of m n N) (slice_index_or named 0 None)
-            (packets_of m n stamps records g.0 N) c.finish-5.result) (s.narrow_is ∙ h.seen) narrow,
+            (packets_of m n stamps records g.0 N) c.finish-5.result) all narrow,
         subst (λ k. AreKindNumbers n groups k (c_max_of m n NL) (vrx_full_of m n NL) (slice_index_or named 1 None)
-            (packets_of m n stamps records l.0 NL) c.finish-6.result) (s.narrow_linear_is ∙ h.seen) narrow_linear,
+            (packets_of m n stamps records l.0 NL) c.finish-6.result) (settled.narrow_linear_is ∙ all) narrow_linear,
         subst (λ k. AreKindNumbers n groups k (c_max_of m n W) (vrx_full_of m n W) (slice_index_or named 2 None)
-            (packets_of m n stamps records l.0 W) c.finish-7.result) (s.wide_is ∙ h.seen) wide,
+            (packets_of m n stamps records l.0 W) c.finish-7.result) (settled.wide_is ∙ all) wide,
       );
       first = numbers.first;
       last = numbers.last;

@@ -10,8 +10,8 @@ new-requires-3-clause-high c =
     let fits : FitsSigned w128 c.anchor-n0.result = search rules in
     omega (arith, ints, to_z-of_z w128 c.anchor-n0.result fits, c.anchor-n0.ensures.high)
 
-pub new-requires-7-clause-high : goal.new-requires-7-clause-high
-new-requires-7-clause-high c =
+pub new-requires-8-clause-high : goal.new-requires-8-clause-high
+new-requires-8-clause-high c =
     let fits : FitsSigned w128 c.anchor-n0.result = search rules in
     omega (arith, ints, to_z-of_z w128 c.anchor-n0.result fits, c.anchor-n0.ensures.high)
 
@@ -23,7 +23,7 @@ returns-clause-stands c =
     let fits : FitsSigned w128 n0 = search rules in
     let gapped = simp to_z-of_z at c.new-2.ensures.stands in
     let linear = simp to_z-of_z at c.new-3.ensures.stands in
-    let groups = simp to_z-of_z at c.new-7.ensures.stands in
+    let groups = simp to_z-of_z at c.new-8.ensures.stands in
     let is = c.anchor-n0.ensures.value in
     record {
       seen = refl;
@@ -32,9 +32,10 @@ returns-clause-stands c =
       bucket = c.new.ensures.stands;
       gapped = subst (λ a. Follows m n a true c.new-2.result []) is gapped;
       linear = subst (λ a. Follows m n a false c.new-3.result []) is linear;
-      narrow = λ p are. c.new-4.ensures.stands p;
-      narrow_linear = λ p are. c.new-5.ensures.stands p;
-      wide = λ p are. c.new-6.ensures.stands p;
-      groups = λ stamp timestamp a b. subst (λ k. MeasuresGroups m n k c.new-7.result stamp timestamp) is (groups stamp timestamp);
-      gaps = λ stamp a. c.new-8.ensures.stands stamp;
+      kinds = λ kind p are. c.new-4.ensures.stands kind p;
+      narrow = λ rec stamp a b. c.new-5.ensures rec stamp;
+      narrow_linear = λ rec stamp a b. c.new-6.ensures rec stamp;
+      wide = λ rec stamp a b. c.new-7.ensures rec stamp;
+      groups = λ stamp timestamp a b. subst (λ k. MeasuresGroups m n k c.new-8.result stamp timestamp) is (groups stamp timestamp);
+      gaps = λ stamp a. c.new-9.ensures.stands stamp;
     }

@@ -11,8 +11,8 @@ invariant-loop-self g l =
       name : g.S.Source.name l.source ≡ g.S.Source.name l.fn.source;
       later : g.S.Source.faults l.fn.source ≤ g.S.Source.faults l.source;
       same : SameRecord l.fn.self l.self;
-      start : l.self.start ≡ 0;
+      start : l.self.start ≤ 4095;
     }
 
 abbrev pub decreases-loop-self : goal.decreases-loop-self
-decreases-loop-self g l = l.need - l.self.filled
+decreases-loop-self g l = l.need - (l.self.filled - l.self.start)
