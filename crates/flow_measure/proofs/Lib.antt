@@ -1,4 +1,5 @@
 pub mod Agrees
+pub mod Alone
 pub mod Binned
 pub mod Bounds
 pub mod Breaks
@@ -15,6 +16,7 @@ pub mod Measured
 pub mod Packets
 pub mod Passes
 pub mod Runs
+pub mod Some
 pub mod Summarized
 pub mod Unique
 pub mod Waiting

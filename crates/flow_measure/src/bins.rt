@@ -1,6 +1,6 @@
 //! How often numbers come, up to a limit.
 
-ghost use Rattle.std.specs.Prelude.{◌≡◌, ◌<◌, ◌≤◌, ◌+◌, ◌/◌, ◌^◌, ℕ, ℤ, sum};
+ghost use Rattle.std.specs.Prelude.{◌≡◌, ◌<◌, ◌≤◌, ◌+◌, ◌/◌, ◌^◌, ℕ, ℤ, length, sum};
 ghost use Rattle.flow_measure.specs.Bins.{bin_width};
 
 /// The most bins that there are.
@@ -32,6 +32,7 @@ pub struct Bins {
     ghost width_is: { width ≡ bin_width limit },
     ghost few: { seen ≤ 2 ^ 41 },
     ghost all_counted: { sum counts + above + below ≡ seen },
+    ghost whole: { length counts ≡ 64 },
 }
 
 impl Bins {

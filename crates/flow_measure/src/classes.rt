@@ -1,6 +1,6 @@
 //! How often numbers come, in classes that double.
 
-ghost use Rattle.std.specs.Prelude.{◌≡◌, ◌<◌, ◌≤◌, ◌+◌, ◌^◌, ℕ, sum, true};
+ghost use Rattle.std.specs.Prelude.{◌≡◌, ◌<◌, ◌≤◌, ◌+◌, ◌^◌, ℕ, length as list_length, sum, true};
 ghost use Rattle.flow_measure.specs.Classes.{is_in_class};
 
 /// The classes of the numbers below 2^63.
@@ -18,6 +18,7 @@ pub struct Classes {
     ghost within: { length ≤ 64 },
     ghost few: { seen ≤ 2 ^ 41 },
     ghost all_counted: { sum counts ≡ seen },
+    ghost whole: { list_length counts ≡ 64 },
 }
 
 impl Classes {

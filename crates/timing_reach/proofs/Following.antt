@@ -38,7 +38,7 @@ capture-cause i job (Err failure.WriteFault) answers cause = cause
 capture-cause i job (Err failure.OutOfMemory) answers cause = tt
 
 -- a capture that was read in a part of the run
-capture-seen : (i j : Inputs) (outcome : Result Answer Failure) (name : List ℕ) (next : List ℕ → Type 0) → Sees i j → ReadsCapture j outcome name next
+pub capture-seen : (i j : Inputs) (outcome : Result Answer Failure) (name : List ℕ) (next : List ℕ → Type 0) → Sees i j → ReadsCapture j outcome name next
     → ReadsCapture i outcome name next
 capture-seen i j outcome name next s (inl failed) = inl (failed.0, risen-seen i j name s failed.1)
 capture-seen i j outcome name next s (inr read) = inr ((λ lacks. read.0 (s.lacks name lacks)), λ text told. read.1 text (s.texts name ∙ told))

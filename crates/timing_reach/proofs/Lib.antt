@@ -1,15 +1,15 @@
-mod Takings
+pub mod Takings
 mod Openings
-mod Gauges
-mod Packets
+pub mod Gauges
+pub mod Packets
 mod Judgings
 mod RunSizes
 pub mod SomeShape
 mod Judgments
 mod WindowGauges
-mod WindowReadings
+pub mod WindowReadings
 mod SecondReadings
-mod Following
+pub mod Following
 pub mod Unique
 mod Listings
 mod Copies
@@ -24,6 +24,3 @@ mod Pairings
 mod Comparings
 mod Skewing
 pub mod Scannings
-mod Planning
-mod Plans
-mod Meterings

@@ -19,7 +19,7 @@ either P true x y p q = p
 either P false x y p q = q
 
 -- a packet is read, or is too short, or of another version
-is-reading : (bytes : List ℕ) → IsReading (reading bytes)
+pub is-reading : (bytes : List ℕ) → IsReading (reading bytes)
 is-reading bytes =
     either IsReading (nat_lt (length bytes) 12) _ _ (inl refl)
     (either IsReading (slice_index bytes 0 / 64 == 2) _ _

@@ -6,7 +6,6 @@ pub mod Scanned
 pub mod Shapes
 pub mod Shaped
 pub mod ShapedAgain
-pub mod Measured
 -- what is worked by hand
 pub mod Worked
 pub mod WorkedShapes
@@ -16,4 +15,3 @@ pub mod window
 pub mod shape
 pub mod skew
 pub mod scan
-pub mod measure

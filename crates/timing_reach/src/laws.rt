@@ -1,7 +1,6 @@
 //! What holds of the definitions themselves. Each function is a theorem: it does nothing, and its
 //! clauses are proved.
 
-pub mod measured;
 pub mod shapes;
 
 ghost use Rattle.std.specs.Prelude.{◌≡◌, ◌++◌, ◌∷◌, [], ℕ, List, None, codes, map, pos, negsuc, true, false};

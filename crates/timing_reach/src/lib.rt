@@ -7,9 +7,8 @@
 //! are nanoseconds.
 #![tactic(auto)]
 
-mod judged;
+pub mod judged;
 pub mod laws;
-pub mod measure;
 mod scan;
 mod shape;
 mod skew;

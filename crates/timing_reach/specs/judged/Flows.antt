@@ -8,7 +8,9 @@ use Rattle.timing_base.specs.Media.{Media}
 use Rattle.timing_base.specs.declared.capture.FileNote.{FileNote}
 use Rattle.timing_base.specs.declared.packet.PacketFault.{PacketFault}
 use Rattle.timing_base.specs.declared.packet.Rtp.{Rtp}
+use Rattle.timing_base.specs.Targets.{target_of}
 use Rattle.pcap_reader.specs.Records.{Records}
+use Rattle.udp_rtp.specs.Frames.{Datagram, datagram_of}
 use Rattle.timing_reach.specs.declared.judged.flows.FlowOf.{FlowOf}
 
 -- the flow of the same media was taken
@@ -23,6 +25,10 @@ pub record TakesIn {F : Type 0} (takes : F → F → List Record → Type 0) (te
   pub note : FileNote
   pub records : Records text (2 ^ 40) items note
   pub fed : takes old new items
+
+-- a frame's datagram goes to the target of this media
+abbrev pub GoesTo : Media → (frame : List ℕ) → Type 0
+GoesTo m frame = (d : Datagram) × (datagram_of frame ≡ Some d) × (d.target ≡ target_of m)
 
 -- what the packet behind one that reads so reads as, where the flow goes on in the same frame or field
 abbrev pub next_of : Result Rtp PacketFault → Option Rtp

@@ -1,6 +1,7 @@
 //! What takes the packets of a media's flow, one after the other, off the records of a capture: each frame is read once.
 
-ghost use Rattle.std.specs.Prelude.{◌≡◌, ◌≤◌, ◌+◌, ◌++◌, ◌∷◌, ◌^◌, [], ℕ, List, None, Some, IfErr, IfOk, length};
+ghost use Rattle.std.specs.Prelude.{◌≡◌, ◌≤◌, ◌+◌, ◌++◌, ◌∷◌, ◌^◌, [], ℕ, List, None, Some, Ok, IfErr, IfOk, length};
+ghost use Rattle.std.specs.Prelude.{true, false};
 ghost use Rattle.timing_base.specs.Captures.{IsStamp, Record};
 ghost use Rattle.timing_base.specs.Media.{Media as MediaValue};
 ghost use Rattle.fail_interval.specs.States.{IsReading};
@@ -57,12 +58,12 @@ pub trait FlowTaker {
 
 /// The flow of a media, and what takes it.
 #[derive(Drop)]
-struct FlowOf<F: Drop> {
-    media: Media,
+pub struct FlowOf<F: Drop> {
+    pub media: Media,
     /// What the next packet reads as where the flow goes on as most do. A frame is held against it before it is read,
     /// since that is quicker; what is taken doesn't depend on it.
-    next: Option<Rtp>,
-    taker: F,
+    pub next: Option<Rtp>,
+    pub taker: F,
 }
 
 /// What the packet behind this one reads as, where it goes on in the same frame or field.
@@ -79,7 +80,66 @@ fn next_of(packet: &FlowPacket) -> Option<Rtp>
 }
 
 impl<F: FlowTaker + Drop> FlowOf<F> {
-    ghost use Rattle.timing_reach.specs.judged.Flows.{TakesFlow};
+    ghost use Rattle.timing_reach.specs.judged.Flows.{GoesTo, TakesFlow};
+
+    /// Before the first record of a capture.
+    pub fn new(media: &Media, taker: F) -> FlowOf<F>
+        ensures media { result.media ≡ media.now }
+        ensures taker { result.taker ≡ taker }
+    {
+        FlowOf {
+            media: *media,
+            next: None,
+            taker,
+        }
+    }
+
+    /// Takes the next record where its frame carries the packet with which the flow goes on, and answers whether it
+    /// does. Else nothing changes.
+    #[inline(always)]
+    pub fn take_next(&mut self, number: u64, at: u64, frame: &[u8]) -> Result<bool, OutOfMemory>
+        requires stamp { IsStamp at }
+        requires short { length frame.now ≤ 262144 }
+        requires room { F.room 1 self.old.taker }
+        ensures other { result ≡ Ok false → self.new ≡ self.old }
+        ensures goes { result ≡ Ok true → GoesTo self.old.media frame.now }
+        ensures room { (count : ℕ) → result ≡ Ok true → F.room (count + 1) self.old.taker
+            → F.room count self.new.taker }
+        ensures takes { result ≡ Ok true → TakesFlow F.takes self.old self.new
+            (record { number = number; stamp = at; bytes = frame.now } ∷ []) }
+    {
+        let Some(next) = &mut self.next else {
+            return Ok(false);
+        };
+        let rtp = *next;
+        if !carries(frame, self.media.target(), rtp) {
+            return Ok(false);
+        }
+        next.number = rtp.number.wrapping_add(1);
+        let packet = FlowPacket {
+            rec: number,
+            at,
+            rtp: Ok(rtp),
+        };
+        self.taker.take(&packet, frame)?;
+        Ok(true)
+    }
+
+    /// Takes the next packet of the flow, and the frame that carried it.
+    #[inline]
+    pub fn take_packet(&mut self, packet: &FlowPacket, frame: &[u8]) -> Result<(), OutOfMemory>
+        requires stamp { IsStamp packet.now.at }
+        requires reading { IsReading packet.now.rtp }
+        requires short { length frame.now ≤ 262144 }
+        requires room { F.room 1 self.old.taker }
+        ensures room { (count : ℕ) → IfOk result (λ _. F.room (count + 1) self.old.taker
+            → F.room count self.new.taker) }
+        ensures takes { IfOk result (λ _. (r : Record) → flow_packet self.old.media r ≡ Some packet.now
+            → r.bytes ≡ frame.now → TakesFlow F.takes self.old self.new (r ∷ [])) }
+    {
+        self.next = next_of(packet);
+        self.taker.take(packet, frame)
+    }
 
     /// Takes the next record, whatever its frame.
     #[cold]
@@ -95,10 +155,7 @@ impl<F: FlowTaker + Drop> FlowOf<F> {
     {
         match packet_of(&self.media, number, at, frame) {
             None => Ok(()),
-            Some(packet) => {
-                self.next = next_of(&packet);
-                self.taker.take(&packet, frame)
-            }
+            Some(packet) => self.take_packet(&packet, frame),
         }
     }
 }
@@ -128,17 +185,8 @@ impl<F: FlowTaker + Drop> Taker for FlowOf<F> {
 
     #[inline(always)]
     fn take(&mut self, number: u64, at: u64, frame: &[u8]) -> Result<(), OutOfMemory> {
-        if let Some(next) = &mut self.next {
-            let rtp = *next;
-            if carries(frame, self.media.target(), rtp) {
-                next.number = rtp.number.wrapping_add(1);
-                let packet = FlowPacket {
-                    rec: number,
-                    at,
-                    rtp: Ok(rtp),
-                };
-                return self.taker.take(&packet, frame);
-            }
+        if self.take_next(number, at, frame)? {
+            return Ok(());
         }
         self.take_read(number, at, frame)
     }

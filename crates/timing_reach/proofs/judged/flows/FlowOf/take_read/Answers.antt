@@ -1,17 +1,17 @@
 use Rattle.std.proofs.Common.{◌∙◌, ◌+◌, refl, sym, arith}
 use Rattle.timing_base.specs.Captures.{Record}
 use Rattle.timing_reach.proofs.Packets.{packet-of}
-use Rattle.timing_reach.proofs.Takings.{flow-other, flow-took, if-ok}
+use Rattle.timing_reach.proofs.Takings.{flow-other, if-ok}
 use Rattle.timing_reach.proofs.judged.flows.FlowOf.take_read.Goals as goal
 
-pub take-requires-clause-stamp : goal.take-requires-clause-stamp
-take-requires-clause-stamp g c =
+pub take_packet-requires-clause-stamp : goal.take_packet-requires-clause-stamp
+take_packet-requires-clause-stamp g c =
     let r : Record = record { number = c.args.number; stamp = c.args.at; bytes = c.args.frame.now } in
     let of = packet-of c.args.self.now.media r c.in-Some.packet (sym c.packet_of.ensures ∙ c.in-Some.is) in
     omega (arith, of.at, c.requires.stamp)
 
-pub take-requires-clause-reading : goal.take-requires-clause-reading
-take-requires-clause-reading g c =
+pub take_packet-requires-clause-reading : goal.take_packet-requires-clause-reading
+take_packet-requires-clause-reading g c =
     let r : Record = record { number = c.args.number; stamp = c.args.at; bytes = c.args.frame.now } in
     (packet-of c.args.self.now.media r c.in-Some.packet (sym c.packet_of.ensures ∙ c.in-Some.is)).read
 
@@ -26,6 +26,4 @@ returns-in-None-clause-takes g c =
 pub returns-in-Some-clause-takes : goal.returns-in-Some-clause-takes
 returns-in-Some-clause-takes g c =
     let r : Record = record { number = c.args.number; stamp = c.args.at; bytes = c.args.frame.now } in
-    if-ok c.take.result
-    (λ _ taken. flow-took g.F.FlowTaker.takes c.args.self.now _ r c.in-Some.packet refl (sym c.packet_of.ensures ∙ c.in-Some.is) taken)
-    c.take.ensures.takes
+    if-ok c.take_packet.result (λ _ taken. taken r (sym c.packet_of.ensures ∙ c.in-Some.is) refl) c.take_packet.ensures.takes

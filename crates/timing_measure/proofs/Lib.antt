@@ -1,0 +1,11 @@
+mod Planning
+mod Plans
+mod Meterings
+mod Eaches
+mod Banked
+mod Firsts
+mod Gauging
+mod Readings
+mod Answering
+mod Some
+mod Unique

@@ -1,0 +1,138 @@
+-- The texts of `measure` have an answer.
+use Rattle.std.proofs.Common.{◌≡◌, ◌<◌, ◌≤◌, ◌+◌, ◌*◌, ◌^◌, ◌∷◌, ℕ, zero, suc, List, [], length, map, Option, Some, None, refl, ap, ◌∙◌, sym, subst, arith, slice_index}
+use Rattle.std.specs.Prelude.{All, slice_index_or}
+use Rattle.std.specs.List.{cons_option}
+use Rattle.std.proofs.lemmas.List.{length-map}
+use Rattle.std.proofs.lemmas.List.Elements.{All-append, All-cons, All-drop, All-get_or, All-head, All-nil, All-tail, All-take}
+use Rattle.timing_base.specs.Captures.{IsStamp, Record}
+use Rattle.timing_base.specs.Flows.{AreStamped, cuts, no_packet, read_or_zeros}
+use Rattle.timing_base.specs.Jobs.{CaptureJob, IsCaptureJob}
+use Rattle.timing_base.specs.Judged.{FlowVerdict, RunOutcome, absent, gap, in_one_run, in_runs, judged, no_whole_frame, refused, run_outcome, stamp_of, whole_frames}
+use Rattle.timing_base.specs.Media.{IsMedia, Media}
+use Rattle.timing_base.specs.declared.capture.FileNote.{FileNote}
+use Rattle.timing_base.specs.declared.packet.FlowPacket.{FlowPacket}
+use Rattle.fail_interval.specs.Row.{verdict_of}
+use Rattle.flow_measure.specs.declared.numbers.MeasuredFlow.{MeasuredFlow}
+use Rattle.flow_measure.specs.declared.numbers.MeasuredRun.{MeasuredRun}
+use Rattle.flow_measure.proofs.Some.{some-measure}
+use Rattle.pcap_reader.specs.Records.{Records}
+use Rattle.timing_steps.specs.Answers.{Answer}
+use Rattle.timing_reach.proofs.Packets.{flow-few, packet-of}
+use Rattle.udp_rtp.specs.Flow.{flow, flow_packet}
+use Rattle.timing_measure.specs.Each.{EachOf}
+use Rattle.timing_measure.specs.Measured.{AreMeasured, IsMeasuredFlow, IsMeasuredRun, JudgedPart, first_source, judged_parts, part_of, parts_between}
+use Rattle.timing_measure.specs.Measured.{parts_in, stamps_of}
+use Rattle.timing_measure.specs.Measures.{AreFlows, HasMeasure, HasNumbers, measured, named_by, records_of, timestamps_of}
+use Rattle.timing_measure.specs.metering.Plan.{IsWhole}
+use Rattle.timing_measure.proofs.Plans.{parts-whole}
+
+-- the packets of a judged run have stamps of a capture
+abbrev AreHeld : JudgedPart → Type 0
+AreHeld part = AreStamped part.packets
+
+held-part : (m : Media) (packets : List FlowPacket) (number from to : ℕ) (o : RunOutcome) → AreStamped packets → All AreHeld (part_of m packets number from to o)
+held-part m packets number from to (no_whole_frame head) h = All-nil AreHeld
+held-part m packets number from to (whole_frames run) h =
+    All-cons AreHeld _ [] (All-take (λ (p : FlowPacket). IsStamp p.at) _ _ (All-drop (λ (p : FlowPacket). IsStamp p.at) _ packets h)) (All-nil AreHeld)
+
+held-between : (m : Media) (packets : List FlowPacket) (tai to number from : ℕ) (places : List ℕ) → AreStamped packets
+    → All AreHeld (parts_between m packets tai to number from places)
+held-between m packets tai to number from [] h = held-part m packets number from to (run_outcome packets tai from to) h
+held-between m packets tai to number from (cut ∷ rest) h =
+    All-append AreHeld (part_of m packets number from cut (run_outcome packets tai from cut)) (parts_between m packets tai to (number + 1) cut rest)
+    (held-part m packets number from cut (run_outcome packets tai from cut) h) (held-between m packets tai to (number + 1) cut rest h)
+
+held-in : (m : Media) (packets : List FlowPacket) (tai : ℕ) (v : FlowVerdict) → AreStamped packets → All AreHeld (parts_in m packets tai v)
+held-in m packets tai absent h = All-nil AreHeld
+held-in m packets tai (refused rec fault) h = All-nil AreHeld
+held-in m packets tai (gap rec expected got) h = All-nil AreHeld
+held-in m packets tai (in_one_run o) h = held-part m packets 1 0 (length packets) o h
+held-in m packets tai (in_runs runs) h = held-between m packets tai (length packets) 1 0 (cuts packets (length packets)) h
+
+-- the stamp of a packet of a list
+stamp-at : (tai : ℕ) (packets : List FlowPacket) (i : ℕ) → i < length packets
+    → slice_index (stamps_of tai packets) i ≡ stamp_of tai (slice_index_or packets i no_packet)
+stamp-at tai [] i few = absurd (omega (arith, few))
+stamp-at tai (p ∷ packets) zero few = refl
+stamp-at tai (p ∷ packets) (suc i) few = stamp-at tai packets i (omega arith)
+
+-- the packets of a flow have the stamps of their records
+stamped-option : (o : Option FlowPacket) (packets : List FlowPacket) → ((p : FlowPacket) → o ≡ Some p → IsStamp p.at) → AreStamped packets
+    → AreStamped (cons_option o packets)
+stamped-option None packets one h = h
+stamped-option (Some p) packets one h = All-cons (λ (p : FlowPacket). IsStamp p.at) p packets (one p refl) h
+
+flow-stamped : (m : Media) (items : List Record) → All (λ (r : Record). IsStamp r.stamp) items → AreStamped (flow items m)
+flow-stamped m [] h = All-nil (λ (p : FlowPacket). IsStamp p.at)
+flow-stamped m (r ∷ items) h =
+    stamped-option (flow_packet m r) (flow items m)
+    (λ p e. omega (arith, (packet-of m r p e).at, All-head (λ (r : Record). IsStamp r.stamp) r items h))
+    (flow-stamped m items (All-tail (λ (r : Record). IsStamp r.stamp) r items h))
+
+-- a judged run has its numbers
+some-run : (m : Media) (tai : ℕ) (part : JudgedPart) → IsMedia m → tai ≤ 1000 → IsWhole tai part → AreHeld part
+    → (x : MeasuredRun) × IsMeasuredRun (HasNumbers m tai) part x
+some-run m tai part is few whole held =
+    let stamps = stamps_of tai part.packets in
+    let long : length stamps ≡ length part.packets = length-map part.packets (stamp_of tai) in
+    let low : (i : ℕ) → i < length stamps → slice_index stamps i < 2 ^ 63 =
+    λ i within.
+    let one : slice_index stamps i ≡ stamp_of tai (slice_index_or part.packets i no_packet) = stamp-at tai part.packets i (omega (arith, within, long)) in
+    omega (arith, one, All-get_or (λ (p : FlowPacket). IsStamp p.at) part.packets i no_packet (omega (arith, within, long)) held, few) in
+    let numbers =
+    some-measure m part.values.n part.values.frames stamps (records_of part.packets) (timestamps_of part.packets) (map named_by part.values.kinds) is whole.some
+    whole.some_groups (long ∙ whole.whole) (omega (arith, long, whole.bounded)) low in (
+      record {
+        run = part.number;
+        «record» = part.first.rec;
+        number = (read_or_zeros part.first.rtp).number;
+        judged = part.values;
+        numbers = numbers.0;
+      },
+      record { run_is = refl; record_is = refl; number = refl; judged_is = refl; numbers = numbers.1 },
+    )
+
+some-runs : (m : Media) (tai : ℕ) (parts : List JudgedPart) → IsMedia m → tai ≤ 1000 → All (IsWhole tai) parts → All AreHeld parts
+    → (xs : List MeasuredRun) × AreMeasured (HasNumbers m tai) parts xs
+some-runs m tai [] is few whole held = ([], tt)
+some-runs m tai (part ∷ parts) is few whole held =
+    let x = some-run m tai part is few (All-head (IsWhole tai) part parts whole) (All-head AreHeld part parts held) in
+    let xs = some-runs m tai parts is few (All-tail (IsWhole tai) part parts whole) (All-tail AreHeld part parts held) in
+    (x.0 ∷ xs.0, (x.1, xs.1))
+
+-- so has a flow
+some-flow : (m : Media) (number tai : ℕ) (packets : List FlowPacket) → IsMedia m → tai ≤ 1000 → length packets < 2 ^ 41 → AreStamped packets
+    → (f : MeasuredFlow) × IsMeasuredFlow HasNumbers m number tai packets f
+some-flow m number tai packets is seconds few stamped =
+    let runs =
+    some-runs m tai (judged_parts m packets tai) is seconds (parts-whole m packets tai few seconds stamped)
+    (held-in m packets tai (judged packets m.pt tai) stamped) in (
+      record {
+        media = number;
+        packets = length packets;
+        ssrc = first_source packets;
+        verdict = verdict_of m (judged packets m.pt tai);
+        runs = runs.0;
+      },
+      record { media = refl; count = refl; source = refl; verdict_is = refl; runs = runs.1 },
+    )
+
+some-flows : (tai : ℕ) (items : List Record) (number : ℕ) (media : List Media) → All IsMedia media → tai ≤ 1000 → length items < 2 ^ 41
+    → All (λ (r : Record). IsStamp r.stamp) items
+    → (flows : List MeasuredFlow) × EachOf (λ n m f. IsMeasuredFlow HasNumbers m n tai (flow items m) f) number media flows
+some-flows tai items number [] is seconds few held = ([], tt)
+some-flows tai items number (m ∷ media) is seconds few held =
+    let f =
+    some-flow m number tai (flow items m) (All-head IsMedia m media is) seconds (omega (arith, few, flow-few m items)) (flow-stamped m items held) in
+    let fs = some-flows tai items (number + 1) media (All-tail IsMedia m media is) seconds few held in
+    (f.0 ∷ fs.0, (f.1, fs.1))
+
+-- the answer on a capture whose records have stamps of a capture
+pub some-measure-answer : (job : CaptureJob) (media : List Media) (text : List ℕ) (items : List Record) (note : FileNote) → IsCaptureJob job
+    → All IsMedia media → Records text (2 ^ 40) items note → length items < 2 ^ 41 → All (λ (r : Record). IsStamp r.stamp) items
+    → (answer : Answer) × HasMeasure job media text answer
+some-measure-answer job media text items note is all records few held =
+    let flows = some-flows job.tai items 0 media all is.tai_most few held in (
+      measured job.capture note media flows.0,
+      record { items = items; note = note; records = records; flows = flows.0; are = flows.1; answer_is = refl },
+    )

@@ -1,0 +1,16 @@
+-- Two lists, item by item.
+use Rattle.std.specs.Prelude.{ℕ, ◌+◌, ⊤, List, [], ◌∷◌}
+
+-- the lists are of one length, and so it is of each two items in one place; the first place has this number
+abbrev pub EachOf : {X Y : Type 0} → (Holds : (number : ℕ) → X → Y → Type 0) → (number : ℕ) → List X → List Y → Type 0
+EachOf Holds number [] [] = ⊤
+EachOf Holds number [] (y ∷ ys) = ⊥
+EachOf Holds number (x ∷ xs) [] = ⊥
+EachOf Holds number (x ∷ xs) (y ∷ ys) = Holds number x y × EachOf Holds (number + 1) xs ys
+
+-- the same, whatever the place
+abbrev pub AllPairs : {X Y : Type 0} → (Holds : X → Y → Type 0) → List X → List Y → Type 0
+AllPairs Holds [] [] = ⊤
+AllPairs Holds [] (y ∷ ys) = ⊥
+AllPairs Holds (x ∷ xs) [] = ⊥
+AllPairs Holds (x ∷ xs) (y ∷ ys) = Holds x y × AllPairs Holds xs ys

@@ -1,0 +1,8 @@
+-- what is promised
+pub mod Each
+pub mod Measured
+pub mod Measures
+-- these only serve proofs
+pub mod metering
+pub mod Banks
+pub mod Readings

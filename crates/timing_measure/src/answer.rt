@@ -1,0 +1,51 @@
+//! What `measure` prints, and its status.
+
+ghost use Rattle.std.specs.Prelude.{◌≡◌, IfOk, true};
+ghost use Rattle.measure_text.specs.Json.{AreOfMedia};
+ghost use Rattle.timing_measure.specs.Measures.{has_run, measure_ends, measure_status, measured};
+
+use crate::readings::Reading;
+use flow_measure::MeasuredFlow;
+use measure_text::json_of;
+use std::alloc::{AllocError as OutOfMemory, Global};
+use timing_base::{CaptureJob, FileNote, Session};
+use timing_report::{Status, any_refused};
+use timing_steps::Answer;
+
+/// Whether a run of the flow is judged.
+fn has_run(flow: &MeasuredFlow) -> bool
+    ensures { result ≡ has_run flow.now }
+{
+    flow.runs.len() > 0
+}
+
+/// The status beside these flows of a capture that ends so.
+fn status_of(note: FileNote, flows: &[MeasuredFlow]) -> Status
+    ensures status { result ≡ measure_status note flows.now }
+    ensures ends { measure_ends result ≡ true }
+{
+    if flows.iter().any(has_run) && !any_refused(&[note]) {
+        Status::Pass
+    } else {
+        Status::NotAllJudged
+    }
+}
+
+/// The answer on a capture of which a reading came to this.
+pub fn measured(
+    alloc: Global,
+    job: &CaptureJob,
+    session: &Session,
+    reading: &Reading,
+) -> Result<Answer, OutOfMemory>
+    requires { AreOfMedia session.now reading.now.flows.items }
+    ensures { IfOk result (λ answer. answer
+        ≡ measured job.now.capture reading.now.note session.now reading.now.flows.items) }
+{
+    let flows = reading.flows.as_slice();
+    let text = json_of(alloc, job.capture.as_str(), reading.note, session, flows)?;
+    Ok(Answer {
+        text: text.into_bytes(),
+        status: status_of(reading.note, flows),
+    })
+}

@@ -1,0 +1,43 @@
+//! What holds of the definitions of judged runs themselves.
+
+ghost use Rattle.std.specs.Prelude.{◌≡◌, ◌∷◌, [], Some, None, true, false, map};
+ghost use Rattle.timing_base.specs.Examples.{plain_media, sent, sent_by, two_groups, unread};
+ghost use Rattle.timing_base.specs.declared.packet.PacketFault.TheVariants.{Short};
+ghost use Rattle.timing_measure.specs.Measured.{JudgedPart, first_source, judged_parts};
+
+/// A head of one packet, two groups of two, and a tail of one: the four packets between are judged, as run 1.
+pub fn one_part_by_hand()
+    ensures number { map (λ (part : JudgedPart). part.number) (judged_parts plain_media two_groups 37)
+        ≡ 1 ∷ [] }
+    ensures first { map (λ (part : JudgedPart). part.first) (judged_parts plain_media two_groups 37)
+        ≡ sent 1 10 6 100 true ∷ [] }
+    ensures packets { map (λ (part : JudgedPart). part.packets) (judged_parts plain_media two_groups 37)
+        ≡ (sent 2 20 7 101 false ∷ sent 3 30 8 101 true ∷ sent 4 40 9 102 false
+        ∷ sent 5 50 10 102 true ∷ []) ∷ [] }
+{}
+
+/// A run without a whole frame, and behind a gap a head of one packet and one group: run 2 alone is judged.
+pub fn later_part_by_hand()
+    ensures number { map (λ (part : JudgedPart). part.number) (judged_parts plain_media
+        (sent 1 10 6 100 true ∷ sent 2 20 7 101 false ∷ sent 3 30 9 101 true ∷ sent 4 40 10 102 false
+        ∷ sent 5 50 11 102 true ∷ []) 0)
+        ≡ 2 ∷ [] }
+    ensures first { map (λ (part : JudgedPart). part.first) (judged_parts plain_media
+        (sent 1 10 6 100 true ∷ sent 2 20 7 101 false ∷ sent 3 30 9 101 true ∷ sent 4 40 10 102 false
+        ∷ sent 5 50 11 102 true ∷ []) 0)
+        ≡ sent 3 30 9 101 true ∷ [] }
+    ensures packets { map (λ (part : JudgedPart). part.packets) (judged_parts plain_media
+        (sent 1 10 6 100 true ∷ sent 2 20 7 101 false ∷ sent 3 30 9 101 true ∷ sent 4 40 10 102 false
+        ∷ sent 5 50 11 102 true ∷ []) 0)
+        ≡ (sent 4 40 10 102 false ∷ sent 5 50 11 102 true ∷ []) ∷ [] }
+{}
+
+/// A flow with a fault has no judged run, and one without packets has none; the source is that of the first packet that
+/// was read.
+pub fn no_part_by_hand()
+    ensures faulty { judged_parts plain_media (unread 1 10 Short ∷ []) 0 ≡ [] }
+    ensures absent { judged_parts plain_media [] 0 ≡ [] }
+    ensures source { first_source (unread 1 10 Short ∷ sent_by 9 2 20 7 101 false ∷ sent 3 30 8 101 true ∷ [])
+        ≡ Some 9 }
+    ensures none { first_source (unread 1 10 Short ∷ []) ≡ None }
+{}

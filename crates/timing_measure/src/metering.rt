@@ -1,0 +1,18 @@
+//! The numbers of the judged runs of a flow. A first reading judged the flow; in a second one each judged run's packets
+//! go to a meter.
+
+pub mod first;
+pub mod flow;
+pub mod gauge;
+pub mod numbers;
+pub mod open;
+pub mod plan;
+pub mod same;
+pub mod second;
+pub mod source;
+pub mod walk;
+
+pub use first::FirstMeter;
+pub use flow::FlowMeter;
+pub use gauge::RunGauge;
+pub use second::{SecondFound, SecondMeter};

@@ -1,4 +1,0 @@
-pub mod Metering
-pub mod Plan
-pub mod Seconds
-pub mod Walks
