@@ -15,6 +15,7 @@ mod captures;
 mod descriptions;
 mod faults;
 mod joined;
+mod measures;
 mod pairs;
 mod pcapng;
 mod readings;

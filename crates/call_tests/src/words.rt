@@ -77,6 +77,10 @@ fn shown(alloc: Global, request: &Request) -> Result<String, AllocError> {
             let (capture, form) = (job.capture.as_str(), job.form);
             format!(in alloc; "scan {form:?}: {capture}")
         }
+        Request::Measure(job) => {
+            let (sdp, tai, capture) = (job.sdp.as_str(), job.tai, job.capture.as_str());
+            format!(in alloc; "measure {sdp} {tai}: {capture}")
+        }
         Request::Help(command) => format!(in alloc; "help {command:?}"),
     }
 }
@@ -129,7 +133,7 @@ fn out_of_range_words(rt: HostRuntime) -> Result<(), Fail> {
     Ok(())
 }
 
-static ROWS: [(&str, &str); 91] = [
+static ROWS: [(&str, &str); 97] = [
     // both forms of an option, in any order, and after names
     ("check|--sdp|p|c", "check p 4 0 false false: c"),
     ("check|--sdp=p|c", "check p 4 0 false false: c"),
@@ -256,6 +260,13 @@ static ROWS: [(&str, &str); 91] = [
     ("scan|--draft|--|-c", "scan Draft: -c"),
     ("scan|--json|--draft|c", "Usage"),
     ("scan|--draft=x|c", "Usage"),
+    // what is measured
+    ("measure|--sdp|p|c", "measure p 0: c"),
+    ("measure|c|--tai=37|--sdp=p", "measure p 37: c"),
+    ("measure|--sdp|p|--media|1|c", "Usage"),
+    ("measure|--sdp|p|--tai|1001|c", "Usage"),
+    ("measure|--sdp|p|c|d", "Usage"),
+    ("measure|c", "Usage"),
 ];
 
 // The lines of the commands but `check`.

@@ -6,6 +6,7 @@ pub mod Breaks
 pub mod ByHand
 pub mod Counted
 pub mod Drawn
+pub mod Existing
 pub mod Epoch
 pub mod Filled
 pub mod Floors

@@ -2,7 +2,8 @@
 //! theorem: it does nothing, and its clauses are proved.
 
 ghost use Rattle.std.specs.Prelude.{◌≡◌, ◌<◌, ◌≤◌, ◌+◌, ◌∷◌, [], ◌↔◌, ℕ, ℤ, pos, negsuc, ◌≤ℤ◌};
-ghost use Rattle.std.specs.Prelude.{Bool, List, Option, Some, None, nat_lt, length, true, false, ◌==◌, ◌||◌};
+ghost use Rattle.std.specs.Prelude.{Bool, List, Option, Some, None, nat_lt, length, slice_index, true, false, ◌==◌, ◌||◌};
+ghost use Rattle.std.specs.Prelude.{◌-◌, ◌*◌, ◌^◌};
 ghost use Rattle.flow_measure.specs.Bins.{AreBins, above_limit, below_zero, bin_count, bin_width, in_bin};
 ghost use Rattle.flow_measure.specs.Classes.{AreClasses, in_class};
 ghost use Rattle.flow_measure.specs.Columns.{AreColumns, AreCurve, AreEye, column_at, greatest_at};
@@ -260,6 +261,14 @@ pub fn numbers_have_the_peaks()
         (x : RunNumbers) (p : ℕ) → IsMeasured m n groups stamps records timestamps named x
         → IsPeak (held_at m n stamps false) (length stamps) p
         → int_max (pos 0) x.linear.occupancy.greatest ≡ pos p }
+{}
+
+/// A run of whole groups has its numbers, where it has 2^41 packets at most, of which no two neighbours are 2^63 ns apart.
+pub fn some_measure()
+    ensures { (m : Media) (n groups : ℕ) (stamps records timestamps : List ℕ) (named : List (Option ℕ))
+        → IsMedia m → 1 ≤ n → 1 ≤ groups → length stamps ≡ n * groups → 1 ≤ length stamps → length stamps ≤ 2 ^ 41
+        → ((i : ℕ) → i < length stamps - 1 → gap_after (slice_index stamps) i < 2 ^ 63)
+        → (x : RunNumbers) × IsMeasured m n groups stamps records timestamps named x }
 {}
 
 /// A run has one of each of its numbers: summaries, steps, target, counts, first packets and places.

@@ -2,7 +2,7 @@
 use Rattle.std.proofs.Common.{◌≡◌, ℕ, true, Some, None, Option, Ok, Err, refl, ap, ◌∙◌, sym, subst, inl, inr}
 use Rattle.std.specs.Prelude.{◌||◌, Bool, Result}
 use Rattle.std.proofs.lemmas.Bool.{false≢true}
-use Rattle.timing_base.specs.Jobs.{CheckJob, FlowJob, ReportJob, ScanJob, SelfTestJob, ShapeJob, SkewJob, VerifyJob}
+use Rattle.timing_base.specs.Jobs.{CaptureJob, CheckJob, FlowJob, ReportJob, ScanJob, SelfTestJob, ShapeJob, SkewJob, VerifyJob}
 use Rattle.timing_words.specs.declared.command.Command.{Command}
 use Rattle.timing_words.specs.declared.request.Request.{Request}
 use Rattle.timing_words.specs.declared.request.Request.TheVariants as request
@@ -13,9 +13,10 @@ use Rattle.timing_steps.specs.Ends.{EndsWith, check_ends, is_failure, look_ends,
 use Rattle.timing_steps.specs.Ran.{Appended, Broke, HasCause, Leaves, Output, Ran}
 use Rattle.timing_steps.specs.declared.failure.Failure.{Failure}
 use Rattle.timing_steps.specs.declared.failure.Failure.TheVariants as failure
+use Rattle.timing_measure.specs.Measures.{measure_ends}
 use Rattle.timing_reach.specs.Scanned.{scan_ends}
 use Rattle.timing_top.specs.Asked.{FollowsHelp, FollowsSelfTest}
-use Rattle.timing_top.specs.Ends.{Ends, may_end}
+use Rattle.timing_top.specs.Ends.{Ends, may_end, reads_inputs, reads_sdp}
 use Rattle.timing_steps.proofs.Endings.{kept-none}
 use Rattle.timing_top.proofs.Answering.{ok-not-err, same-ok}
 use Rattle.timing_top.proofs.Headlines.{none-broke}
@@ -58,38 +59,18 @@ report-all job status.WriteFault h = refl
 report-all job status.OutOfMemory h = refl
 report-all job status.ReportRefused h = refl
 
-window-all : (job : FlowJob) (s : Status) → look_ends s || is_failure s ≡ true → may_end (Some (request.Window job)) s ≡ true
-window-all job status.Pass h = refl
-window-all job status.Fail h = h
-window-all job status.Usage h = h
-window-all job (status.SdpRefused fault) h = refl
-window-all job status.NotAllJudged h = refl
-window-all job (status.ReadFault input) h = refl
-window-all job status.WriteFault h = refl
-window-all job status.OutOfMemory h = refl
-window-all job status.ReportRefused h = h
-
-shape-all : (job : ShapeJob) (s : Status) → look_ends s || is_failure s ≡ true → may_end (Some (request.Shape job)) s ≡ true
-shape-all job status.Pass h = refl
-shape-all job status.Fail h = h
-shape-all job status.Usage h = h
-shape-all job (status.SdpRefused fault) h = refl
-shape-all job status.NotAllJudged h = refl
-shape-all job (status.ReadFault input) h = refl
-shape-all job status.WriteFault h = refl
-shape-all job status.OutOfMemory h = refl
-shape-all job status.ReportRefused h = h
-
-skew-all : (job : SkewJob) (s : Status) → look_ends s || is_failure s ≡ true → may_end (Some (request.Skew job)) s ≡ true
-skew-all job status.Pass h = refl
-skew-all job status.Fail h = h
-skew-all job status.Usage h = h
-skew-all job (status.SdpRefused fault) h = refl
-skew-all job status.NotAllJudged h = refl
-skew-all job (status.ReadFault input) h = refl
-skew-all job status.WriteFault h = refl
-skew-all job status.OutOfMemory h = refl
-skew-all job status.ReportRefused h = h
+-- of a command that reads a description and looks into captures: `window`, `shape`, `skew` and `measure`
+look-all : (asked : Request) → reads_inputs (Some asked) ≡ true → reads_sdp (Some asked) ≡ true → (s : Status)
+    → look_ends s || is_failure s ≡ true → may_end (Some asked) s ≡ true
+look-all asked inputs sdp status.Pass h = refl
+look-all asked inputs sdp status.Fail h = absurd (false≢true h)
+look-all asked inputs sdp status.Usage h = h
+look-all asked inputs sdp (status.SdpRefused fault) h = sdp
+look-all asked inputs sdp status.NotAllJudged h = inputs
+look-all asked inputs sdp (status.ReadFault input) h = inputs
+look-all asked inputs sdp status.WriteFault h = refl
+look-all asked inputs sdp status.OutOfMemory h = refl
+look-all asked inputs sdp status.ReportRefused h = absurd (false≢true h)
 
 scan-all : (job : ScanJob) (s : Status) → scan_ends s || is_failure s ≡ true → may_end (Some (request.Scan job)) s ≡ true
 scan-all job status.Pass h = refl
@@ -120,19 +101,24 @@ ends-report asked job o ends is h = subst (EndsFor o ends) (sym is) (ends-as rep
 
 pub ends-window : (asked : Request) (job : FlowJob) (o : Output) (ends : Status) → asked ≡ request.Window job → EndsWith look_ends o ends
     → Ends (Some asked) o ends
-ends-window asked job o ends is h = subst (EndsFor o ends) (sym is) (ends-as look_ends (request.Window job) o ends (window-all job) h)
+ends-window asked job o ends is h = subst (EndsFor o ends) (sym is) (ends-as look_ends (request.Window job) o ends (look-all (request.Window job) refl refl) h)
 
 pub ends-shape : (asked : Request) (job : ShapeJob) (o : Output) (ends : Status) → asked ≡ request.Shape job → EndsWith look_ends o ends
     → Ends (Some asked) o ends
-ends-shape asked job o ends is h = subst (EndsFor o ends) (sym is) (ends-as look_ends (request.Shape job) o ends (shape-all job) h)
+ends-shape asked job o ends is h = subst (EndsFor o ends) (sym is) (ends-as look_ends (request.Shape job) o ends (look-all (request.Shape job) refl refl) h)
 
 pub ends-skew : (asked : Request) (job : SkewJob) (o : Output) (ends : Status) → asked ≡ request.Skew job → EndsWith look_ends o ends
     → Ends (Some asked) o ends
-ends-skew asked job o ends is h = subst (EndsFor o ends) (sym is) (ends-as look_ends (request.Skew job) o ends (skew-all job) h)
+ends-skew asked job o ends is h = subst (EndsFor o ends) (sym is) (ends-as look_ends (request.Skew job) o ends (look-all (request.Skew job) refl refl) h)
 
 pub ends-scan : (asked : Request) (job : ScanJob) (o : Output) (ends : Status) → asked ≡ request.Scan job → EndsWith scan_ends o ends
     → Ends (Some asked) o ends
 ends-scan asked job o ends is h = subst (EndsFor o ends) (sym is) (ends-as scan_ends (request.Scan job) o ends (scan-all job) h)
+
+pub ends-measure : (asked : Request) (job : CaptureJob) (o : Output) (ends : Status) → asked ≡ request.Measure job → EndsWith measure_ends o ends
+    → Ends (Some asked) o ends
+ends-measure asked job o ends is h =
+    subst (EndsFor o ends) (sym is) (ends-as measure_ends (request.Measure job) o ends (look-all (request.Measure job) refl refl) h)
 
 -- want of memory, whatever was asked
 pub ends-memory : (asked : Option Request) (o : Output) (ends : Status) → Leaves o (Err failure.OutOfMemory) ends → Ends asked o ends

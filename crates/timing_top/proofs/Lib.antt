@@ -9,6 +9,8 @@ mod Exact
 mod Finding
 mod Following
 mod Headlines
+mod Measurable
+mod Measuring
 mod ReadBack
 mod Reaching
 mod Reported

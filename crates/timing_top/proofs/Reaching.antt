@@ -6,8 +6,9 @@ use Rattle.timing_base.specs.Jobs.{FlowJob, ScanJob, SkewJob}
 use Rattle.timing_base.specs.Media.{IsMedia, Media}
 use Rattle.pcapng_reader.specs.Classic.{classic}
 use Rattle.sdp_reader.proofs.Within.{session-within}
+use Rattle.timing_report.specs.declared.status.Input.{Input}
 use Rattle.timing_report.specs.declared.status.Input.TheVariants as input
-use Rattle.timing_steps.specs.Answers.{Answer, AreThere, AreTold, Gives, Inputs, ReadsSession, Yields}
+use Rattle.timing_steps.specs.Answers.{Answer, AreThere, AreTold, Gives, HasRisen, Inputs, ReadsSession, Yields}
 use Rattle.timing_steps.specs.declared.failure.Failure.{Failure}
 use Rattle.timing_reach.specs.Asked.{FlowInputRose, ReadsCapture, ReadsFlow, no_such_media}
 use Rattle.timing_reach.specs.Scanned.{FollowsScan, HasScan, ScanInputRose}
@@ -18,23 +19,24 @@ use Rattle.timing_top.proofs.Answering.{Caused, captured-failed, described-faile
 use Rattle.timing_top.proofs.Answering.{only-silent, only-yielded, same-err, same-some, some-captured, some-described, some-given, some-yielded, yielded-failed}
 
 -- one capture that is read
-some-capture : (i : Inputs) (name text : List ℕ) (Defined : List ℕ → Answer → Type 0) → ¬ i.lacks name → i.texts name ≡ Some text → (answer : Answer)
+pub some-capture : (i : Inputs) (name text : List ℕ) (Defined : List ℕ → Answer → Type 0) → ¬ i.lacks name → i.texts name ≡ Some text → (answer : Answer)
     × Defined (classic text) answer
     → (answer : Answer) × ReadsCapture i (Ok answer) name (λ t. Gives (Ok answer) (Defined t))
 some-capture i name text Defined there told h =
     (h.0, inr (there, λ t e. (h.0, refl, subst (λ x. Defined (classic x) h.0) (same-some text t (i.texts name) told e) h.1)))
 
-only-capture : (i : Inputs) (name text : List ℕ) (Defined : List ℕ → Answer → Type 0) (a b : Answer) → i.texts name ≡ Some text
+pub only-capture : (i : Inputs) (name text : List ℕ) (Defined : List ℕ → Answer → Type 0) (a b : Answer) → i.texts name ≡ Some text
     → ((x y : Answer) → Defined (classic text) x → Defined (classic text) y → x ≡ y)
     → ReadsCapture i (Ok a) name (λ t. Gives (Ok a) (Defined t)) → ReadsCapture i (Ok b) name (λ t. Gives (Ok b) (Defined t)) → a ≡ b
 only-capture i name text Defined a b told once (inl h) k = absurd (ok-not-err a _ (Ok a) refl h.0)
 only-capture i name text Defined a b told once (inr h) (inl k) = absurd (ok-not-err b _ (Ok b) refl k.0)
 only-capture i name text Defined a b told once (inr h) (inr k) = only-given (Defined (classic text)) a b once (h.1 text told) (k.1 text told)
 
-capture-failed : (i : Inputs) (job : FlowJob) (text : List ℕ) (Defined : List ℕ → Answer → Type 0) (e : Failure) → i.texts job.capture ≡ Some text
-    → ReadsCapture i (Err e) job.capture (λ t. Gives (Err e) (Defined t)) → Caused e (FlowInputRose job i)
-capture-failed i job text Defined e told (inl h) = inr (input.Capture 0, same-err e _ (Err e) refl h.0, (refl, h.1))
-capture-failed i job text Defined e told (inr h) = absurd (not-given (Defined (classic text)) e (h.1 text told))
+pub capture-failed : (i : Inputs) (name text : List ℕ) (Defined : List ℕ → Answer → Type 0) (e : Failure) (Rises : Input → Type 0) → i.texts name ≡ Some text
+    → (HasRisen i name → Rises (input.Capture 0))
+    → ReadsCapture i (Err e) name (λ t. Gives (Err e) (Defined t)) → Caused e Rises
+capture-failed i name text Defined e Rises told rises (inl h) = inr (input.Capture 0, same-err e _ (Err e) refl h.0, rises h.1)
+capture-failed i name text Defined e Rises told rises (inr h) = absurd (not-given (Defined (classic text)) e (h.1 text told))
 
 -- the flow of a media
 some-flow : (job : FlowJob) (i : Inputs) (text : List ℕ) (Defined : Media → List ℕ → Answer → Type 0) (m : Option Media) → ¬ i.lacks job.capture
@@ -55,7 +57,8 @@ flow-failed : (job : FlowJob) (i : Inputs) (text : List ℕ) (Defined : Media �
     ≡ Some text
     → ReadsFlow i (Err e) job Defined m → Caused e (FlowInputRose job i)
 flow-failed job i text Defined None e told h = absurd (not-given (λ answer. answer ≡ no_such_media) e h)
-flow-failed job i text Defined (Some media) e told h = capture-failed i job text (Defined media) e told h
+flow-failed job i text Defined (Some media) e told h =
+    capture-failed i job.capture text (Defined media) e (FlowInputRose job i) told (λ r. (refl, r)) h
 
 -- the description, and then the flow
 abbrev pub FollowsFlow : FlowJob → (Media → List ℕ → Answer → Type 0) → Inputs → Result Answer Failure → Type 0
@@ -174,14 +177,9 @@ only-scanned job i (text ∷ texts) a b told h k =
     only-yielded (λ answer. ReadsCapture i (Ok answer) job.capture (λ t. Gives (Ok answer) (HasScan job t))) a b
     (λ p q. only-capture i job.capture text (HasScan job) a b told.0 (once-scan job (classic text)) p q) h k
 
-scan-failed : (i : Inputs) (job : ScanJob) (text : List ℕ) (e : Failure) → i.texts job.capture ≡ Some text
-    → ReadsCapture i (Err e) job.capture (λ t. Gives (Err e) (HasScan job t)) → Caused e (ScanInputRose job i)
-scan-failed i job text e told (inl h) = inr (input.Capture 0, same-err e _ (Err e) refl h.0, (refl, h.1))
-scan-failed i job text e told (inr h) = absurd (not-given (HasScan job (classic text)) e (h.1 text told))
-
 pub scanned-failed : (job : ScanJob) (i : Inputs) (texts : List (List ℕ)) (e : Failure) → AreTold i.texts (job.capture ∷ []) texts
     → FollowsScan job i (Err e) → Caused e (ScanInputRose job i)
 scanned-failed job i [] e told h = absurd told
 scanned-failed job i (text ∷ texts) e told h =
     yielded-failed (ReadsCapture i (Err e) job.capture (λ t. Gives (Err e) (HasScan job t))) e (ScanInputRose job i)
-    (λ p. scan-failed i job text e told.0 p) h
+    (λ p. capture-failed i job.capture text (HasScan job) e (ScanInputRose job i) told.0 (λ r. (refl, r)) p) h

@@ -1,9 +1,10 @@
 -- What the run of a command is to the request that asks for it.
 use Rattle.std.proofs.Common.{◌≡◌, ◌≤◌, Some, None, Option, refl, ap, sym, subst, inl, inr}
 use Rattle.std.specs.Prelude.{Result, Ok, Err}
-use Rattle.timing_base.specs.Jobs.{CheckJob, FlowJob, ReportJob, ScanJob, ShapeJob, SkewJob, VerifyJob}
+use Rattle.timing_base.specs.Jobs.{CaptureJob, CheckJob, FlowJob, ReportJob, ScanJob, ShapeJob, SkewJob, VerifyJob}
 use Rattle.timing_words.specs.declared.request.Request.{Request}
 use Rattle.timing_words.specs.declared.request.Request.TheVariants as request
+use Rattle.timing_measure.specs.Measures.{FollowsMeasure, MeasureInputRose}
 use Rattle.timing_reach.specs.Asked.{FlowInputRose, FollowsWindow}
 use Rattle.timing_reach.specs.Scanned.{FollowsScan, ScanInputRose}
 use Rattle.timing_reach.specs.Shaped.{FollowsShape}
@@ -78,6 +79,11 @@ pub serves-scan : (asked : Request) (job : ScanJob) (i : Inputs) (o e : Output) 
 serves-scan asked job i o e ends is ran =
     subst (RanFor i o e ends) (sym is) (ran-as (FollowsScan job i) _ (ScanInputRose job i) _ o e ends (λ r h. h) (λ x h. h) ran)
 
+pub serves-measure : (asked : Request) (job : CaptureJob) (i : Inputs) (o e : Output) (ends : Status) → asked ≡ request.Measure job
+    → Ran (FollowsMeasure job i) (MeasureInputRose job i) o e ends → Ran (Follows (Some asked) i) (InputRose (Some asked) i) o e ends
+serves-measure asked job i o e ends is ran =
+    subst (RanFor i o e ends) (sym is) (ran-as (FollowsMeasure job i) _ (MeasureInputRose job i) _ o e ends (λ r h. h) (λ x h. h) ran)
+
 -- words that are no request
 pub refuses-words : (asked : Option Request) (i : Inputs) (o e : Output) (ends : Status) (answer : Answer) → asked ≡ None → answer ≡ silent status.Usage
     → Leaves o (Ok answer) ends → TellsLine e ends → o.before ≤ o.now → e.before ≤ e.now → Ran (Follows asked i) (InputRose asked i) o e ends
@@ -102,6 +108,7 @@ memory-follows (Some (request.Window job)) i = inl refl
 memory-follows (Some (request.Shape job)) i = inl refl
 memory-follows (Some (request.Skew job)) i = inl refl
 memory-follows (Some (request.Scan job)) i = inl refl
+memory-follows (Some (request.Measure job)) i = inl refl
 memory-follows (Some (request.Help named)) i = inl refl
 
 pub lacks-memory : (asked : Option Request) (i : Inputs) (o e : Output) (ends : Status)

@@ -14,6 +14,7 @@ use crate::self_tests::self_test;
 use std::alloc::Global;
 use std::sync::Wait;
 use std::thread::Threads;
+use timing_measure::measure_one;
 use timing_outside::{Gate, Shelf, Sink};
 use timing_reach::{scan_one, shape_one, skew_one, window_one};
 use timing_report::Status;
@@ -54,6 +55,7 @@ fn serve<R: Threads + Wait + Sync, H: Shelf, K: Sink, G: Gate>(
         Request::Shape(job) => shape_one(alloc, &job, shelf, out, err),
         Request::Scan(job) => scan_one(alloc, &job, shelf, out, err),
         Request::Skew(job) => skew_one(alloc, &job, shelf, out, err),
+        Request::Measure(job) => measure_one(alloc, &job, shelf, out, err),
         Request::Help(command) => print_help(alloc, command, out, err),
     }
 }

@@ -4,7 +4,7 @@ use Rattle.std.specs.Prelude.{codes, if◌then◌else◌, nat_le, option_map}
 use Rattle.std.specs.List.{list_all}
 use Rattle.std.specs.Str.{bytes_eq}
 use Rattle.std.proofs.lemmas.Bool.{leb-true}
-use Rattle.timing_base.specs.Jobs.{CheckJob, FlowJob, IsCheckJob, IsFlowJob, IsReportJob, IsSelfTestJob}
+use Rattle.timing_base.specs.Jobs.{CaptureJob, CheckJob, FlowJob, IsCaptureJob, IsCheckJob, IsFlowJob, IsReportJob, IsSelfTestJob}
 use Rattle.timing_base.specs.Jobs.{IsSkewJob, IsVerifyJob, ReportJob, SelfTestJob, ShapeJob}
 use Rattle.timing_base.specs.Jobs.{SkewJob, VerifyJob}
 use Rattle.timing_base.specs.Name.{is_file_name}
@@ -14,7 +14,7 @@ use Rattle.timing_words.specs.declared.command.Command.{Command}
 use Rattle.timing_words.specs.declared.command.Command.TheVariants as command
 use Rattle.timing_words.specs.Limits.{IsWithinLimits}
 use Rattle.timing_words.specs.Line.{Stands, Text, line, stands}
-use Rattle.timing_words.specs.Request.{asked, asked_by, check_asked, check_workers, command_named, file_name, file_names}
+use Rattle.timing_words.specs.Request.{asked, asked_by, capture_asked, check_asked, check_workers, command_named, file_name, file_names}
 use Rattle.timing_words.specs.Request.{flow_asked, given, help_asked, kind_named, media, need, number, passing}
 use Rattle.timing_words.specs.Request.{proof_asked, report_asked, request, scan_asked, self_test_asked, shape_asked, skew_asked}
 use Rattle.timing_words.specs.Request.{sole, sorts, tai, test_workers, verify_asked, written}
@@ -163,6 +163,13 @@ skew-within l job e =
     subst IsSkewJob (same _ job d.rest)
     record { media_few = media-few m.a b.a m.rest; pair_few = media-few n.a c.a n.rest; some = few.0; few = few.1 }
 
+capture-within : (l : Stands) (job : CaptureJob) → capture_asked l ≡ Some job → IsCaptureJob job
+capture-within l job e =
+    let a = needed (given (codes "sdp") l file_name) _ job e in
+    let b = needed (tai (l.value (codes "tai"))) _ job a.rest in
+    let c = needed (need (sole l.names) file_name) _ job b.rest in
+    subst IsCaptureJob (same _ job c.rest) record { tai_most = tai-most (l.value (codes "tai")) b.a b.gave }
+
 -- ---- the whole line
 
 asked-within : (c : Command) (l : Stands) (r : Request) → asked c l ≡ Some r → IsWithinLimits r
@@ -190,6 +197,9 @@ asked-within command.Skew l r e =
 asked-within command.Scan l r e =
     let m = mapped asks.Scan (scan_asked l) r e in
     subst IsWithinLimits m.2 tt
+asked-within command.Measure l r e =
+    let m = mapped asks.Measure (capture_asked l) r e in
+    subst IsWithinLimits m.2 (capture-within l m.0 m.1)
 
 by-within : (c : Command) (words : List Text) (r : Request) → asked_by c words ≡ Some r → IsWithinLimits r
 by-within c words r e =

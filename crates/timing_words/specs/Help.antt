@@ -74,6 +74,7 @@ name_of command.Window = codes "window"
 name_of command.Shape = codes "shape"
 name_of command.Skew = codes "skew"
 name_of command.Scan = codes "scan"
+name_of command.Measure = codes "measure"
 
 -- the names that follow its options
 abbrev pub names_shape : Command → Text
@@ -85,6 +86,7 @@ names_shape command.Window = codes "CAPTURE"
 names_shape command.Shape = codes "CAPTURE"
 names_shape command.Skew = codes "CAPTURE [CAPTURE]"
 names_shape command.Scan = codes "CAPTURE"
+names_shape command.Measure = codes "CAPTURE"
 
 -- what it does
 abbrev pub about : Command → Text
@@ -96,6 +98,7 @@ about command.Window = codes "says with which offsets a flow would keep its rece
 about command.Shape = codes "delays a flow as little as the limits allow, and writes it as a capture"
 about command.Skew = codes "says how far two flows that carry the same packets are apart, packet by packet"
 about command.Scan = codes "says what a capture holds, before there is a description"
+about command.Measure = codes "says how near each video comes to its limits, when, and where in the frame"
 
 -- what is printed
 abbrev pub printed : Command → Text
@@ -114,6 +117,9 @@ printed command.Skew =
 printed command.Scan =
     codes "Prints how the capture ends, what is passed over, and of each stream who sends to whom, its packets, rate\n"
     ++ codes "and loss; with --json the same as JSON, with --draft a session description. The two exclude each other.\n"
+printed command.Measure =
+    codes "Prints as JSON how the capture ends, and of each judged run what bucket and buffers hold, how near that is\n"
+    ++ codes "to each type's limits, when frames begin and end, their RTP timestamps, and the gaps between packets.\n"
 
 -- an example, which reads files of the repository
 abbrev pub example : Command → Text
@@ -129,6 +135,7 @@ example command.Shape = codes "./run shape --sdp examples/plain.sdp --media 1 --
 example command.Skew =
     codes "./run skew --sdp examples/plain.sdp --media 1 --pair 1 examples/plain.pcap examples/burst.pcap"
 example command.Scan = codes "./run scan examples/plain.pcap"
+example command.Measure = codes "./run measure --sdp examples/plain.sdp examples/burst.pcap"
 
 -- ---- texts
 
@@ -144,7 +151,7 @@ summary c = codes "  " ++ (usage c ++ (codes "\n      " ++ (about c ++ codes "\n
 abbrev pub commands : List Command
 commands =
     command.Check ∷ command.Verify ∷ command.VerifyReport ∷ command.SelfTest ∷ command.Window ∷ command.Shape
-    ∷ command.Skew ∷ command.Scan ∷ []
+    ∷ command.Skew ∷ command.Scan ∷ command.Measure ∷ []
 
 -- those of all commands
 abbrev pub summaries : Text

@@ -1,6 +1,7 @@
 -- What every request keeps: the limits of its job's quantities, as `timing_base` states them.
 use Rattle.std.specs.Prelude.{⊤}
-use Rattle.timing_base.specs.Jobs.{IsCheckJob, IsFlowJob, IsReportJob, IsSelfTestJob, IsSkewJob, IsVerifyJob}
+use Rattle.timing_base.specs.Jobs.{IsCaptureJob, IsCheckJob, IsFlowJob, IsReportJob, IsSelfTestJob, IsSkewJob}
+use Rattle.timing_base.specs.Jobs.{IsVerifyJob}
 use Rattle.timing_words.specs.declared.request.Request.{Request}
 use Rattle.timing_words.specs.declared.request.Request.TheVariants as asks
 
@@ -14,4 +15,5 @@ IsWithinLimits (asks.Window job) = IsFlowJob job
 IsWithinLimits (asks.Shape job) = IsFlowJob job.flow
 IsWithinLimits (asks.Skew job) = IsSkewJob job
 IsWithinLimits (asks.Scan job) = ⊤
+IsWithinLimits (asks.Measure job) = IsCaptureJob job
 IsWithinLimits (asks.Help named) = ⊤

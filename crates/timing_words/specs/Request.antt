@@ -7,7 +7,8 @@ use Rattle.std.specs.List.{list_all}
 use Rattle.std.specs.Char.{is_ascii_digit}
 use Rattle.std.specs.Str.{bytes_eq}
 use Rattle.std.specs.Str.Parse.{digits_value}
-use Rattle.timing_base.specs.Jobs.{CheckJob, FlowJob, ReportJob, ScanJob, SelfTestJob, ShapeJob, SkewJob, VerifyJob}
+use Rattle.timing_base.specs.Jobs.{CaptureJob, CheckJob, FlowJob, ReportJob, ScanJob, SelfTestJob, ShapeJob, SkewJob}
+use Rattle.timing_base.specs.Jobs.{VerifyJob}
 use Rattle.timing_base.specs.Name.{is_file_name}
 use Rattle.timing_base.specs.declared.fail.Broken.{Broken}
 use Rattle.timing_base.specs.declared.fail.Broken.TheVariants as broken
@@ -250,6 +251,18 @@ scan_asked l =
     need (need (sole l.names) file_name) (λ capture.
     Some (record { capture = capture; form = printed })))
 
+-- what `measure` takes
+abbrev pub measure_sorts : List Sort
+measure_sorts = takes (codes "sdp" ∷ codes "tai" ∷ []) []
+
+-- every flow of one capture, as `measure` asks for it
+abbrev pub capture_asked : Stands → Option CaptureJob
+capture_asked l =
+    need (given (codes "sdp") l file_name) (λ sdp.
+    need (tai (l.value (codes "tai"))) (λ seconds.
+    need (need (sole l.names) file_name) (λ capture.
+    Some (record { sdp = sdp; tai = seconds; capture = capture }))))
+
 -- ---- the whole line
 
 -- the command with this name
@@ -259,6 +272,7 @@ command_named = chosen (
     ∷ (codes "selftest", command.SelfTest) ∷ (codes "window", command.Window) ∷ (codes "shape", command.Shape)
     ∷ (codes "skew", command.Skew)
     ∷ (codes "scan", command.Scan)
+    ∷ (codes "measure", command.Measure)
     ∷ [])
 
 -- the options and flags that a command takes
@@ -271,6 +285,7 @@ sorts command.Window = window_sorts
 sorts command.Shape = shape_sorts
 sorts command.Skew = skew_sorts
 sorts command.Scan = scan_sorts
+sorts command.Measure = measure_sorts
 
 -- what a command asks for, by what stands in its line
 abbrev pub asked : Command → Stands → Option Request
@@ -282,6 +297,7 @@ asked command.Window l = option_map asks.Window (flow_asked l)
 asked command.Shape l = option_map asks.Shape (shape_asked l)
 asked command.Skew l = option_map asks.Skew (skew_asked l)
 asked command.Scan l = option_map asks.Scan (scan_asked l)
+asked command.Measure l = option_map asks.Measure (capture_asked l)
 
 -- what the words after a command ask for
 abbrev pub asked_by : Command → List Text → Option Request

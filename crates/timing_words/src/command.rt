@@ -23,6 +23,7 @@ pub enum Command {
     Shape,
     Skew,
     Scan,
+    Measure,
 }
 
 impl Command {
@@ -41,6 +42,7 @@ impl Command {
             "shape" => Some(Command::Shape),
             "skew" => Some(Command::Skew),
             "scan" => Some(Command::Scan),
+            "measure" => Some(Command::Measure),
             _ => None,
         }
     }
@@ -68,6 +70,7 @@ impl Command {
             Command::Shape => parser_of(alloc, &["sdp", "media", "type", "tai"], &["list"]),
             Command::Skew => parser_of(alloc, &["sdp", "media", "pair"], &[]),
             Command::Scan => parser_of(alloc, &[], &["json", "draft"]),
+            Command::Measure => parser_of(alloc, &["sdp", "tai"], &[]),
         }
     }
 }

@@ -166,6 +166,7 @@ impl Command {
             Command::Shape => "shape",
             Command::Skew => "skew",
             Command::Scan => "scan",
+            Command::Measure => "measure",
         }
     }
 
@@ -178,7 +179,7 @@ impl Command {
             Command::SelfTest => "FRAMES",
             Command::Window | Command::Shape => "CAPTURE",
             Command::Skew => "CAPTURE [CAPTURE]",
-            Command::Scan => "CAPTURE",
+            Command::Scan | Command::Measure => "CAPTURE",
         }
     }
 
@@ -205,6 +206,9 @@ impl Command {
                 "says how far two flows that carry the same packets are apart, packet by packet"
             }
             Command::Scan => "says what a capture holds, before there is a description",
+            Command::Measure => {
+                "says how near each video comes to its limits, when, and where in the frame"
+            }
         }
     }
 
@@ -235,6 +239,9 @@ impl Command {
             Command::Scan => {
                 "Prints how the capture ends, what is passed over, and of each stream who sends to whom, its packets, rate\nand loss; with --json the same as JSON, with --draft a session description. The two exclude each other.\n"
             }
+            Command::Measure => {
+                "Prints as JSON how the capture ends, and of each judged run what bucket and buffers hold, how near that is\nto each type's limits, when frames begin and end, their RTP timestamps, and the gaps between packets.\n"
+            }
         }
     }
 
@@ -261,6 +268,7 @@ impl Command {
                 "./run skew --sdp examples/plain.sdp --media 1 --pair 1 examples/plain.pcap examples/burst.pcap"
             }
             Command::Scan => "./run scan examples/plain.pcap",
+            Command::Measure => "./run measure --sdp examples/plain.sdp examples/burst.pcap",
         }
     }
 }
@@ -309,6 +317,7 @@ fn summaries(alloc: Global) -> Result<String, OutOfMemory>
             Command::Shape,
             Command::Skew,
             Command::Scan,
+            Command::Measure,
         ],
     )
 }

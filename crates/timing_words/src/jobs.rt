@@ -15,8 +15,8 @@ use crate::values::{
 use clap::ArgMatches;
 use std::alloc::Global;
 use timing_base::{
-    CheckJob, FailProof, FileName, FlowJob, Items, ReportJob, ScanJob, SelfTestJob, ShapeJob,
-    SkewJob, VerifyJob,
+    CaptureJob, CheckJob, FailProof, FileName, FlowJob, Items, ReportJob, ScanJob, SelfTestJob,
+    ShapeJob, SkewJob, VerifyJob,
 };
 
 /// The value of an option that may not be missing.
@@ -195,4 +195,13 @@ pub(crate) fn scan_job(alloc: Global, matches: &ArgMatches<'_>) -> Result<ScanJo
     let form = scan_form(matches.contains_id("json"), matches.contains_id("draft"))?;
     let capture = file_name(alloc, sole_name(matches)?)?;
     Ok(ScanJob { capture, form })
+}
+
+pub(crate) fn capture_job(alloc: Global, matches: &ArgMatches<'_>) -> Result<CaptureJob, WordFault>
+    ensures { Gives (words.capture_asked (found_stands (found_of matches.now))) result }
+{
+    let sdp = given_file(alloc, matches, "sdp")?;
+    let tai = tai(matches.get_str("tai"))?;
+    let capture = file_name(alloc, sole_name(matches)?)?;
+    Ok(CaptureJob { sdp, tai, capture })
 }

@@ -257,6 +257,20 @@ pub fn scans_by_hand()
     ensures tai { IsRefused (codes "scan --tai 37 c") }
 {}
 
+/// Lines of `measure`.
+pub fn measures_by_hand()
+    ensures plain { Asks (codes "measure --sdp p c")
+        (asks.Measure (record { sdp = codes "p"; tai = 0; capture = codes "c" })) }
+    ensures later { Asks (codes "measure c --tai=1000 --sdp=p")
+        (asks.Measure (record { sdp = codes "p"; tai = 1000; capture = codes "c" })) }
+    ensures tai_over { IsRefused (codes "measure --sdp p --tai 1001 c") }
+    ensures no_sdp { IsRefused (codes "measure c") }
+    ensures no_capture { IsRefused (codes "measure --sdp p") }
+    ensures two_captures { IsRefused (codes "measure --sdp p c d") }
+    ensures media { IsRefused (codes "measure --sdp p --media 1 c") }
+    ensures json { IsRefused (codes "measure --sdp p --json c") }
+{}
+
 /// First words that are no command.
 pub fn no_commands_by_hand()
     ensures nothing { request [] ≡ None }

@@ -8,7 +8,8 @@ ghost use Rattle.timing_words.specs.Request.{asked, asked_by, help_asked, reques
 
 use crate::command::Command;
 use crate::jobs::{
-    check_job, flow_job, report_job, scan_job, self_test_job, shape_job, skew_job, verify_job,
+    capture_job, check_job, flow_job, report_job, scan_job, self_test_job, shape_job, skew_job,
+    verify_job,
 };
 use crate::line::{WordFault, cut};
 use crate::request::Request;
@@ -31,6 +32,7 @@ fn request_of(
         Command::Shape => Ok(Request::Shape(shape_job(alloc, matches)?)),
         Command::Skew => Ok(Request::Skew(skew_job(alloc, matches)?)),
         Command::Scan => Ok(Request::Scan(scan_job(alloc, matches)?)),
+        Command::Measure => Ok(Request::Measure(capture_job(alloc, matches)?)),
     }
 }
 

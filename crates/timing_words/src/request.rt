@@ -2,7 +2,7 @@
 
 use crate::command::Command;
 use timing_base::{
-    CheckJob, FlowJob, ReportJob, ScanJob, SelfTestJob, ShapeJob, SkewJob, VerifyJob,
+    CaptureJob, CheckJob, FlowJob, ReportJob, ScanJob, SelfTestJob, ShapeJob, SkewJob, VerifyJob,
 };
 
 /// What a command line asks for.
@@ -16,6 +16,7 @@ pub enum Request {
     Shape(ShapeJob),
     Skew(SkewJob),
     Scan(ScanJob),
+    Measure(CaptureJob),
     /// The words of all commands, or of this one.
     Help(Option<Command>),
 }

@@ -3,6 +3,7 @@
 
 ghost use Rattle.std.specs.Prelude.{◌≡◌};
 
+use super::measures::{self, REFUSED};
 use super::shapes::{LIST, NONE_LINES, RECORD, WRITE, with_stamp};
 use super::windows::{LINE, PLAIN};
 use super::{Setting, made, over, part, put, shelf_of, whole, words_of};
@@ -127,7 +128,7 @@ fn answers_changing<R: Abort + AllocGlobal + Wait + Threads + Sync>(
 }
 
 // The commands that read a capture twice.
-const TWICE: [&str; 2] = [LIST, WRITE];
+const TWICE: [&str; 3] = [LIST, WRITE, measures::LINE];
 
 // The later text isn't the first: where it is read nothing is printed, and `window` answers on the first.
 fn differs<R: Abort + AllocGlobal + Wait + Threads + Sync>(
@@ -151,7 +152,11 @@ fn differs<R: Abort + AllocGlobal + Wait + Threads + Sync>(
 fn the_same_again(rt: HostRuntime) -> Result<(), Fail> {
     let capture = made(&rt, 0, 0)?;
     let setting = over(rt.alloc(), Vec::from_slice(rt.alloc(), &capture)?)?;
-    let texts = [NONE_LINES.as_bytes(), capture.as_slice()];
+    let texts = [
+        NONE_LINES.as_bytes(),
+        capture.as_slice(),
+        measures::PLAIN.as_bytes(),
+    ];
     for (line, text) in TWICE.iter().zip(texts) {
         answers_changing(
             &rt,
@@ -189,4 +194,12 @@ fn other_stamps(rt: HostRuntime) -> Result<(), Fail> {
         differs(&rt, &setting, &later)?;
     }
     Ok(())
+}
+
+// Where no flow is judged there is nothing to measure, and the capture is read once.
+#[test]
+fn nothing_to_measure(rt: HostRuntime) -> Result<(), Fail> {
+    let setting = over(rt.alloc(), made(&rt, 0, 4)?)?;
+    let first = (Status::NotAllJudged, REFUSED.as_bytes(), "");
+    answers_changing(&rt, measures::LINE, &setting, b"", first, (1, 0))
 }

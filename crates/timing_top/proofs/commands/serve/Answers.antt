@@ -1,5 +1,6 @@
-use Rattle.timing_top.proofs.Ending.{ends-check, ends-help, ends-report, ends-scan, ends-self-test, ends-shape, ends-skew, ends-verify, ends-window}
-use Rattle.timing_top.proofs.Serving.{serves-check, serves-report, serves-scan, serves-shape, serves-skew, serves-verify, serves-window}
+use Rattle.timing_top.proofs.Ending.{ends-check, ends-help, ends-measure, ends-report, ends-scan, ends-self-test, ends-shape, ends-skew}
+use Rattle.timing_top.proofs.Ending.{ends-verify, ends-window}
+use Rattle.timing_top.proofs.Serving.{serves-check, serves-measure, serves-report, serves-scan, serves-shape, serves-skew, serves-verify, serves-window}
 use Rattle.timing_top.proofs.commands.serve.Goals as goal
 
 pub returns-then-job-eq0-clause-ran : goal.returns-then-job-eq0-clause-ran
@@ -26,6 +27,9 @@ returns-in-Scan-clause-ran g c = serves-scan _ _ _ _ _ _ c.in-Scan.is c.scan_one
 pub returns-in-Skew-clause-ran : goal.returns-in-Skew-clause-ran
 returns-in-Skew-clause-ran g c = serves-skew _ _ _ _ _ _ c.in-Skew.is c.skew_one.ensures.ran
 
+pub returns-in-Measure-clause-ran : goal.returns-in-Measure-clause-ran
+returns-in-Measure-clause-ran g c = serves-measure _ _ _ _ _ _ c.in-Measure.is c.measure_one.ensures.ran
+
 pub returns-then-job-eq0-clause-ends : goal.returns-then-job-eq0-clause-ends
 returns-then-job-eq0-clause-ends g c = ends-check _ _ _ _ c.in-Check.is c.check_one.ensures.ends
 
@@ -49,6 +53,9 @@ returns-in-Scan-clause-ends g c = ends-scan _ _ _ _ c.in-Scan.is c.scan_one.ensu
 
 pub returns-in-Skew-clause-ends : goal.returns-in-Skew-clause-ends
 returns-in-Skew-clause-ends g c = ends-skew _ _ _ _ c.in-Skew.is c.skew_one.ensures.ends
+
+pub returns-in-Measure-clause-ends : goal.returns-in-Measure-clause-ends
+returns-in-Measure-clause-ends g c = ends-measure _ _ _ _ c.in-Measure.is c.measure_one.ensures.ends
 
 pub returns-in-SelfTest-clause-ends : goal.returns-in-SelfTest-clause-ends
 returns-in-SelfTest-clause-ends g c = ends-self-test _ _ _ _ _ c.in-SelfTest.is c.self_test.ensures.ran

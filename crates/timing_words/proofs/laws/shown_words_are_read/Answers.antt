@@ -18,11 +18,12 @@ returns-clause-read c = go
     go command.Shape = refl
     go command.Skew = refl
     go command.Scan = refl
+    go command.Measure = refl
 
 pub returns-clause-all : goal.returns-clause-all
 returns-clause-all c = go
   where
-    size : length commands ≡ 8
+    size : length commands ≡ 9
     size = refl
 
     go : (told : Command) → Contains commands told
@@ -34,3 +35,4 @@ returns-clause-all c = go
     go command.Shape = (5, omega (arith, size), refl)
     go command.Skew = (6, omega (arith, size), refl)
     go command.Scan = (7, omega (arith, size), refl)
+    go command.Measure = (8, omega (arith, size), refl)
