@@ -17,5 +17,6 @@ pub use status::{Input, Status};
 pub use text::{add_files, text_of};
 pub use verdict::verdict_of;
 pub use words::{
-    NoteText, PacketFaultText, SsrcText, class_name, declared_name, kind_name, model_name,
+    NoteText, PacketFaultText, SsrcText, class_name, declared_name, group_name, kind_name,
+    model_name,
 };
