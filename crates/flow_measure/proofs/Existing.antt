@@ -128,7 +128,6 @@ first-some test (suc count) = let before = first-some test count in first-more t
 record HasBins (limit : ℕ) (numbers : ℕ → ℤ) (count : ℕ) : Type 0 where
   bins : Bins
   are : AreBinsOf limit numbers count bins
-  long : length bins.counts ≡ 64
 
 made-bins : (limit : ℕ) (numbers : ℕ → ℤ) (count above below : ℕ) (counts : List ℕ) → count ≤ 2 ^ 41 → length counts ≡ 64
     → sum counts + above + below ≡ count
@@ -145,9 +144,9 @@ made-bins limit numbers count above below counts few long total each above_is be
     width_is = refl;
     few = few;
     all_counted = total;
+    whole = long;
   };
   are = record { limit_is = refl; seen = refl; counts = record { each = each; above = above_is; below = below_is } };
-  long = long;
 }
 
 -- a number up to the limit has one of 64 bins
@@ -169,35 +168,35 @@ bin-below limit here (pos x) e =
     omega (arith, bin-few limit x (leb-true x limit both.0), eqb-true (x / bin_width limit) here both.1)
 
 -- by where the next number belongs
-bins-by : (limit : ℕ) (numbers : ℕ → ℤ) (count : ℕ) (b : Bins) → count + 1 ≤ 2 ^ 41 → length b.counts ≡ 64
+bins-by : (limit : ℕ) (numbers : ℕ → ℤ) (count : ℕ) (b : Bins) → count + 1 ≤ 2 ^ 41
     → sum b.counts + b.above + b.below ≡ count
     → ((bin : ℕ) → bin < 64 → get_or b.counts bin 0 ≡ in_bin limit bin numbers count) → b.above ≡ above_limit limit numbers count
     → b.below ≡ below_zero numbers count → (place : Place) → IsTold limit (numbers count) place → HasBins limit numbers (count + 1)
-bins-by limit numbers count b few long total each above below Below t =
-    made-bins limit numbers (count + 1) b.above (b.below + 1) b.counts few long (omega (arith, total))
+bins-by limit numbers count b few total each above below Below t =
+    made-bins limit numbers (count + 1) b.above (b.below + 1) b.counts few b.whole (omega (arith, total))
     (λ bin inside. count-same (λ i. is_in_bin limit bin (numbers i)) count (get_or b.counts bin 0) (each bin inside) (t.2 bin))
     (count-same (λ i. is_above limit (numbers i)) count b.above above t.1)
     (count-next (λ i. is_below (numbers i)) count b.below below t.0)
-bins-by limit numbers count b few long total each above below Above t =
-    made-bins limit numbers (count + 1) (b.above + 1) b.below b.counts few long (omega (arith, total))
+bins-by limit numbers count b few total each above below Above t =
+    made-bins limit numbers (count + 1) (b.above + 1) b.below b.counts few b.whole (omega (arith, total))
     (λ bin inside. count-same (λ i. is_in_bin limit bin (numbers i)) count (get_or b.counts bin 0) (each bin inside) (t.2 bin))
     (count-next (λ i. is_above limit (numbers i)) count b.above above t.1)
     (count-same (λ i. is_below (numbers i)) count b.below below t.0)
-bins-by limit numbers count b few long total each above below (Bin here) t =
+bins-by limit numbers count b few total each above below (Bin here) t =
     let passes : is_in_bin limit here (numbers count) ≡ true = t.2 here ∙ eq-eqb here here refl in
-    let inside : here < length b.counts = omega (arith, long, bin-below limit here (numbers count) passes) in
+    let inside : here < length b.counts = omega (arith, b.whole, bin-below limit here (numbers count) passes) in
     let new = get_or b.counts here 0 + 1 in
     let counts = set b.counts here new in
     let sums : sum counts + get_or b.counts here 0 ≡ sum b.counts + new = sum_by-set (λ x. x) b.counts here new 0 inside in
-    made-bins limit numbers (count + 1) b.above b.below counts few (length-set b.counts here new ∙ long) (omega (arith, total, sums))
-    (λ bin room. counts-set (λ k i. is_in_bin limit k (numbers i)) count here b.counts inside (λ k among. each k (omega (arith, among, long))) passes
-    (λ k other. t.2 k ∙ ne_eqb here k (λ e. other (sym e))) bin (omega (arith, room, long)))
+    made-bins limit numbers (count + 1) b.above b.below counts few (length-set b.counts here new ∙ b.whole) (omega (arith, total, sums))
+    (λ bin room. counts-set (λ k i. is_in_bin limit k (numbers i)) count here b.counts inside (λ k among. each k (omega (arith, among, b.whole))) passes
+    (λ k other. t.2 k ∙ ne_eqb here k (λ e. other (sym e))) bin (omega (arith, room, b.whole)))
     (count-same (λ i. is_above limit (numbers i)) count b.above above t.1)
     (count-same (λ i. is_below (numbers i)) count b.below below t.0)
 
 more-bins : (limit : ℕ) (numbers : ℕ → ℤ) (count : ℕ) → count + 1 ≤ 2 ^ 41 → HasBins limit numbers count → HasBins limit numbers (count + 1)
 more-bins limit numbers count few h =
-    bins-by limit numbers count h.bins few h.long (h.bins.all_counted ∙ h.are.seen)
+    bins-by limit numbers count h.bins few (h.bins.all_counted ∙ h.are.seen)
     (λ bin inside. h.are.counts.each bin inside ∙ ap₂ (λ l s. in_bin l bin numbers s) h.are.limit_is h.are.seen)
     (h.are.counts.above ∙ ap₂ (λ l s. above_limit l numbers s) h.are.limit_is h.are.seen)
     (h.are.counts.below ∙ ap (below_zero numbers) h.are.seen)
@@ -206,7 +205,7 @@ more-bins limit numbers count few h =
 bins-some : (limit : ℕ) (numbers : ℕ → ℤ) (count : ℕ) → count ≤ 2 ^ 41 → HasBins limit numbers count
 bins-some limit numbers zero few =
     let zeros : sum (replicate 64 0) ≡ 64 * 0 = sum_by-replicate (λ x. x) 64 0 in
-    made-bins limit numbers 0 0 0 (replicate 64 0) few (length-replicate 64 0) (omega (arith, zeros)) (λ bin inside. replicate-at 0 64 bin) refl refl
+    made-bins limit numbers 0 0 0 (replicate 64 0) few (length-replicate {A = ℕ} 64 0) (omega (arith, zeros)) (λ bin inside. replicate-at 0 64 bin) refl refl
 bins-some limit numbers (suc count) few =
     subst (HasBins limit numbers) (next-is count)
     (more-bins limit numbers count (omega (arith, few)) (bins-some limit numbers count (omega (arith, few))))
@@ -228,7 +227,6 @@ record HasClasses (numbers : ℕ → ℕ) (count : ℕ) : Type 0 where
   classes : Classes
   seen : classes.seen ≡ count
   counts : Classifies classes numbers
-  long : length classes.counts ≡ 64
 
 no-classes : (numbers : ℕ → ℕ) → HasClasses numbers 0
 no-classes numbers =
@@ -241,10 +239,10 @@ no-classes numbers =
         within = omega arith;
         few = omega arith;
         all_counted = omega (arith, zeros);
+        whole = length-replicate {A = ℕ} 64 0;
       };
       seen = refl;
       counts = record { each = λ class few. replicate-at 0 64 class; rest = λ class past. refl; ends = λ last e. absurd (omega (arith, e)) };
-      long = length-replicate 64 0;
     }
 
 more-classes : (numbers : ℕ → ℕ) (count : ℕ) → count + 1 ≤ 2 ^ 41 → numbers count < 2 ^ 63 → HasClasses numbers count → HasClasses numbers (count + 1)
@@ -253,7 +251,7 @@ more-classes numbers count few small h =
     let found = class-below 63 (numbers count) small in
     let here = found.0 in
     let new = get_or b.counts here 0 + 1 in
-    let inside : here < length b.counts = omega (arith, found.1, h.long) in
+    let inside : here < length b.counts = omega (arith, found.1, b.whole) in
     let sums : sum (set b.counts here new) + get_or b.counts here 0 ≡ sum b.counts + new = sum_by-set (λ x. x) b.counts here new 0 inside in
     let after : Classes = record {
       counts = set b.counts here new;
@@ -262,12 +260,12 @@ more-classes numbers count few small h =
       within = omega (arith, b.within, found.1);
       few = omega (arith, few, h.seen);
       all_counted = omega (arith, sums, b.all_counted);
+      whole = length-set b.counts here new ∙ b.whole;
     } in
     record {
       classes = after;
       seen = ap (λ s. s + 1) h.seen;
-      counts = classified-more b after numbers here (numbers count) h.long (omega (arith, found.1)) found.2 (ap numbers h.seen) refl refl refl h.counts;
-      long = length-set b.counts here new ∙ h.long;
+      counts = classified-more b after numbers here (numbers count) b.whole (omega (arith, found.1)) found.2 (ap numbers h.seen) refl refl refl h.counts;
     }
 
 classes-some : (numbers : ℕ → ℕ) (count : ℕ) → count ≤ 2 ^ 41 → ((i : ℕ) → i < count → numbers i < 2 ^ 63) → HasClasses numbers count

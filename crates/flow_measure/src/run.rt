@@ -75,8 +75,23 @@ impl RunMeter {
             → Measures self.old.params self.old.to at self.new.meters [] [] [] }
     {
         if self.seen == 0 {
-            self.meters = RunMeters::new(&self.params, self.to, at);
+            self.start(at);
         }
+    }
+
+    /// Makes the meters of a run whose first packet comes at `at`. It is apart, since the room for them is
+    /// zeroed each time that the function which makes them is called.
+    #[cold]
+    #[inline(never)]
+    fn start(&mut self, at: u64)
+        requires in_time { at < 2 ^ 62 }
+        requires none { self.old.seen ≡ 0 }
+        ensures params { self.new.params ≡ self.old.params }
+        ensures to { self.new.to ≡ self.old.to }
+        ensures seen { self.new.seen ≡ self.old.seen }
+        ensures fresh { Measures self.old.params self.old.to at self.new.meters [] [] [] }
+    {
+        self.meters = RunMeters::new(&self.params, self.to, at);
     }
 
     /// The numbers of the run, of whole groups; none where nothing was fed.
