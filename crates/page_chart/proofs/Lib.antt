@@ -1,0 +1,6 @@
+pub mod Numerals
+pub mod Texts
+pub mod Rises
+pub mod Peaks
+pub mod Reaches
+pub mod Escapes

@@ -1,0 +1,5 @@
+use Rattle.page_chart.proofs.Peaks.{ends_each, spans_each}
+use Rattle.page_chart.proofs.laws.no_peak_is_hidden.Goals as goal
+
+pub returns : goal.returns
+returns c = record { spans = spans_each; ends = ends_each }

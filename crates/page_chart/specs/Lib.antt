@@ -1,0 +1,14 @@
+-- what is promised
+pub mod Marks
+pub mod Axes
+pub mod Pieces
+pub mod Escapes
+pub mod Grid
+pub mod Lines
+pub mod Curve
+pub mod Shades
+pub mod Bars
+pub mod Figures
+pub mod Charts
+-- what is worked by hand
+pub mod Worked

@@ -1,0 +1,140 @@
+//! The lines of limits.
+
+ghost use Rattle.std.specs.Prelude.{◌≡◌, ◌++◌, IfOk, string_bytes};
+ghost use Rattle.page_chart.specs.Lines.{label_text, line_text, lines_text, name_piece, stroke_piece, style_of};
+ghost use Rattle.page_chart.specs.Marks.{apart, base_of};
+
+use crate::plot::{Plot, Tenths};
+use std::alloc::AllocError as OutOfMemory;
+use std::fmt;
+
+/// What a line is the limit of.
+#[derive(Clone, Copy, Debug, PartialEq, Eq)]
+pub enum LineName {
+    /// Of a narrow sender.
+    Narrow,
+    /// Of a narrow linear sender.
+    NarrowLinear,
+    /// Of both, where it is the same.
+    BothNarrow,
+    /// Of a wide sender.
+    Wide,
+    /// A buffer that holds nothing.
+    Empty,
+    /// TR_OFFSET, in nanoseconds.
+    Offset,
+    /// The instant at which a frame or field ends, in nanoseconds from where it begins.
+    Period,
+}
+
+/// A line at a number.
+#[derive(Clone, Copy, Debug, PartialEq, Eq)]
+pub struct Limit {
+    pub name: LineName,
+    pub at: i128,
+}
+
+impl fmt::Display for Limit {
+    ghost use Rattle.std.specs.Prelude.{Some};
+    ghost use Rattle.page_chart.specs.Lines.{label_text};
+
+    ghost output = { λ line. Some (label_text line.name line.at) };
+
+    fn fmt<W: fmt::Write>(&self, f: &mut fmt::Formatter<W>) -> fmt::Result {
+        let at = self.at;
+        match self.name {
+            LineName::Narrow => write!(f, "N {at}"),
+            LineName::NarrowLinear => write!(f, "NL {at}"),
+            LineName::BothNarrow => write!(f, "N, NL {at}"),
+            LineName::Wide => write!(f, "W {at}"),
+            LineName::Empty => f.write_str("empty"),
+            LineName::Offset => f.write_str("TR_OFFSET"),
+            LineName::Period => f.write_str("frame ends"),
+        }
+    }
+}
+
+/// The class of a line's style.
+fn style_of(name: LineName) -> &'static str
+    ensures { result.now ≡ style_of name }
+{
+    match name {
+        LineName::Wide => "lim w",
+        _ => "lim",
+    }
+}
+
+/// Writes a line across the panel.
+#[tactic(auto, unfolding(crate::specs::Lines::stroke_piece))]
+fn write_stroke(
+    text: &mut String,
+    style: &str,
+    left: Tenths,
+    y: Tenths,
+    right: Tenths,
+) -> Result<(), OutOfMemory>
+    ensures { IfOk result (λ _. string_bytes text.new
+        ≡ string_bytes text.old ++ stroke_piece style.now left.tenths y.tenths right.tenths) }
+{
+    write!(text, "<path class=\"{style}\" d=\"M{left} {y}H{right}\"/>")
+}
+
+/// Writes the name of a line beside it.
+#[tactic(auto, unfolding(crate::specs::Lines::name_piece))]
+fn write_name(
+    text: &mut String,
+    style: &str,
+    x: Tenths,
+    base: Tenths,
+    line: Limit,
+) -> Result<(), OutOfMemory>
+    ensures { IfOk result (λ _. string_bytes text.new
+        ≡ string_bytes text.old ++ name_piece style.now x.tenths base.tenths (label_text line.name line.at)) }
+{
+    write!(
+        text,
+        "<text class=\"{style}\" x=\"{x}\" y=\"{base}\">{line}</text>"
+    )
+}
+
+/// Adds a line with its name, which stands at this height.
+fn add_line(text: &mut String, plot: Plot, base: Tenths, line: Limit) -> Result<(), OutOfMemory>
+    ensures { IfOk result (λ _. string_bytes text.new ≡ string_bytes text.old ++ line_text plot base.tenths line) }
+{
+    let (left, right, x) = (plot.panel.left(), plot.panel.right(), plot.panel.name_x());
+    let y = plot.y(line.at);
+    write_stroke(text, style_of(line.name), left, y, right)?;
+    write_name(text, style_of(line.name), x, base, line)
+}
+
+/// The baseline of a line.
+fn base_of(plot: Plot, line: Limit) -> Tenths
+    ensures { result.tenths ≡ base_of plot line.at }
+{
+    plot.base(line.at)
+}
+
+/// The baseline of a name: its own, but above the name before where the two would touch.
+#[tactic(auto, unfolding(crate::specs::Marks::apart))]
+fn apart(own: Tenths, before: Tenths) -> Tenths
+    ensures { result.tenths ≡ apart own.tenths before.tenths }
+{
+    let distance = own.tenths.max(before.tenths) - own.tenths.min(before.tenths);
+    if distance < 140 {
+        let tenths = before.tenths.saturating_sub(140);
+        return Tenths { tenths };
+    }
+    own
+}
+
+/// Adds the lines of limits, each with its name beside it; a name that would touch the one before it stands above that.
+pub fn add_lines(text: &mut String, plot: Plot, lines: &[Limit]) -> Result<(), OutOfMemory>
+    ensures { IfOk result (λ _. string_bytes text.new ≡ string_bytes text.old ++ lines_text plot lines.now) }
+{
+    let mut before = plot.panel.below(1000);
+    for line in lines {
+        before = apart(base_of(plot, *line), before);
+        add_line(text, plot, before, *line)?;
+    }
+    Ok(())
+}

@@ -1,0 +1,113 @@
+//! Places that are shaded.
+
+ghost use Rattle.std.specs.Prelude.{◌≡◌, ◌-◌, ◌++◌, IfOk, string_bytes};
+ghost use Rattle.page_chart.specs.Marks.{tenths};
+ghost use Rattle.page_chart.specs.Shades.{shade_left, shade_name, shade_named, shade_piece, shade_right, shade_text};
+
+use crate::plot::{Panel, Plot, Tenths};
+use std::alloc::AllocError as OutOfMemory;
+
+/// Places that are shaded, counted from the first that stands in the picture.
+#[derive(Clone, Copy, Debug, PartialEq, Eq)]
+pub struct Shade {
+    pub from: u64,
+    /// The last of them.
+    pub to: u64,
+}
+
+impl Shade {
+    /// The x where it begins.
+    #[tactic(auto, unfolding(crate::specs::Shades::shade_left))]
+    fn left(self, plot: Plot) -> Tenths
+        ensures { result ≡ tenths (shade_left plot self) }
+    {
+        plot.x(u128::from(self.from))
+    }
+
+    /// The x where it ends.
+    #[tactic(auto, unfolding(crate::specs::Shades::shade_right))]
+    fn right(self, plot: Plot) -> Tenths
+        ensures { result ≡ tenths (shade_right plot self) }
+    {
+        plot.x(u128::from(self.to) + 1)
+    }
+}
+
+/// Writes what is shaded.
+#[tactic(auto, unfolding(crate::specs::Shades::shade_piece))]
+fn write_shade(
+    text: &mut String,
+    left: Tenths,
+    top: Tenths,
+    bottom: Tenths,
+    right: Tenths,
+) -> Result<(), OutOfMemory>
+    ensures { IfOk result (λ _. string_bytes text.new
+        ≡ string_bytes text.old ++ shade_piece left.tenths top.tenths bottom.tenths right.tenths) }
+{
+    write!(
+        text,
+        "<path class=\"hit\" d=\"M{left} {top}V{bottom}H{right}V{top}Z\"/>"
+    )
+}
+
+/// Writes which places they are.
+#[tactic(auto, unfolding(crate::specs::Shades::shade_name))]
+fn write_shade_name(
+    text: &mut String,
+    x: Tenths,
+    base: Tenths,
+    anchor: &str,
+    first: u128,
+    last: u128,
+) -> Result<(), OutOfMemory>
+    ensures { IfOk result (λ _. string_bytes text.new
+        ≡ string_bytes text.old ++ shade_name x.tenths base.tenths anchor.now first last) }
+{
+    write!(
+        text,
+        "<text class=\"lim\" x=\"{x}\" y=\"{base}\" text-anchor=\"{anchor}\">from {first} to {last}</text>"
+    )
+}
+
+/// The y four units above a panel.
+fn above_top(panel: Panel) -> Tenths
+    ensures { result ≡ tenths (panel.top - 40) }
+{
+    let tenths = u128::from(panel.top.saturating_sub(40));
+    Tenths { tenths }
+}
+
+/// Adds which places they are, on the side where there is more room.
+#[tactic(auto, unfolding(crate::specs::Shades::shade_named))]
+fn add_shade_name(text: &mut String, plot: Plot, shade: Shade) -> Result<(), OutOfMemory>
+    ensures { IfOk result (λ _. string_bytes text.new ≡ string_bytes text.old ++ shade_named plot shade) }
+{
+    let (left, right, base) = (shade.left(plot), shade.right(plot), above_top(plot.panel));
+    let first = u128::from(plot.across.start) + u128::from(shade.from);
+    let last = u128::from(plot.across.start) + u128::from(shade.to);
+    let middle = 2 * u128::from(plot.panel.left) + u128::from(plot.panel.width);
+    if left.tenths < middle.saturating_sub(right.tenths) {
+        write_shade_name(text, right, base, "start", first, last)
+    } else {
+        write_shade_name(text, left, base, "end", first, last)
+    }
+}
+
+/// Adds places that are shaded, where there are any.
+pub(crate) fn add_shade(
+    text: &mut String,
+    plot: Plot,
+    shade: Option<Shade>,
+) -> Result<(), OutOfMemory>
+    ensures { IfOk result (λ _. string_bytes text.new ≡ string_bytes text.old ++ shade_text plot shade) }
+{
+    match shade {
+        None => Ok(()),
+        Some(shade) => {
+            let (panel, left, right) = (plot.panel, shade.left(plot), shade.right(plot));
+            write_shade(text, left, panel.top(), panel.bottom(), right)?;
+            add_shade_name(text, plot, shade)
+        }
+    }
+}
