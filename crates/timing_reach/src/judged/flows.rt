@@ -1,6 +1,8 @@
-//! What takes the packets of a media's flow, one after the other, off the records of a capture: each frame is read once.
+//! What takes the packets of a media's flow, one after the other, off the records of a capture: each frame is read
+//! once.
 
-ghost use Rattle.std.specs.Prelude.{◌≡◌, ◌≤◌, ◌+◌, ◌++◌, ◌∷◌, ◌^◌, [], ℕ, List, None, Some, Ok, IfErr, IfOk, length};
+ghost use Rattle.std.specs.Prelude.{◌≡◌, ◌≤◌, ◌+◌, ◌++◌, ◌∷◌, ◌^◌, [], ℕ, List, None, Some, Ok, IfErr, IfOk, IfSome};
+ghost use Rattle.std.specs.Prelude.{length};
 ghost use Rattle.std.specs.Prelude.{true, false};
 ghost use Rattle.timing_base.specs.Captures.{IsStamp, Record};
 ghost use Rattle.timing_base.specs.Media.{Media as MediaValue};
@@ -10,6 +12,8 @@ ghost use Rattle.timing_outside.specs.Shelves.{StaysAs};
 ghost use Rattle.pcap_reader.specs.Taken.{TakesFew};
 ghost use Rattle.pcapng_reader.specs.Classic.{classic_texts};
 ghost use Rattle.timing_steps.specs.Answers.{OnReadFault};
+ghost use Rattle.timing_base.specs.Targets.{target_of};
+ghost use Rattle.udp_rtp.specs.Carried.{carries};
 ghost use Rattle.udp_rtp.specs.Flow.{flow_packet};
 ghost use Rattle.timing_reach.specs.judged.Flows.{TakesIn, next_of};
 
@@ -94,6 +98,18 @@ impl<F: FlowTaker + Drop> FlowOf<F> {
         }
     }
 
+    /// The packet with which the flow goes on, where the frame carries it.
+    #[inline(always)]
+    fn expected_in(&self, frame: &[u8]) -> Option<Rtp>
+        ensures { IfSome result (λ p. carries (target_of self.now.media) p frame.now ≡ true) }
+    {
+        let expected = self.next?;
+        if !carries(frame, self.media.target(), expected) {
+            return None;
+        }
+        Some(expected)
+    }
+
     /// Takes the next record where its frame carries the packet with which the flow goes on, and answers whether it
     /// does. Else nothing changes.
     #[inline(always)]
@@ -108,25 +124,20 @@ impl<F: FlowTaker + Drop> FlowOf<F> {
         ensures takes { result ≡ Ok true → TakesFlow F.takes self.old self.new
             (record { number = number; stamp = at; bytes = frame.now } ∷ []) }
     {
-        let Some(next) = &mut self.next else {
+        let Some(expected) = self.expected_in(frame) else {
             return Ok(false);
         };
-        let rtp = *next;
-        if !carries(frame, self.media.target(), rtp) {
-            return Ok(false);
-        }
-        next.number = rtp.number.wrapping_add(1);
         let packet = FlowPacket {
             rec: number,
             at,
-            rtp: Ok(rtp),
+            rtp: Ok(expected),
         };
-        self.taker.take(&packet, frame)?;
+        self.take_packet(&packet, frame)?;
         Ok(true)
     }
 
     /// Takes the next packet of the flow, and the frame that carried it.
-    #[inline]
+    #[inline(always)]
     pub fn take_packet(&mut self, packet: &FlowPacket, frame: &[u8]) -> Result<(), OutOfMemory>
         requires stamp { IsStamp packet.now.at }
         requires reading { IsReading packet.now.rtp }

@@ -68,7 +68,8 @@ impl Judging {
 }
 
 impl FlowTaker for Judging {
-    ghost use Rattle.timing_reach.specs.judged.Readings.{HasRoom, JudgesOn, judges_more, judges_none, judges_other, room_less};
+    ghost use Rattle.timing_reach.specs.judged.Readings.{HasRoom, JudgesOn, judges_more, judges_none, judges_other};
+    ghost use Rattle.timing_reach.specs.judged.Readings.{room_less};
 
     ghost takes = { JudgesOn };
 

@@ -98,8 +98,8 @@ fn answer_seen<L: Look, H: Shelf>(
     }
 }
 
-/// The answer on the flow of this media: the capture is fetched and read once to judge the flow, and where that comes to
-/// one run of whole frames, a second time to look into it.
+/// The answer on the flow of this media: the capture is fetched and read once to judge the flow, and where that comes
+/// to one run of whole frames, a second time to look into it.
 pub fn answer_twice<L: Look, H: Shelf>(
     alloc: Global,
     job: &FlowJob,

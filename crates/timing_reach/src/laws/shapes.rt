@@ -27,8 +27,9 @@ pub fn one_shape_answer()
         → HasShape list tai kind m items run b → a ≡ b }
 {}
 
-/// The capture that `shape` writes, of at most 2^40 bytes, read again with the same seconds: it is whole, and the flow is
-/// judged in one run, of the same groups between the same packets, whose judged packets came as the plan lets them leave.
+/// The capture that `shape` writes, of at most 2^40 bytes, read again with the same seconds: it is whole, and the flow
+/// is judged in one run, of the same groups between the same packets, whose judged packets came as the plan lets them
+/// leave.
 pub fn shaped_is_read_back()
     ensures { (tai : ℕ) (kind : Kind) (m : Media) (items : List Record) (run : JudgedRun)
         (answer : Answer) → All CanBeHeld items

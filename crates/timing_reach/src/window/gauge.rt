@@ -37,6 +37,8 @@ impl FirstGroup {
     }
 
     /// Takes the next packet, where a group may have so many, and answers whether it may.
+    #[cold]
+    #[inline(never)]
     fn push(&mut self, at: u64) -> Result<bool, OutOfMemory>
         requires { at < 2 ^ 62 }
         ensures { IfOk result (HasPushed at self.old.stamps.items self.new.stamps.items) }
@@ -63,6 +65,8 @@ impl GroupGauge {
     ghost use Rattle.timing_reach.specs.window.Gauging.{IsMetered, count_seen};
 
     /// After the last packet of the first group.
+    #[cold]
+    #[inline(never)]
     fn first(media: &Media, group: &FirstGroup) -> GroupGauge
         requires { 1 ≤ length group.now.stamps.items }
         ensures seen { count_seen result.meters ≡ length group.now.stamps.items }
@@ -110,58 +114,27 @@ enum Part {
 impl Part {
     ghost use Rattle.timing_reach.specs.window.Gauging.{AreWindowsIn, HasCome, count_kept};
 
-    /// Takes the next packet, which came at `at`, in nanoseconds of TAI. `Err` is want of memory, for the
-    /// stamps of the first group.
+    /// Takes the next packet, which came at `at`, in nanoseconds of TAI, and is or isn't the last of a group. `Err` is
+    /// want of memory, for the stamps of the first group.
     #[inline(always)]
-    fn feed(
-        &mut self,
-        alloc: Global,
-        media: &Media,
-        at: u64,
-        marker: bool,
-    ) -> Result<(), OutOfMemory>
+    fn feed(&mut self, alloc: Global, media: &Media, at: u64, last: bool) -> Result<(), OutOfMemory>
         requires in_time { at < 2 ^ 62 }
         requires few { count_kept self.old < 2 ^ 40 }
         ensures kept { IfOk result (λ _. count_kept self.new ≤ count_kept self.old + 1) }
         ensures comes { IfOk result (λ _. (so_far : SoFar) → HasCome media.now self.old so_far
-            → HasCome media.now self.new (so_far_next so_far at marker)) }
+            → HasCome media.now self.new (so_far_next so_far at last)) }
     {
         match self {
-            Part::Groups(groups) => {
-                groups.feed(at, marker);
-                Ok(())
-            }
-            _ => self.feed_early(alloc, media, at, marker),
-        }
-    }
-
-    /// Takes a packet as [`Part::feed`] does, also before the first group is whole.
-    #[cold]
-    #[inline(never)]
-    fn feed_early(
-        &mut self,
-        alloc: Global,
-        media: &Media,
-        at: u64,
-        marker: bool,
-    ) -> Result<(), OutOfMemory>
-        requires in_time { at < 2 ^ 62 }
-        requires few { count_kept self.old < 2 ^ 40 }
-        ensures kept { IfOk result (λ _. count_kept self.new ≤ count_kept self.old + 1) }
-        ensures comes { IfOk result (λ _. (so_far : SoFar) → HasCome media.now self.old so_far
-            → HasCome media.now self.new (so_far_next so_far at marker)) }
-    {
-        match self {
-            Part::Groups(groups) => groups.feed(at, marker),
+            Part::Groups(groups) => groups.feed(at, last),
             Part::First(group) => {
                 if !group.push(at)? {
                     *self = Part::TooLarge;
-                } else if marker {
+                } else if last {
                     *self = Part::Groups(GroupGauge::first(media, group));
                 }
             }
             Part::Head => {
-                if marker {
+                if last {
                     *self = Part::First(FirstGroup::new(alloc));
                 }
             }

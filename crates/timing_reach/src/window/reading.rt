@@ -60,7 +60,8 @@ impl Reading {
 }
 
 impl FlowTaker for Reading {
-    ghost use Rattle.timing_reach.specs.window.Readings.{HasRoom, ReadsOn, reads_more, reads_none, reads_other, room_less};
+    ghost use Rattle.timing_reach.specs.window.Readings.{HasRoom, ReadsOn, reads_more, reads_none, reads_other};
+    ghost use Rattle.timing_reach.specs.window.Readings.{room_less};
 
     ghost takes = { ReadsOn };
 

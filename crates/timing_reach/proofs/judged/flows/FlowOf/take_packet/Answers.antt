@@ -1,4 +1,4 @@
-use Rattle.std.proofs.Common.{refl, sym, ◌∙◌}
+use Rattle.std.proofs.Common.{refl, ◌∙◌}
 use Rattle.timing_reach.proofs.Takings.{flow-took, if-ok}
 use Rattle.timing_reach.proofs.judged.flows.FlowOf.take_packet.Goals as goal
 
