@@ -1,6 +1,5 @@
 -- Bins and classes that have the same numbers tell the same counts.
-use Rattle.std.proofs.Common.{◌≡◌, ◌<◌, ◌≤◌, ◌+◌, ◌/◌, ◌-◌, ℕ, ℤ, List, length, take, slice_index, Option, Some, None, ap, ap₂, ◌∙◌, sym, subst, arith}
-use Rattle.std.specs.Prelude.{MatchOption}
+use Rattle.std.proofs.Common.{◌≡◌, ◌<◌, ◌+◌, ◌/◌, ℕ, ℤ, length, take, slice_index, ap, ap₂, ◌∙◌, sym, subst, arith}
 use Rattle.std.proofs.lemmas.List.{ext_get_or, get_or-take, length-take-le}
 use Rattle.flow_measure.specs.Bins.{bin_width, in_bin}
 use Rattle.flow_measure.specs.Classes.{AreClasses}

@@ -1,5 +1,5 @@
 -- A judged run of whole groups has its numbers.
-use Rattle.std.proofs.Common.{◌≡◌, ◌≤◌, ◌<◌, ◌+◌, ◌-◌, ◌*◌, ◌/◌, ◌^◌, ◌==◌, ℕ, zero, suc, ℤ, pos, negsuc, ◌-ℤ◌, ◌⊎◌, inl, inr, Bool, true, false, ◌&&◌, nat_le, nat_lt}
+use Rattle.std.proofs.Common.{◌≡◌, ◌≤◌, ◌<◌, ◌+◌, ◌-◌, ◌*◌, ◌/◌, ◌^◌, ◌==◌, ℕ, zero, suc, ℤ, pos, negsuc, ◌-ℤ◌, ◌⊎◌, inl, inr, Bool, true, false, ◌&&◌, nat_le}
 use Rattle.std.proofs.Common.{List, [], ◌∷◌, length, get_or, set, replicate, sum, max, Option, Some, None, refl, sym, subst, ap, ap₂, ◌∙◌, arith}
 use Rattle.std.specs.Prelude.{MatchOption, slice_index}
 use Rattle.std.specs.List.{slice_index_or}
@@ -20,15 +20,15 @@ use Rattle.sender_params.specs.Times.{offset_time}
 use Rattle.read_schedule.proofs.Rising.{due-some}
 use Rattle.flow_measure.specs.Bins.{above_limit, below_zero, bin_width, in_bin, is_above, is_below, is_in_bin}
 use Rattle.flow_measure.specs.Broken.{broken_groups}
-use Rattle.flow_measure.specs.Classes.{in_class, is_in_class}
+use Rattle.flow_measure.specs.Classes.{is_in_class}
 use Rattle.flow_measure.specs.First.{IsFirst}
 use Rattle.flow_measure.specs.Gaps.{AreGapsOf, gap_after}
 use Rattle.flow_measure.specs.Groups.{firsts_of, lasts_of, latency_at, offset_at, since_at, step_after}
 use Rattle.flow_measure.specs.Kinds.{AreBinsOf, AreKindNumbers, Packets, breaks, place_below}
-use Rattle.flow_measure.specs.Occupancy.{AreOccupancies, IsSlack, buckets_of, late_of, margin_of}
-use Rattle.flow_measure.specs.Places.{IsWithin, place_of}
-use Rattle.flow_measure.specs.Run.{AreKinds, IsBuffer, IsKind, IsMeasured, anchor_in, packets_of}
-use Rattle.flow_measure.specs.Stands.{Classifies, Counts}
+use Rattle.flow_measure.specs.Occupancy.{buckets_of, late_of, margin_of}
+use Rattle.flow_measure.specs.Places.{place_of}
+use Rattle.flow_measure.specs.Run.{IsBuffer, IsMeasured, anchor_in, packets_of}
+use Rattle.flow_measure.specs.Stands.{Classifies}
 use Rattle.flow_measure.specs.Summary.{IsGreatest, IsLeast, IsSummary, sum_of}
 use Rattle.flow_measure.specs.Worked.{summary}
 use Rattle.flow_measure.specs.declared.bins.Bins.{Bins}

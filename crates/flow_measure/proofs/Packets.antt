@@ -13,11 +13,12 @@ use Rattle.sender_params.specs.Keeps.{held_at}
 use Rattle.sender_params.specs.Limits.{c_max_of, gapped_of, vrx_full_of}
 use Rattle.sender_params.specs.Reads.{anchor_of, read_of}
 use Rattle.flow_measure.specs.Bins.{is_above}
-use Rattle.flow_measure.specs.Fed.{Finds, IsLike, Names}
+use Rattle.flow_measure.specs.Fed.{Finds, IsLike, MeasuresType, Names}
 use Rattle.flow_measure.specs.Kinds.{Packets}
 use Rattle.flow_measure.specs.Metered.{AreListed, ArePackets, IsNamed}
 use Rattle.flow_measure.specs.Occupancy.{AreOccupancies, IsOccupancy, buckets_of, is_late}
 use Rattle.flow_measure.specs.Run.{packets_of}
+use Rattle.flow_measure.specs.declared.kinds.KindMeters.{KindMeters}
 use Rattle.flow_measure.specs.declared.kinds.Level.{Level}
 use Rattle.flow_measure.specs.declared.named.Named.{Named}
 use Rattle.flow_measure.specs.declared.reader.Held.{Held}
@@ -133,6 +134,17 @@ packets-are m n stamps records occupancy kind are = record {
   rec = λ i few. refl;
   stamp = λ i few. refl;
 }
+
+-- what meters that are made from others by feeding those that wait were fed
+pub fed-all : (kind : Kind) (m : Media) (n : ℕ) (stamps records : List ℕ) (b c : KindMeters) (occupancy : ℕ → ℤ)
+    → AreOccupancies m n stamps (gapped_of kind) occupancy
+    → ((kind : Kind) (p : Packets) → ArePackets m n stamps records kind p
+    → MeasuresType kind n (c_max_of m n kind) (vrx_full_of m n kind) b p)
+    → ((kind : Kind) (n c_max full : ℕ) (p : Packets) → MeasuresType kind n c_max full b p → MeasuresType kind n c_max full c p)
+    → MeasuresType kind n (c_max_of m n kind) (vrx_full_of m n kind) c (packets_of m n stamps records occupancy kind)
+fed-all kind m n stamps records b c occupancy are fed settled =
+    let p = packets_of m n stamps records occupancy kind in
+    settled kind n (c_max_of m n kind) (vrx_full_of m n kind) p (fed kind p (packets-are m n stamps records occupancy kind are))
 
 -- each packet has an occupancy
 pub occupancies : (m : Media) (n : ℕ) (stamps : List ℕ) (gapped : Bool) → IsMedia m → 1 ≤ n

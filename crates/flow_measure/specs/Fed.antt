@@ -62,6 +62,8 @@ pub record MeasuresKind (n c_max full : ℕ) (meter : KindMeter) (p : Packets) :
   pub n_is : meter.broken.n ≡ n
   pub c_max_is : meter.bucket.limit ≡ c_max
   pub full_is : meter.buffer.limit ≡ full
+  pub filled : Summarizes meter.filled p.bucket
+  pub occupancy : Summarizes meter.occupancy p.occupancy
   pub bucket : Counts meter.bucket p.bucket
   pub buffer : Counts meter.buffer p.occupancy
   pub broken : CountsBroken meter.broken (breaks p)

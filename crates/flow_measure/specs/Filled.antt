@@ -4,7 +4,6 @@ use Rattle.timing_base.specs.Media.{Media}
 use Rattle.sender_params.specs.declared.params.Params.{Params}
 use Rattle.drain_bucket.specs.Stands.{StandsFor as BucketStandsFor}
 use Rattle.flow_measure.specs.Occupancy.{buckets_of}
-use Rattle.flow_measure.specs.Stands.{Summarizes}
 use Rattle.flow_measure.specs.declared.bucket_meter.BucketMeter.{BucketMeter}
 
 -- a packet at this instant may be the next one: the first comes at `origin`, and none before the last
@@ -20,4 +19,3 @@ AreBuckets m n stamps numbers = (i : ℕ) → i < length stamps → numbers i �
 pub record FillsBucket (params : Params) (origin : ℕ) (meter : BucketMeter) (stamps : List ℕ) : Type 0 where
   pub origin_is : meter.bucket.origin ≡ origin
   pub bucket : BucketStandsFor params meter.bucket stamps
-  pub counts : (numbers : ℕ → ℤ) → AreBuckets params.media params.n stamps numbers → Summarizes meter.counts numbers

@@ -3,8 +3,7 @@ use Rattle.std.specs.Prelude.{◌≡◌, ◌<◌, ◌≤◌, ℕ, ℤ, Bool, Lis
 use Rattle.timing_base.specs.Media.{Media}
 use Rattle.sender_params.specs.Reads.{anchor_of}
 use Rattle.read_schedule.specs.Stands.{StandsBy}
-use Rattle.flow_measure.specs.Occupancy.{AreOccupancies}
-use Rattle.flow_measure.specs.Stands.{Summarizes, Times}
+use Rattle.flow_measure.specs.Stands.{Times}
 use Rattle.flow_measure.specs.declared.reader.ScheduleMeter.{ScheduleMeter}
 
 -- a packet at this instant may be the next one: the first is of group `anchor`, and none comes before the last
@@ -20,6 +19,4 @@ pub record Follows (m : Media) (n : ℕ) (anchor : ℤ) (gapped : Bool) (meter :
   -- the schedule stands by some stamp that isn't after the next packet
   pub stood : (at : ℕ) → ((i : ℕ) → i < length stamps → slice_index stamps i ≤ at)
       → (before : ℕ) × (before ≤ at) × StandsBy m n anchor gapped meter.schedule before
-  pub occupancy : (occupancy : ℕ → ℤ) → AreOccupancies m n stamps gapped occupancy
-      → Summarizes meter.occupancy occupancy
   pub margins : Times m n anchor gapped meter.margins stamps

@@ -1,29 +1,24 @@
 //! What the bucket holds at each packet.
 
 ghost use Rattle.std.specs.Prelude.{◌≡◌, ◌<◌, ◌≤◌, ◌+◌, ◌^◌, ◌++◌, ◌∷◌, [], ℕ, ℤ, List, length};
-ghost use Rattle.std.specs.Prelude.{pos, neg_ℤ, ◌≤ℤ◌, MatchOption};
+ghost use Rattle.std.specs.Prelude.{pos, neg_ℤ, ◌≤ℤ◌};
 
-use crate::summary::{Summary, SummaryMeter};
 use drain_bucket::Bucket;
 use sender_params::Params;
 
-/// The bucket of one flow, and what it held at each packet so far.
+/// The bucket of one flow, at the packets so far.
 #[derive(Clone, Copy, Debug, PartialEq, Eq)]
 pub struct BucketMeter {
     /// The packets fed.
     pub seen: u64,
     bucket: Bucket,
-    counts: SummaryMeter,
     ghost bucket_is: { bucket.seen ≡ seen },
-    ghost counts_is: { counts.seen ≡ seen },
     ghost origin_small: { bucket.origin < 2 ^ 62 },
 }
 
 impl BucketMeter {
-    ghost use Rattle.sender_params.specs.declared.params.Params.{Params as ParamsValue};
     ghost use Rattle.flow_measure.specs.Filled.{FillsBucket, IsNext};
     ghost use Rattle.flow_measure.specs.Occupancy.{buckets_of};
-    ghost use Rattle.flow_measure.specs.Summary.{IsSummary};
 
     /// The meter of a flow whose first packet comes at `origin`, in nanoseconds of TAI.
     pub fn new(params: &Params, origin: u64) -> BucketMeter
@@ -34,7 +29,6 @@ impl BucketMeter {
         BucketMeter {
             seen: 0,
             bucket: Bucket::new(params, origin),
-            counts: SummaryMeter::new(),
         }
     }
 
@@ -62,17 +56,7 @@ impl BucketMeter {
         let begun = at.max(self.bucket.origin);
         let count = self.bucket.feed(params, begun);
         let packets = i128::from(count);
-        self.counts.feed(packets);
         self.seen += 1;
         packets
-    }
-
-    /// The summary of what the bucket held, if there is a packet.
-    pub fn finish(&self) -> Option<Summary>
-        ensures { (params : ParamsValue) (origin : ℕ) (stamps : List ℕ) → FillsBucket params origin self.now stamps
-            → MatchOption result (length stamps ≡ 0)
-            (IsSummary (buckets_of params.media params.n stamps) (length stamps)) }
-    {
-        self.counts.finish()
     }
 }

@@ -1,6 +1,6 @@
 //! How often numbers come, in classes that double.
 
-ghost use Rattle.std.specs.Prelude.{◌≡◌, ◌<◌, ◌≤◌, ◌+◌, ◌^◌, ℕ, length as list_length, sum, true};
+ghost use Rattle.std.specs.Prelude.{◌≡◌, ◌<◌, ◌≤◌, ◌+◌, ◌^◌, ℕ, length as list_length, max, sum, true};
 ghost use Rattle.flow_measure.specs.Classes.{is_in_class};
 
 /// The classes of the numbers below 2^63.
@@ -51,7 +51,7 @@ impl Classes {
     {
         let class = class_of(number);
         self.counts[class] += 1;
-        self.length = self.length.max(class + 1);
+        reach(&mut self.length, class + 1);
         self.seen += 1;
     }
 
@@ -66,6 +66,16 @@ impl Classes {
             → sum result.now ≡ self.now.seen }
     {
         &self.counts[..self.length]
+    }
+}
+
+/// Takes a length in the place of a shorter one.
+#[inline(always)]
+fn reach(length: &mut usize, least: usize)
+    ensures { length.new ≡ max length.old least }
+{
+    if *length < least {
+        *length = least;
     }
 }
 

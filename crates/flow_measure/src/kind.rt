@@ -1,12 +1,13 @@
 //! How near packets come to the limits of one sender type.
 
-ghost use Rattle.std.specs.Prelude.{◌≡◌, ◌<◌, ◌≤◌, ◌+◌, ◌*◌, ◌%◌, ◌^◌, ℕ, Option};
+ghost use Rattle.std.specs.Prelude.{◌≡◌, ◌<◌, ◌≤◌, ◌+◌, ◌*◌, ◌%◌, ◌^◌, ℕ, pos, neg_ℤ, ◌≤ℤ◌, Option};
 
 use crate::bins::Bins;
 use crate::broken::{BrokenGroups, either};
 use crate::first::first_with;
 use crate::numbers::{KindNumbers, Place};
 use crate::reader::Held;
+use crate::summary::SummaryMeter;
 use sender_params::Params;
 use timing_base::Kind;
 
@@ -16,12 +17,18 @@ use timing_base::Kind;
 pub struct KindMeter {
     /// The packets fed.
     pub seen: u64,
+    /// What the bucket held just after each packet, in packets.
+    pub filled: SummaryMeter,
+    /// What the buffer held just after each packet, in packets.
+    pub occupancy: SummaryMeter,
     bucket: Bins,
     buffer: Bins,
     pub broken: BrokenGroups,
     first_bucket: Option<u64>,
     first_over: Option<u64>,
     first_empty: Option<u64>,
+    ghost filled_is: { filled.seen ≡ seen },
+    ghost occupancy_is: { occupancy.seen ≡ seen },
     ghost bucket_is: { bucket.seen ≡ seen },
     ghost buffer_is: { buffer.seen ≡ seen },
     ghost broken_is: { broken.seen ≡ seen },
@@ -41,6 +48,8 @@ impl KindMeter {
     {
         KindMeter {
             seen: 0,
+            filled: SummaryMeter::new(),
+            occupancy: SummaryMeter::new(),
             bucket: Bins::new(params.c_max(kind)),
             buffer: Bins::new(params.vrx_full(kind)),
             broken: BrokenGroups::new(params.n()),
@@ -53,6 +62,10 @@ impl KindMeter {
     /// Takes in so many packets of one group, with what the bucket holds just after each, and what the buffer says
     /// of each by the reads of the type.
     pub fn feed(&mut self, bucket: i128, held: Held, times: u64)
+        requires bucket_low { neg_ℤ (pos (2 ^ 84)) ≤ℤ bucket }
+        requires bucket_high { bucket ≤ℤ pos (2 ^ 84) }
+        requires held_low { neg_ℤ (pos (2 ^ 84)) ≤ℤ held.occupancy }
+        requires held_high { held.occupancy ≤ℤ pos (2 ^ 84) }
         requires few { self.old.seen + times ≤ 2 ^ 41 }
         requires some { 1 ≤ times }
         requires within { self.old.broken.seen % self.old.broken.n + times ≤ self.old.broken.n }
@@ -67,6 +80,8 @@ impl KindMeter {
         let packet = self.seen;
         let overfull = self.bucket.is_above(bucket);
         let over = self.buffer.is_above(held.occupancy);
+        self.filled.feed_often(bucket, times);
+        self.occupancy.feed_often(held.occupancy, times);
         self.bucket.feed(bucket, times);
         self.buffer.feed(held.occupancy, times);
         let broken = either(either(overfull, over), held.late);

@@ -1,6 +1,6 @@
 //! How near packets come to the limits of the three sender types.
 
-ghost use Rattle.std.specs.Prelude.{◌≡◌, ◌<◌, ◌≤◌, ◌+◌, ◌%◌, ◌^◌, ℕ};
+ghost use Rattle.std.specs.Prelude.{◌≡◌, ◌<◌, ◌≤◌, ◌+◌, ◌%◌, ◌^◌, ℕ, pos, neg_ℤ, ◌≤ℤ◌};
 
 use crate::kind::KindMeter;
 use crate::reader::Held;
@@ -31,6 +31,12 @@ pub struct KindMeters {
     /// How many they are.
     waits: u64,
     ghost few: { seen ≤ 2 ^ 41 },
+    ghost bucket_low: { neg_ℤ (pos (2 ^ 84)) ≤ℤ level.bucket },
+    ghost bucket_high: { level.bucket ≤ℤ pos (2 ^ 84) },
+    ghost gapped_low: { neg_ℤ (pos (2 ^ 84)) ≤ℤ level.gapped.occupancy },
+    ghost gapped_high: { level.gapped.occupancy ≤ℤ pos (2 ^ 84) },
+    ghost linear_low: { neg_ℤ (pos (2 ^ 84)) ≤ℤ level.linear.occupancy },
+    ghost linear_high: { level.linear.occupancy ≤ℤ pos (2 ^ 84) },
     ghost narrow_is: { narrow.seen + waits ≡ seen },
     ghost narrow_linear_is: { narrow_linear.seen ≡ narrow.seen },
     ghost wide_is: { wide.seen ≡ narrow.seen },
@@ -73,6 +79,12 @@ impl KindMeters {
     #[inline(always)]
     pub fn feed(&mut self, level: Level)
         requires few { self.old.seen < 2 ^ 41 }
+        requires bucket_low { neg_ℤ (pos (2 ^ 84)) ≤ℤ level.bucket }
+        requires bucket_high { level.bucket ≤ℤ pos (2 ^ 84) }
+        requires gapped_low { neg_ℤ (pos (2 ^ 84)) ≤ℤ level.gapped.occupancy }
+        requires gapped_high { level.gapped.occupancy ≤ℤ pos (2 ^ 84) }
+        requires linear_low { neg_ℤ (pos (2 ^ 84)) ≤ℤ level.linear.occupancy }
+        requires linear_high { level.linear.occupancy ≤ℤ pos (2 ^ 84) }
         ensures seen { self.new.seen ≡ self.old.seen + 1 }
 
         // Whatever packets the meters were fed, they were now fed this one, too.
@@ -88,6 +100,12 @@ impl KindMeters {
     /// Makes room for one packet more to wait, which finds this.
     #[inline(always)]
     fn turn_to(&mut self, level: Level)
+        requires bucket_low { neg_ℤ (pos (2 ^ 84)) ≤ℤ level.bucket }
+        requires bucket_high { level.bucket ≤ℤ pos (2 ^ 84) }
+        requires gapped_low { neg_ℤ (pos (2 ^ 84)) ≤ℤ level.gapped.occupancy }
+        requires gapped_high { level.gapped.occupancy ≤ℤ pos (2 ^ 84) }
+        requires linear_low { neg_ℤ (pos (2 ^ 84)) ≤ℤ level.linear.occupancy }
+        requires linear_high { level.linear.occupancy ≤ℤ pos (2 ^ 84) }
         ensures seen { self.new.seen ≡ self.old.seen }
         ensures level { self.new.level ≡ level }
         ensures room { self.new.narrow.broken.seen % self.new.narrow.broken.n + self.new.waits

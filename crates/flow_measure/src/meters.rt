@@ -104,12 +104,12 @@ impl RunMeters {
             → MatchOption result (groups ≡ 0)
             (IsMeasured params.now.media params.now.n groups stamps records timestamps named) }
     {
-        let bucket = self.bucket.finish()?;
-        let gapped = self.gapped.finish()?;
-        let linear = self.linear.finish()?;
-        let groups = self.groups.finish()?;
         let mut kinds = self.kinds;
         kinds.settle();
+        let bucket = kinds.narrow.filled.finish()?;
+        let gapped = self.gapped.finish(&kinds.narrow.occupancy)?;
+        let linear = self.linear.finish(&kinds.narrow_linear.occupancy)?;
+        let groups = self.groups.finish()?;
         Some(RunNumbers {
             bucket,
             gapped,

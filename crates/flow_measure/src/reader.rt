@@ -21,15 +21,13 @@ pub struct Held {
     pub late: bool,
 }
 
-/// The reads of one schedule and the packets so far of one flow: the occupancy and the margins of each.
+/// The reads of one schedule and the packets so far of one flow: their margins, and the occupancy at the next.
 #[derive(Clone, Copy, Debug, PartialEq, Eq)]
 pub struct ScheduleMeter {
     /// The packets fed.
     pub seen: u64,
     schedule: Schedule,
-    occupancy: SummaryMeter,
     margins: MarginMeter,
-    ghost occupancy_is: { occupancy.seen ≡ seen },
     ghost margins_is: { margins.seen ≡ seen },
 }
 
@@ -37,6 +35,7 @@ impl ScheduleMeter {
     ghost use Rattle.flow_measure.specs.Occupancy.{AreOccupancies, IsOccupancy, is_late};
     ghost use Rattle.flow_measure.specs.Followed.{CanFollow, Follows};
     ghost use Rattle.flow_measure.specs.Run.{IsBuffer};
+    ghost use Rattle.flow_measure.specs.Stands.{Summarizes};
 
     /// The meter of a flow whose first packet is of group `n0`, before that packet: of its gapped schedule
     /// or its linear one.
@@ -49,7 +48,6 @@ impl ScheduleMeter {
         ScheduleMeter {
             seen: 0,
             schedule: Schedule::new(params, gapped, n0),
-            occupancy: SummaryMeter::new(),
             margins: MarginMeter::new(params, gapped, n0),
         }
     }
@@ -82,21 +80,21 @@ impl ScheduleMeter {
     {
         let due = self.schedule.advance(at);
         let occupancy = occupancy_of(self.seen, due);
-        self.occupancy.feed(occupancy);
         let late = self.margins.feed(at);
         self.seen += 1;
         Held { occupancy, late }
     }
 
     /// What the buffer held, if there is a packet, where the first of them is of the group that `new` was
-    /// given.
-    pub fn finish(&self) -> Option<Buffer>
+    /// given, and `held` was fed the occupancies.
+    pub fn finish(&self, held: &SummaryMeter) -> Option<Buffer>
         ensures { (m : Media) (n : ℕ) (gapped : Bool) (stamps : List ℕ) (occupancy : ℕ → ℤ)
             → Follows m n (anchor_of m (slice_index stamps 0)) gapped self.now stamps
             → AreOccupancies m n stamps gapped occupancy
+            → Summarizes held.now occupancy → held.now.seen ≡ self.now.seen
             → MatchOption result (length stamps ≡ 0) (IsBuffer m n stamps gapped occupancy) }
     {
-        let occupancy = self.occupancy.finish()?;
+        let occupancy = held.finish()?;
         let margins = self.margins.finish()?;
         Some(Buffer { occupancy, margins })
     }

@@ -1,6 +1,6 @@
 //! The summary of whole numbers.
 
-ghost use Rattle.std.specs.Prelude.{◌≡◌, ◌<◌, ◌≤◌, ◌+◌, ◌*◌, ◌^◌, ℕ, ℤ, pos, neg_ℤ, ◌≤ℤ◌, MatchOption};
+ghost use Rattle.std.specs.Prelude.{◌≡◌, ◌<◌, ◌≤◌, ◌+◌, ◌*◌, ◌^◌, ℕ, ℤ, pos, neg_ℤ, ◌≤ℤ◌, ◌*ℤ◌, MatchOption};
 ghost use Rattle.std.specs.Int.{int_max, int_min};
 
 /// The summary of whole numbers, of which there is one at least. It has their unit.
@@ -37,20 +37,16 @@ impl Summary {
     }
 }
 
-/// The last number before the first, which none is.
-const NONE: i128 = i128::MAX;
-
 /// The summary of the numbers so far.
 #[derive(Clone, Copy, Debug, PartialEq, Eq)]
 pub struct SummaryMeter {
     /// The numbers fed.
     pub seen: u64,
-    /// Their summary; before the first, 0 and the last one `NONE`.
+    /// Their summary; before the first, that of 0.
     so_far: Summary,
     ghost few: { seen ≤ 2 ^ 41 },
     ghost sum_low: { neg_ℤ (pos (seen * 2 ^ 84)) ≤ℤ so_far.sum },
     ghost sum_high: { so_far.sum ≤ℤ pos (seen * 2 ^ 84) },
-    ghost none_last: { seen ≡ 0 → pos (2 ^ 85) ≤ℤ so_far.last },
 }
 
 impl SummaryMeter {
@@ -62,9 +58,10 @@ impl SummaryMeter {
         ensures seen { result.seen ≡ 0 }
         ensures stands { (numbers : ℕ → ℤ) → Summarizes result numbers }
     {
-        let mut so_far = Summary::of(0);
-        so_far.last = NONE;
-        SummaryMeter { seen: 0, so_far }
+        SummaryMeter {
+            seen: 0,
+            so_far: Summary::of(0),
+        }
     }
 
     /// Takes the next number in.
@@ -79,11 +76,6 @@ impl SummaryMeter {
         ensures stands { (numbers : ℕ → ℤ) → Summarizes self.old numbers
             → numbers self.old.seen ≡ number → Summarizes self.new numbers }
     {
-        if number == self.so_far.last {
-            self.seen += 1;
-            self.so_far.sum += number;
-            return;
-        }
         if self.seen == 0 {
             self.seen = 1;
             self.so_far = Summary::of(number);
@@ -96,6 +88,24 @@ impl SummaryMeter {
         self.so_far.last = number;
     }
 
+    /// Takes in the next number, which comes so many times.
+    pub fn feed_often(&mut self, number: i128, times: u64)
+        requires low { neg_ℤ (pos (2 ^ 84)) ≤ℤ number }
+        requires high { number ≤ℤ pos (2 ^ 84) }
+        requires some { 1 ≤ times }
+        requires few { self.old.seen + times ≤ 2 ^ 41 }
+        ensures seen { self.new.seen ≡ self.old.seen + times }
+
+        // Whatever numbers the meter was fed, it was now fed this one so many times, too.
+        ensures stands { (numbers : ℕ → ℤ) → Summarizes self.old numbers
+            → ((j : ℕ) → j < times → numbers (self.old.seen + j) ≡ number) → Summarizes self.new numbers }
+    {
+        self.feed(number);
+        let more = times - 1;
+        self.so_far.sum += product(number, more);
+        self.seen += more;
+    }
+
     /// The summary of the numbers that were fed, if there is one.
     pub fn finish(&self) -> Option<Summary>
         ensures { (numbers : ℕ → ℤ) → Summarizes self.now numbers
@@ -103,6 +113,18 @@ impl SummaryMeter {
     {
         (self.seen > 0).then_some(self.so_far)
     }
+}
+
+/// A number so many times.
+fn product(number: i128, times: u64) -> i128
+    requires low { neg_ℤ (pos (2 ^ 84)) ≤ℤ number }
+    requires high { number ≤ℤ pos (2 ^ 84) }
+    requires few { times ≤ 2 ^ 41 }
+    ensures value { result ≡ number *ℤ pos times }
+    ensures low { neg_ℤ (pos (times * 2 ^ 84)) ≤ℤ result }
+    ensures high { result ≤ℤ pos (times * 2 ^ 84) }
+{
+    number * i128::from(times)
 }
 
 /// Takes a number in the place of a greater one.

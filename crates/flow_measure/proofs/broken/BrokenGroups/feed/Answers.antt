@@ -1,4 +1,4 @@
-use Rattle.std.proofs.Common.{◌≡◌, ◌+◌, ◌%◌, ◌<◌, Bool, cond, ap, ◌∙◌, arith}
+use Rattle.std.proofs.Common.{◌≡◌, ◌+◌, Bool, cond, ap, ◌∙◌, arith}
 use Rattle.flow_measure.proofs.Breaks.{before-more, before-same, end-of-group, here-more, here-none, within-group}
 use Rattle.flow_measure.proofs.Counted.{number-of}
 use Rattle.flow_measure.proofs.broken.BrokenGroups.feed.Goals as goal

@@ -1,9 +1,7 @@
-use Rattle.std.proofs.Common.{◌≡◌, ◌+◌, ◌++◌, ◌∷◌, [], length, FitsSigned, ap, ◌∙◌, sym, rules, arith}
-use Rattle.std.proofs.Common.{length-append}
+use Rattle.std.proofs.Common.{FitsSigned, ◌∙◌, rules, arith}
 use Rattle.std.proofs.lemmas.Int.{ints, to_z-of_z}
 use Rattle.std.specs.Int.{w128}
-use Rattle.flow_measure.specs.Occupancy.{buckets_of}
-use Rattle.flow_measure.proofs.Filled.{bucket-more, buckets-front, count-is}
+use Rattle.flow_measure.proofs.Filled.{bucket-more, count-is}
 use Rattle.flow_measure.proofs.bucket_meter.BucketMeter.feed.Goals as goal
 
 pub returns-clause-count : goal.returns-clause-count
@@ -21,19 +19,9 @@ returns-clause-stands c = λ origin stamps h next.
     let s = c.args.self.now in
     let p = c.args.params.now in
     let at = c.args.at in
-    let new = stamps ++ at ∷ [] in
     let stands = bucket-more p s.bucket c.feed-count.new.self origin stamps at c.max-begun.result h.origin_is h.bucket next c.max-begun.ensures
     c.feed-count.ensures.stands in
-    let count = c.feed-count.ensures.count ∙ count-is p c.feed-count.new.self stamps at stands in
-    let fits : FitsSigned w128 c.from-packets.result = search rules in
-    let value : c.from-packets.result ≡ buckets_of p.media p.n new (length stamps) =
-    omega (arith, ints, c.from-packets.ensures, count) in
-    let long : length new ≡ length stamps + 1 = length-append stamps (at ∷ []) in
-    let place : s.counts.seen ≡ length stamps = s.counts_is ∙ sym s.bucket_is ∙ h.bucket.seen in
     record {
       origin_is = c.feed-count.ensures.origin ∙ h.origin_is;
       bucket = stands;
-      counts = λ numbers are. c.feed.ensures.stands numbers
-          (h.counts numbers (buckets-front p.media p.n stamps at numbers are))
-          (ap numbers place ∙ are (length stamps) (omega (arith, long)) ∙ sym (to_z-of_z w128 c.from-packets.result fits ∙ value));
     }

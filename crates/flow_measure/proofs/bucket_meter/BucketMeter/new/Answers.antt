@@ -7,5 +7,4 @@ pub returns-clause-stands : goal.returns-clause-stands
 returns-clause-stands c = record {
   origin_is = c.new.ensures.origin;
   bucket = c.new.ensures.stands;
-  counts = λ numbers are. c.new-2.ensures.stands numbers;
 }

@@ -7,4 +7,4 @@ returns-clause-stands c = λ numbers h e.
     let k = c.args.self.now in
     let long : length k.counts ≡ 64 = search rules in
     classified-more k _ numbers c.class_of-class.result c.args.number long c.class_of-class.ensures.within c.class_of-class.ensures.class e
-    refl c.max-self.ensures refl h
+    refl c.reach.ensures refl h

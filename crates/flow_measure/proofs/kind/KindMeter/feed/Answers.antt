@@ -35,6 +35,10 @@ returns-clause-stands c = λ n c_max full packets h is.
       n_is = c.feed-3.ensures.n ∙ h.n_is;
       c_max_is = c.feed.ensures.limit ∙ h.c_max_is;
       full_is = c.feed-2.ensures.limit ∙ h.full_is;
+      filled = (simp to_z-of_z at c.feed_often.ensures.stands) packets.bucket h.filled
+          (λ j few. ap (λ k. packets.bucket (k + j)) s.filled_is ∙ (like j few).bucket_is);
+      occupancy = (simp to_z-of_z at c.feed_often-2.ensures.stands) packets.occupancy h.occupancy
+          (λ j few. ap (λ k. packets.occupancy (k + j)) s.occupancy_is ∙ (like j few).occupancy_is);
       bucket = c.feed.ensures.stands packets.bucket h.bucket
           (λ j few. ap (λ k. packets.bucket (k + j)) s.bucket_is ∙ (like j few).bucket_is ∙ sym (to_z-of_z w128 x bucket_fits));
       buffer = c.feed-2.ensures.stands packets.occupancy h.buffer

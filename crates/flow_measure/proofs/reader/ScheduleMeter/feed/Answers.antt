@@ -4,8 +4,7 @@ use Rattle.std.specs.Int.{w128}
 use Rattle.fraction128.specs.Fractions.{below, whole}
 use Rattle.sender_params.specs.Reads.{anchor_of, read_of}
 use Rattle.flow_measure.specs.Occupancy.{IsOccupancy}
-use Rattle.flow_measure.proofs.Followed.{anchor-is, last-is, occupancies-front, occupancy-here}
-use Rattle.flow_measure.proofs.Passes.{occupancy-once}
+use Rattle.flow_measure.proofs.Followed.{anchor-is, last-is, occupancy-here}
 use Rattle.flow_measure.proofs.reader.ScheduleMeter.feed.Goals as goal
 
 pub returns-clause-occupancy : goal.returns-clause-occupancy
@@ -33,20 +32,11 @@ returns-clause-stands c = λ m n anchor gapped stamps h can.
     let new = stamps ++ at ∷ [] in
     let long : length new ≡ length stamps + 1 = length-append stamps (at ∷ []) in
     let stood = h.stood at can.later in
-    let due = c.advance-due.ensures.due m n anchor gapped stood.0 stood.1 stood.2 in
-    let x = c.occupancy_of-occupancy.result in
-    let fits : FitsSigned w128 x = search rules in
-    let here = occupancy-here m n anchor gapped b stamps at c.advance-due.result x h can due c.occupancy_of-occupancy.ensures.value in
     record {
       seen = omega (arith, h.seen, long);
       anchor_is = λ some. anchor-is m n anchor gapped b stamps at h can;
       stood = λ t before.
           let last : at ≤ t = subst (λ a. a ≤ t) (last-is stamps at) (before (length stamps) (omega (arith, long))) in
           (at, last, c.advance-due.ensures.stands m n anchor gapped stood.0 stood.1 stood.2);
-      occupancy = λ occupancy are.
-          let last = occupancy-once m n new gapped (length stamps) (occupancy (length stamps)) x (are (length stamps) (omega (arith, long))) here in
-          let place : b.occupancy.seen ≡ length stamps = omega (arith, b.occupancy_is, h.seen) in
-          c.feed.ensures.stands occupancy (h.occupancy occupancy (occupancies-front m n gapped stamps at occupancy are))
-          (ap occupancy place ∙ last ∙ sym (to_z-of_z w128 x fits));
       margins = c.feed-late.ensures.stands m n anchor gapped stamps h.margins;
     }

@@ -10,6 +10,5 @@ returns-clause-stands c =
       seen = refl;
       anchor_is = λ some. absurd (omega (arith, some));
       stood = λ at before. (at, omega arith, reads at);
-      occupancy = λ occupancy are. c.new-2.ensures.stands occupancy;
-      margins = simp to_z-of_z at c.new-3.ensures.stands;
+      margins = simp to_z-of_z at c.new-2.ensures.stands;
     }
