@@ -16,6 +16,3 @@ pub use pcapng::{MICROS, NANOS, SECTION, as_pcapng, push_number, push_packet, wi
 pub use shelf::put;
 pub use spread::{NARROW, Spread};
 pub use usual::usual_equipment;
-
-#[cfg(test)]
-mod tests;

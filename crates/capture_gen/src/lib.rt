@@ -18,6 +18,3 @@ pub use capture::{capture_len, write_capture};
 pub use packet::Packet;
 pub use pcap_reader::{file_head, record_head};
 pub use sdp::{description, sdp_bytes};
-
-#[cfg(test)]
-mod tests;

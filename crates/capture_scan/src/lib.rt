@@ -22,6 +22,3 @@ pub use found::{Found, PassedOver, Span, UnreadTarget};
 pub use packet::{Line, Packet, Seen, look_at};
 pub use scan::Scan;
 pub use stream::{Arrival, Lines, Order, Pace, Range, Rate, Stream};
-
-#[cfg(test)]
-mod tests;

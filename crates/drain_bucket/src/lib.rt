@@ -8,6 +8,3 @@ mod bucket;
 pub mod laws;
 
 pub use bucket::Bucket;
-
-#[cfg(test)]
-mod tests;

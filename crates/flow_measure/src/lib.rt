@@ -43,6 +43,3 @@ pub use occupancy::occupancy_of;
 pub use reader::{Held, ScheduleMeter};
 pub use run::RunMeter;
 pub use summary::{Summary, SummaryMeter};
-
-#[cfg(test)]
-mod tests;

@@ -13,6 +13,3 @@ mod shaper;
 
 pub use departure::{Bound, Departure, Late};
 pub use shaper::Shaper;
-
-#[cfg(test)]
-mod tests;

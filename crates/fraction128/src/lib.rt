@@ -8,6 +8,3 @@ pub mod laws;
 
 pub use clock::{Clock, Line};
 pub use fraction::{floor_of, floor_signed};
-
-#[cfg(test)]
-mod tests;

@@ -11,6 +11,3 @@ mod grouper;
 pub mod laws;
 
 pub use grouper::Grouper;
-
-#[cfg(test)]
-mod tests;

@@ -15,6 +15,3 @@ mod run;
 
 pub use json::json_of;
 pub use rows::{GroupRow, PacketRow, RowText, group_header, packet_header};
-
-#[cfg(test)]
-mod tests;

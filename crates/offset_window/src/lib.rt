@@ -12,6 +12,3 @@ mod window;
 
 pub use meter::WindowMeter;
 pub use window::{Window, WindowEnd};
-
-#[cfg(test)]
-mod tests;

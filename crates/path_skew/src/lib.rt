@@ -13,6 +13,3 @@ mod skew;
 
 pub use row::{Extreme, SkewRow};
 pub use skew::Skew;
-
-#[cfg(test)]
-mod tests;

@@ -13,6 +13,3 @@ mod schedule;
 pub use between::Between;
 pub use grid::{BEFORE, Grid};
 pub use schedule::{Due, NextRead, Schedule};
-
-#[cfg(test)]
-mod tests;

@@ -25,6 +25,3 @@ pub use packet::Packet;
 pub use passes::{SendPass, TakePass};
 pub use rule::{Entry, NoLesson, View};
 pub use turn::{Reading, Turn};
-
-#[cfg(test)]
-mod tests;

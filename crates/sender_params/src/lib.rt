@@ -15,6 +15,3 @@ pub mod worked;
 
 pub use params::Params;
 pub use sizes::{Sizes, sizes_of};
-
-#[cfg(test)]
-mod tests;

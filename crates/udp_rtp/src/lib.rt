@@ -18,6 +18,3 @@ pub use flow::packet_of;
 pub use frame::datagram;
 pub use rtp::read_rtp;
 pub use udp::Datagram;
-
-#[cfg(test)]
-mod tests;

@@ -8,6 +8,3 @@
 mod book;
 
 pub use book::{Book, Receipt};
-
-#[cfg(test)]
-mod tests;

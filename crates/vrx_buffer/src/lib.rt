@@ -8,6 +8,3 @@ pub mod laws;
 mod vrx;
 
 pub use vrx::{Vrx, VrxFault};
-
-#[cfg(test)]
-mod tests;
