@@ -1,6 +1,7 @@
 -- A frame goes to the flow of one media at most: that one takes the record, and the others stay as they were.
-use Rattle.std.proofs.Common.{◌≡◌, ◌≤◌, ◌<◌, ◌+◌, ℕ, zero, suc, true, false, List, [], ◌∷◌, length, get_or, set, Some, None, inl, inr, ◌==◌, refl, sym, ap, ap₂, ◌∙◌, subst, arith}
-use Rattle.std.specs.Prelude.{All, map, slice_get, if◌then◌else◌}
+use Rattle.std.proofs.Common.{◌≡◌, ◌≤◌, ◌<◌, ◌+◌, ℕ, zero, suc, true, false, List, [], ◌∷◌, length, get_or, set, Some, None, inl, inr, ◌==◌, refl, sym, ap, ap₂}
+use Rattle.std.proofs.Common.{◌∙◌, subst, arith}
+use Rattle.std.specs.Prelude.{All, IfOk, Result, Ok, Err, map, slice_get, if◌then◌else◌}
 use Rattle.std.proofs.lemmas.Bool.{and_parts, cases_Bool, eqb-true}
 use Rattle.std.proofs.lemmas.Bool.Decides.{nat_tests}
 use Rattle.std.proofs.lemmas.Option.{get_or_from_slice_get, slice_get_within}
@@ -21,7 +22,7 @@ own-rest : (m : Media) (ms : List Media) → HaveOwnTargets (m ∷ ms) → HaveO
 own-rest m ms h = λ i j x y a b e. let same : suc i ≡ suc j = h (suc i) (suc j) x y a b e in omega (arith, same)
 
 own-first : (m n : Media) (ms : List Media) (j : ℕ) → HaveOwnTargets (m ∷ ms) → slice_get ms j ≡ Some n → target_of m ≡ target_of n → ⊥
-own-first m n ms j h at e = let no : 0 ≡ suc j = h 0 (suc j) m n refl at e in absurd (omega (arith, no))
+own-first m n ms j h at e = let same : 0 ≡ suc j = h 0 (suc j) m n refl at e in absurd (omega (arith, same))
 
 -- the media of a flow in its place
 media-at : {F : Type 0} (fs : List (FlowOf F)) (j : ℕ) (d : FlowOf F) → j < length fs → slice_get (media_in fs) j ≡ Some (get_or fs j d).media
@@ -30,7 +31,7 @@ media-at (f ∷ fs) zero d within = refl
 media-at (f ∷ fs) (suc j) d within = media-at fs j d (omega arith)
 
 -- targets that are the same by their parts, or aren't
-same-parts : (a b : Target) → is_same_target a b ≡ true → a ≡ b
+pub same-parts : (a b : Target) → is_same_target a b ≡ true → a ≡ b
 same-parts a b e =
     let (address, port) = and_parts (a.address == b.address) (a.port == b.port) e in
     λ i. record { address = eqb-true a.address b.address address i; port = eqb-true a.port b.port port i }
@@ -82,10 +83,10 @@ one-takes takes r [] k old new other own within at goes taken = absurd (omega ar
 one-takes {F} takes r (f ∷ fs) zero old new other own within at goes taken =
     let d = goes.0 in (
       subst (λ (x : FlowOf F). TakesFlow takes x new (r ∷ [])) (sym at) taken,
-      elsewhere-takes takes r d fs other (goes.1).0
+      elsewhere-takes takes r d fs other goes.1
           (All-from_get_or (λ (x : FlowOf F). target_of x.media ≡ d.target → ⊥) fs f
           (λ j few e. own-first f.media (get_or fs j f).media (media_in fs) j own (media-at fs j f few)
-          (ap (λ (x : FlowOf F). target_of x.media) at ∙ sym (goes.1).1 ∙ sym e))),
+          (ap (λ (x : FlowOf F). target_of x.media) at ∙ sym goes.2 ∙ sym e))),
     )
 one-takes {F} takes r (f ∷ fs) (suc k) old new other own within at goes taken =
     let d = goes.0 in
@@ -94,7 +95,7 @@ one-takes {F} takes r (f ∷ fs) (suc k) old new other own within at goes taken 
       record {
         media = refl;
         fed = other f.media f.taker r
-            (none-packet f.media r d (goes.1).0 (λ e. own-first f.media old.media (media_in fs) k own here (e ∙ (goes.1).1)));
+            (none-packet f.media r d goes.1 (λ e. own-first f.media old.media (media_in fs) k own here (e ∙ goes.2)));
       },
       one-takes takes r fs k old new other (own-rest f.media (media_in fs) own) few at goes taken,
     )
@@ -120,15 +121,16 @@ room-one {F} room takes fs k count old new items less within at taken takes-one 
       (λ f has. less count (count + 1) f.taker (omega arith) has) fs h.each);
 }
 
+-- targets that are the same pass the test
+pub same-target : (a b : Target) → a ≡ b → is_same_target a b ≡ true
+same-target a b e = subst (λ x. is_same_target a x ≡ true) e (grind (arith, nat_tests))
+
 -- a packet of the flow, as its datagram has it
 pub packet-goes : (m : Media) (r : Record) (d : Datagram) → datagram_of r.bytes ≡ Some d → d.target ≡ target_of m
     → flow_packet m r ≡ Some (record { rec = r.number; at = r.stamp; rtp = reading d.payload })
 packet-goes m r d is goes =
     ap (datagram_packet m r.number r.stamp) is
     ∙ ap (λ b. if b then Some (record { rec = r.number; at = r.stamp; rtp = reading d.payload }) else None) (same-target d.target (target_of m) goes)
-  where
-    same-target : (a b : Target) → a ≡ b → is_same_target a b ≡ true
-    same-target a b e = subst (λ x. is_same_target a x ≡ true) e (grind (arith, nat_tests))
 
 -- the flow that was found in its place
 pub place-holds : {F : Type 0} (fs : List (FlowOf F)) (target : Target) (k : ℕ) (old : FlowOf F) → IsPlace fs target k → get_or fs k old ≡ old
@@ -139,3 +141,20 @@ place-holds {F} fs target k old h at =
 
 pub place-in : {F : Type 0} (fs : List (FlowOf F)) (target : Target) (k : ℕ) → IsPlace fs target k → k < length fs
 place-in fs target k h = slice_get_within fs k h.flow h.at
+
+-- the flow in a place
+pub at-place : {X : Type 0} (xs : List X) (k : ℕ) (x : X) → k < length xs → get_or xs k x ≡ x → slice_get xs k ≡ Some x
+at-place [] k x within e = absurd (omega (arith, within))
+at-place (y ∷ xs) zero x within e = ap (λ z. Some z) e
+at-place (y ∷ xs) (suc k) x within e = at-place xs k x (omega arith) e
+
+-- what is put back changes nothing
+pub set-back : {X : Type 0} (xs : List X) (k : ℕ) (x : X) → get_or xs k x ≡ x → set xs k x ≡ xs
+set-back [] k x e = refl
+set-back (y ∷ xs) zero x e = ap (λ z. z ∷ xs) (sym e)
+set-back (y ∷ xs) (suc k) x e = ap (λ l. y ∷ l) (set-back xs k x e)
+
+-- two things that follow from an answer
+pub ok-both : {T E : Type 0} (P Q : T → Type 0) (o : Result T E) → IfOk o P → IfOk o Q → IfOk o (λ x. P x × Q x)
+ok-both P Q (Ok x) p q = (p, q)
+ok-both P Q (Err e) p q = tt

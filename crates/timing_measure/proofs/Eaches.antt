@@ -1,5 +1,6 @@
 -- Two lists, item by item.
-use Rattle.std.proofs.Common.{◌≡◌, ◌<◌, ◌+◌, ℕ, zero, suc, List, [], ◌∷◌, ◌++◌, length, take, get_or, ap, ◌∙◌, sym, subst, arith, refl, append-nil, append_assoc}
+use Rattle.std.proofs.Common.{◌≡◌, ◌<◌, ◌+◌, ℕ, zero, suc, List, [], ◌∷◌, ◌++◌, length, take, get_or, ap, ◌∙◌, sym, subst, arith, refl, append-nil}
+use Rattle.std.proofs.Common.{append_assoc}
 use Rattle.std.specs.Prelude.{All}
 use Rattle.std.proofs.lemmas.List.{length-take-le, take_more}
 use Rattle.std.proofs.lemmas.List.Elements.{All-head, All-tail}
@@ -24,7 +25,7 @@ pairs-append R (a ∷ xs) [] x y h is = absurd h
 pairs-append R (a ∷ xs) (b ∷ ys) x y h is = (h.0, pairs-append R xs ys x y h.1 is)
 
 -- the first items, and the next one
-next-taken : {X : Type 0} (n : ℕ) (xs : List X) (x : X) → n < length xs → get_or xs n x ≡ x → take (n + 1) xs ≡ take n xs ++ x ∷ []
+pub next-taken : {X : Type 0} (n : ℕ) (xs : List X) (x : X) → n < length xs → get_or xs n x ≡ x → take (n + 1) xs ≡ take n xs ++ x ∷ []
 next-taken n xs x within at = take_more xs n x within ∙ ap (λ y. take n xs ++ y ∷ []) at
 
 pub each-more : {X Y : Type 0} (P : ℕ → X → Y → Type 0) (n : ℕ) (xs : List X) (ys more : List Y) (x : X) (y : Y) → n < length xs → get_or xs n x ≡ x

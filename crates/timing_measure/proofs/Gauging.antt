@@ -1,6 +1,6 @@
 -- What the meter of a run says of its judged packets.
 use Rattle.std.proofs.Common.{◌≡◌, ◌≤◌, ◌<◌, ◌+◌, ◌*◌, ◌++◌, ◌∷◌, ℕ, List, [], length, map, Option, Some, None, ap, ◌∙◌, sym, subst, arith, refl, slice_index}
-use Rattle.std.proofs.Common.{length-append}
+use Rattle.std.proofs.Common.{length-append, slice_index_or}
 use Rattle.std.specs.Prelude.{MatchOption}
 use Rattle.std.proofs.Math.Seq.{get_or-append_seam}
 use Rattle.std.proofs.lemmas.List.{get_or_append_left, length-map, map-append}
@@ -10,6 +10,8 @@ use Rattle.timing_base.specs.Judged.{stamp_of}
 use Rattle.timing_base.specs.Media.{Media}
 use Rattle.timing_base.specs.Verdicts.{Judged}
 use Rattle.timing_base.specs.declared.packet.FlowPacket.{FlowPacket}
+use Rattle.timing_base.specs.declared.row.KindVerdict.{KindVerdict}
+use Rattle.timing_base.specs.declared.row.KindVerdict.TheVariants as kind_verdict
 use Rattle.flow_measure.specs.Run.{IsMeasured}
 use Rattle.flow_measure.specs.RunStands.{IsLatest, StandsFor}
 use Rattle.flow_measure.specs.declared.numbers.RunNumbers.{RunNumbers}
@@ -57,8 +59,8 @@ gauge-seen old m tai judged packets h = h.seen ∙ length-map packets (stamp_of 
 
 -- a run of whole groups has its numbers
 match-some : {X : Type 0} {A : Type 0} {B : X → Type 0} (o : Option X) → (A → ⊥) → MatchOption o A B → (x : X) × (o ≡ Some x) × B x
-match-some None no h = absurd (no h)
-match-some (Some x) no h = (x, refl, h)
+match-some None never h = absurd (never h)
+match-some (Some x) never h = (x, refl, h)
 
 pub gauge-ends : (meter : RunMeter) (m : Media) (tai : ℕ) (part : JudgedPart) (result : Option RunNumbers) → IsWhole tai part
     → IsFed meter m tai part.values part.packets
@@ -69,3 +71,13 @@ gauge-ends meter m tai part result whole h ends =
     match-some result (λ none. omega (arith, whole.some_groups, none))
     (ends m part.values.n part.values.frames (map named_by part.values.kinds) (stamps_of tai part.packets) (records_of part.packets)
     (timestamps_of part.packets) h (length-map part.packets (stamp_of tai) ∙ whole.whole))
+
+-- the packets that the fails of the three types name
+pub three-named : (kinds : List KindVerdict) → length kinds ≡ 3
+    → map named_by kinds ≡ named_by (slice_index_or kinds 0 kind_verdict.Pass) ∷ named_by (slice_index_or kinds 1 kind_verdict.Pass)
+    ∷ named_by (slice_index_or kinds 2 kind_verdict.Pass) ∷ []
+three-named [] e = absurd (omega (arith, e))
+three-named (a ∷ []) e = absurd (omega (arith, e))
+three-named (a ∷ b ∷ []) e = absurd (omega (arith, e))
+three-named (a ∷ b ∷ c ∷ []) e = refl
+three-named (a ∷ b ∷ c ∷ d ∷ rest) e = absurd (omega (arith, e))

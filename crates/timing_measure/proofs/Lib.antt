@@ -1,11 +1,11 @@
 mod Planning
-mod Plans
+pub mod Plans
 mod Meterings
 mod Eaches
 mod Banked
 mod Firsts
 mod Gauging
-mod Readings
+mod Found
 mod Answering
 mod Some
-mod Unique
+pub mod Unique

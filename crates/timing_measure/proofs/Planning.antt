@@ -2,7 +2,8 @@
 use Rattle.std.proofs.Common.{◌≡◌, ◌≤◌, ◌<◌, ◌+◌, ◌-◌, ◌^◌, ℕ, List, [], ◌∷◌, ◌++◌, length, take, drop, min, Option}
 use Rattle.std.proofs.Common.{Some, None, arith, ap, ◌∙◌, sym, subst}
 use Rattle.std.specs.Prelude.{slice_range}
-use Rattle.std.proofs.lemmas.List.{drop-append-le, get_or-drop, get_or_append_left, length-append, length-drop, length-take, map-append, take-append-le, take_all, take_more}
+use Rattle.std.proofs.lemmas.List.{drop-append-le, get_or-drop, get_or_append_left, length-append, length-drop, length-take, map-append, take-append-le}
+use Rattle.std.proofs.lemmas.List.{take_all, take_more}
 use Rattle.sender_params.specs.Ticks.{NeverFall}
 use Rattle.timing_base.specs.Flows.{no_packet, packet}
 use Rattle.timing_base.specs.Judged.{stamp_of}

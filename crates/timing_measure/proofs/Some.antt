@@ -1,5 +1,6 @@
 -- The texts of `measure` have an answer.
-use Rattle.std.proofs.Common.{◌≡◌, ◌<◌, ◌≤◌, ◌+◌, ◌*◌, ◌^◌, ◌∷◌, ℕ, zero, suc, List, [], length, map, Option, Some, None, refl, ap, ◌∙◌, sym, subst, arith, slice_index}
+use Rattle.std.proofs.Common.{◌≡◌, ◌<◌, ◌≤◌, ◌+◌, ◌*◌, ◌^◌, ◌∷◌, ℕ, zero, suc, List, [], length, map, Option, Some, None, refl, ap, ◌∙◌, sym, subst, arith}
+use Rattle.std.proofs.Common.{slice_index}
 use Rattle.std.specs.Prelude.{All, slice_index_or}
 use Rattle.std.specs.List.{cons_option}
 use Rattle.std.proofs.lemmas.List.{length-map}
@@ -7,7 +8,8 @@ use Rattle.std.proofs.lemmas.List.Elements.{All-append, All-cons, All-drop, All-
 use Rattle.timing_base.specs.Captures.{IsStamp, Record}
 use Rattle.timing_base.specs.Flows.{AreStamped, cuts, no_packet, read_or_zeros}
 use Rattle.timing_base.specs.Jobs.{CaptureJob, IsCaptureJob}
-use Rattle.timing_base.specs.Judged.{FlowVerdict, RunOutcome, absent, gap, in_one_run, in_runs, judged, no_whole_frame, refused, run_outcome, stamp_of, whole_frames}
+use Rattle.timing_base.specs.Judged.{FlowVerdict, RunOutcome, absent, gap, in_one_run, in_runs, judged, no_whole_frame, refused, run_outcome, stamp_of}
+use Rattle.timing_base.specs.Judged.{whole_frames}
 use Rattle.timing_base.specs.Media.{IsMedia, Media}
 use Rattle.timing_base.specs.declared.capture.FileNote.{FileNote}
 use Rattle.timing_base.specs.declared.packet.FlowPacket.{FlowPacket}
@@ -30,7 +32,8 @@ use Rattle.timing_measure.proofs.Plans.{parts-whole}
 abbrev AreHeld : JudgedPart → Type 0
 AreHeld part = AreStamped part.packets
 
-held-part : (m : Media) (packets : List FlowPacket) (number from to : ℕ) (o : RunOutcome) → AreStamped packets → All AreHeld (part_of m packets number from to o)
+held-part : (m : Media) (packets : List FlowPacket) (number from to : ℕ) (o : RunOutcome) → AreStamped packets
+    → All AreHeld (part_of m packets number from to o)
 held-part m packets number from to (no_whole_frame head) h = All-nil AreHeld
 held-part m packets number from to (whole_frames run) h =
     All-cons AreHeld _ [] (All-take (λ (p : FlowPacket). IsStamp p.at) _ _ (All-drop (λ (p : FlowPacket). IsStamp p.at) _ packets h)) (All-nil AreHeld)

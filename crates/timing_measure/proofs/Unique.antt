@@ -1,7 +1,8 @@
 -- The texts of `measure` have one answer.
 use Rattle.std.specs.Prelude.{◌&&◌, if◌then◌else◌, nat_lt, not, Bool, MatchOption}
 use Rattle.std.specs.List.{list_any}
-use Rattle.std.proofs.Common.{◌≡◌, ◌≤◌, ◌-◌, ◌+◌, ◌^◌, ℕ, ℤ, true, false, List, [], ◌∷◌, length, map, Option, Some, None, refl, ap, ap₂, ◌∙◌, sym, subst, arith, slice_index}
+use Rattle.std.proofs.Common.{◌≡◌, ◌≤◌, ◌-◌, ◌+◌, ◌^◌, ℕ, ℤ, true, false, List, [], ◌∷◌, length, map, Option, Some, None, refl, ap, ap₂, ◌∙◌, sym, subst, arith}
+use Rattle.std.proofs.Common.{slice_index}
 use Rattle.std.specs.Option.{option_map}
 use Rattle.std.specs.List.{slice_index_or}
 use Rattle.std.proofs.lemmas.List.{length-map}
@@ -88,8 +89,8 @@ three m n groups stamps records gapped linear named (a ∷ b ∷ c ∷ []) h = r
   wide = c;
   whole = refl;
   narrow_is = h.0;
-  narrow_linear_is = (h.1).0;
-  wide_is = (h.1).1;
+  narrow_linear_is = h.1;
+  wide_is = h.2;
 }
 three m n groups stamps records gapped linear named (a ∷ b ∷ c ∷ d ∷ ks) h = absurd h
 

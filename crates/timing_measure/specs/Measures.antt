@@ -1,7 +1,8 @@
 -- What the texts of `measure` define: the numbers of every judged run of every media of a session, in one capture, as
 -- JSON (RFC 8259). The session description is read first, and then the capture. Stamps are nanoseconds of TAI, with the
 -- seconds of the job added; media count from 0, and records from 1. This project's profile.
-use Rattle.std.specs.Prelude.{◌≡◌, ◌^◌, ◌&&◌, if◌then◌else◌, ℕ, Bool, not, nat_lt, List, length, map, Option, Some, None}
+use Rattle.std.specs.Prelude.{◌≡◌, ◌^◌, ◌&&◌, if◌then◌else◌, ℕ, Bool, not, nat_lt, List, length, map, Option, Some}
+use Rattle.std.specs.Prelude.{None}
 use Rattle.std.specs.Prelude.{Result}
 use Rattle.std.specs.List.{list_any}
 use Rattle.timing_base.specs.Captures.{Record}

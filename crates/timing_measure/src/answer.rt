@@ -1,6 +1,7 @@
 //! What `measure` prints, and its status.
 
 ghost use Rattle.std.specs.Prelude.{◌≡◌, IfOk, true};
+ghost use Rattle.std.specs.List.{list_any};
 ghost use Rattle.measure_text.specs.Json.{AreOfMedia};
 ghost use Rattle.timing_measure.specs.Measures.{has_run, measure_ends, measure_status, measured};
 
@@ -19,16 +20,25 @@ fn has_run(flow: &MeasuredFlow) -> bool
     flow.runs.len() > 0
 }
 
+/// Whether a run of one of the flows is judged.
+fn is_one_judged(flows: &[MeasuredFlow]) -> bool
+    ensures { result ≡ list_any has_run flows.now }
+{
+    flows.iter().any(has_run)
+}
+
 /// The status beside these flows of a capture that ends so.
 fn status_of(note: FileNote, flows: &[MeasuredFlow]) -> Status
     ensures status { result ≡ measure_status note flows.now }
     ensures ends { measure_ends result ≡ true }
 {
-    if flows.iter().any(has_run) && !any_refused(&[note]) {
-        Status::Pass
-    } else {
-        Status::NotAllJudged
+    if !is_one_judged(flows) {
+        return Status::NotAllJudged;
     }
+    if any_refused(&[note]) {
+        return Status::NotAllJudged;
+    }
+    Status::Pass
 }
 
 /// The answer on a capture of which a reading came to this.

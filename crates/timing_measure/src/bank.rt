@@ -1,6 +1,6 @@
 //! What takes the flows of all media of a session off the records of a capture: each frame is read once.
 
-ghost use Rattle.std.specs.Prelude.{◌≡◌, ◌≤◌, ◌+◌, ◌∷◌, [], ℕ, All, IfOk, IfSome, None, length};
+ghost use Rattle.std.specs.Prelude.{◌≡◌, ◌≤◌, ◌+◌, ◌^◌, ◌∷◌, [], ℕ, All, IfOk, IfSome, None, Ok, length, true, false};
 ghost use Rattle.timing_base.specs.Captures.{IsStamp};
 ghost use Rattle.timing_base.specs.Targets.{target_of};
 ghost use Rattle.timing_measure.specs.Banks.{IsPlace};
@@ -38,9 +38,31 @@ impl<F: FlowTaker + Drop> FlowBank<F> {
 
     /// Before the first record of a capture.
     pub fn new(flows: Vec<FlowOf<F>>) -> FlowBank<F>
-        ensures { result.flows ≡ flows }
+        requires { HaveRoom F.room (2 ^ 36) flows.items }
+        ensures flows { result.flows ≡ flows }
+        ensures room { HaveRoom F.room (2 ^ 36) result.flows.items }
     {
         FlowBank { flows, last: 0 }
+    }
+
+    /// Takes the next record where its frame carries the packet with which the flow of the media that came last goes
+    /// on, and answers whether it does. Else nothing changes.
+    #[inline(always)]
+    fn take_last(&mut self, number: u64, at: u64, frame: &[u8]) -> Result<bool, OutOfMemory>
+        requires stamp { IsStamp at }
+        requires short { length frame.now ≤ 262144 }
+        requires room { HaveRoom F.room 1 self.old.flows.items }
+        ensures other { result ≡ Ok false → self.new.flows.items ≡ self.old.flows.items }
+        ensures room { (count : ℕ) → result ≡ Ok true → HaveRoom F.room (count + 1) self.old.flows.items
+            → HaveRoom F.room count self.new.flows.items }
+        ensures takes { result ≡ Ok true → TakesAll F.takes self.old.flows.items self.new.flows.items
+            (record { number = number; stamp = at; bytes = frame.now } ∷ []) }
+    {
+        if self.last >= self.flows.len() {
+            return Ok(false);
+        }
+        let flow = &mut self.flows[self.last];
+        flow.take_next(number, at, frame)
     }
 
     /// Takes the next record, whatever its frame, and learns whose packet it has.
@@ -98,11 +120,8 @@ impl<F: FlowTaker + Drop> Taker for FlowBank<F> {
 
     #[inline(always)]
     fn take(&mut self, number: u64, at: u64, frame: &[u8]) -> Result<(), OutOfMemory> {
-        if self.last < self.flows.len() {
-            let flow = &mut self.flows[self.last];
-            if flow.take_next(number, at, frame)? {
-                return Ok(());
-            }
+        if self.take_last(number, at, frame)? {
+            return Ok(());
         }
         self.take_other(number, at, frame)
     }

@@ -46,6 +46,7 @@ fn begin_first(
     tai: u64,
 ) -> Result<Vec<FlowOf<FirstMeter>>, OutOfMemory>
     requires tai { tai ≤ 1000 }
+    requires few { length media.now ≤ 64 }
     ensures stands { IfOk result (λ flows. AreFirsts tai media.now [] flows.items) }
     ensures room { IfOk result (λ flows. All (λ f. FirstHasRoom (2 ^ 41) f.taker) flows.items) }
 {
@@ -80,6 +81,7 @@ fn read_first<H: Shelf>(
     media: &[Media],
 ) -> Result<Reading, Failure>
     requires targets { HaveOwnTargets media.now }
+    requires few { length media.now ≤ 64 }
     ensures told { IfOk result (λ first. (text : List ℕ)
         → classic_texts (H.text shelf.old) job.now.capture ≡ Some text
         → IsReadingIn (AreUnmeasured job.now.tai media.now) text first) }
@@ -98,8 +100,8 @@ fn read_first<H: Shelf>(
     })
 }
 
-/// The flows of these media before the first record of a second reading, of which the first found this. `Err` is want of
-/// memory.
+/// The flows of these media before the first record of a second reading, of which the first found this. `Err` is want
+/// of memory.
 fn begin_again(
     alloc: Global,
     media: &[Media],
@@ -107,6 +109,7 @@ fn begin_again(
     firsts: &[MeasuredFlow],
 ) -> Result<Vec<FlowOf<SecondMeter<RunMeter>>>, OutOfMemory>
     requires tai { tai ≤ 1000 }
+    requires few { length media.now ≤ 64 }
     requires each { length firsts.now ≡ length media.now }
     ensures stands { IfOk result (λ flows. AreSeconds tai media.now [] flows.items) }
     ensures begins { IfOk result (λ flows. AllPairs BeginsWith firsts.now flows.items) }
@@ -154,6 +157,7 @@ fn read_again<H: Shelf>(
     first: &Reading,
 ) -> Result<Reading, Failure>
     requires targets { HaveOwnTargets media.now }
+    requires few { length media.now ≤ 64 }
     requires some { IsReadingOf (AreUnmeasured job.now.tai media.now) first.now }
     requires known { (text : List ℕ) → classic_texts (H.text shelf.old) job.now.capture ≡ Some text
         → IsReadingIn (AreUnmeasured job.now.tai media.now) text first.now }
@@ -203,6 +207,7 @@ pub fn read_flows<H: Shelf>(
     media: &[Media],
 ) -> Result<Reading, Failure>
     requires targets { HaveOwnTargets media.now }
+    requires few { length media.now ≤ 64 }
     ensures told { IfOk result (λ read. (text : List ℕ)
         → classic_texts (H.text shelf.old) job.now.capture ≡ Some text
         → IsReadingIn (AreFlows job.now.tai media.now) text read) }

@@ -1,6 +1,6 @@
 //! The first reading of a flow: it is judged, its packets are counted, and its source is kept.
 
-ghost use Rattle.std.specs.Prelude.{◌≡◌, ◌^◌, [], ℕ, List};
+ghost use Rattle.std.specs.Prelude.{◌≡◌, ◌≤◌, ◌^◌, [], ℕ, List};
 ghost use Rattle.timing_base.specs.Media.{Media as MediaValue};
 ghost use Rattle.timing_base.specs.declared.packet.FlowPacket.{FlowPacket as PacketValue};
 ghost use Rattle.fail_interval.specs.Stands.{count_fed};
@@ -68,7 +68,8 @@ impl FirstMeter {
 }
 
 impl FlowTaker for FirstMeter {
-    ghost use Rattle.timing_measure.specs.metering.Firsts.{HasRoom, TakesOn, room_less, takes_more, takes_none, takes_other};
+    ghost use Rattle.timing_measure.specs.metering.Firsts.{HasRoom, TakesOn, room_less, takes_more, takes_none};
+    ghost use Rattle.timing_measure.specs.metering.Firsts.{takes_other};
 
     ghost takes = { TakesOn };
 

@@ -27,8 +27,8 @@ pub trait RunGauge {
     fn begin(media: &Media, judged: &Judged) -> Self
         ensures { (tai : ℕ) → stands result media.now tai judged.now [] };
 
-    /// Takes the next judged packet: its record, when it came in nanoseconds of TAI, and its RTP timestamp. What it says
-    /// of the packets is so where no stamp is below the one before.
+    /// Takes the next judged packet: its record, when it came in nanoseconds of TAI, and its RTP timestamp. What it
+    /// says of the packets is so where no stamp is below the one before.
     fn feed(&mut self, rec: u64, at: u64, timestamp: u32)
         requires { at < 2 ^ 62 }
         ensures { (m : MediaValue) (tai : ℕ) (values : JudgedValue) (packets : List PacketValue)

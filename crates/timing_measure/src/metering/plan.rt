@@ -1,6 +1,7 @@
 //! What a first reading found of the runs of a flow.
 
 ghost use Rattle.std.specs.Prelude.{◌≡◌, ◌≤◌, IfSome};
+ghost use Rattle.std.specs.List.{list_any};
 ghost use Rattle.timing_measure.specs.metering.Plan.{has_judged_run, is_whole, planned_at, values_of};
 
 use timing_base::{Judged, Run, RunVerdict, Verdict};
@@ -37,8 +38,15 @@ pub fn has_judged_run(found: &Verdict) -> bool
     match found {
         Verdict::Unjudged(_) => false,
         Verdict::Judged(_) => true,
-        Verdict::Runs(runs) => runs.list.as_slice().iter().any(is_whole),
+        Verdict::Runs(runs) => is_one_whole(runs.list.as_slice()),
     }
+}
+
+/// Whether one of these runs comes to whole groups.
+fn is_one_whole(runs: &[Run]) -> bool
+    ensures { result ≡ list_any is_whole runs.now }
+{
+    runs.iter().any(is_whole)
 }
 
 /// Whether a run comes to whole groups.

@@ -90,7 +90,8 @@ impl<G: RunGauge + Drop> SecondMeter<G> {
 }
 
 impl<G: RunGauge + Drop> FlowTaker for SecondMeter<G> {
-    ghost use Rattle.timing_measure.specs.metering.Seconds.{HasRoom, TakesOn, room_less, takes_more, takes_none, takes_other};
+    ghost use Rattle.timing_measure.specs.metering.Seconds.{HasRoom, TakesOn, room_less, takes_more, takes_none};
+    ghost use Rattle.timing_measure.specs.metering.Seconds.{takes_other};
 
     ghost takes = { λ m old new items. TakesOn G.stands G.measures m old new items };
 

@@ -2,7 +2,7 @@ use Rattle.std.proofs.Common.{◌≡◌, rules, subst}
 use Rattle.timing_base.specs.Targets.{HaveOwnTargets}
 use Rattle.timing_steps.specs.Answers.{seen_of}
 use Rattle.timing_measure.specs.Measures.{AreFlows, HasMeasure}
-use Rattle.timing_measure.specs.Readings.{IsReadingIn}
+use Rattle.timing_measure.specs.Readings.{IsReadingIn, IsReadingOf}
 use Rattle.timing_reach.proofs.Following.{reads-twice}
 use Rattle.timing_reach.proofs.Takings.{if-ok}
 use Rattle.timing_reach.proofs.WindowReadings.{no-fault}
@@ -10,15 +10,20 @@ use Rattle.timing_measure.proofs.Answering.{has-measure, measure-cause, of-media
 use Rattle.timing_measure.proofs.measure.answer_over.Goals as goal
 
 pub answer_read-requires : goal.answer_read-requires
-answer_read-requires g c = of-media c.args.job.now.tai c.args.session.now c.in_ok-reading.reading c.in_ok-reading.ensures.some
+answer_read-requires g c =
+    let media : c.as_slice.result.now ≡ c.args.session.now = search rules in
+    of-media c.args.job.now.tai c.args.session.now c.in_ok-reading.reading
+    (subst (λ l. IsReadingOf (AreFlows c.args.job.now.tai l) c.in_ok-reading.reading) media c.in_ok-reading.ensures.some)
 
 pub returns-clause-follows : goal.returns-clause-follows
 returns-clause-follows g c =
+    let media : c.as_slice.result.now ≡ c.args.session.now = search rules in
     let i = seen_of g.H.Shelf c.args.shelf.now c.read_flows.new.shelf in
     reads-twice i (g.H.Shelf.text c.read_flows.new.shelf) (g.H.Shelf.faults c.read_flows.new.shelf) c.answer_read.result c.args.job.now.capture
     (λ text. IsReadingIn (AreFlows c.args.job.now.tai c.args.session.now) text c.in_ok-reading.reading)
     (HasMeasure c.args.job.now c.args.session.now)
-    c.read_flows.ensures.stays.texts c.read_flows.ensures.stays.later c.in_ok-reading.ensures.told c.in_ok-reading.ensures.there
+    c.read_flows.ensures.stays.texts c.read_flows.ensures.stays.later (λ text whole. subst (λ l. IsReadingIn (AreFlows c.args.job.now.tai l) text c.in_ok-reading.reading) media (c.in_ok-reading.ensures.told text whole))
+    c.in_ok-reading.ensures.there
     (if-ok c.answer_read.result (λ answer is text whole h. has-measure c.args.job.now c.args.session.now text c.in_ok-reading.reading answer h is)
     c.answer_read.ensures.answers)
     (no-fault c.answer_read.result _ c.answer_read.ensures.cause)

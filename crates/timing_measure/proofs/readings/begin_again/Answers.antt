@@ -1,4 +1,4 @@
-use Rattle.std.proofs.Common.{◌≡◌, ◌<◌, ◌^◌, [], List, length, refl, rules, subst, sym, take_all, arith}
+use Rattle.std.proofs.Common.{◌≡◌, ◌<◌, ◌^◌, ◌∙◌, [], List, ap, length, refl, rules, subst, sym, take_all, arith}
 use Rattle.std.proofs.lemmas.List.Elements.{All-nil, All-push, All-same}
 use Rattle.timing_base.specs.Media.{Media}
 use Rattle.flow_measure.specs.declared.numbers.MeasuredFlow.{MeasuredFlow}
@@ -9,7 +9,7 @@ use Rattle.timing_measure.specs.metering.Seconds.{HasRoom}
 use Rattle.timing_reach.specs.declared.judged.flows.FlowOf.{FlowOf}
 use Rattle.timing_measure.specs.declared.metering.second.SecondMeter.{SecondMeter}
 use Rattle.timing_measure.proofs.Eaches.{each-more, pairs-more}
-use Rattle.timing_measure.proofs.Readings.{new-begins, new-second}
+use Rattle.timing_measure.proofs.Found.{new-begins, new-second}
 use Rattle.timing_measure.proofs.readings.begin_again.Goals as goal
 
 pub loop-number-init : goal.loop-number-init
@@ -30,9 +30,9 @@ loop-number-preserved c =
           (new-second c.args.tai c.loop-number.number c.index-media-number.result _ c.new-meter.result c.new.result c.new.ensures.media c.new.ensures.taker
           c.new-meter.ensures.stands) c.in_ok-push.ensures.items;
       begins = pairs-more BeginsWith c.loop-number.number c.args.firsts.now c.loop-number.flows.items c.push.new.self.items
-          c.index-firsts.result c.new.result within (sym c.index-firsts.is) c.loop-number.invariant.begins
-          (new-begins c.args.tai c.loop-number.number c.index-media-number.result _ c.new-meter.result c.new.result c.index-firsts.result c.new.ensures.taker
-          c.in_ok-found.ensures c.new-meter.ensures.stands) c.in_ok-push.ensures.items;
+          c.index-firsts-number.result c.new.result within (sym c.index-firsts-number.is) c.loop-number.invariant.begins
+          (new-begins c.args.tai c.loop-number.number c.index-media-number.result _ c.new-meter.result c.new.result c.index-firsts-number.result c.new.ensures.taker
+          (c.in_ok-found.ensures ∙ ap (λ (x : MeasuredFlow). x.verdict) (sym c.index-firsts-number.is)) c.new-meter.ensures.stands) c.in_ok-push.ensures.items;
       room = All-same (λ (f : FlowOf (SecondMeter RunMeter)). HasRoom (2 ^ 41) f.taker) c.push.new.self.items _ c.in_ok-push.ensures.items
           (All-push (λ (f : FlowOf (SecondMeter RunMeter)). HasRoom (2 ^ 41) f.taker) c.loop-number.flows.items c.new.result c.loop-number.invariant.room
           (subst (HasRoom (2 ^ 41)) (sym c.new.ensures.taker) c.new-meter.ensures.room));

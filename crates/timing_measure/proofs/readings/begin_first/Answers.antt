@@ -6,7 +6,7 @@ use Rattle.timing_measure.specs.metering.Firsts.{HasRoom, StandsFor}
 use Rattle.timing_reach.specs.declared.judged.flows.FlowOf.{FlowOf}
 use Rattle.timing_measure.specs.declared.metering.first.FirstMeter.{FirstMeter}
 use Rattle.timing_measure.proofs.Eaches.{each-more}
-use Rattle.timing_measure.proofs.Readings.{new-first}
+use Rattle.timing_measure.proofs.Found.{new-first}
 use Rattle.timing_measure.proofs.readings.begin_first.Goals as goal
 
 pub loop-number-init : goal.loop-number-init

@@ -11,10 +11,20 @@ loop-flow-init c = through-begin SecondEnds c.args.flows.items _ c.new-ends.resu
 pub finish-requires : goal.finish-requires
 finish-requires c =
     through-one SecondEnds (λ f. HasRoom 1 f.taker) c.args.flows.items c.loop-flow.ends.items c.loop-flow.flow-iterator.rest.items
-    c.next.new.self.rest.items c.in-Some.flow c.in-Some.ensures.steps.0 c.loop-flow.invariant c.requires
+    c.next.new.self.rest.items c.in-Some.flow c.in-Some.ensures.steps.0 c.loop-flow.invariant c.requires.room
 
 pub loop-flow-preserved : goal.loop-flow-preserved
 loop-flow-preserved c =
+    through-next SecondEnds c.args.flows.items c.loop-flow.ends.items c.push.new.self.items c.loop-flow.flow-iterator.rest.items
+    c.next.new.self.rest.items c.in-Some.flow c.in_ok-second.second.flow
+    c.in-Some.ensures.steps.0 c.in_ok-push.ensures.items
+    (λ m number tai packets few h.
+    (c.in_ok-second.ensures.comes m number tai c.in-Some.flow.taker.meter.found packets few h).measured
+    (c.is_same.ensures.same (search rules) ∙ c.in_ok-second.ensures.found))
+    c.loop-flow.invariant
+
+pub loop-flow-preserved-in_ok-push : goal.loop-flow-preserved-in_ok-push
+loop-flow-preserved-in_ok-push c =
     through-next SecondEnds c.args.flows.items c.loop-flow.ends.items c.push.new.self.items c.loop-flow.flow-iterator.rest.items
     c.next.new.self.rest.items c.in-Some.flow c.in_ok-second.second.flow
     c.in-Some.ensures.steps.0 c.in_ok-push.ensures.items

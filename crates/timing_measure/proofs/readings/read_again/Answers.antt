@@ -1,21 +1,24 @@
-use Rattle.std.proofs.Common.{◌≡◌, ◌∙◌, ◌^◌, ◌≤◌, ◌+◌, ℕ, List, rules, refl, subst, sym, ap, arith}
+use Rattle.std.proofs.Common.{◌≡◌, ◌∙◌, ◌^◌, ◌≤◌, ◌+◌, ℕ, List, [], length, rules, refl, subst, sym, ap, arith}
 use Rattle.std.proofs.lemmas.List.Elements.{All-weaker}
 use Rattle.timing_outside.specs.Causes.{Rose}
 use Rattle.timing_steps.proofs.Seeing.{rose-within}
 use Rattle.timing_measure.specs.Banks.{HaveRoom}
 use Rattle.timing_measure.specs.Measures.{AreFlows}
-use Rattle.timing_measure.specs.Readings.{AreUnmeasured, IsReadingIn, IsReadingOf}
+use Rattle.timing_measure.specs.Each.{AllPairs}
+use Rattle.timing_measure.specs.Readings.{AreSeconds, AreUnmeasured, BeginsWith, IsReadingIn, IsReadingOf}
 use Rattle.timing_measure.specs.metering.Firsts.{IsFirst}
 use Rattle.timing_measure.specs.metering.Seconds.{HasRoom, room_less}
 use Rattle.timing_measure.proofs.Eaches.{each-long}
-use Rattle.timing_measure.proofs.Readings.{changed-untold, second-in, second-of, second-room}
+use Rattle.timing_measure.proofs.Found.{changed-untold, second-in, second-of, second-room}
 use Rattle.timing_measure.proofs.readings.read_again.Goals as goal
 
 pub begin_again-requires-clause-each : goal.begin_again-requires-clause-each
-begin_again-requires-clause-each g c = each-long _ 0 c.args.media.now c.args.first.now.flows.items c.requires.some.are
+begin_again-requires-clause-each g c =
+    let same : c.deref.result.now ≡ c.args.first.now.flows.items = search rules in
+    ap length same ∙ each-long _ 0 c.args.media.now c.args.first.now.flows.items c.requires.some.are
 
-pub take_capture-requires : goal.take_capture-requires
-take_capture-requires g c =
+pub new-bank-requires : goal.new-bank-requires
+new-bank-requires g c =
     second-room HasRoom c.job.inside.tai (2 ^ 36) c.args.media.now c.in_ok-begin_again.field-0.items c.requires.targets
     c.in_ok-begin_again.ensures.stands
     (All-weaker (λ f. HasRoom (2 ^ 41) f.taker) (λ f. HasRoom (2 ^ 36) f.taker) (λ f room. room_less (2 ^ 36) (2 ^ 41) f.taker (omega arith) room)
@@ -24,38 +27,51 @@ take_capture-requires g c =
 pub end_again-requires : goal.end_again-requires
 end_again-requires g c =
     let few = c.in_ok-taken.ensures.few in
+    let flows : c.new-bank.result.flows.items ≡ c.in_ok-begin_again.field-0.items = search rules in
     let before = second-room HasRoom c.job.inside.tai (c.in_ok-taken.taken.records + 1) c.args.media.now c.in_ok-begin_again.field-0.items
     c.requires.targets c.in_ok-begin_again.ensures.stands
     (All-weaker (λ f. HasRoom (2 ^ 41) f.taker) (λ f. HasRoom (c.in_ok-taken.taken.records + 1) f.taker)
     (λ f room. room_less (c.in_ok-taken.taken.records + 1) (2 ^ 41) f.taker (omega (arith, few)) room)
     c.in_ok-begin_again.field-0.items c.in_ok-begin_again.ensures.room) in
-    (c.in_ok-taken.ensures.room 1 before).each
+    record { room = (c.in_ok-taken.ensures.room 1 (subst (HaveRoom HasRoom (c.in_ok-taken.taken.records + 1)) (sym flows) before)).each }
 
 pub returns-in-Some-clause-told : goal.returns-in-Some-clause-told
 returns-in-Some-clause-told g c = λ text whole.
     let same : c.job.inside.tai ≡ c.args.job.now.tai = search rules in
-    subst (λ (x : ℕ). IsReadingIn (AreFlows x c.args.media.now) text _) same
-    (second-in c.job.inside.tai c.args.media.now text c.new-bank.result c.take_capture.new.taker c.in_ok-taken.taken _ c.job.invariant.tai_most
-    c.in_ok-begin_again.ensures.stands (c.in_ok-taken.ensures.told text (search rules)) (search rules) refl)
+    let flows : c.new-bank.result.flows.items ≡ c.in_ok-begin_again.field-0.items = search rules in
+    let begun = subst (AreSeconds c.job.inside.tai c.args.media.now []) (sym flows) c.in_ok-begin_again.ensures.stands in
+    subst (λ (x : ℕ). IsReadingIn (AreFlows x c.args.media.now) text (record { note = c.in_ok-taken.taken.note; flows = c.in-Some.flows })) same
+    (second-in c.job.inside.tai c.args.media.now text c.new-bank.result c.take_capture.new.taker c.in_ok-taken.taken
+    (record { note = c.in_ok-taken.taken.note; flows = c.in-Some.flows }) c.job.invariant.tai_most
+    begun (c.in_ok-taken.ensures.told text (search rules)) (search rules) refl)
 
 pub returns-in-Some-clause-some : goal.returns-in-Some-clause-some
 returns-in-Some-clause-some g c =
     let same : c.job.inside.tai ≡ c.args.job.now.tai = search rules in
-    subst (λ (x : ℕ). IsReadingOf (AreFlows x c.args.media.now) _) same
-    (second-of c.job.inside.tai (2 ^ 36) c.args.media.now c.new-bank.result c.take_capture.new.taker _ c.job.invariant.tai_most
-    c.in_ok-begin_again.ensures.stands c.in_ok-taken.ensures.fed (search rules))
+    let flows : c.new-bank.result.flows.items ≡ c.in_ok-begin_again.field-0.items = search rules in
+    let begun = subst (AreSeconds c.job.inside.tai c.args.media.now []) (sym flows) c.in_ok-begin_again.ensures.stands in
+    subst (λ (x : ℕ). IsReadingOf (AreFlows x c.args.media.now) (record { note = c.in_ok-taken.taken.note; flows = c.in-Some.flows })) same
+    (second-of c.job.inside.tai (2 ^ 36) c.args.media.now c.new-bank.result c.take_capture.new.taker
+    (record { note = c.in_ok-taken.taken.note; flows = c.in-Some.flows }) c.job.invariant.tai_most
+    begun c.in_ok-taken.ensures.fed (search rules))
 
 pub returns-in-None-clause-cause : goal.returns-in-None-clause-cause
 returns-in-None-clause-cause g c =
     let same : c.job.inside.tai ≡ c.args.job.now.tai = search rules in
     let named : c.as_str-name.result.now ≡ c.args.job.now.capture = search rules in
     let name = c.as_str-name.result.now in
+    let flows : c.new-bank.result.flows.items ≡ c.in_ok-begin_again.field-0.items = search rules in
+    let begun = subst (AreSeconds c.job.inside.tai c.args.media.now []) (sym flows) c.in_ok-begin_again.ensures.stands in
+    let firsts : c.deref.result.now ≡ c.args.first.now.flows.items = search rules in
+    let with =
+    subst (λ l. AllPairs BeginsWith l c.new-bank.result.flows.items) firsts
+    (subst (AllPairs BeginsWith c.deref.result.now) (sym flows) c.in_ok-begin_again.ensures.begins) in
     let none =
     changed-untold (g.H.Shelf.text c.args.shelf.now c.args.job.now.capture) c.job.inside.tai c.args.media.now c.args.first.now c.new-bank.result
     c.take_capture.new.taker c.in_ok-taken.taken c.job.invariant.tai_most
     (λ text whole. subst (λ (x : ℕ). IsReadingIn (AreUnmeasured x c.args.media.now) text c.args.first.now) (sym same) (c.requires.known text whole))
-    c.in_ok-begin_again.ensures.begins c.in_ok-begin_again.ensures.stands (λ text whole. c.in_ok-taken.ensures.told text (search rules))
-    (c.in_ok-end_again.ensures.changed (search rules)) in (
+    with begun (λ text whole. c.in_ok-taken.ensures.told text (search rules))
+    (c.in_ok-flows.ensures.changed (search rules)) in (
       refl,
       subst (λ (x : List ℕ). Rose (g.H.Shelf.faults c.args.shelf.now x) (g.H.Shelf.faults c.note_change.new.self x)) named
           (rose-within (g.H.Shelf.faults c.args.shelf.now name) (g.H.Shelf.faults c.take_capture.new.shelf name)

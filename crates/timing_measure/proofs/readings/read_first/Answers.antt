@@ -1,26 +1,33 @@
-use Rattle.std.proofs.Common.{◌≡◌, ◌^◌, ◌≤◌, ℕ, rules, refl, subst, arith}
+use Rattle.std.proofs.Common.{◌≡◌, ◌^◌, ◌≤◌, ℕ, [], rules, refl, subst, sym, arith}
 use Rattle.std.proofs.lemmas.List.Elements.{All-weaker}
-use Rattle.timing_measure.specs.Readings.{AreUnmeasured, IsReadingIn, IsReadingOf}
+use Rattle.timing_measure.specs.Banks.{HaveRoom}
+use Rattle.timing_measure.specs.Readings.{AreFirsts, AreUnmeasured, IsReadingIn, IsReadingOf}
 use Rattle.timing_measure.specs.metering.Firsts.{HasRoom, room_less}
-use Rattle.timing_measure.proofs.Readings.{first-in, first-of, first-room}
+use Rattle.timing_measure.proofs.Found.{first-in, first-of, first-room}
 use Rattle.timing_measure.proofs.readings.read_first.Goals as goal
 
-pub take_capture-requires : goal.take_capture-requires
-take_capture-requires g c =
-    first-room HasRoom c.job.inside.tai (2 ^ 36) c.args.media.now c.in_ok-begin_first.field-0.items c.requires c.in_ok-begin_first.ensures.stands
+pub new-bank-requires : goal.new-bank-requires
+new-bank-requires g c =
+    first-room HasRoom c.job.inside.tai (2 ^ 36) c.args.media.now c.in_ok-begin_first.field-0.items c.requires.targets c.in_ok-begin_first.ensures.stands
     (All-weaker (λ f. HasRoom (2 ^ 41) f.taker) (λ f. HasRoom (2 ^ 36) f.taker) (λ f room. room_less (2 ^ 36) (2 ^ 41) f.taker (omega arith) room)
     c.in_ok-begin_first.field-0.items c.in_ok-begin_first.ensures.room)
 
 pub returns-clause-told : goal.returns-clause-told
 returns-clause-told g c = λ text whole.
     let same : c.job.inside.tai ≡ c.args.job.now.tai = search rules in
-    subst (λ (x : ℕ). IsReadingIn (AreUnmeasured x c.args.media.now) text _) same
-    (first-in c.job.inside.tai c.args.media.now text c.new-bank.result c.take_capture.new.taker c.in_ok-taken.taken _ c.in_ok-begin_first.ensures.stands
+    let flows : c.new-bank.result.flows.items ≡ c.in_ok-begin_first.field-0.items = search rules in
+    let begun = subst (AreFirsts c.job.inside.tai c.args.media.now []) (sym flows) c.in_ok-begin_first.ensures.stands in
+    subst (λ (x : ℕ). IsReadingIn (AreUnmeasured x c.args.media.now) text (record { note = c.in_ok-taken.taken.note; flows = c.in_ok-end_first.field-0 })) same
+    (first-in c.job.inside.tai c.args.media.now text c.new-bank.result c.take_capture.new.taker c.in_ok-taken.taken
+    (record { note = c.in_ok-taken.taken.note; flows = c.in_ok-end_first.field-0 }) begun
     (c.in_ok-taken.ensures.told text (search rules)) c.in_ok-end_first.ensures refl)
 
 pub returns-clause-some : goal.returns-clause-some
 returns-clause-some g c =
     let same : c.job.inside.tai ≡ c.args.job.now.tai = search rules in
-    subst (λ (x : ℕ). IsReadingOf (AreUnmeasured x c.args.media.now) _) same
-    (first-of c.job.inside.tai (2 ^ 36) c.args.media.now c.new-bank.result c.take_capture.new.taker _ c.in_ok-begin_first.ensures.stands
+    let flows : c.new-bank.result.flows.items ≡ c.in_ok-begin_first.field-0.items = search rules in
+    let begun = subst (AreFirsts c.job.inside.tai c.args.media.now []) (sym flows) c.in_ok-begin_first.ensures.stands in
+    subst (λ (x : ℕ). IsReadingOf (AreUnmeasured x c.args.media.now) (record { note = c.in_ok-taken.taken.note; flows = c.in_ok-end_first.field-0 })) same
+    (first-of c.job.inside.tai (2 ^ 36) c.args.media.now c.new-bank.result c.take_capture.new.taker
+    (record { note = c.in_ok-taken.taken.note; flows = c.in_ok-end_first.field-0 }) begun
     c.in_ok-taken.ensures.fed c.in_ok-end_first.ensures)

@@ -1,5 +1,6 @@
-use Rattle.std.proofs.Common.{◌≡◌, ◌<◌, ◌+◌, ◌∷◌, [], length, get_or, refl, sym, ◌∙◌, arith}
-use Rattle.timing_base.specs.Captures.{Record}
-use Rattle.timing_measure.specs.Banks.{HaveRoom, TakesAll}
-use Rattle.timing_measure.proofs.Banked.{one-takes, room-one}
+use Rattle.std.proofs.Common.{◌≡◌, rules, subst, true, false}
+use Rattle.std.specs.Prelude.{Ok}
 use Rattle.timing_measure.proofs.bank.FlowBankTaker.take.Goals as goal
+
+pub returns-then-branch-clause-room : goal.returns-then-branch-clause-room
+returns-then-branch-clause-room g c = λ count. c.take_last.ensures.room count (search rules)

@@ -4,4 +4,4 @@ use Rattle.timing_measure.proofs.metering.first.FirstMeterFlowTaker.take.Goals a
 
 pub returns-clause-takes : goal.returns-clause-takes
 returns-clause-takes c =
-    first-took c.feed.result c.args.self.now _ c.args.packet.now c.args._frame.now refl c.source_with.ensures c.feed.ensures.stands
+    first-took c.feed.result c.args.self.now _ c.args.packet.now c.args._frame.now refl c.source_with-self.ensures c.feed.ensures.stands

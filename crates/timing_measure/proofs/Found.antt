@@ -1,5 +1,6 @@
 -- What the two readings of a capture find of the flows of a session.
-use Rattle.std.proofs.Common.{◌≡◌, ◌≤◌, ◌+◌, ◌++◌, ◌∷◌, ◌^◌, ℕ, zero, suc, Bool, true, false, List, [], length, map, Option, Some, None, refl, sym, ap, ap₂, ◌∙◌, subst, arith}
+use Rattle.std.proofs.Common.{◌≡◌, ◌≤◌, ◌+◌, ◌++◌, ◌∷◌, ◌^◌, ℕ, zero, suc, Bool, true, false, List, [], length, map, Option, Some, None, refl, sym, ap, ap₂}
+use Rattle.std.proofs.Common.{◌∙◌, subst, arith}
 use Rattle.std.specs.Prelude.{All, ◌||◌, is_some, slice_index_or}
 use Rattle.std.specs.List.{list_any}
 use Rattle.std.specs.Option.{option_map}
@@ -261,11 +262,11 @@ same-again tai media text first old new read few known begun h t changed =
     let one =
     each-at (IsSecondOf tai t.items) (IsFoundIn tai t.items) 0 media changed.past changed.rest changed.flow
     (subst (λ l. AreSeconds tai media t.items l) changed.whole seconds) (subst (λ l. AreFound tai media t.items l) changed.whole found) in
-    changed.changed (one.1).0 one.0 tai (flow t.items (one.1).0) few (((one.1).1).0).stands ((one.1).1).1
+    changed.changed one.1 one.0 tai (flow t.items one.1) few (one.2).stands one.3
 
 untold : (o : Option (List ℕ)) → ((text : List ℕ) → o ≡ Some text → ⊥) → o ≡ None
-untold None no = refl
-untold (Some text) no = absurd (no text refl)
+untold None never = refl
+untold (Some text) never = absurd (never text refl)
 
 pub changed-untold : (o : Option (List ℕ)) (tai : ℕ) (media : List Media) (first : Reading) (old new : FlowBank (SecondMeter RunMeter)) (read : Taken)
     → tai ≤ 1000 → ((text : List ℕ) → option_map classic o ≡ Some text → IsReadingIn (AreUnmeasured tai media) text first)
