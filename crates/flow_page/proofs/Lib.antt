@@ -1,4 +1,2 @@
 pub mod Numerals
 pub mod Texts
-pub mod Rises
-pub mod Reaches

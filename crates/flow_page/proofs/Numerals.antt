@@ -1,19 +1,10 @@
 -- What is opened to compute texts that are worked by hand.
 use Rattle.std.specs.Fmt.{digits}
-use Rattle.std.specs.Char.{encode_utf8}
 use Rattle.std.specs.Prelude.{⊤}
-use Rattle.std.specs.Str.{chars}
-use Rattle.flow_page.specs.Axes.{low_at, round_up, step_of, steps_at}
-use Rattle.flow_page.specs.Bars.{bar_label, bar_piece, bar_x, label_step, limit_line, limit_number}
-use Rattle.flow_page.specs.Lines.{name_piece, stroke_piece}
-use Rattle.flow_page.specs.Marks.{above_of, base_of, below, beside, bottom_of, edge, mark, name_x, place, right_of, tenths_text, x_of, y_of}
+use Rattle.flow_page.specs.Timings.{drift_of}
+use Rattle.flow_page.specs.Words.{broken_text, over_text, worst_text}
 
--- decimal numerals, axes, characters, and texts of lines
+-- decimal numerals, drifts, and words of a fail
 unfoldable pub numerals : ⊤
-unfolding digits low_at round_up step_of steps_at chars encode_utf8 name_piece stroke_piece tenths_text bar_label bar_piece limit_line limit_number
+unfolding digits drift_of broken_text over_text worst_text
 numerals = tt
-
--- where marks stand
-unfoldable pub places : ⊤
-unfolding above_of bar_x label_step base_of below beside bottom_of edge mark name_x place right_of x_of y_of
-places = tt

@@ -1,69 +1,27 @@
--- Texts to which one piece more is added.
-use Rattle.std.proofs.Common.{◌≡◌, ◌<◌, ◌≤◌, ◌+◌, ◌-◌, ◌*◌, ℕ, suc, zero, List, ◌++◌, length, drop, get_or, sym, ap, refl, ◌∙◌, arith, append-nil}
-use Rattle.std.specs.Prelude.{nat_le, if◌then◌else◌}
-use Rattle.std.proofs.lemmas.List.{at_drop_more, at_drop_all}
-use Rattle.timing_report.proofs.Appends.{two}
+-- Texts to which a picture is added that is known otherwise.
+use Rattle.std.proofs.Common.{◌≡◌, ℕ, List, ◌++◌, ap, ◌∙◌}
+use Rattle.std.specs.Prelude.{Result, Ok, Err, IfOk}
 use Rattle.flow_measure.specs.declared.columns.Extremes.{Extremes}
-use Rattle.flow_page.specs.Axes.{round_from, round_up}
-use Rattle.flow_page.specs.Curve.{under_step, under_text}
-use Rattle.flow_page.specs.Pieces.{upto}
-use Rattle.flow_page.specs.declared.plot.Plot.{Plot}
+use Rattle.page_chart.specs.Charts.{bars_figure, curve_figure}
+use Rattle.page_chart.specs.declared.bars.Bar.{Bar}
+use Rattle.page_chart.specs.declared.chart.Scene.{Scene}
+use Rattle.page_chart.specs.declared.grid.UnitAcross.{UnitAcross}
+use Rattle.page_chart.specs.declared.lines.Limit.{Limit}
 
--- one piece more of those for each number
-pub upto_more : (piece : ℕ → List ℕ) (k : ℕ) → upto piece (k + 1) ≡ upto piece k ++ piece k
-upto_more piece k = let e : k + 1 ≡ suc k = omega arith in ap (upto piece) e
+-- what was added is another text
+pub added_ok : {T E : Type 0} (r : Result T E) (old new a b : List ℕ) → IfOk r (λ _. new ≡ old ++ a) → a ≡ b → IfOk r (λ _. new ≡ old ++ b)
+added_ok (Ok s) old new a b h e = h ∙ ap (λ s. old ++ s) e
+added_ok (Err x) old new a b h e = tt
 
-pub one_upto : (piece : ℕ → List ℕ) (old mid new : List ℕ) (k : ℕ) → mid ≡ old ++ upto piece k → new ≡ mid ++ piece k
-    → new ≡ old ++ upto piece (k + 1)
-one_upto piece old mid new k e f =
-    two old (upto piece k) (piece k) mid new e f ∙ ap (λ s. old ++ s) (sym (upto_more piece k))
+-- pictures of the same
+pub curve_is : (a b c d : List ℕ) (s t : Scene) (l m : List Limit) (x y : List Extremes) → a ≡ b → c ≡ d → s ≡ t → l ≡ m → x ≡ y
+    → curve_figure a c s l x ≡ curve_figure b d t m y
+curve_is a b c d s t l m x y title detail scene lines columns =
+    ap (λ z. curve_figure z c s l x) title ∙ ap (λ z. curve_figure b z s l x) detail ∙ ap (λ z. curve_figure b d z l x) scene
+    ∙ ap (λ z. curve_figure b d t z x) lines ∙ ap (λ z. curve_figure b d t m z) columns
 
-back : (p : Plot) (columns : List Extremes) (n m : ℕ) (d : Extremes) → n < length columns → m ≡ n + 1
-    → under_text p n (drop n columns) ≡ under_text p m (drop m columns) ++ under_step p n (get_or columns n d)
-back p columns n m d within e =
-    at_drop_more (under_text p n) columns n d within
-    ∙ ap (λ k. under_text p k (drop k columns) ++ under_step p n (get_or columns n d)) (sym e)
-
--- one step more on the way back
-pub one_back : (p : Plot) (columns : List Extremes) (done : ℕ) (d : Extremes) (old mid new : List ℕ) → done < length columns
-    → mid ≡ old ++ under_text p (length columns - done) (drop (length columns - done) columns)
-    → new ≡ mid ++ under_step p (length columns - 1 - done) (get_or columns (length columns - 1 - done) d)
-    → new ≡ old ++ under_text p (length columns - (done + 1)) (drop (length columns - (done + 1)) columns)
-one_back p columns done d old mid new within e f =
-    let n : ℕ = length columns - 1 - done in
-    let m : ℕ = length columns - done in
-    let below : n < length columns = omega arith in
-    let next : m ≡ n + 1 = omega arith in
-    let same : n ≡ length columns - (done + 1) = omega arith in
-    two old (under_text p m (drop m columns)) (under_step p n (get_or columns n d)) mid new e f
-    ∙ ap (λ s. old ++ s) (sym (back p columns n m d below next))
-    ∙ ap (λ k. old ++ under_text p k (drop k columns)) same
-
--- nothing before the first step
-pub none_back : (p : Plot) (columns : List Extremes) (old : List ℕ)
-    → old ≡ old ++ under_text p (length columns - 0) (drop (length columns - 0) columns)
-none_back p columns old =
-    let e : length columns ≡ length columns - 0 = omega arith in
-    sym (append-nil old) ∙ ap (λ s. old ++ s) (sym (at_drop_all (under_text p (length columns)) columns (length columns) (omega arith)))
-    ∙ ap (λ k. old ++ under_text p k (drop k columns)) e
-
--- all of them
-pub all_back : (p : Plot) (columns : List Extremes) (done : ℕ) → length columns - done ≡ 0
-    → under_text p (length columns - done) (drop (length columns - done) columns) ≡ under_text p 0 columns
-all_back p columns done e = ap (λ k. under_text p k (drop k columns)) e
-
--- one power more that is tried
-pub one_power : (i power wanted : ℕ) → i < 19 → round_from (19 - i) power wanted
-    ≡ (if nat_le wanted power then power else if nat_le wanted (2 * power) then 2 * power
-    else if nat_le wanted (5 * power) then 5 * power else round_from (19 - (i + 1)) (10 * power) wanted)
-one_power i power wanted within =
-    let e : 19 - i ≡ suc (19 - (i + 1)) = omega arith in ap (λ n. round_from n power wanted) e
-
--- the first power, and the last
-pub round_begins : (wanted : ℕ) → round_from (19 - 0) 1 wanted ≡ round_up wanted
-unfolding round_up
-round_begins wanted = refl
-
-pub round_ends : (i power wanted : ℕ) → 19 ≤ i → round_from (19 - i) power wanted ≡ power
-round_ends i power wanted past =
-    let e : 19 - i ≡ zero = omega arith in ap (λ n. round_from n power wanted) e
+pub bars_is : (a b c d : List ℕ) (along : UnitAcross) (total : ℕ) (x y : List Bar) → a ≡ b → c ≡ d → x ≡ y
+    → bars_figure a c along total x ≡ bars_figure b d along total y
+bars_is a b c d along total x y title detail bars =
+    ap (λ z. bars_figure z c along total x) title ∙ ap (λ z. bars_figure b z along total x) detail
+    ∙ ap (λ z. bars_figure b d along total z) bars

@@ -1,12 +1,13 @@
 -- what is promised
-pub mod Marks
-pub mod Axes
-pub mod Pieces
-pub mod Escapes
-pub mod Grid
-pub mod Lines
-pub mod Curve
-pub mod Bars
+pub mod Words
+pub mod Shown
+pub mod Media
+pub mod Head
+pub mod Numbers
+pub mod Levels
+pub mod Timings
+pub mod Often
+pub mod Around
 pub mod Page
 -- what is worked by hand
 pub mod Worked

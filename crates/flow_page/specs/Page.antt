@@ -1,73 +1,95 @@
--- The page: its head with all styles, its pictures, and its end. It needs nothing else: no script, and nothing fetched.
--- What a name has of markup is escaped, and its direction is its own (HTML Standard, `bdi`). This project's own.
-use Rattle.std.specs.Prelude.{ℕ, List, ◌++◌, codes}
+-- The whole page of a capture: the table of its media, of each flow with a judged run the pictures and the numbers of
+-- one run, and what else the capture holds. Stamps are nanoseconds; media count from 1 in the text. This project's
+-- own.
+use Rattle.std.specs.Prelude.{ℕ, ◌+◌, ◌-◌, List, [], ◌++◌, codes, Option, Some, None}
 use Rattle.std.specs.Fmt.{decimal}
-use Rattle.flow_measure.specs.declared.columns.Extremes.{Extremes}
-use Rattle.flow_page.specs.Curve.{band_text}
-use Rattle.flow_page.specs.Escapes.{escaped}
-use Rattle.flow_page.specs.Grid.{frame_rules, grid_text, marks_across, units_text}
-use Rattle.flow_page.specs.Lines.{lines_text}
-use Rattle.flow_page.specs.declared.grid.Unit.{Unit}
-use Rattle.flow_page.specs.declared.grid.UnitAcross.{UnitAcross}
-use Rattle.flow_page.specs.declared.lines.Limit.{Limit}
-use Rattle.flow_page.specs.declared.plot.Plot.{Plot}
+use Rattle.std.specs.List.{flat_map}
+use Rattle.timing_base.specs.Media.{Media}
+use Rattle.timing_base.specs.Targets.{target_of, target_text}
+use Rattle.timing_base.specs.declared.capture.FileNote.{FileNote}
+use Rattle.timing_base.specs.declared.target.Target.{Target}
+use Rattle.timing_report.specs.Words.{group_name}
+use Rattle.flow_measure.specs.declared.numbers.MeasuredFlow.{MeasuredFlow}
+use Rattle.flow_measure.specs.declared.numbers.MeasuredRun.{MeasuredRun}
+use Rattle.page_chart.specs.Figures.{told}
+use Rattle.scan_text.specs.Contents.{Contents}
+use Rattle.scan_text.specs.Text.{contents_text}
+use Rattle.flow_page.specs.Around.{around_figures}
+use Rattle.flow_page.specs.Head.{legend, note_line, page_end, page_start}
+use Rattle.flow_page.specs.Levels.{eye_figures, level_figures}
+use Rattle.flow_page.specs.Media.{flow_media, media_table}
+use Rattle.flow_page.specs.Numbers.{numbers_table, runs_table, types_table}
+use Rattle.flow_page.specs.Often.{gap_figure, often_from}
+use Rattle.flow_page.specs.Shown.{types_shown}
+use Rattle.flow_page.specs.Timings.{period_of, steps_line, timing_figures}
+use Rattle.flow_page.specs.Words.{clock_text, type_words, utc}
+use Rattle.flow_page.specs.declared.shown.FlowPage.{FlowPage}
+use Rattle.flow_page.specs.declared.shown.ShownRun.{ShownRun}
+use Rattle.flow_page.specs.declared.shown.TypeShown.{TypeShown}
 
--- some markup, and then a text in it
-abbrev pub told : List ℕ → List ℕ → List ℕ
-told markup text = markup ++ escaped text
+-- which flow a part of the page is of
+abbrev pub flow_heading : (number : ℕ) → Target → List ℕ
+flow_heading number target =
+    codes "<h2>Flow " ++ (decimal number ++ (codes ", " ++ (target_text target ++ codes "</h2>\n")))
 
--- the end of a title, and the styles
-unfoldable pub styles : List ℕ
-styles =
-    codes ": sender timing</title><style>:root{color-scheme:light dark;--ink:#1b1f24;--soft:#59636e;--line:#d1d9e0;"
-    ++ (codes "--bg:#fff;--card:#f6f8fa;--band:#3b78c4;--peak:#1d4f91;--lim:#b3261e;--wide:#8a5a00}@media (prefers-colo"
-    ++ (codes "r-scheme:dark){:root{--ink:#e6edf3;--soft:#9198a1;--line:#3d444d;--bg:#0d1117;--card:#151b23;--band:#4f8"
-    ++ (codes "fdd;--peak:#a5cbff;--lim:#ff8b82;--wide:#e0b050}}@media print{:root{--ink:#000;--soft:#333;--line:#999;-"
-    ++ (codes "-bg:#fff;--card:#fff;--peak:#1d4f91;--lim:#b3261e;--wide:#8a5a00}figure{break-inside:avoid}"
-    ++ (codes "svg{min-width:0!important}}*{box-sizing"
-    ++ (codes ":border-box}body{margin:0 auto;max-width:1400px;padding:1.2rem;font:15px/1.45 system-ui,sans-serif;color"
-    ++ (codes ":var(--ink);background:var(--bg)}h1{font-size:1.35rem;margin:.2rem 0;overflow-wrap:anywhere}figure{margi"
-    ++ (codes "n:0 0 .8rem;padding:.6rem .7rem;background:var(--card);border:1px solid var(--line);border-radius:8px}fi"
-    ++ (codes "gcaption{font-weight:600;margin-bottom:.2rem}figcaption span{font-weight:400;color:var(--soft)}.scroll{o"
-    ++ (codes "verflow-x:auto}svg{width:100%;min-width:900px;height:auto;display:block}svg text{font:12px system-ui,san"
-    ++ (codes "s-serif;fill:var(--soft)}.ax{stroke:var(--line);stroke-width:1;fill:none}.fr{stroke:var(--line);stroke-w"
-    ++ (codes "idth:.7;stroke-dasharray:2 3}.band{fill:var(--band);fill-opacity:.45;stroke:var(--peak);stroke-width:1;s"
-    ++ (codes "troke-linejoin:round}path.lim{stroke:var(--lim);stroke-width:1.4;stroke-dasharray:7 4;fill:none}path.w{s"
-    ++ (codes "troke:var(--wide);stroke-dasharray:2 3}text.lim{fill:var(--lim);paint-order:stroke;stroke:var(--card);st"
-    ++ (codes "roke-width:4px;stroke-linejoin:round}text.w{fill:var(--wide)}.bar{fill:var(--band);stroke:var(--band);st"
-    ++ (codes "roke-width:1}.bar.over{fill:var(--lim);stroke:var(--lim)}</style></head><body><h1>Sender timing: <bd"
-    ++ codes "i>"))))))))))))))))
+-- which run, and when its first and its last judged packet come
+abbrev pub run_heading : (run place first last : ℕ) → List ℕ
+run_heading run place first last =
+    codes "<p>Run " ++ (decimal run ++ (codes ", from record " ++ (decimal place ++ (codes "; judged packets from "
+    ++ (clock_text first ++ (codes " to " ++ (clock_text last ++ codes " UTC.</p>\n")))))))
 
--- from the first byte to the heading, for a capture of this name
-unfoldable pub front : List ℕ
-front =
-    codes "<!DOCTYPE html><html lang=\"en\"><head><meta charset=\"utf-8\"><meta name=\"viewport\""
-    ++ codes " content=\"width=device-width,initial-scale=1\"><title>"
+-- the types in words
+abbrev pub words_list : List TypeShown → (group : List ℕ) → (tai : ℕ) → List ℕ
+words_list types group tai =
+    codes "<ul class=\"words\">\n" ++ (flat_map (λ t. type_words t group tai) types ++ codes "</ul>\n")
 
-abbrev pub page_start : List ℕ → List ℕ
-page_start name = told front name ++ (told styles name ++ codes "</bdi></h1>\n")
+-- the pictures of a run
+unfoldable pub run_figures : Media → ShownRun → List TypeShown → List ℕ
+run_figures media s types =
+    level_figures s.run.judged s.run.numbers s.curves types
+    ++ (eye_figures s.run.judged s.run.numbers s.curves types
+    ++ (timing_figures (period_of media) (s.last_at - s.first_at) s.run.judged s.run.numbers s.curves
+    ++ (often_from 0 s.run.numbers.kinds ++ (gap_figure s.run.numbers.gap ++ around_figures types s.regions))))
 
--- the end of it
-abbrev pub page_end : List ℕ
-page_end = codes "</body></html>\n"
+-- they stand in a grid
+unfoldable pub run_grid : Media → ShownRun → List TypeShown → List ℕ
+run_grid media s types =
+    codes "<div class=\"grid\">\n" ++ (run_figures media s types ++ codes "</div>\n")
 
--- how large a picture is, in its units
-abbrev pub size_text : (width height : ℕ) → List ℕ
-size_text width height = codes "</span></figcaption><div class=\"scroll\"><svg viewBox=\"0 0 " ++ (decimal width
-    ++ (codes " " ++ (decimal height ++ codes "\" role=\"img\">")))
+-- its numbers, and those of all judged runs of its flow
+unfoldable pub run_tables : ShownRun → List TypeShown → List MeasuredRun → List ℕ
+run_tables s types runs = numbers_table s.run.numbers ++ (types_table types ++ runs_table runs)
 
--- the begin of a picture: its title, what is told beside it, and what is told to those who can't see it
-abbrev pub figure_start : (title detail description : List ℕ) → (width height : ℕ) → List ℕ
-figure_start title detail description width height =
-    told (codes "<figure><figcaption>") title ++ (told (codes " <span>") detail ++ (size_text width height
-    ++ (told (codes "<title>") title ++ (told (codes "</title><desc>") description ++ codes "</desc>"))))
+-- a run
+unfoldable pub run_part : (tai : ℕ) → Media → MeasuredFlow → ShownRun → List TypeShown → List ℕ
+run_part tai media flow s types =
+    flow_heading (flow.media + 1) (target_of media)
+    ++ (run_heading s.run.run s.run.«record» (utc tai s.first_at) (utc tai s.last_at)
+    ++ (words_list types (group_name media.interlaced) tai ++ (steps_line media s.run.numbers.step
+    ++ (run_grid media s types ++ run_tables s types flow.runs))))
 
--- the end of it
-abbrev pub figure_end : List ℕ
-figure_end = codes "</svg></div></figure>\n"
+-- where a run is shown
+abbrev pub part_if : (tai : ℕ) → Media → MeasuredFlow → Option ShownRun → List ℕ
+part_if tai media flow None = []
+part_if tai media flow (Some s) = run_part tai media flow s (types_shown s.run.judged s.run.numbers)
 
--- the curve of columns over its grid, and the lines of limits over it
-abbrev pub curve_text : Plot → Unit → UnitAcross → (every : ℕ) → List Limit → List Extremes → List ℕ
-curve_text p unit across every lines columns =
-    grid_text p unit ++ (marks_across p ++ (units_text p unit across ++ (frame_rules p every
-    ++ (band_text p columns ++ lines_text p 0 lines))))
+abbrev pub flow_part : (tai : ℕ) → Media → FlowPage → List ℕ
+flow_part tai media f = part_if tai media f.flow f.shown
+
+-- all flows
+abbrev pub flow_parts : (tai : ℕ) → List Media → List FlowPage → List ℕ
+flow_parts tai session flows = flat_map (λ f. flow_part tai (flow_media session f) f) flows
+
+-- lines under their heading
+abbrev pub contents_told : List ℕ → List ℕ
+contents_told lines = told (codes "<h2>What the capture holds</h2>\n<div class=\"scroll\"><pre>") lines
+
+-- what the capture holds, as `scan` prints it
+unfoldable pub contents_part : List ℕ → FileNote → Contents → List ℕ
+contents_part name note c = contents_told (contents_text name note c) ++ codes "</pre></div>\n"
+
+-- the page of a capture of this name that ends so
+abbrev pub page_of : List ℕ → FileNote → (tai : ℕ) → List Media → List FlowPage → Contents → List ℕ
+page_of name note tai session flows c =
+    page_start name ++ (note_line note ++ (media_table session flows ++ (legend ++ (flow_parts tai session flows
+    ++ (contents_part name note c ++ page_end)))))

@@ -1,47 +1,39 @@
--- A picture that is worked by hand: the bucket of 40 packets of two frames, where the first five packets of the
--- second frame come at one instant (1 throughout, but 1 to 5 at the packets 20 to 24), in columns of 6, over an axis
--- from 0 to 5 with a tick at each. A number stands 20 units below the next greater one, and a packet takes 2 units.
-use Rattle.std.specs.Prelude.{ℕ, pos, List, [], ◌∷◌}
-use Rattle.flow_measure.specs.Worked.{column}
-use Rattle.flow_measure.specs.declared.columns.Extremes.{Extremes}
-use Rattle.flow_page.specs.Bars.{plot_of_bars}
-use Rattle.flow_page.specs.declared.bars.Bar.{Bar}
-use Rattle.flow_page.specs.declared.bars.BarName.{BarName}
-use Rattle.flow_page.specs.declared.bars.BarName.TheVariants.{From, Above}
-use Rattle.flow_page.specs.declared.lines.Limit.{Limit}
-use Rattle.flow_page.specs.declared.lines.LineName.TheVariants.{BothNarrow, Empty}
-use Rattle.flow_page.specs.declared.plot.Plot.{Plot}
+-- Types that are worked by hand, of two frames of 20 packets at 50 frames per second: one that keeps its limits, and
+-- one whose packets are 1,000,000 ns apart, so that all but the first of each frame come after their gapped reads.
+use Rattle.std.specs.Prelude.{pos, neg_ℤ, Some, None}
+use Rattle.timing_base.specs.declared.fail.Broken.TheVariants.{Empty}
+use Rattle.timing_base.specs.declared.media.Kind.TheVariants.{N}
+use Rattle.timing_base.specs.declared.row.KindVerdict.TheVariants.{Pass, Fail}
+use Rattle.flow_measure.specs.Worked.{place}
+use Rattle.flow_page.specs.declared.shown.TypeShown.{TypeShown}
 
-abbrev pub burst_plot : Plot
-burst_plot = record {
-  panel = record { left = 300; width = 800; top = 200; height = 1000 };
-  axis = record { low = pos 0; step = 1; steps = 5 };
-  across = record { start = 0; count = 40; each = 6 };
+abbrev pub kept : TypeShown
+kept = record {
+  kind = N;
+  verdict = Pass;
+  bucket_peak = 1;
+  c_max = 4;
+  buffer_peak = 1;
+  vrx_full = 8;
+  groups = 2;
+  groups_broken = 0;
+  above_bucket = 0;
+  above_buffer = 0;
+  below_buffer = 0;
+  late = 0;
+  slack = pos 444;
+  first_bucket = None;
+  first_over = None;
+  first_empty = None;
+  named = None;
 }
 
-abbrev pub burst_columns : List Extremes
-burst_columns =
-    column (pos 1) (pos 1) ∷ column (pos 1) (pos 1) ∷ column (pos 1) (pos 1) ∷ column (pos 1) (pos 4)
-    ∷ column (pos 1) (pos 5) ∷ column (pos 1) (pos 1) ∷ column (pos 1) (pos 1) ∷ []
-
--- the limit of a narrow sender's bucket, and a buffer that holds nothing
-abbrev pub limit_of_4 : Limit
-limit_of_4 = record { name = BothNarrow; at = pos 4 }
-
-abbrev pub nothing : Limit
-nothing = record { name = Empty; at = pos 0 }
-
--- how often its bucket holds each number: 36 packets 1, and one each 2, 3, 4 and 5, which is above the limit. Six bars
--- of 20 units over an axis from 0 to 40, of which a unit is 0.4; each third one has room for its name
-abbrev pub bar : BarName → ℕ → Bar
-bar name count = record { name = name; count = count }
-
-abbrev pub burst_bars : List Bar
-burst_bars =
-    bar (From 0) 0 ∷ bar (From 1) 36 ∷ bar (From 2) 1 ∷ bar (From 3) 1 ∷ bar (From 4) 1 ∷ bar (Above 4) 1 ∷ []
-
-abbrev pub bars_plot : Plot
-bars_plot = plot_of_bars
-    (record { left = 300; width = 1200; top = 200; height = 1000 })
-    (record { low = pos 0; step = 10; steps = 4 })
-    6
+abbrev pub late : TypeShown
+late = record kept {
+  verdict = Fail (record { model = Empty; from = 1; to = 1; count = 1; limit = 2 });
+  groups_broken = 2;
+  late = 38;
+  slack = neg_ℤ (pos 759556);
+  first_empty = Some 1;
+  named = Some (place 3 1600000000001764000);
+}

@@ -1,90 +1,34 @@
-//! The pictures tried by hand. Each function is a theorem: it does nothing, and its clauses are proved.
+//! The page tried by hand. Each function is a theorem: it does nothing, and its clauses are proved.
 
-ghost use Rattle.std.specs.Prelude.{◌≡◌, ◌<◌, ◌≤◌, ◌≤ℤ◌, ◌++◌, ◌∷◌, ℕ, ℤ, [], codes, neg_ℤ, pos};
-ghost use Rattle.flow_page.specs.Axes.{axis_of};
-ghost use Rattle.flow_page.specs.Bars.{bars_text};
-ghost use Rattle.flow_page.specs.Curve.{band_text};
-ghost use Rattle.flow_page.specs.Escapes.{escaped};
-ghost use Rattle.flow_page.specs.Lines.{lines_text};
-ghost use Rattle.flow_page.specs.Marks.{high, mark, place, rise, span, tenths_text, y_of};
-ghost use Rattle.flow_page.specs.declared.axis.Axis.{Axis};
-ghost use Rattle.flow_page.specs.Worked.{bars_plot, burst_bars, burst_columns, burst_plot, limit_of_4, nothing};
+ghost use Rattle.std.specs.Prelude.{◌≡◌, ◌++◌, codes, neg_ℤ, pos};
+ghost use Rattle.flow_page.specs.Timings.{drift_of};
+ghost use Rattle.flow_page.specs.Words.{clock_text, type_words, utc};
+ghost use Rattle.flow_page.specs.Worked.{kept, late};
 
-/// Axes: with a tick at each number, below 0 in fives, of one number alone, and far from 0.
-#[tactic(auto, unfolding(crate::proofs::Numerals::numerals, crate::proofs::Numerals::places))]
-pub fn axes_by_hand()
-    ensures burst { axis_of (pos 1) (pos 5) ≡ record { low = pos 1; step = 1; steps = 4 } }
-    ensures below { axis_of (neg_ℤ (pos 11)) (pos 8) ≡ record { low = neg_ℤ (pos 15); step = 5; steps = 5 } }
-    ensures flat { axis_of (pos 1800) (pos 1800) ≡ record { low = pos 1800; step = 1; steps = 3 } }
-    ensures far { axis_of (pos 758731) (pos 766209) ≡ record { low = pos 758000; step = 2000; steps = 5 } }
+/// The time of day of a stamp, with and without seconds that were added.
+#[tactic(auto, unfolding(crate::proofs::Numerals::numerals))]
+pub fn clock_by_hand()
+    ensures plain { clock_text (utc 0 1600000000001764000) ≡ codes "12:26:40.001764000" }
+    ensures tai { clock_text (utc 37 1600000037000000009) ≡ codes "12:26:40.000000009" }
+    ensures midnight { clock_text (utc 0 1599955200000000000) ≡ codes "00:00:00.000000000" }
 {}
 
-/// Tenths in digits.
-#[tactic(auto, unfolding(crate::proofs::Numerals::numerals, crate::proofs::Numerals::places))]
-pub fn tenths_by_hand()
-    ensures whole { tenths_text 1740 ≡ codes "174" }
-    ensures part { tenths_text 1745 ≡ codes "174.5" }
-    ensures small { tenths_text 3 ≡ codes "0.3" }
+/// The words of a type that passes, and of one that fails.
+#[tactic(auto, unfolding(crate::proofs::Numerals::numerals))]
+pub fn words_by_hand()
+    ensures pass { type_words kept (codes "frame") 0
+        ≡ codes "<li><span class=\"pass\">&#10003; pass</span> <b>N</b>: bucket 1 of 4, buffer 1 of 8; each packet "
+        ++ codes "may come 444 ns later.</li>\n" }
+    ensures fail { type_words late (codes "frame") 0
+        ≡ codes "<li><span class=\"fail\">&#10007; fail</span> <b>N</b>: bucket 1 of 4, buffer 1 of 8; 2 of 2 frames "
+        ++ (codes "break it; 38 packets come after their reads, first packet 1, at worst 759556 ns late. Packet 1, "
+        ++ codes "with which the verdict's fail ends, is record 3 at 12:26:40.001764000 UTC.</li>\n") }
 {}
 
-/// Marks: the ends of the axis are the ends of the picture, places are rounded down, and what is above or below the
-/// axis stands at its end.
-#[tactic(auto, unfolding(crate::proofs::Numerals::numerals, crate::proofs::Numerals::places))]
-pub fn marks_by_hand()
-    ensures low { y_of burst_plot (pos 0) ≡ 1200 }
-    ensures high { y_of burst_plot (pos 5) ≡ 200 }
-    ensures limit { y_of burst_plot (pos 4) ≡ 400 }
-    ensures above { y_of burst_plot (pos 6) ≡ 200 }
-    ensures down { mark 100 (record { low = pos 0; step = 1; steps = 3 }) (pos 1) ≡ 66 }
-    ensures left { place 800 40 0 ≡ 0 }
-    ensures right { place 800 40 40 ≡ 800 }
-    ensures third { place 100 3 1 ≡ 33 }
-{}
-
-/// Marks rise with numbers: of two numbers the greater one is no less far above the low end of an axis, and never stands
-/// below the other, nor below its line. The ends of the axis stand at the ends of the picture.
-pub fn marks_rise()
-    ensures rises { (a : Axis) (x y : ℤ) → x ≤ℤ y → rise a x ≤ rise a y }
-    ensures falls { (height : ℕ) (a : Axis) (x y : ℤ) → x ≤ℤ y → mark height a y ≤ mark height a x }
-    ensures low { (height : ℕ) (a : Axis) → 0 < span a → mark height a a.low ≡ height }
-    ensures high { (height : ℕ) (a : Axis) → mark height a (high a) ≡ 0 }
-    ensures within { (height : ℕ) (a : Axis) (x : ℤ) → mark height a x ≤ height }
-{}
-
-/// The band of a burst: along the greatest numbers to the last column's end, and along the least ones back.
-#[tactic(auto, unfolding(crate::proofs::Numerals::numerals, crate::proofs::Numerals::places))]
-pub fn band_by_hand()
-    ensures { band_text burst_plot burst_columns
-        ≡ codes "<path class=\"band\" d=\"M30 100V100H42V100H54V100H66V40H78V20H90V100H102V100H110"
-        ++ codes "V100H102V100H90V100H78V100H66V100H54V100H42V100H30Z\"/>" }
-{}
-
-/// The lines of its limits: names stand side by side.
-#[tactic(auto, unfolding(crate::proofs::Numerals::numerals, crate::proofs::Numerals::places))]
-pub fn lines_by_hand()
-    ensures { lines_text burst_plot 0 (limit_of_4 ∷ nothing ∷ [])
-        ≡ codes "<path class=\"lim\" d=\"M30 40H110\"/><text class=\"lim\" x=\"36\" y=\"36\">N, NL 4</text>"
-        ++ codes "<path class=\"lim\" d=\"M30 120H110\"/><text class=\"lim\" x=\"146\" y=\"116\">empty</text>" }
-{}
-
-/// The bars of how often its bucket holds each number: nothing is drawn of 0, the limit stands before what is above it,
-/// and each third bar has its name.
-#[tactic(auto, unfolding(crate::proofs::Numerals::numerals, crate::proofs::Numerals::places))]
-pub fn bars_by_hand()
-    ensures { bars_text bars_plot 0 burst_bars
-        ≡ codes "<text x=\"40\" y=\"136\" text-anchor=\"middle\">0</text>"
-        ++ (codes "<path class=\"bar\" d=\"M52 120V30H68V120Z\"><title>1: 36</title></path>"
-        ++ (codes "<path class=\"bar\" d=\"M72 120V117.5H88V120Z\"><title>2: 1</title></path>"
-        ++ (codes "<path class=\"bar\" d=\"M92 120V117.5H108V120Z\"><title>3: 1</title></path>"
-        ++ (codes "<text x=\"100\" y=\"136\" text-anchor=\"middle\">3</text>"
-        ++ (codes "<path class=\"bar\" d=\"M112 120V117.5H128V120Z\"><title>4: 1</title></path>"
-        ++ (codes "<path class=\"bar over\" d=\"M132 120V117.5H148V120Z\"><title>above 4: 1</title></path>"
-        ++ (codes "<path class=\"lim\" d=\"M130 20V120\"/>"
-        ++ codes "<text class=\"lim\" x=\"126\" y=\"30\" text-anchor=\"end\">limit 4</text>"))))))) }
-{}
-
-/// A name that HTML would read as markup.
-#[tactic(auto, unfolding(crate::proofs::Numerals::numerals, crate::proofs::Numerals::places))]
-pub fn escapes_by_hand()
-    ensures { escaped (codes "<b>&'\"") ≡ codes "&lt;b&gt;&amp;&#39;&quot;" }
+/// A drift in tenths of a ppm: 7,478 ns in 0.6 s are 12.463 ppm.
+#[tactic(auto, unfolding(crate::proofs::Numerals::numerals))]
+pub fn drift_by_hand()
+    ensures later { drift_of (pos 758731) (pos 766209) 600000000 ≡ 124 }
+    ensures earlier { drift_of (pos 766209) (pos 758731) 600000000 ≡ 124 }
+    ensures none { drift_of (neg_ℤ (pos 5)) (neg_ℤ (pos 5)) 0 ≡ 0 }
 {}

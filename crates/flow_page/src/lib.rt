@@ -1,24 +1,20 @@
-//! A page of pictures of one flow: HTML and SVG of numbers that were measured.
+//! The report of a capture as one page with pictures: HTML that needs nothing else, no script and nothing that is fetched.
 //!
-//! Numbers come as columns, bins and classes, and stand where their size puts them: a picture's places are tenths of a
-//! unit of the picture, rounded down, and y grows downward. Texts are made whole, as values. What a text holds of a name
-//! is escaped here alone. The page needs nothing else: no script, and nothing that is fetched.
+//! Its text is made whole, as a value, of numbers that were measured. Tables tell what a judge says and what was measured,
+//! and pictures show it; what a text holds of a name is escaped.
 #![tactic(auto)]
 
-mod axis;
-mod bars;
-mod curve;
-mod escape;
-mod grid;
+mod around;
+mod head;
 pub mod laws;
-mod lines;
+mod levels;
+mod media;
+mod numbers;
+mod often;
 mod page;
-mod plot;
+mod shown;
+mod timings;
+mod words;
 
-pub use axis::Axis;
-pub use bars::{Bar, BarName, add_bars};
-pub use escape::add_escaped;
-pub use grid::{Unit, UnitAcross};
-pub use lines::{Limit, LineName};
-pub use page::{add_curve, add_figure_end, add_figure_start, add_page_end, add_page_start};
-pub use plot::{Across, Panel, Plot, Tenths};
+pub use page::page_text;
+pub use shown::{Curves, FlowPage, Region, ShownRun};

@@ -1,120 +1,291 @@
-//! The page, and the frame of a picture.
+//! The whole page.
 
-ghost use Rattle.std.specs.Prelude.{◌≡◌, ◌≤◌, ◌++◌, ◌^◌, IfOk, string_bytes};
-ghost use Rattle.flow_page.specs.Page.{curve_text, figure_end, figure_start, front, page_end, page_start, size_text, styles, told};
+ghost use Rattle.std.specs.Prelude.{◌≡◌, ◌+◌, ◌-◌, ◌++◌, IfOk, Some, string_bytes};
+ghost use Rattle.std.specs.List.{flat_map};
+ghost use Rattle.timing_base.specs.Targets.{target_of};
+ghost use Rattle.timing_report.specs.Words.{group_name};
+ghost use Rattle.scan_text.specs.Contents.{contents_of};
+ghost use Rattle.flow_page.specs.Media.{AreOfMedia};
+ghost use Rattle.flow_page.specs.Page.{contents_part, contents_told, flow_heading, flow_part, flow_parts, page_of, part_if, run_figures, run_grid, run_heading, run_part, run_tables, words_list};
+ghost use Rattle.flow_page.specs.Words.{utc};
 
-use crate::curve::add_band;
-use crate::escape::add_escaped;
-use crate::grid::{Unit, UnitAcross, add_frame_rules, add_grid, add_marks_across, add_units};
-use crate::lines::{Limit, add_lines};
-use crate::plot::Plot;
-use flow_measure::Extremes;
-use std::alloc::AllocError as OutOfMemory;
-
-/// The first bytes of the page, up to its title.
-#[tactic(auto, unfolding(crate::specs::Page::front))]
-fn front() -> &'static str
-    ensures { result.now ≡ front }
-{
-    "<!DOCTYPE html><html lang=\"en\"><head><meta charset=\"utf-8\"><meta name=\"viewport\" content=\"width=device-width,initial-scale=1\"><title>"
-}
-
-/// The end of the title, and the styles.
-#[tactic(auto, unfolding(crate::specs::Page::styles))]
-fn styles() -> &'static str
-    ensures { result.now ≡ styles }
-{
-    ": sender timing</title><style>:root{color-scheme:light dark;--ink:#1b1f24;--soft:#59636e;--line:#d1d9e0;--bg:#fff;--card:#f6f8fa;--band:#3b78c4;--peak:#1d4f91;--lim:#b3261e;--wide:#8a5a00}@media (prefers-color-scheme:dark){:root{--ink:#e6edf3;--soft:#9198a1;--line:#3d444d;--bg:#0d1117;--card:#151b23;--band:#4f8fdd;--peak:#a5cbff;--lim:#ff8b82;--wide:#e0b050}}@media print{:root{--ink:#000;--soft:#333;--line:#999;--bg:#fff;--card:#fff;--peak:#1d4f91;--lim:#b3261e;--wide:#8a5a00}figure{break-inside:avoid}svg{min-width:0!important}}*{box-sizing:border-box}body{margin:0 auto;max-width:1400px;padding:1.2rem;font:15px/1.45 system-ui,sans-serif;color:var(--ink);background:var(--bg)}h1{font-size:1.35rem;margin:.2rem 0;overflow-wrap:anywhere}figure{margin:0 0 .8rem;padding:.6rem .7rem;background:var(--card);border:1px solid var(--line);border-radius:8px}figcaption{font-weight:600;margin-bottom:.2rem}figcaption span{font-weight:400;color:var(--soft)}.scroll{overflow-x:auto}svg{width:100%;min-width:900px;height:auto;display:block}svg text{font:12px system-ui,sans-serif;fill:var(--soft)}.ax{stroke:var(--line);stroke-width:1;fill:none}.fr{stroke:var(--line);stroke-width:.7;stroke-dasharray:2 3}.band{fill:var(--band);fill-opacity:.45;stroke:var(--peak);stroke-width:1;stroke-linejoin:round}path.lim{stroke:var(--lim);stroke-width:1.4;stroke-dasharray:7 4;fill:none}path.w{stroke:var(--wide);stroke-dasharray:2 3}text.lim{fill:var(--lim);paint-order:stroke;stroke:var(--card);stroke-width:4px;stroke-linejoin:round}text.w{fill:var(--wide)}.bar{fill:var(--band);stroke:var(--band);stroke-width:1}.bar.over{fill:var(--lim);stroke:var(--lim)}</style></head><body><h1>Sender timing: <bdi>"
-}
+use crate::around::add_around_figures;
+use crate::head::{add_legend, add_note_line, add_page_end, add_page_start};
+use crate::levels::{add_eye_figures, add_level_figures};
+use crate::media::{add_media_table, flow_media};
+use crate::numbers::{add_numbers_table, add_runs_table, add_types_table};
+use crate::often::{add_gap_figure, add_often_of};
+use crate::shown::{FlowPage, ShownRun, TypeShown, types_shown};
+use crate::timings::{add_steps_line, add_timing_figures, period_of};
+use crate::words::{Clock, add_words, utc};
+use capture_scan::Found;
+use flow_measure::{MeasuredFlow, MeasuredRun};
+use page_chart::add_told;
+use std::alloc::{AllocError as OutOfMemory, Global};
+use timing_base::{FileNote, Media, Session, Target};
+use timing_report::group_name;
 
 /// Adds some markup.
-fn add_text(text: &mut String, markup: &str) -> Result<(), OutOfMemory>
+fn add_markup(text: &mut String, markup: &str) -> Result<(), OutOfMemory>
     ensures { IfOk result (λ _. string_bytes text.new ≡ string_bytes text.old ++ markup.now) }
 {
     text.push_str(markup)
 }
 
-/// Adds some markup, and then a text in it.
-fn add_told(text: &mut String, markup: &str, plain: &str) -> Result<(), OutOfMemory>
-    ensures { IfOk result (λ _. string_bytes text.new ≡ string_bytes text.old ++ told markup.now plain.now) }
+/// Adds which flow a part of the page is of.
+fn add_flow_heading(text: &mut String, number: u64, target: Target) -> Result<(), OutOfMemory>
+    ensures { IfOk result (λ _. string_bytes text.new ≡ string_bytes text.old ++ flow_heading number target) }
 {
-    text.push_str(markup)?;
-    add_escaped(text, plain)
+    writeln!(text, "<h2>Flow {number}, {target}</h2>")
 }
 
-/// Adds the start of the page of a capture with this name: its head with all styles, and its heading.
-pub fn add_page_start(text: &mut String, name: &str) -> Result<(), OutOfMemory>
-    ensures { IfOk result (λ _. string_bytes text.new ≡ string_bytes text.old ++ page_start name.now) }
+/// Adds which run it is, and when its first and its last judged packet come.
+fn add_run_heading(
+    text: &mut String,
+    run: u32,
+    from: u64,
+    first: u64,
+    last: u64,
+) -> Result<(), OutOfMemory>
+    ensures { IfOk result (λ _. string_bytes text.new ≡ string_bytes text.old ++ run_heading run from first last) }
 {
-    add_told(text, front(), name)?;
-    add_told(text, styles(), name)?;
-    text.push_str("</bdi></h1>\n")
-}
-
-/// Adds the end of the page.
-pub fn add_page_end(text: &mut String) -> Result<(), OutOfMemory>
-    ensures { IfOk result (λ _. string_bytes text.new ≡ string_bytes text.old ++ page_end) }
-{
-    text.push_str("</body></html>\n")
-}
-
-/// Adds how large a picture is.
-fn add_size(text: &mut String, width: u32, height: u32) -> Result<(), OutOfMemory>
-    ensures { IfOk result (λ _. string_bytes text.new ≡ string_bytes text.old ++ size_text width height) }
-{
-    write!(
+    let (first, last) = (Clock { ns: first }, Clock { ns: last });
+    writeln!(
         text,
-        "</span></figcaption><div class=\"scroll\"><svg viewBox=\"0 0 {width} {height}\" role=\"img\">"
+        "<p>Run {run}, from record {from}; judged packets from {first} to {last} UTC.</p>"
     )
 }
 
-/// Adds the start of a picture of this size, in its units: its title, what is told beside it, and what is told to those
-/// who can't see it.
-pub fn add_figure_start(
+/// Adds the types in words.
+fn add_words_list(
     text: &mut String,
-    title: &str,
-    detail: &str,
-    description: &str,
-    width: u32,
-    height: u32,
+    types: &[TypeShown],
+    group: &'static str,
+    tai: u32,
 ) -> Result<(), OutOfMemory>
-    ensures { IfOk result (λ _. string_bytes text.new
-        ≡ string_bytes text.old ++ figure_start title.now detail.now description.now width height) }
+    ensures { IfOk result (λ _. string_bytes text.new ≡ string_bytes text.old ++ words_list types.now group.now tai) }
 {
-    add_told(text, "<figure><figcaption>", title)?;
-    add_told(text, " <span>", detail)?;
-    add_size(text, width, height)?;
-    add_told(text, "<title>", title)?;
-    add_told(text, "</title><desc>", description)?;
-    add_text(text, "</desc>")
+    add_markup(text, "<ul class=\"words\">\n")?;
+    add_words(text, types, group, tai)?;
+    add_markup(text, "</ul>\n")
 }
 
-/// Adds the end of a picture.
-pub fn add_figure_end(text: &mut String) -> Result<(), OutOfMemory>
-    ensures { IfOk result (λ _. string_bytes text.new ≡ string_bytes text.old ++ figure_end) }
+/// Adds the pictures of a run.
+fn add_run_figures(
+    text: &mut String,
+    alloc: Global,
+    media: &Media,
+    shown: &ShownRun,
+    types: &[TypeShown],
+) -> Result<(), OutOfMemory>
+    ensures { IfOk result (λ _. string_bytes text.new
+        ≡ string_bytes text.old ++ run_figures media.now shown.now types.now) }
 {
-    text.push_str("</svg></div></figure>\n")
+    let (judged, numbers, curves) = (&shown.run.judged, &shown.run.numbers, &shown.curves);
+    let period = period_of(media, judged);
+    let span = span_of(shown);
+    add_level_figures(text, alloc, judged, numbers, curves, types)?;
+    add_eye_figures(text, alloc, judged, numbers, curves, types)?;
+    add_timing_figures(text, alloc, period, span, judged, numbers, curves)?;
+    add_often_of(text, alloc, numbers)?;
+    add_gap_figure(text, alloc, &numbers.gap)?;
+    add_around_figures(text, alloc, types, shown.regions.as_slice())
 }
 
-/// Adds the curve of columns over its grid, and the lines of limits over it; `every` packets are a frame, 0 where
-/// frames aren't marked.
-pub fn add_curve(
-    text: &mut String,
-    plot: Plot,
-    unit: Unit,
-    across: UnitAcross,
-    every: u64,
-    lines: &[Limit],
-    columns: &[Extremes],
-) -> Result<(), OutOfMemory>
-    requires { plot.across.count ≤ 2 ^ 60 }
-    ensures { IfOk result (λ _. string_bytes text.new
-        ≡ string_bytes text.old ++ curve_text plot unit across every lines.now columns.now) }
+/// The time from the first to the last judged packet, in nanoseconds.
+fn span_of(shown: &ShownRun) -> u64
+    ensures { result ≡ shown.now.last_at - shown.now.first_at }
 {
-    add_grid(text, plot, unit)?;
-    add_marks_across(text, plot)?;
-    add_units(text, plot, unit, across)?;
-    add_frame_rules(text, plot, every)?;
-    add_band(text, plot, columns)?;
-    add_lines(text, plot, lines)
+    shown.last_at.saturating_sub(shown.first_at)
+}
+
+/// Adds them in a grid.
+fn add_run_grid(
+    text: &mut String,
+    alloc: Global,
+    media: &Media,
+    shown: &ShownRun,
+    types: &[TypeShown],
+) -> Result<(), OutOfMemory>
+    ensures { IfOk result (λ _. string_bytes text.new
+        ≡ string_bytes text.old ++ run_grid media.now shown.now types.now) }
+{
+    add_markup(text, "<div class=\"grid\">\n")?;
+    add_run_figures(text, alloc, media, shown, types)?;
+    add_markup(text, "</div>\n")
+}
+
+/// Adds the numbers of a run, and those of all judged runs of its flow.
+fn add_run_tables(
+    text: &mut String,
+    shown: &ShownRun,
+    types: &[TypeShown],
+    runs: &[MeasuredRun],
+) -> Result<(), OutOfMemory>
+    ensures { IfOk result (λ _. string_bytes text.new
+        ≡ string_bytes text.old ++ run_tables shown.now types.now runs.now) }
+{
+    add_numbers_table(text, &shown.run.numbers)?;
+    add_types_table(text, types)?;
+    add_runs_table(text, runs)
+}
+
+/// Adds which flow a part of the page is of, by its media.
+fn add_flow_title(text: &mut String, media: &Media, flow: &MeasuredFlow) -> Result<(), OutOfMemory>
+    ensures { IfOk result (λ _. string_bytes text.new
+        ≡ string_bytes text.old ++ flow_heading (flow.now.media + 1) (target_of media.now)) }
+{
+    let number = u64::from(flow.media) + 1;
+    add_flow_heading(text, number, media.target())
+}
+
+/// Adds which run is shown, and when its packets come.
+fn add_run_title(text: &mut String, tai: u32, shown: &ShownRun) -> Result<(), OutOfMemory>
+    ensures { IfOk result (λ _. string_bytes text.new ≡ string_bytes text.old
+        ++ run_heading shown.now.run.run shown.now.run.«record» (utc tai shown.now.first_at) (utc tai shown.now.last_at)) }
+{
+    let first = utc(tai, shown.first_at);
+    let last = utc(tai, shown.last_at);
+    add_run_heading(text, shown.run.run, shown.run.record, first, last)
+}
+
+/// Adds the types in words, with the name of this media's groups.
+fn add_types_told(
+    text: &mut String,
+    media: &Media,
+    types: &[TypeShown],
+    tai: u32,
+) -> Result<(), OutOfMemory>
+    ensures { IfOk result (λ _. string_bytes text.new
+        ≡ string_bytes text.old ++ words_list types.now (group_name media.now.interlaced) tai) }
+{
+    let group = group_name(media.interlaced);
+    add_words_list(text, types, group, tai)
+}
+
+/// Adds a run of a flow of this media.
+fn add_run_part(
+    text: &mut String,
+    alloc: Global,
+    tai: u32,
+    media: &Media,
+    flow: &MeasuredFlow,
+    shown: &ShownRun,
+    types: &[TypeShown],
+) -> Result<(), OutOfMemory>
+    ensures { IfOk result (λ _. string_bytes text.new
+        ≡ string_bytes text.old ++ run_part tai media.now flow.now shown.now types.now) }
+{
+    add_flow_title(text, media, flow)?;
+    add_run_title(text, tai, shown)?;
+    add_types_told(text, media, types, tai)?;
+    add_steps_line(text, media, shown.run.numbers.step)?;
+    add_run_grid(text, alloc, media, shown, types)?;
+    add_run_tables(text, shown, types, flow.runs.as_slice())
+}
+
+/// Adds the run of a flow that is shown.
+fn add_shown(
+    text: &mut String,
+    alloc: Global,
+    tai: u32,
+    media: &Media,
+    flow: &MeasuredFlow,
+    shown: &ShownRun,
+) -> Result<(), OutOfMemory>
+    ensures { IfOk result (λ _. string_bytes text.new
+        ≡ string_bytes text.old ++ part_if tai media.now flow.now (Some shown.now)) }
+{
+    let types = types_shown(alloc, &shown.run.judged, &shown.run.numbers)?;
+    add_run_part(text, alloc, tai, media, flow, shown, types.as_slice())
+}
+
+/// Adds a flow of this media, where a run is shown.
+fn add_flow_part(
+    text: &mut String,
+    alloc: Global,
+    tai: u32,
+    media: &Media,
+    page: &FlowPage,
+) -> Result<(), OutOfMemory>
+    ensures { IfOk result (λ _. string_bytes text.new ≡ string_bytes text.old ++ flow_part tai media.now page.now) }
+{
+    match &page.shown {
+        None => Ok(()),
+        Some(shown) => add_shown(text, alloc, tai, media, &page.flow, shown),
+    }
+}
+
+/// Adds all flows.
+fn add_flow_parts(
+    text: &mut String,
+    alloc: Global,
+    tai: u32,
+    session: &Session,
+    flows: &[FlowPage],
+) -> Result<(), OutOfMemory>
+    requires { AreOfMedia session.now flows.now }
+    ensures { IfOk result (λ _. string_bytes text.new
+        ≡ string_bytes text.old ++ flow_parts tai session.now flows.now) }
+{
+    for page in flows {
+        add_flow_part(text, alloc, tai, flow_media(session, page), page)?;
+    }
+    Ok(())
+}
+
+/// Adds these lines under their heading.
+fn add_contents(text: &mut String, lines: &str) -> Result<(), OutOfMemory>
+    ensures { IfOk result (λ _. string_bytes text.new ≡ string_bytes text.old ++ contents_told lines.now) }
+{
+    add_told(
+        text,
+        "<h2>What the capture holds</h2>\n<div class=\"scroll\"><pre>",
+        lines,
+    )
+}
+
+/// Adds what the capture holds, as `scan` prints it.
+fn add_contents_part(
+    text: &mut String,
+    alloc: Global,
+    name: &str,
+    note: FileNote,
+    found: &Found,
+) -> Result<(), OutOfMemory>
+    ensures { IfOk result (λ _. string_bytes text.new
+        ≡ string_bytes text.old ++ contents_part name.now note (contents_of found.now)) }
+{
+    let contents = scan_text::text_of(alloc, name, note, found)?;
+    add_contents(text, contents.as_str())?;
+    add_markup(text, "</pre></div>\n")
+}
+
+/// The page of a capture of this name. `note` says how the capture ends, `tai` how many seconds were added to its
+/// stamps, each flow is of a media of the session, and `found` is what the capture holds. `Err` is want of memory.
+///
+/// It needs nothing else: no script, and nothing that is fetched. Numbers stand where their size puts them, rounded down
+/// to a tenth of a unit of their picture; what of names HTML would read as markup is escaped.
+pub fn page_text(
+    alloc: Global,
+    name: &str,
+    note: FileNote,
+    tai: u32,
+    session: &Session,
+    flows: &[FlowPage],
+    found: &Found,
+) -> Result<String, OutOfMemory>
+    requires { AreOfMedia session.now flows.now }
+    ensures { IfOk result (λ s. string_bytes s
+        ≡ page_of name.now note tai session.now flows.now (contents_of found.now)) }
+{
+    let mut text = String::new(alloc);
+    add_page_start(&mut text, name)?;
+    add_note_line(&mut text, note)?;
+    add_media_table(&mut text, alloc, session, flows)?;
+    add_legend(&mut text)?;
+    add_flow_parts(&mut text, alloc, tai, session, flows)?;
+    add_contents_part(&mut text, alloc, name, note, found)?;
+    add_page_end(&mut text)?;
+    Ok(text)
 }

@@ -1,0 +1,10 @@
+use Rattle.std.proofs.Common.{◌≡◌, ◌++◌, drop}
+use Rattle.std.specs.Prelude.{string_bytes}
+use Rattle.std.specs.List.{flat_map}
+use Rattle.flow_page.specs.Levels.{limit_words}
+use Rattle.flow_page.proofs.levels.add_all_limits.Given as goal
+
+abbrev pub invariant-loop-shown : goal.invariant-loop-shown
+invariant-loop-shown l =
+    string_bytes l.text ++ flat_map (limit_words l.level) (drop l.shown-index l.types)
+    ≡ string_bytes l.fn.text ++ flat_map (limit_words l.level) l.types

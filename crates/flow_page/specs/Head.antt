@@ -1,0 +1,71 @@
+-- The head of the page with all styles, its heading, how the capture ends, what the marks of the pictures are, and
+-- the page's end. It needs nothing else: no script, and nothing that is fetched. A name is escaped, and its direction
+-- is its own (HTML Standard, `bdi`). This project's own.
+use Rattle.std.specs.Prelude.{ℕ, List, ◌++◌, codes}
+use Rattle.timing_base.specs.declared.capture.FileNote.{FileNote}
+use Rattle.timing_report.specs.Words.{note_text}
+use Rattle.page_chart.specs.Figures.{told}
+
+-- the end of the title, and the styles
+unfoldable pub styles : List ℕ
+styles =
+    codes ": sender timing</title><style>:root{color-scheme:light dark;--ink:#1b1f24;--soft:#59636e;--line:#d1d"
+    ++ (codes "9e0;--bg:#fff;--card:#f6f8fa;--band:#3b78c4;--peak:#1d4f91;--lim:#b3261e;--wide:#8a5a00;--ok:#116329"
+    ++ (codes ";--hit:#b3261e22}@media (prefers-color-scheme:dark){:root{--ink:#e6edf3;--soft:#9198a1;--line:#3d444"
+    ++ (codes "d;--bg:#0d1117;--card:#151b23;--band:#4f8fdd;--peak:#a5cbff;--lim:#ff8b82;--wide:#e0b050;--ok:#57c46"
+    ++ (codes "c;--hit:#ff8b8233}}@media print{:root{--ink:#000;--soft:#333;--line:#999;--bg:#fff;--card:#fff;--ban"
+    ++ (codes "d:#3b78c4;--peak:#1d4f91;--lim:#b3261e;--wide:#8a5a00;--ok:#116329;--hit:#b3261e22}figure,tr{break-i"
+    ++ (codes "nside:avoid}.scroll{overflow:visible!important}svg{min-width:0!important}table{font-size:.6rem}th,td"
+    ++ (codes "{padding:.1rem .25rem!important;white-space:normal!important}pre{white-space:pre-wrap!important}}*{b"
+    ++ (codes "ox-sizing:border-box}body{margin:0 auto;max-width:1400px;padding:1.2rem;font:15px/1.45 system-ui,san"
+    ++ (codes "s-serif;color:var(--ink);background:var(--bg)}h1{font-size:1.35rem;margin:.2rem 0;overflow-wrap:anyw"
+    ++ (codes "here}h2{font-size:1.1rem;margin:2rem 0 .4rem}h3{font-size:1rem;margin:1.2rem 0 .2rem}p{margin:.3rem "
+    ++ (codes "0;color:var(--soft);overflow-wrap:anywhere}.scroll{overflow-x:auto;max-width:100%}table{border-colla"
+    ++ (codes "pse:collapse;font-variant-numeric:tabular-nums;margin:.6rem 0}th,td{padding:.3rem .7rem;border-botto"
+    ++ (codes "m:1px solid var(--line);text-align:right;white-space:nowrap}th{font-weight:600;color:var(--soft)}th:"
+    ++ (codes "first-child,td[colspan]{text-align:left}.pass{color:var(--ok)}.fail{color:var(--lim)}.words{padding-"
+    ++ (codes "left:1.1rem;margin:.4rem 0 1rem}.words li{margin:.25rem 0}pre{font:13px/1.5 ui-monospace,monospace;m"
+    ++ (codes "argin:.4rem 0}.grid{display:grid;grid-template-columns:repeat(auto-fit,minmax(min(100%,520px),1fr));"
+    ++ (codes "gap:.8rem}.grid>*{min-width:0}.grid>.wide{grid-column:1/-1}figure{margin:0;padding:.6rem .7rem;backg"
+    ++ (codes "round:var(--card);border:1px solid var(--line);border-radius:8px}figcaption{font-weight:600;margin-b"
+    ++ (codes "ottom:.2rem}figcaption span{font-weight:400;color:var(--soft)}svg{width:100%;min-width:460px;height:"
+    ++ (codes "auto;display:block}svg.wide{min-width:900px}svg.key{display:inline-block;width:28px;min-width:0;heig"
+    ++ (codes "ht:12px}svg text{font:12px system-ui,sans-serif;fill:var(--soft)}.ax{stroke:var(--line);stroke-width"
+    ++ (codes ":1;fill:none}.fr{stroke:var(--line);stroke-width:.7;stroke-dasharray:2 3}.band{fill:var(--band);fill"
+    ++ (codes "-opacity:.45;stroke:var(--peak);stroke-width:1;stroke-linejoin:round}.hit{fill:var(--hit);stroke:var"
+    ++ (codes "(--lim);stroke-width:.7}path.lim{stroke:var(--lim);stroke-width:1.4;stroke-dasharray:7 4;fill:none}p"
+    ++ (codes "ath.w{stroke:var(--wide);stroke-dasharray:2 3}text.lim{fill:var(--lim);paint-order:stroke;stroke:var"
+    ++ (codes "(--card);stroke-width:4px;stroke-linejoin:round}text.w{fill:var(--wide)}.bar{fill:var(--band);stroke"
+    ++ (codes ":var(--band);stroke-width:1}.bar.over{fill:var(--lim);stroke:var(--lim)}</style></head><body><h1>Sen"
+    ++ codes "der timing: <bdi>"
+    )))))))))))))))))))))))))))
+
+-- from the first byte to the title, for a capture of this name
+unfoldable pub front : List ℕ
+front =
+    codes "<!DOCTYPE html><html lang=\"en\"><head><meta charset=\"utf-8\"><meta name=\"viewport\""
+    ++ codes " content=\"width=device-width,initial-scale=1\"><title>"
+
+abbrev pub page_start : List ℕ → List ℕ
+page_start name = told front name ++ (told styles name ++ codes "</bdi></h1>\n")
+
+-- how the capture ends
+abbrev pub note_line : FileNote → List ℕ
+note_line note =
+    codes "<p>By SMPTE ST 2110-21. How the capture ends: " ++ (note_text note ++ codes ".</p>\n")
+
+-- what the marks are
+unfoldable pub legend : List ℕ
+legend =
+    codes "<p class=\"legend\">In the curves each mark spans the least and the greatest number of its packets o"
+    ++ (codes "r frames <svg class=\"key\" viewBox=\"0 0 28 12\" aria-hidden=\"true\"><path class=\"band\" d=\"M2 3"
+    ++ (codes "H26V9H2Z\"/></svg>, so no peak is hidden. Limits are lines with their names at the right: those of N"
+    ++ (codes " and NL are dashed <svg class=\"key\" viewBox=\"0 0 28 12\" aria-hidden=\"true\"><path class=\"lim\""
+    ++ (codes " d=\"M0 6H28\"/></svg>, those of W dotted <svg class=\"key\" viewBox=\"0 0 28 12\" aria-hidden=\"tru"
+    ++ (codes "e\"><path class=\"lim w\" d=\"M0 6H28\"/></svg>; faint uprights are the ends of frames. In the bars "
+    ++ (codes "what is beyond a limit stands behind the limit's line, or before 0, and is named so. Packets and fra"
+    ++ codes "mes count from 0, records from 1.</p>\n"))))))
+
+-- the end of it
+abbrev pub page_end : List ℕ
+page_end = codes "</body></html>\n"

@@ -1,0 +1,89 @@
+-- The table of the media of a session: a row for each, with its verdict, the packets of a group, the class and the type
+-- that is declared, and of each sender type pass or fail and the peaks with their limits. Media count from 1 there.
+-- This project's own.
+use Rattle.std.specs.Prelude.{ℕ, ◌+◌, ◌<◌, List, ◌++◌, codes, All, length, Option, Some, None}
+use Rattle.std.specs.Fmt.{decimal}
+use Rattle.std.specs.List.{flat_map}
+use Rattle.timing_base.specs.Keys.{key_of, media_of}
+use Rattle.timing_base.specs.Media.{Media}
+use Rattle.timing_base.specs.Targets.{target_of, target_text}
+use Rattle.timing_base.specs.Verdicts.{Judged}
+use Rattle.timing_base.specs.declared.row.Verdict.{Verdict}
+use Rattle.timing_base.specs.declared.row.Verdict.TheVariants as verdict
+use Rattle.timing_base.specs.declared.target.Target.{Target}
+use Rattle.timing_report.specs.Outcomes.{first_passing}
+use Rattle.timing_report.specs.Verdict.{verdict_text}
+use Rattle.timing_report.specs.Words.{class_name, declared_name, group_name}
+use Rattle.page_chart.specs.Figures.{told}
+use Rattle.flow_page.specs.Shown.{types_shown}
+use Rattle.flow_page.specs.Words.{sign_text}
+use Rattle.flow_page.specs.declared.shown.FlowPage.{FlowPage}
+use Rattle.flow_page.specs.declared.shown.ShownRun.{ShownRun}
+use Rattle.flow_page.specs.declared.shown.TypeShown.{TypeShown}
+
+-- the begin of the table, in a box of its own
+unfoldable pub media_open : List ℕ
+media_open =
+    codes "<div class=\"scroll\"><table><thead><tr><th>Flow</th><th>Verdict</th><th>Packets</th><th>Frames</th>"
+    ++ (codes "<th>Class</th><th>Declared</th><th>N</th><th>bucket</th><th>buffer</th><th>NL</th><th>bucket</th>"
+    ++ codes "<th>buffer</th><th>W</th><th>bucket</th><th>buffer</th></tr></thead><tbody>\n")
+
+-- the end of a table
+abbrev pub table_close : List ℕ
+table_close = codes "</tbody></table></div>\n"
+
+-- pass or fail, and peaks of limits
+abbrev pub type_cells : TypeShown → List ℕ
+type_cells t =
+    codes "<td>" ++ (sign_text t.verdict ++ (codes "</td><td>" ++ (decimal t.bucket_peak ++ (codes " of "
+    ++ (decimal t.c_max ++ (codes "</td><td>" ++ (decimal t.buffer_peak ++ (codes " of " ++ (decimal t.vrx_full
+    ++ codes "</td>")))))))))
+
+-- the packets of a group, the groups, the class, and the type that is declared
+abbrev pub run_cells : Media → Judged → List ℕ
+run_cells media judged =
+    codes "</td><td>" ++ (decimal judged.n ++ (codes " per " ++ (group_name media.interlaced ++ (codes "</td><td>"
+    ++ (decimal judged.frames ++ (codes "</td><td>" ++ (class_name (first_passing judged) ++ (codes "</td><td>"
+    ++ (declared_name media.declared ++ codes "</td>")))))))))
+
+-- of a run that is shown, if any
+abbrev pub shown_cells : Media → Option ShownRun → List ℕ
+shown_cells media None = codes "</td></tr>\n"
+shown_cells media (Some s) =
+    run_cells media s.run.judged
+    ++ (flat_map type_cells (types_shown s.run.judged s.run.numbers) ++ codes "</tr>\n")
+
+-- which flow it is
+abbrev pub row_open : (number : ℕ) → Target → List ℕ
+row_open number target =
+    codes "<tr><th>" ++ (decimal number ++ (codes " " ++ (target_text target ++ codes "</th>")))
+
+-- a verdict in few words, as the table tells the rest
+abbrev pub verdict_told : Media → Verdict → List ℕ
+verdict_told media (verdict.Judged judged) = codes "judged"
+verdict_told media (verdict.Unjudged unjudged) = verdict_text media (verdict.Unjudged unjudged)
+verdict_told media (verdict.Runs runs) = verdict_text media (verdict.Runs runs)
+
+-- where nothing is judged it takes the whole row
+abbrev pub verdict_open : Option ShownRun → List ℕ
+verdict_open None = codes "<td colspan=\"14\">"
+verdict_open (Some s) = codes "<td>"
+
+-- a flow of this media
+abbrev pub media_row : Media → FlowPage → List ℕ
+media_row media f =
+    row_open (f.flow.media + 1) (target_of media)
+    ++ (told (verdict_open f.shown) (verdict_told media f.flow.verdict) ++ shown_cells media f.shown)
+
+-- the media of a flow of the capture
+abbrev pub flow_media : List Media → FlowPage → Media
+flow_media session f = media_of session (key_of 0 f.flow.media)
+
+-- each flow is of a media of the session
+abbrev pub AreOfMedia : List Media → List FlowPage → Type 0
+AreOfMedia session flows = All (λ f. f.flow.media < length session) flows
+
+-- the table
+abbrev pub media_table : List Media → List FlowPage → List ℕ
+media_table session flows =
+    media_open ++ (flat_map (λ f. media_row (flow_media session f) f) flows ++ table_close)

@@ -1,0 +1,85 @@
+-- The pictures of how often bucket and buffer hold so many packets, for each type, and how often so much time is
+-- between two packets. This project's own.
+use Rattle.std.specs.Prelude.{ℕ, ◌+◌, ◌*◌, ◌^◌, ◌==◌, nat_lt, if◌then◌else◌, Bool, true, false}
+use Rattle.std.specs.Prelude.{List, [], ◌∷◌, ◌++◌, codes, Option, Some, None}
+use Rattle.std.specs.Fmt.{decimal, signed_decimal}
+use Rattle.timing_base.specs.declared.media.Kind.{Kind}
+use Rattle.timing_report.specs.Words.{kind_name}
+use Rattle.flow_measure.specs.Told.{bin_counts, class_counts}
+use Rattle.flow_measure.specs.declared.bins.Bins.{Bins}
+use Rattle.flow_measure.specs.declared.numbers.Gaps.{Gaps}
+use Rattle.flow_measure.specs.declared.numbers.KindNumbers.{KindNumbers}
+use Rattle.flow_measure.specs.declared.summary.Summary.{Summary}
+use Rattle.page_chart.specs.Charts.{bars_figure}
+use Rattle.page_chart.specs.declared.bars.Bar.{Bar}
+use Rattle.page_chart.specs.declared.bars.BarName.TheVariants.{Below, From, Above}
+use Rattle.page_chart.specs.declared.grid.UnitAcross.{UnitAcross}
+use Rattle.page_chart.specs.declared.grid.UnitAcross.TheVariants as across
+use Rattle.flow_page.specs.Shown.{kind_at}
+
+-- bars of bins, from one on
+abbrev pub width_bars : (width k : ℕ) → List ℕ → List Bar
+width_bars width k [] = []
+width_bars width k (count ∷ counts) =
+    record { name = From (k * width); count = count } ∷ width_bars width (k + 1) counts
+
+-- what is below 0, where that can be
+abbrev pub below_bars : Bool → ℕ → List Bar
+below_bars true below = record { name = Below; count = below } ∷ []
+below_bars false below = []
+
+-- all bars of bins
+abbrev pub bins_bars : Bins → (signed : Bool) → List Bar
+bins_bars b signed =
+    below_bars signed b.below
+    ++ (width_bars b.width 0 (bin_counts b) ++ record { name = Above b.limit; count = b.above } ∷ [])
+
+-- where the next class begins: at 1 after 0, and else at the double
+abbrev pub next_class : ℕ → ℕ
+next_class first = if first == 0 then 1 else if nat_lt first (2 ^ 100) then 2 * first else first
+
+-- bars of classes, the first of which begins there
+abbrev pub class_bars : (first : ℕ) → List ℕ → List Bar
+class_bars first [] = []
+class_bars first (count ∷ counts) =
+    record { name = From first; count = count } ∷ class_bars (next_class first) counts
+
+-- the title of a type's bucket or buffer
+abbrev pub often_title : (what : List ℕ) → Kind → List ℕ
+often_title what kind = codes "How often: " ++ (what ++ (codes ", " ++ kind_name kind))
+
+-- what is told beside it
+abbrev pub often_detail : Bins → List ℕ
+often_detail b =
+    codes "limit " ++ (decimal b.limit ++ (codes "; " ++ (decimal b.above ++ (codes " of " ++ (decimal b.seen
+    ++ (codes " packets above, " ++ (decimal b.below ++ codes " below 0")))))))
+
+abbrev pub often_figure : (what : List ℕ) → Kind → UnitAcross → (signed : Bool) → Bins → List ℕ
+often_figure what kind along signed b =
+    bars_figure (often_title what kind) (often_detail b) along b.seen (bins_bars b signed)
+
+-- the two of a type
+unfoldable pub often_kind : Kind → KindNumbers → List ℕ
+often_kind kind k =
+    often_figure (codes "bucket") kind across.Bucket false k.bucket
+    ++ often_figure (codes "buffer") kind across.Buffer true k.buffer
+
+-- those of the types from a place on
+abbrev pub often_from : (place : ℕ) → List KindNumbers → List ℕ
+often_from place [] = []
+often_from place (k ∷ ks) = often_kind (kind_at place) k ++ often_from (place + 1) ks
+
+-- the times from packet to packet, where there are two
+abbrev pub gap_detail : Summary → List ℕ
+gap_detail s =
+    codes "least " ++ (signed_decimal s.least ++ (codes ", most " ++ (signed_decimal s.greatest
+    ++ codes " ns; each bar goes up to the double of where it begins")))
+
+abbrev pub gaps_figure : Gaps → List ℕ
+gaps_figure g =
+    bars_figure (codes "Time from packet to packet") (gap_detail g.summary) across.Gap g.classes.seen
+    (class_bars 0 (class_counts g.classes))
+
+abbrev pub gap_figure : Option Gaps → List ℕ
+gap_figure None = []
+gap_figure (Some g) = gaps_figure g

@@ -1,0 +1,160 @@
+//! Pictures around fails.
+
+ghost use Rattle.std.specs.Prelude.{◌≡◌, ◌≤◌, ◌^◌, ◌++◌, IfOk, string_bytes};
+ghost use Rattle.std.specs.List.{flat_map};
+ghost use Rattle.timing_report.specs.Outcomes.{place_of};
+ghost use Rattle.flow_page.specs.Around.{around_detail, around_figure, around_figures, around_if, around_scene, around_title, broken_line};
+
+use crate::levels::{line_name, one_line};
+use crate::shown::{Region, TypeShown};
+use page_chart::{Across, Limit, LineName, Scene, Shade, Unit, UnitAcross, add_curve_figure};
+use std::alloc::{AllocError as OutOfMemory, Global};
+use timing_base::{Broken, FailProof, Kind};
+use timing_report::{kind_name, model_name};
+
+/// The line that is broken: the type's own limit, and of an empty buffer the line of nothing.
+fn broken_line(shown: &TypeShown, model: Broken) -> Limit
+    ensures { result ≡ broken_line shown.now model }
+{
+    match model {
+        Broken::Bucket => Limit {
+            name: line_name(shown.kind),
+            at: i128::from(shown.c_max),
+        },
+        Broken::Over => Limit {
+            name: line_name(shown.kind),
+            at: i128::from(shown.vrx_full),
+        },
+        Broken::Empty => Limit {
+            name: LineName::Empty,
+            at: 0,
+        },
+    }
+}
+
+/// The title of a picture.
+fn around_title(alloc: Global, kind: Kind, model: Broken) -> Result<String, OutOfMemory>
+    ensures { IfOk result (λ s. string_bytes s ≡ around_title kind model) }
+{
+    let (kind, model) = (kind_name(kind), model_name(model));
+    format!(in alloc; "Around the fail: {kind}, {model}")
+}
+
+/// What is told beside it.
+fn around_detail(alloc: Global, proof: FailProof) -> Result<String, OutOfMemory>
+    ensures { IfOk result (λ s. string_bytes s ≡ around_detail proof) }
+{
+    format!(in alloc;
+        "packets {} to {}: count {}, limit {}",
+        proof.from, proof.to, proof.count, proof.limit
+    )
+}
+
+/// The packets that are shown, with those that the verdict names shaded.
+fn around_scene(region: &Region) -> Scene
+    ensures value { result ≡ around_scene region.now }
+    ensures few { result.across.count ≤ 2 ^ 60 }
+{
+    let across = Across {
+        start: region.start,
+        count: region.count.min(1 << 60),
+        each: region.count.div_ceil(400),
+    };
+    let shade = Shade {
+        from: region.proof.from.saturating_sub(region.start),
+        to: region.proof.to.saturating_sub(region.start),
+    };
+    Scene {
+        wide: false,
+        unit: Unit::Packets,
+        along: UnitAcross::Packet,
+        across,
+        every: 0,
+        shade: Some(shade),
+    }
+}
+
+/// Adds the picture around a fail of this type.
+fn add_around(
+    text: &mut String,
+    alloc: Global,
+    shown: &TypeShown,
+    region: &Region,
+) -> Result<(), OutOfMemory>
+    ensures { IfOk result (λ _. string_bytes text.new ≡ string_bytes text.old ++ around_figure shown.now region.now) }
+{
+    let title = around_title(alloc, shown.kind, region.proof.model)?;
+    let detail = around_detail(alloc, region.proof)?;
+    let lines = one_line(alloc, broken_line(shown, region.proof.model))?;
+    let scene = around_scene(region);
+    let columns = region.columns.as_slice();
+    add_curve_figure(
+        text,
+        alloc,
+        title.as_str(),
+        detail.as_str(),
+        scene,
+        lines.as_slice(),
+        columns,
+    )
+}
+
+/// The place of a type in the order N, NL, W.
+fn place_of(kind: Kind) -> u32
+    ensures { result ≡ place_of kind }
+{
+    match kind {
+        Kind::N => 0,
+        Kind::NL => 1,
+        Kind::W => 2,
+    }
+}
+
+/// Adds a picture where it is of this type.
+#[tactic(auto, unfolding(crate::specs::Around::around_if))]
+fn add_around_if(
+    text: &mut String,
+    alloc: Global,
+    shown: &TypeShown,
+    region: &Region,
+) -> Result<(), OutOfMemory>
+    ensures { IfOk result (λ _. string_bytes text.new ≡ string_bytes text.old ++ around_if shown.now region.now) }
+{
+    if place_of(region.kind) == place_of(shown.kind) {
+        add_around(text, alloc, shown, region)
+    } else {
+        Ok(())
+    }
+}
+
+/// Adds the pictures around fails of this type.
+fn add_around_type(
+    text: &mut String,
+    alloc: Global,
+    shown: &TypeShown,
+    regions: &[Region],
+) -> Result<(), OutOfMemory>
+    ensures { IfOk result (λ _. string_bytes text.new
+        ≡ string_bytes text.old ++ flat_map (around_if shown.now) regions.now) }
+{
+    for region in regions {
+        add_around_if(text, alloc, shown, region)?;
+    }
+    Ok(())
+}
+
+/// Adds those of all types.
+pub(crate) fn add_around_figures(
+    text: &mut String,
+    alloc: Global,
+    types: &[TypeShown],
+    regions: &[Region],
+) -> Result<(), OutOfMemory>
+    ensures { IfOk result (λ _. string_bytes text.new
+        ≡ string_bytes text.old ++ around_figures types.now regions.now) }
+{
+    for shown in types {
+        add_around_type(text, alloc, shown, regions)?;
+    }
+    Ok(())
+}

@@ -1,0 +1,409 @@
+//! Pictures of what bucket and buffer hold.
+
+ghost use Rattle.std.specs.Prelude.{◌≡◌, ◌≤◌, ◌^◌, ◌++◌, ◌∷◌, [], IfOk, string_bytes};
+ghost use Rattle.std.specs.List.{flat_map};
+ghost use Rattle.flow_page.specs.Levels.{across_of, base_lines, bucket_limit, buffer_limit, eye_columns, eye_figure, eye_figures, eye_scene, eye_title, is_near, level_columns, level_detail, level_figure, level_figures, level_lines, level_scene, level_summary, level_title, level_words, limit_on, limit_words, line_name, type_line};
+
+use crate::shown::{Curves, TypeShown};
+use flow_measure::{Extremes, RunNumbers, Summary};
+use page_chart::{Across, Limit, LineName, Scene, Unit, UnitAcross, add_curve_figure};
+use std::alloc::{AllocError as OutOfMemory, Global};
+use std::fmt;
+use timing_base::{Judged, Kind};
+use timing_report::kind_name;
+
+/// What a picture is of.
+#[derive(Clone, Copy, Debug, PartialEq, Eq)]
+enum Level {
+    Bucket,
+    /// The buffer by gapped reads.
+    Gapped,
+    /// The buffer by linear reads.
+    Linear,
+}
+
+/// A limit, and the first packet that is above it.
+#[derive(Clone, Copy, Debug, PartialEq, Eq)]
+struct LimitOn {
+    limit: u64,
+    first: Option<u64>,
+}
+
+/// The title of the picture over the whole run.
+fn level_title(level: Level) -> &'static str
+    ensures { result.now ≡ level_title level }
+{
+    match level {
+        Level::Bucket => "Bucket over the capture",
+        Level::Gapped => "Receiver buffer over the capture, gapped reads (N)",
+        Level::Linear => "Receiver buffer over the capture, linear reads (NL, W)",
+    }
+}
+
+/// The title of the picture of all groups laid over each other.
+fn eye_title(level: Level) -> &'static str
+    ensures { result.now ≡ eye_title level }
+{
+    match level {
+        Level::Bucket => "One frame, all over each other: bucket",
+        Level::Gapped => "One frame, all over each other: buffer, gapped reads (N)",
+        Level::Linear => "One frame, all over each other: buffer, linear reads (NL, W)",
+    }
+}
+
+/// The summary of what is held.
+fn level_summary(numbers: &RunNumbers, level: Level) -> Summary
+    ensures { result ≡ level_summary numbers.now level }
+{
+    match level {
+        Level::Bucket => numbers.bucket,
+        Level::Gapped => numbers.gapped.occupancy,
+        Level::Linear => numbers.linear.occupancy,
+    }
+}
+
+/// The columns over the whole run.
+fn level_columns(curves: &Curves, level: Level) -> &[Extremes]
+    ensures { result.now ≡ level_columns curves.now level }
+{
+    match level {
+        Level::Bucket => curves.bucket.as_slice(),
+        Level::Gapped => curves.gapped.as_slice(),
+        Level::Linear => curves.linear.as_slice(),
+    }
+}
+
+/// The columns of all groups laid over each other.
+fn eye_columns(curves: &Curves, level: Level) -> &[Extremes]
+    ensures { result.now ≡ eye_columns curves.now level }
+{
+    match level {
+        Level::Bucket => curves.bucket_eye.as_slice(),
+        Level::Gapped => curves.gapped_eye.as_slice(),
+        Level::Linear => curves.linear_eye.as_slice(),
+    }
+}
+
+/// The limit of a type's bucket.
+fn bucket_limit(shown: &TypeShown) -> LimitOn
+    ensures { result ≡ bucket_limit shown.now }
+{
+    LimitOn {
+        limit: shown.c_max,
+        first: shown.first_bucket,
+    }
+}
+
+/// The limit of a type's buffer.
+fn buffer_limit(shown: &TypeShown) -> LimitOn
+    ensures { result ≡ buffer_limit shown.now }
+{
+    LimitOn {
+        limit: shown.vrx_full,
+        first: shown.first_over,
+    }
+}
+
+/// The limit of a type, where it is judged by this.
+fn limit_on(level: Level, shown: &TypeShown) -> Option<LimitOn>
+    ensures { result ≡ limit_on level shown.now }
+{
+    match level {
+        Level::Bucket => Some(bucket_limit(shown)),
+        Level::Gapped => match shown.kind {
+            Kind::N => Some(buffer_limit(shown)),
+            Kind::NL => None,
+            Kind::W => None,
+        },
+        Level::Linear => match shown.kind {
+            Kind::N => None,
+            Kind::NL => Some(buffer_limit(shown)),
+            Kind::W => Some(buffer_limit(shown)),
+        },
+    }
+}
+
+/// Whether a limit is drawn: that of W's buffer only where a fourth of it is reached, since it would flatten the curve.
+fn is_near(level: Level, shown: &TypeShown) -> bool
+    ensures { result ≡ is_near level shown.now }
+{
+    match level {
+        Level::Bucket => true,
+        Level::Gapped => true,
+        Level::Linear => match shown.kind {
+            Kind::N => true,
+            Kind::NL => true,
+            Kind::W => shown.vrx_full / 4 <= shown.buffer_peak,
+        },
+    }
+}
+
+/// The name of a type's line.
+pub(crate) fn line_name(kind: Kind) -> LineName
+    ensures { result ≡ line_name kind }
+{
+    match kind {
+        Kind::N => LineName::Narrow,
+        Kind::NL => LineName::NarrowLinear,
+        Kind::W => LineName::Wide,
+    }
+}
+
+/// Adds the line of a type, where it has one.
+fn add_type_line(lines: &mut Vec<Limit>, level: Level, shown: &TypeShown) -> Result<(), OutOfMemory>
+    ensures { IfOk result (λ _. lines.new.items ≡ lines.old.items ++ type_line level shown.now) }
+{
+    if !is_near(level, shown) {
+        return Ok(());
+    }
+    match limit_on(level, shown) {
+        None => Ok(()),
+        Some(on) => {
+            lines.push(Limit {
+                name: line_name(shown.kind),
+                at: i128::from(on.limit),
+            })?;
+            Ok(())
+        }
+    }
+}
+
+/// One line alone.
+pub(crate) fn one_line(alloc: Global, line: Limit) -> Result<Vec<Limit>, OutOfMemory>
+    ensures { IfOk result (λ lines. lines.items ≡ line ∷ []) }
+{
+    let mut lines = Vec::new(alloc);
+    lines.push(line)?;
+    Ok(lines)
+}
+
+/// The line of a buffer that holds nothing.
+fn base_lines(alloc: Global, level: Level) -> Result<Vec<Limit>, OutOfMemory>
+    ensures { IfOk result (λ lines. lines.items ≡ base_lines level) }
+{
+    let empty = Limit {
+        name: LineName::Empty,
+        at: 0,
+    };
+    match level {
+        Level::Bucket => Ok(Vec::new(alloc)),
+        Level::Gapped => one_line(alloc, empty),
+        Level::Linear => one_line(alloc, empty),
+    }
+}
+
+/// The lines of the limits.
+fn level_lines(alloc: Global, level: Level, types: &[TypeShown]) -> Result<Vec<Limit>, OutOfMemory>
+    ensures { IfOk result (λ lines. lines.items ≡ level_lines level types.now) }
+{
+    let mut lines = base_lines(alloc, level)?;
+    for shown in types {
+        add_type_line(&mut lines, level, shown)?;
+    }
+    Ok(lines)
+}
+
+/// The first packet above a limit, where one is.
+#[derive(Clone, Copy, Debug)]
+struct FirstTold {
+    first: Option<u64>,
+}
+
+impl fmt::Display for FirstTold {
+    ghost use Rattle.std.specs.Prelude.{Some};
+    ghost use Rattle.flow_page.specs.Levels.{first_told};
+
+    ghost output = { λ told. Some (first_told told.first) };
+
+    fn fmt<W: fmt::Write>(&self, f: &mut fmt::Formatter<W>) -> fmt::Result {
+        match self.first {
+            None => Ok(()),
+            Some(first) => write!(f, ", above it first after packet {first}"),
+        }
+    }
+}
+
+/// Adds the limit of a type in words, where it has one.
+fn add_limit_words(text: &mut String, level: Level, shown: &TypeShown) -> Result<(), OutOfMemory>
+    ensures { IfOk result (λ _. string_bytes text.new ≡ string_bytes text.old ++ limit_words level shown.now) }
+{
+    match limit_on(level, shown) {
+        None => Ok(()),
+        Some(on) => {
+            let name = kind_name(shown.kind);
+            let first = FirstTold { first: on.first };
+            write!(text, "; {name} at most {}{first}", on.limit)
+        }
+    }
+}
+
+/// Adds the limits of types in words.
+fn add_all_limits(text: &mut String, level: Level, types: &[TypeShown]) -> Result<(), OutOfMemory>
+    ensures { IfOk result (λ _. string_bytes text.new
+        ≡ string_bytes text.old ++ flat_map (limit_words level) types.now) }
+{
+    for shown in types {
+        add_limit_words(text, level, shown)?;
+    }
+    Ok(())
+}
+
+/// The least and the most, and the packets or places of a mark.
+fn level_words(alloc: Global, summary: Summary, each: u64) -> Result<String, OutOfMemory>
+    ensures { IfOk result (λ s. string_bytes s ≡ level_words summary each) }
+{
+    format!(in alloc;
+        "least {}, most {} packets; {each} to a mark",
+        summary.least, summary.greatest
+    )
+}
+
+/// What is told beside a picture.
+fn level_detail(
+    alloc: Global,
+    level: Level,
+    summary: Summary,
+    each: u64,
+    types: &[TypeShown],
+) -> Result<String, OutOfMemory>
+    ensures { IfOk result (λ s. string_bytes s ≡ level_detail level summary each types.now) }
+{
+    let mut text = level_words(alloc, summary, each)?;
+    add_all_limits(&mut text, level, types)?;
+    Ok(text)
+}
+
+/// So many places, in at most so many marks.
+pub(crate) fn across_of(count: u64, most: u64) -> Across
+    requires { 1 ≤ most }
+    ensures value { result ≡ across_of count most }
+    ensures few { result.count ≤ 2 ^ 60 }
+{
+    Across {
+        start: 0,
+        count: count.min(1 << 60),
+        each: count.div_ceil(most),
+    }
+}
+
+/// The scene of the whole run.
+fn level_scene(judged: &Judged) -> Scene
+    ensures value { result ≡ level_scene judged.now }
+    ensures few { result.across.count ≤ 2 ^ 60 }
+{
+    Scene {
+        wide: true,
+        unit: Unit::Packets,
+        along: UnitAcross::Packet,
+        across: across_of(judged.packets, 1000),
+        every: u64::from(judged.n),
+        shade: None,
+    }
+}
+
+/// The scene of all groups laid over each other.
+fn eye_scene(judged: &Judged) -> Scene
+    ensures value { result ≡ eye_scene judged.now }
+    ensures few { result.across.count ≤ 2 ^ 60 }
+{
+    Scene {
+        wide: false,
+        unit: Unit::Packets,
+        along: UnitAcross::Place,
+        across: across_of(u64::from(judged.n), 500),
+        every: 0,
+        shade: None,
+    }
+}
+
+/// Adds the picture over the whole run.
+fn add_level_figure(
+    text: &mut String,
+    alloc: Global,
+    judged: &Judged,
+    numbers: &RunNumbers,
+    curves: &Curves,
+    types: &[TypeShown],
+    level: Level,
+) -> Result<(), OutOfMemory>
+    ensures { IfOk result (λ _. string_bytes text.new ≡ string_bytes text.old
+        ++ level_figure judged.now numbers.now curves.now types.now level) }
+{
+    let scene = level_scene(judged);
+    let each = judged.packets.div_ceil(1000);
+    let detail = level_detail(alloc, level, level_summary(numbers, level), each, types)?;
+    let lines = level_lines(alloc, level, types)?;
+    let columns = level_columns(curves, level);
+    add_curve_figure(
+        text,
+        alloc,
+        level_title(level),
+        detail.as_str(),
+        scene,
+        lines.as_slice(),
+        columns,
+    )
+}
+
+/// Adds the picture of all groups laid over each other.
+fn add_eye_figure(
+    text: &mut String,
+    alloc: Global,
+    judged: &Judged,
+    numbers: &RunNumbers,
+    curves: &Curves,
+    types: &[TypeShown],
+    level: Level,
+) -> Result<(), OutOfMemory>
+    ensures { IfOk result (λ _. string_bytes text.new ≡ string_bytes text.old
+        ++ eye_figure judged.now numbers.now curves.now types.now level) }
+{
+    let scene = eye_scene(judged);
+    let each = u64::from(judged.n).div_ceil(500);
+    let detail = level_detail(alloc, level, level_summary(numbers, level), each, types)?;
+    let lines = level_lines(alloc, level, types)?;
+    let columns = eye_columns(curves, level);
+    add_curve_figure(
+        text,
+        alloc,
+        eye_title(level),
+        detail.as_str(),
+        scene,
+        lines.as_slice(),
+        columns,
+    )
+}
+
+/// Adds the pictures over the whole run.
+pub(crate) fn add_level_figures(
+    text: &mut String,
+    alloc: Global,
+    judged: &Judged,
+    numbers: &RunNumbers,
+    curves: &Curves,
+    types: &[TypeShown],
+) -> Result<(), OutOfMemory>
+    ensures { IfOk result (λ _. string_bytes text.new ≡ string_bytes text.old
+        ++ level_figures judged.now numbers.now curves.now types.now) }
+{
+    add_level_figure(text, alloc, judged, numbers, curves, types, Level::Bucket)?;
+    add_level_figure(text, alloc, judged, numbers, curves, types, Level::Gapped)?;
+    add_level_figure(text, alloc, judged, numbers, curves, types, Level::Linear)
+}
+
+/// Adds the pictures of all groups laid over each other.
+pub(crate) fn add_eye_figures(
+    text: &mut String,
+    alloc: Global,
+    judged: &Judged,
+    numbers: &RunNumbers,
+    curves: &Curves,
+    types: &[TypeShown],
+) -> Result<(), OutOfMemory>
+    ensures { IfOk result (λ _. string_bytes text.new ≡ string_bytes text.old
+        ++ eye_figures judged.now numbers.now curves.now types.now) }
+{
+    add_eye_figure(text, alloc, judged, numbers, curves, types, Level::Bucket)?;
+    add_eye_figure(text, alloc, judged, numbers, curves, types, Level::Gapped)?;
+    add_eye_figure(text, alloc, judged, numbers, curves, types, Level::Linear)
+}

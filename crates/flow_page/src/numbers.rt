@@ -1,0 +1,423 @@
+//! The numbers of a run as tables.
+
+ghost use Rattle.std.specs.Prelude.{◌≡◌, ◌++◌, IfOk, string_bytes};
+ghost use Rattle.std.specs.List.{flat_map};
+ghost use Rattle.flow_page.specs.Numbers.{level_rows, number_rows, numbers_open, numbers_table, run_open, run_packets, run_peaks, run_row, runs_open, runs_table, time_rows, type_row, types_open, types_table};
+
+use crate::media::add_table_close;
+use crate::shown::TypeShown;
+use crate::words::Sign;
+use flow_measure::{Gaps, MeasuredRun, RunNumbers, Summary};
+use std::alloc::AllocError as OutOfMemory;
+use std::fmt;
+use timing_base::Judged;
+use timing_report::{class_name, first_passing, kind_name};
+
+/// A cell that may be empty.
+#[derive(Clone, Copy, Debug)]
+struct CellIf {
+    number: Option<u64>,
+}
+
+impl fmt::Display for CellIf {
+    ghost use Rattle.std.specs.Prelude.{Some};
+    ghost use Rattle.flow_page.specs.Numbers.{cell_if};
+
+    ghost output = { λ cell. Some (cell_if cell.number) };
+
+    fn fmt<W: fmt::Write>(&self, f: &mut fmt::Formatter<W>) -> fmt::Result {
+        match self.number {
+            None => f.write_str("<td></td>"),
+            Some(number) => write!(f, "<td>{number}</td>"),
+        }
+    }
+}
+
+/// A row of a summary: least, greatest and sum alone.
+#[derive(Clone, Copy, Debug)]
+struct LevelRow {
+    name: &'static str,
+    summary: Summary,
+}
+
+impl fmt::Display for LevelRow {
+    ghost use Rattle.std.specs.Prelude.{Some};
+    ghost use Rattle.flow_page.specs.Numbers.{level_row};
+
+    ghost output = { λ row. Some (level_row row.name.now row.summary) };
+
+    fn fmt<W: fmt::Write>(&self, f: &mut fmt::Formatter<W>) -> fmt::Result {
+        let s = self.summary;
+        writeln!(
+            f,
+            "<tr><th>{}</th><td>{}</td><td>{}</td><td></td><td></td><td>{}</td></tr>",
+            self.name, s.least, s.greatest, s.sum
+        )
+    }
+}
+
+/// The least and the greatest number of a summary.
+#[derive(Clone, Copy, Debug)]
+struct ExtremeCells {
+    summary: Summary,
+}
+
+impl fmt::Display for ExtremeCells {
+    ghost use Rattle.std.specs.Prelude.{Some};
+    ghost use Rattle.flow_page.specs.Numbers.{pair_cells};
+
+    ghost output = { λ cells. Some (pair_cells cells.summary.least cells.summary.greatest) };
+
+    #[tactic(auto, unfolding(crate::specs::Numbers::pair_cells))]
+    fn fmt<W: fmt::Write>(&self, f: &mut fmt::Formatter<W>) -> fmt::Result {
+        let s = self.summary;
+        write!(f, "<td>{}</td><td>{}</td>", s.least, s.greatest)
+    }
+}
+
+/// The first and the last number of a summary.
+#[derive(Clone, Copy, Debug)]
+struct EndCells {
+    summary: Summary,
+}
+
+impl fmt::Display for EndCells {
+    ghost use Rattle.std.specs.Prelude.{Some};
+    ghost use Rattle.flow_page.specs.Numbers.{pair_cells};
+
+    ghost output = { λ cells. Some (pair_cells cells.summary.first cells.summary.last) };
+
+    #[tactic(auto, unfolding(crate::specs::Numbers::pair_cells))]
+    fn fmt<W: fmt::Write>(&self, f: &mut fmt::Formatter<W>) -> fmt::Result {
+        let s = self.summary;
+        write!(f, "<td>{}</td><td>{}</td>", s.first, s.last)
+    }
+}
+
+/// A row of all of a summary.
+#[derive(Clone, Copy, Debug)]
+struct SummaryRow {
+    name: &'static str,
+    summary: Summary,
+}
+
+impl fmt::Display for SummaryRow {
+    ghost use Rattle.std.specs.Prelude.{Some};
+    ghost use Rattle.flow_page.specs.Numbers.{summary_row};
+
+    ghost output = { λ row. Some (summary_row row.name.now row.summary) };
+
+    fn fmt<W: fmt::Write>(&self, f: &mut fmt::Formatter<W>) -> fmt::Result {
+        let summary = self.summary;
+        let extremes = ExtremeCells { summary };
+        let ends = EndCells { summary };
+        writeln!(
+            f,
+            "<tr><th>{}</th>{extremes}{ends}<td>{}</td></tr>",
+            self.name, summary.sum
+        )
+    }
+}
+
+/// The row of the steps of the timestamp, where there are two groups.
+#[derive(Clone, Copy, Debug)]
+struct StepRow {
+    step: Option<Summary>,
+}
+
+impl fmt::Display for StepRow {
+    ghost use Rattle.std.specs.Prelude.{Some};
+    ghost use Rattle.flow_page.specs.Numbers.{step_row};
+
+    ghost output = { λ row. Some (step_row row.step) };
+
+    fn fmt<W: fmt::Write>(&self, f: &mut fmt::Formatter<W>) -> fmt::Result {
+        match self.step {
+            None => Ok(()),
+            Some(s) => writeln!(
+                f,
+                "<tr><th>step of the RTP timestamp, ticks</th><td>{}</td><td>{}</td><td></td><td></td><td></td></tr>",
+                s.least, s.greatest
+            ),
+        }
+    }
+}
+
+/// The row of the times between packets, where there are two.
+#[derive(Clone, Copy, Debug)]
+struct GapRow {
+    gap: Option<Gaps>,
+}
+
+impl fmt::Display for GapRow {
+    ghost use Rattle.std.specs.Prelude.{Some};
+    ghost use Rattle.flow_page.specs.Numbers.{gap_row};
+
+    ghost output = { λ row. Some (gap_row row.gap) };
+
+    fn fmt<W: fmt::Write>(&self, f: &mut fmt::Formatter<W>) -> fmt::Result {
+        match self.gap {
+            None => Ok(()),
+            Some(gap) => {
+                let row = LevelRow {
+                    name: "from packet to packet, ns",
+                    summary: gap.summary,
+                };
+                write!(f, "{row}")
+            }
+        }
+    }
+}
+
+/// The begin of the table of summaries.
+#[tactic(auto, unfolding(crate::specs::Numbers::numbers_open))]
+fn numbers_open() -> &'static str
+    ensures { result.now ≡ numbers_open }
+{
+    "<h3>Numbers</h3>\n<div class=\"scroll\"><table><thead><tr><th>of the run</th><th>least</th><th>greatest</th><th>first</th><th>last</th><th>sum</th></tr></thead><tbody>\n"
+}
+
+/// Adds the rows of what bucket and buffer hold.
+fn add_level_rows(text: &mut String, numbers: &RunNumbers) -> Result<(), OutOfMemory>
+    ensures { IfOk result (λ _. string_bytes text.new ≡ string_bytes text.old ++ level_rows numbers.now) }
+{
+    let bucket = LevelRow {
+        name: "packets in the bucket",
+        summary: numbers.bucket,
+    };
+    let gapped = LevelRow {
+        name: "packets in the buffer, gapped reads",
+        summary: numbers.gapped.occupancy,
+    };
+    let linear = LevelRow {
+        name: "packets in the buffer, linear reads",
+        summary: numbers.linear.occupancy,
+    };
+    write!(text, "{bucket}{gapped}{linear}")
+}
+
+/// Adds the rows of when packets come.
+fn add_time_rows(text: &mut String, numbers: &RunNumbers) -> Result<(), OutOfMemory>
+    ensures { IfOk result (λ _. string_bytes text.new ≡ string_bytes text.old ++ time_rows numbers.now) }
+{
+    let first = SummaryRow {
+        name: "first packet after the frame begins, ns",
+        summary: numbers.first,
+    };
+    let last = SummaryRow {
+        name: "last packet after the frame begins, ns",
+        summary: numbers.last,
+    };
+    let gap = GapRow { gap: numbers.gap };
+    let step = StepRow { step: numbers.step };
+    let offset = SummaryRow {
+        name: "RTP timestamp after the frame begins, ticks",
+        summary: numbers.offset,
+    };
+    let latency = SummaryRow {
+        name: "from RTP timestamp to first packet, ticks",
+        summary: numbers.latency,
+    };
+    write!(text, "{first}{last}{gap}{step}{offset}{latency}")
+}
+
+/// Adds the rows of summaries.
+#[tactic(auto, unfolding(crate::specs::Numbers::number_rows))]
+fn add_number_rows(text: &mut String, numbers: &RunNumbers) -> Result<(), OutOfMemory>
+    ensures { IfOk result (λ _. string_bytes text.new ≡ string_bytes text.old ++ number_rows numbers.now) }
+{
+    add_level_rows(text, numbers)?;
+    add_time_rows(text, numbers)
+}
+
+/// Adds the table of summaries.
+pub(crate) fn add_numbers_table(text: &mut String, numbers: &RunNumbers) -> Result<(), OutOfMemory>
+    ensures { IfOk result (λ _. string_bytes text.new ≡ string_bytes text.old ++ numbers_table numbers.now) }
+{
+    text.push_str(numbers_open())?;
+    add_number_rows(text, numbers)?;
+    add_table_close(text)
+}
+
+/// The begin of the table of types.
+#[tactic(auto, unfolding(crate::specs::Numbers::types_open))]
+fn types_open() -> &'static str
+    ensures { result.now ≡ types_open }
+{
+    "<div class=\"scroll\"><table><thead><tr><th>of the type</th><th>outcome</th><th>frames that break it</th><th>bucket at most</th><th>peak</th><th>packets above</th><th>first</th><th>buffer at most</th><th>peak</th><th>packets above</th><th>first</th><th>below 0</th><th>packets late</th><th>first</th><th>slack, ns</th></tr></thead><tbody>\n"
+}
+
+/// What a type says of the bucket.
+#[derive(Clone, Copy, Debug)]
+struct BucketCells {
+    shown: TypeShown,
+}
+
+impl fmt::Display for BucketCells {
+    ghost use Rattle.std.specs.Prelude.{Some};
+    ghost use Rattle.flow_page.specs.Numbers.{bucket_cells};
+
+    ghost output = { λ cells. Some (bucket_cells cells.shown) };
+
+    fn fmt<W: fmt::Write>(&self, f: &mut fmt::Formatter<W>) -> fmt::Result {
+        let t = self.shown;
+        let first = CellIf {
+            number: t.first_bucket,
+        };
+        write!(
+            f,
+            "<td>{}</td><td>{}</td><td>{}</td>{first}",
+            t.c_max, t.bucket_peak, t.above_bucket
+        )
+    }
+}
+
+/// What a type says of the buffer.
+#[derive(Clone, Copy, Debug)]
+struct BufferCells {
+    shown: TypeShown,
+}
+
+impl fmt::Display for BufferCells {
+    ghost use Rattle.std.specs.Prelude.{Some};
+    ghost use Rattle.flow_page.specs.Numbers.{buffer_cells};
+
+    ghost output = { λ cells. Some (buffer_cells cells.shown) };
+
+    fn fmt<W: fmt::Write>(&self, f: &mut fmt::Formatter<W>) -> fmt::Result {
+        let t = self.shown;
+        let first = CellIf {
+            number: t.first_over,
+        };
+        write!(
+            f,
+            "<td>{}</td><td>{}</td><td>{}</td>{first}<td>{}</td>",
+            t.vrx_full, t.buffer_peak, t.above_buffer, t.below_buffer
+        )
+    }
+}
+
+/// What a type says of reads.
+#[derive(Clone, Copy, Debug)]
+struct ReadCells {
+    shown: TypeShown,
+}
+
+impl fmt::Display for ReadCells {
+    ghost use Rattle.std.specs.Prelude.{Some};
+    ghost use Rattle.flow_page.specs.Numbers.{read_cells};
+
+    ghost output = { λ cells. Some (read_cells cells.shown) };
+
+    fn fmt<W: fmt::Write>(&self, f: &mut fmt::Formatter<W>) -> fmt::Result {
+        let t = self.shown;
+        let first = CellIf {
+            number: t.first_empty,
+        };
+        write!(f, "<td>{}</td>{first}<td>{}</td>", t.late, t.slack)
+    }
+}
+
+/// Adds the row of a type.
+fn add_type_row(text: &mut String, shown: &TypeShown) -> Result<(), OutOfMemory>
+    ensures { IfOk result (λ _. string_bytes text.new ≡ string_bytes text.old ++ type_row shown.now) }
+{
+    let shown = *shown;
+    let name = kind_name(shown.kind);
+    let sign = Sign {
+        verdict: shown.verdict,
+    };
+    let bucket = BucketCells { shown };
+    let buffer = BufferCells { shown };
+    let read = ReadCells { shown };
+    writeln!(
+        text,
+        "<tr><th>{name}</th><td>{sign}</td><td>{}</td>{bucket}{buffer}{read}</tr>",
+        shown.groups_broken
+    )
+}
+
+/// Adds the rows of types.
+fn add_type_rows(text: &mut String, types: &[TypeShown]) -> Result<(), OutOfMemory>
+    ensures { IfOk result (λ _. string_bytes text.new ≡ string_bytes text.old ++ flat_map type_row types.now) }
+{
+    for shown in types {
+        add_type_row(text, shown)?;
+    }
+    Ok(())
+}
+
+/// Adds the table of types.
+pub(crate) fn add_types_table(text: &mut String, types: &[TypeShown]) -> Result<(), OutOfMemory>
+    ensures { IfOk result (λ _. string_bytes text.new ≡ string_bytes text.old ++ types_table types.now) }
+{
+    text.push_str(types_open())?;
+    add_type_rows(text, types)?;
+    add_table_close(text)
+}
+
+/// The begin of the table of runs.
+#[tactic(auto, unfolding(crate::specs::Numbers::runs_open))]
+fn runs_open() -> &'static str
+    ensures { result.now ≡ runs_open }
+{
+    "<div class=\"scroll\"><table><thead><tr><th>judged run</th><th>record</th><th>number</th><th>packets</th><th>in a frame</th><th>frames</th><th>head</th><th>tail</th><th>class</th><th>bucket</th><th>buffer, gapped</th><th>buffer, linear</th></tr></thead><tbody>\n"
+}
+
+/// Adds which run a row is of.
+fn add_run_open(text: &mut String, run: u32, from: u64, number: u32) -> Result<(), OutOfMemory>
+    ensures { IfOk result (λ _. string_bytes text.new ≡ string_bytes text.old ++ run_open run from number) }
+{
+    write!(text, "<tr><th>{run}</th><td>{from}</td><td>{number}</td>")
+}
+
+/// Adds the packets of a run.
+fn add_run_packets(text: &mut String, judged: &Judged) -> Result<(), OutOfMemory>
+    ensures { IfOk result (λ _. string_bytes text.new ≡ string_bytes text.old ++ run_packets judged.now) }
+{
+    write!(
+        text,
+        "<td>{}</td><td>{}</td><td>{}</td><td>{}</td><td>{}</td>",
+        judged.packets, judged.n, judged.frames, judged.head, judged.tail
+    )
+}
+
+/// Adds the class and the peaks of a run.
+fn add_run_peaks(text: &mut String, judged: &Judged) -> Result<(), OutOfMemory>
+    ensures { IfOk result (λ _. string_bytes text.new ≡ string_bytes text.old ++ run_peaks judged.now) }
+{
+    let class = class_name(first_passing(judged));
+    writeln!(
+        text,
+        "<td>{class}</td><td>{}</td><td>{}</td><td>{}</td></tr>",
+        judged.bucket_peak, judged.gapped_peak, judged.linear_peak
+    )
+}
+
+/// Adds the row of a run.
+fn add_run_row(text: &mut String, run: &MeasuredRun) -> Result<(), OutOfMemory>
+    ensures { IfOk result (λ _. string_bytes text.new ≡ string_bytes text.old ++ run_row run.now) }
+{
+    add_run_open(text, run.run, run.record, run.number)?;
+    add_run_packets(text, &run.judged)?;
+    add_run_peaks(text, &run.judged)
+}
+
+/// Adds the rows of runs.
+fn add_run_rows(text: &mut String, runs: &[MeasuredRun]) -> Result<(), OutOfMemory>
+    ensures { IfOk result (λ _. string_bytes text.new ≡ string_bytes text.old ++ flat_map run_row runs.now) }
+{
+    for run in runs {
+        add_run_row(text, run)?;
+    }
+    Ok(())
+}
+
+/// Adds the table of runs.
+pub(crate) fn add_runs_table(text: &mut String, runs: &[MeasuredRun]) -> Result<(), OutOfMemory>
+    ensures { IfOk result (λ _. string_bytes text.new ≡ string_bytes text.old ++ runs_table runs.now) }
+{
+    text.push_str(runs_open())?;
+    add_run_rows(text, runs)?;
+    add_table_close(text)
+}

@@ -1,0 +1,232 @@
+//! Pictures of how often bucket and buffer hold so many packets, and so much time is between two.
+
+ghost use Rattle.std.specs.Prelude.{◌≡◌, ◌++◌, IfOk, string_bytes};
+ghost use Rattle.flow_page.specs.Shown.{kind_at};
+ghost use Rattle.flow_page.specs.Often.{below_bars, bins_bars, class_bars, gap_detail, gap_figure, gaps_figure, next_class, often_detail, often_figure, often_from, often_kind, often_title, width_bars};
+
+use crate::shown::kind_at;
+use flow_measure::{Bins, Gaps, KindNumbers, RunNumbers, Summary};
+use page_chart::{Bar, BarName, UnitAcross, add_bars_figure};
+use std::alloc::{AllocError as OutOfMemory, Global};
+use timing_base::Kind;
+use timing_report::kind_name;
+
+/// The bar of what is below 0, where that can be.
+fn below_bars(alloc: Global, signed: bool, below: u64) -> Result<Vec<Bar>, OutOfMemory>
+    ensures { IfOk result (λ bars. bars.items ≡ below_bars signed below) }
+{
+    let mut bars = Vec::new(alloc);
+    if !signed {
+        return Ok(bars);
+    }
+    bars.push(Bar {
+        name: BarName::Below,
+        count: below,
+    })?;
+    Ok(bars)
+}
+
+/// Adds bars of bins that are so wide.
+fn add_width_bars(bars: &mut Vec<Bar>, width: u64, counts: &[u64]) -> Result<(), OutOfMemory>
+    ensures { IfOk result (λ _. bars.new.items ≡ bars.old.items ++ width_bars width 0 counts.now) }
+{
+    for (k, count) in counts.iter().enumerate() {
+        let first = k as u128 * u128::from(width);
+        bars.push(Bar {
+            name: BarName::From(first),
+            count: *count,
+        })?;
+    }
+    Ok(())
+}
+
+/// All bars of bins.
+fn bins_bars(alloc: Global, bins: &Bins, signed: bool) -> Result<Vec<Bar>, OutOfMemory>
+    ensures { IfOk result (λ bars. bars.items ≡ bins_bars bins.now signed) }
+{
+    let mut bars = below_bars(alloc, signed, bins.below)?;
+    add_width_bars(&mut bars, bins.width, bins.counts())?;
+    bars.push(Bar {
+        name: BarName::Above(bins.limit),
+        count: bins.above,
+    })?;
+    Ok(bars)
+}
+
+/// Where the next class begins.
+fn next_class(first: u128) -> u128
+    ensures { result ≡ next_class first }
+{
+    if first == 0 {
+        1
+    } else if first < 1 << 100 {
+        2 * first
+    } else {
+        first
+    }
+}
+
+/// The bars of classes.
+fn class_bars(alloc: Global, counts: &[u64]) -> Result<Vec<Bar>, OutOfMemory>
+    ensures { IfOk result (λ bars. bars.items ≡ class_bars 0 counts.now) }
+{
+    let mut bars = Vec::new(alloc);
+    let mut first = 0;
+    for count in counts {
+        bars.push(Bar {
+            name: BarName::From(first),
+            count: *count,
+        })?;
+        first = next_class(first);
+    }
+    Ok(bars)
+}
+
+/// The title of a type's bucket or buffer.
+fn often_title(alloc: Global, what: &str, kind: Kind) -> Result<String, OutOfMemory>
+    ensures { IfOk result (λ s. string_bytes s ≡ often_title what.now kind) }
+{
+    let name = kind_name(kind);
+    format!(in alloc; "How often: {what}, {name}")
+}
+
+/// What is told beside it.
+fn often_detail(alloc: Global, bins: &Bins) -> Result<String, OutOfMemory>
+    ensures { IfOk result (λ s. string_bytes s ≡ often_detail bins.now) }
+{
+    format!(in alloc;
+        "limit {}; {} of {} packets above, {} below 0",
+        bins.limit, bins.above, bins.seen, bins.below
+    )
+}
+
+/// Adds the picture of a type's bucket or buffer.
+fn add_often_figure(
+    text: &mut String,
+    alloc: Global,
+    what: &str,
+    kind: Kind,
+    along: UnitAcross,
+    signed: bool,
+    bins: &Bins,
+) -> Result<(), OutOfMemory>
+    ensures { IfOk result (λ _. string_bytes text.new
+        ≡ string_bytes text.old ++ often_figure what.now kind along signed bins.now) }
+{
+    let title = often_title(alloc, what, kind)?;
+    let detail = often_detail(alloc, bins)?;
+    let bars = bins_bars(alloc, bins, signed)?;
+    add_bars_figure(
+        text,
+        alloc,
+        title.as_str(),
+        detail.as_str(),
+        along,
+        bins.seen,
+        bars.as_slice(),
+    )
+}
+
+/// Adds the two pictures of a type.
+#[tactic(auto, unfolding(crate::specs::Often::often_kind))]
+fn add_often_kind(
+    text: &mut String,
+    alloc: Global,
+    kind: Kind,
+    k: &KindNumbers,
+) -> Result<(), OutOfMemory>
+    ensures { IfOk result (λ _. string_bytes text.new ≡ string_bytes text.old ++ often_kind kind k.now) }
+{
+    add_often_figure(
+        text,
+        alloc,
+        "bucket",
+        kind,
+        UnitAcross::Bucket,
+        false,
+        &k.bucket,
+    )?;
+    add_often_figure(
+        text,
+        alloc,
+        "buffer",
+        kind,
+        UnitAcross::Buffer,
+        true,
+        &k.buffer,
+    )
+}
+
+/// Adds the two pictures of the type at this place.
+fn add_often_at(
+    text: &mut String,
+    alloc: Global,
+    place: usize,
+    k: &KindNumbers,
+) -> Result<(), OutOfMemory>
+    ensures { IfOk result (λ _. string_bytes text.new ≡ string_bytes text.old ++ often_kind (kind_at place) k.now) }
+{
+    add_often_kind(text, alloc, kind_at(place), k)
+}
+
+/// Adds the pictures of types.
+fn add_often(text: &mut String, alloc: Global, kinds: &[KindNumbers]) -> Result<(), OutOfMemory>
+    ensures { IfOk result (λ _. string_bytes text.new ≡ string_bytes text.old ++ often_from 0 kinds.now) }
+{
+    for (place, k) in kinds.iter().enumerate() {
+        add_often_at(text, alloc, place, k)?;
+    }
+    Ok(())
+}
+
+/// Adds the pictures of the types of a run.
+pub(crate) fn add_often_of(
+    text: &mut String,
+    alloc: Global,
+    numbers: &RunNumbers,
+) -> Result<(), OutOfMemory>
+    ensures { IfOk result (λ _. string_bytes text.new ≡ string_bytes text.old ++ often_from 0 numbers.now.kinds) }
+{
+    add_often(text, alloc, numbers.kinds.as_slice())
+}
+
+/// What is told beside the times from packet to packet.
+fn gap_detail(alloc: Global, summary: Summary) -> Result<String, OutOfMemory>
+    ensures { IfOk result (λ s. string_bytes s ≡ gap_detail summary) }
+{
+    format!(in alloc;
+        "least {}, most {} ns; each bar goes up to the double of where it begins",
+        summary.least, summary.greatest
+    )
+}
+
+/// Adds the picture of the times from packet to packet.
+fn add_gaps(text: &mut String, alloc: Global, gaps: &Gaps) -> Result<(), OutOfMemory>
+    ensures { IfOk result (λ _. string_bytes text.new ≡ string_bytes text.old ++ gaps_figure gaps.now) }
+{
+    let detail = gap_detail(alloc, gaps.summary)?;
+    let bars = class_bars(alloc, gaps.classes.counts())?;
+    add_bars_figure(
+        text,
+        alloc,
+        "Time from packet to packet",
+        detail.as_str(),
+        UnitAcross::Gap,
+        gaps.classes.seen,
+        bars.as_slice(),
+    )
+}
+
+/// Adds the same, where there are two packets.
+pub(crate) fn add_gap_figure(
+    text: &mut String,
+    alloc: Global,
+    gap: &Option<Gaps>,
+) -> Result<(), OutOfMemory>
+    ensures { IfOk result (λ _. string_bytes text.new ≡ string_bytes text.old ++ gap_figure gap.now) }
+{
+    match gap {
+        None => Ok(()),
+        Some(gaps) => add_gaps(text, alloc, gaps),
+    }
+}

@@ -1,0 +1,424 @@
+//! Pictures of when packets come, and of the RTP timestamps.
+
+ghost use Rattle.std.specs.Prelude.{◌≡◌, ◌<◌, ◌≤◌, ◌^◌, ◌++◌, IfOk, string_bytes};
+ghost use Rattle.sender_params.specs.Times.{groups_of};
+ghost use Rattle.flow_page.specs.Timings.{drift_of, least_step, misfits, most_step, period_of, steps_line, steps_seen, steps_wanted, steps_words, timing_columns, timing_detail, timing_figure, timing_figures, timing_lines, timing_scene, timing_summary, timing_title, timing_unit, timing_words, wanted_text};
+
+use crate::levels::{across_of, one_line};
+use crate::shown::Curves;
+use flow_measure::{Extremes, RunNumbers, Summary};
+use page_chart::{Limit, LineName, Scene, Tenths, Unit, UnitAcross, add_curve_figure};
+use sender_params::Params;
+use std::alloc::{AllocError as OutOfMemory, Global};
+use std::fmt;
+use timing_base::{Judged, Media};
+
+/// What a picture is of.
+#[derive(Clone, Copy, Debug, PartialEq, Eq)]
+enum Timing {
+    /// The first packet of each group.
+    First,
+    /// The last one.
+    Last,
+    /// The RTP timestamp of each group.
+    Offset,
+    /// From that to the first packet.
+    Latency,
+}
+
+/// The title of a picture.
+fn timing_title(timing: Timing) -> &'static str
+    ensures { result.now ≡ timing_title timing }
+{
+    match timing {
+        Timing::First => "First packet of each frame",
+        Timing::Last => "Last packet of each frame",
+        Timing::Offset => "RTP timestamp of each frame, after it begins",
+        Timing::Latency => "From the RTP timestamp of each frame to its first packet",
+    }
+}
+
+/// The summary of its numbers.
+fn timing_summary(numbers: &RunNumbers, timing: Timing) -> Summary
+    ensures { result ≡ timing_summary numbers.now timing }
+{
+    match timing {
+        Timing::First => numbers.first,
+        Timing::Last => numbers.last,
+        Timing::Offset => numbers.offset,
+        Timing::Latency => numbers.latency,
+    }
+}
+
+/// Its columns.
+fn timing_columns(curves: &Curves, timing: Timing) -> &[Extremes]
+    ensures { result.now ≡ timing_columns curves.now timing }
+{
+    match timing {
+        Timing::First => curves.first.as_slice(),
+        Timing::Last => curves.last.as_slice(),
+        Timing::Offset => curves.offset.as_slice(),
+        Timing::Latency => curves.latency.as_slice(),
+    }
+}
+
+/// What its numbers count.
+fn timing_unit(timing: Timing) -> Unit
+    ensures { result ≡ timing_unit timing }
+{
+    match timing {
+        Timing::First => Unit::Nanoseconds,
+        Timing::Last => Unit::Nanoseconds,
+        Timing::Offset => Unit::Ticks,
+        Timing::Latency => Unit::Ticks,
+    }
+}
+
+/// What its numbers are, in words.
+fn timing_words(timing: Timing) -> &'static str
+    ensures { result.now ≡ timing_words timing }
+{
+    match timing {
+        Timing::First => " ns after the frame begins",
+        Timing::Last => " ns after the frame begins",
+        Timing::Offset => " ticks of 90 kHz",
+        Timing::Latency => " ticks of 90 kHz",
+    }
+}
+
+/// The time from one group to the next, in nanoseconds, rounded down.
+pub(crate) fn period_of(media: &Media, judged: &Judged) -> u128
+    ensures value { result ≡ period_of media.now }
+    ensures small { result < 2 ^ 40 }
+{
+    let (num, den) = Params::of(media, judged.n).group();
+    num / den
+}
+
+/// The line of a picture.
+fn timing_lines(
+    alloc: Global,
+    target: u64,
+    period: u128,
+    timing: Timing,
+) -> Result<Vec<Limit>, OutOfMemory>
+    requires { period < 2 ^ 40 }
+    ensures { IfOk result (λ lines. lines.items ≡ timing_lines target period timing) }
+{
+    match timing {
+        Timing::First => {
+            let at = i128::from(target);
+            let name = LineName::Offset;
+            one_line(alloc, Limit { name, at })
+        }
+        Timing::Last => {
+            let at = period as i128;
+            let name = LineName::Period;
+            one_line(alloc, Limit { name, at })
+        }
+        Timing::Offset => Ok(Vec::new(alloc)),
+        Timing::Latency => Ok(Vec::new(alloc)),
+    }
+}
+
+/// By how many tenths of a ppm the last one is later, over a time.
+#[tactic(auto, unfolding(crate::specs::Timings::drift_of))]
+fn drift_of(first: i128, last: i128, span: u64) -> u128
+    ensures { result ≡ drift_of first last span }
+{
+    last.abs_diff(first).min(1 << 64) * 10_000_000 / u128::from(span.max(1))
+}
+
+/// A minus, where the last one is earlier.
+#[derive(Clone, Copy, Debug)]
+struct MinusIf {
+    summary: Summary,
+}
+
+impl fmt::Display for MinusIf {
+    ghost use Rattle.std.specs.Prelude.{Some};
+    ghost use Rattle.flow_page.specs.Timings.{minus_if};
+
+    ghost output = { λ minus. Some (minus_if minus.summary.first minus.summary.last) };
+
+    fn fmt<W: fmt::Write>(&self, f: &mut fmt::Formatter<W>) -> fmt::Result {
+        if self.summary.last < self.summary.first {
+            f.write_str("-")
+        } else {
+            Ok(())
+        }
+    }
+}
+
+/// How packets drift, of two groups or more.
+#[derive(Clone, Copy, Debug)]
+struct DriftText {
+    summary: Summary,
+    groups: u64,
+    span: u64,
+}
+
+impl fmt::Display for DriftText {
+    ghost use Rattle.std.specs.Prelude.{Some};
+    ghost use Rattle.flow_page.specs.Timings.{drift_text};
+
+    ghost output = { λ d. Some (drift_text d.summary d.groups d.span) };
+
+    fn fmt<W: fmt::Write>(&self, f: &mut fmt::Formatter<W>) -> fmt::Result {
+        if self.groups < 2 {
+            return Ok(());
+        }
+        let minus = MinusIf {
+            summary: self.summary,
+        };
+        let drift = Tenths {
+            tenths: drift_of(self.summary.first, self.summary.last, self.span),
+        };
+        write!(f, "; drift {minus}{drift} ppm")
+    }
+}
+
+/// How packets drift, where a picture is of packets.
+#[derive(Clone, Copy, Debug)]
+struct Drift {
+    timing: Timing,
+    summary: Summary,
+    groups: u64,
+    /// The time from the first to the last packet, in nanoseconds.
+    span: u64,
+}
+
+impl fmt::Display for Drift {
+    ghost use Rattle.std.specs.Prelude.{Some};
+    ghost use Rattle.flow_page.specs.Timings.{timing_drift};
+
+    ghost output = { λ d. Some (timing_drift d.timing d.summary d.groups d.span) };
+
+    fn fmt<W: fmt::Write>(&self, f: &mut fmt::Formatter<W>) -> fmt::Result {
+        let drift = DriftText {
+            summary: self.summary,
+            groups: self.groups,
+            span: self.span,
+        };
+        match self.timing {
+            Timing::First => write!(f, "{drift}"),
+            Timing::Last => write!(f, "{drift}"),
+            Timing::Offset => Ok(()),
+            Timing::Latency => Ok(()),
+        }
+    }
+}
+
+/// What is told beside a picture.
+fn timing_detail(
+    alloc: Global,
+    timing: Timing,
+    summary: Summary,
+    groups: u64,
+    span: u64,
+) -> Result<String, OutOfMemory>
+    ensures { IfOk result (λ s. string_bytes s ≡ timing_detail timing summary groups span) }
+{
+    let words = timing_words(timing);
+    let drift = Drift {
+        timing,
+        summary,
+        groups,
+        span,
+    };
+    format!(in alloc;
+        "least {}, most {}{words}{drift}",
+        summary.least, summary.greatest
+    )
+}
+
+/// The scene of a picture.
+fn timing_scene(judged: &Judged, timing: Timing) -> Scene
+    ensures value { result ≡ timing_scene judged.now timing }
+    ensures few { result.across.count ≤ 2 ^ 60 }
+{
+    Scene {
+        wide: false,
+        unit: timing_unit(timing),
+        along: UnitAcross::Frame,
+        across: across_of(judged.frames, 1000),
+        every: 0,
+        shade: None,
+    }
+}
+
+/// Adds a picture; `span` is the time from the first to the last packet, in nanoseconds.
+fn add_timing_figure(
+    text: &mut String,
+    alloc: Global,
+    period: u128,
+    span: u64,
+    judged: &Judged,
+    numbers: &RunNumbers,
+    curves: &Curves,
+    timing: Timing,
+) -> Result<(), OutOfMemory>
+    requires { period < 2 ^ 40 }
+    ensures { IfOk result (λ _. string_bytes text.new ≡ string_bytes text.old
+        ++ timing_figure period span judged.now numbers.now curves.now timing) }
+{
+    let summary = timing_summary(numbers, timing);
+    let detail = timing_detail(alloc, timing, summary, judged.frames, span)?;
+    let lines = timing_lines(alloc, numbers.target, period, timing)?;
+    let scene = timing_scene(judged, timing);
+    let columns = timing_columns(curves, timing);
+    add_curve_figure(
+        text,
+        alloc,
+        timing_title(timing),
+        detail.as_str(),
+        scene,
+        lines.as_slice(),
+        columns,
+    )
+}
+
+/// Adds all of them.
+pub(crate) fn add_timing_figures(
+    text: &mut String,
+    alloc: Global,
+    period: u128,
+    span: u64,
+    judged: &Judged,
+    numbers: &RunNumbers,
+    curves: &Curves,
+) -> Result<(), OutOfMemory>
+    requires { period < 2 ^ 40 }
+    ensures { IfOk result (λ _. string_bytes text.new ≡ string_bytes text.old
+        ++ timing_figures period span judged.now numbers.now curves.now) }
+{
+    add_timing_figure(
+        text,
+        alloc,
+        period,
+        span,
+        judged,
+        numbers,
+        curves,
+        Timing::First,
+    )?;
+    add_timing_figure(
+        text,
+        alloc,
+        period,
+        span,
+        judged,
+        numbers,
+        curves,
+        Timing::Last,
+    )?;
+    add_timing_figure(
+        text,
+        alloc,
+        period,
+        span,
+        judged,
+        numbers,
+        curves,
+        Timing::Offset,
+    )?;
+    add_timing_figure(
+        text,
+        alloc,
+        period,
+        span,
+        judged,
+        numbers,
+        curves,
+        Timing::Latency,
+    )
+}
+
+/// The groups of a frame.
+fn groups_of(media: &Media) -> u64
+    ensures value { result ≡ groups_of media.now }
+    ensures some { 1 ≤ result }
+    ensures most { result ≤ 2 }
+{
+    if media.interlaced { 2 } else { 1 }
+}
+
+/// The ticks from one group to the next, rounded down.
+fn least_step(media: &Media) -> u64
+    ensures { result ≡ least_step media.now }
+{
+    90_000 * u64::from(media.q) / (u64::from(media.p) * groups_of(media)).max(1)
+}
+
+/// The ticks from one group to the next, rounded up.
+fn most_step(media: &Media) -> u64
+    ensures { result ≡ most_step media.now }
+{
+    (90_000 * u64::from(media.q)).div_ceil((u64::from(media.p) * groups_of(media)).max(1))
+}
+
+/// Whether a step of the timestamp is another one.
+fn misfits(least: u64, most: u64, step: Summary) -> bool
+    ensures { result ≡ misfits least most step }
+{
+    step.least < i128::from(least) || i128::from(most) < step.greatest
+}
+
+/// Adds how the timestamp goes on.
+fn add_steps_seen(text: &mut String, step: Summary) -> Result<(), OutOfMemory>
+    ensures { IfOk result (λ _. string_bytes text.new ≡ string_bytes text.old ++ steps_seen step) }
+{
+    write!(
+        text,
+        "<p class=\"fail\">&#10007; The RTP timestamp goes on by {} to {} ticks from frame to frame,",
+        step.least, step.greatest
+    )
+}
+
+/// Adds how it goes on by a rate.
+#[tactic(auto, unfolding(crate::specs::Timings::wanted_text))]
+fn write_wanted(text: &mut String, p: u32, q: u32, least: u64, most: u64) -> Result<(), OutOfMemory>
+    ensures { IfOk result (λ _. string_bytes text.new ≡ string_bytes text.old ++ wanted_text p q least most) }
+{
+    writeln!(
+        text,
+        " where the description's rate of {p}/{q} makes {least} to {most}.</p>"
+    )
+}
+
+/// Adds how it goes on by the description.
+fn add_steps_wanted(text: &mut String, media: &Media) -> Result<(), OutOfMemory>
+    ensures { IfOk result (λ _. string_bytes text.new ≡ string_bytes text.old ++ steps_wanted media.now) }
+{
+    let least = least_step(media);
+    let most = most_step(media);
+    write_wanted(text, media.p, media.q, least, most)
+}
+
+/// Adds both.
+fn add_steps_words(text: &mut String, media: &Media, step: Summary) -> Result<(), OutOfMemory>
+    ensures { IfOk result (λ _. string_bytes text.new ≡ string_bytes text.old ++ steps_words media.now step) }
+{
+    add_steps_seen(text, step)?;
+    add_steps_wanted(text, media)
+}
+
+/// Adds the same, where the steps aren't those of the rate.
+pub(crate) fn add_steps_line(
+    text: &mut String,
+    media: &Media,
+    step: Option<Summary>,
+) -> Result<(), OutOfMemory>
+    ensures { IfOk result (λ _. string_bytes text.new ≡ string_bytes text.old ++ steps_line media.now step) }
+{
+    match step {
+        None => Ok(()),
+        Some(step) => {
+            if misfits(least_step(media), most_step(media), step) {
+                add_steps_words(text, media, step)
+            } else {
+                Ok(())
+            }
+        }
+    }
+}

@@ -1,0 +1,401 @@
+//! What is told of the sender types in words.
+
+ghost use Rattle.std.specs.Prelude.{◌≡◌, ◌++◌, IfOk, string_bytes, unsigned_abs};
+ghost use Rattle.std.specs.List.{flat_map};
+ghost use Rattle.flow_page.specs.Words.{type_words, utc};
+
+use crate::shown::TypeShown;
+use flow_measure::Place;
+use std::alloc::AllocError as OutOfMemory;
+use std::fmt;
+use timing_base::{FailProof, KindVerdict};
+use timing_report::kind_name;
+
+/// The last two digits of a number.
+#[derive(Clone, Copy, Debug)]
+struct Two {
+    number: u64,
+}
+
+impl fmt::Display for Two {
+    ghost use Rattle.std.specs.Prelude.{Some};
+    ghost use Rattle.flow_page.specs.Words.{two};
+
+    ghost output = { λ digits. Some (two digits.number) };
+
+    fn fmt<W: fmt::Write>(&self, f: &mut fmt::Formatter<W>) -> fmt::Result {
+        write!(f, "{}{}", self.number / 10 % 10, self.number % 10)
+    }
+}
+
+/// The last three digits of a number.
+#[derive(Clone, Copy, Debug)]
+struct Three {
+    number: u64,
+}
+
+impl fmt::Display for Three {
+    ghost use Rattle.std.specs.Prelude.{Some};
+    ghost use Rattle.flow_page.specs.Words.{three};
+
+    ghost output = { λ digits. Some (three digits.number) };
+
+    fn fmt<W: fmt::Write>(&self, f: &mut fmt::Formatter<W>) -> fmt::Result {
+        let number = self.number;
+        write!(
+            f,
+            "{}{}{}",
+            number / 100 % 10,
+            number / 10 % 10,
+            number % 10
+        )
+    }
+}
+
+/// The time of day of an instant, in nanoseconds since the begin of a day.
+#[derive(Clone, Copy, Debug)]
+pub(crate) struct Clock {
+    pub(crate) ns: u64,
+}
+
+impl fmt::Display for Clock {
+    ghost use Rattle.std.specs.Prelude.{Some};
+    ghost use Rattle.flow_page.specs.Words.{clock_text};
+
+    ghost output = { λ clock. Some (clock_text clock.ns) };
+
+    fn fmt<W: fmt::Write>(&self, f: &mut fmt::Formatter<W>) -> fmt::Result {
+        let ns = self.ns;
+        let hours = Two {
+            number: ns / 3_600_000_000_000 % 24,
+        };
+        let minutes = Two {
+            number: ns / 60_000_000_000 % 60,
+        };
+        let seconds = Two {
+            number: ns / 1_000_000_000 % 60,
+        };
+        let milli = Three {
+            number: ns / 1_000_000 % 1000,
+        };
+        let micro = Three {
+            number: ns / 1000 % 1000,
+        };
+        let nano = Three { number: ns % 1000 };
+        write!(f, "{hours}:{minutes}:{seconds}.{milli}{micro}{nano}")
+    }
+}
+
+/// A stamp, from which the seconds are taken that were added.
+pub(crate) fn utc(tai: u32, stamp: u64) -> u64
+    ensures { result ≡ utc tai stamp }
+{
+    stamp.saturating_sub(u64::from(tai) * 1_000_000_000)
+}
+
+/// Pass or fail, by a word and a sign.
+#[derive(Clone, Copy, Debug)]
+pub(crate) struct Sign {
+    pub(crate) verdict: KindVerdict,
+}
+
+impl fmt::Display for Sign {
+    ghost use Rattle.std.specs.Prelude.{Some};
+    ghost use Rattle.flow_page.specs.Words.{sign_text};
+
+    ghost output = { λ sign. Some (sign_text sign.verdict) };
+
+    fn fmt<W: fmt::Write>(&self, f: &mut fmt::Formatter<W>) -> fmt::Result {
+        match self.verdict {
+            KindVerdict::Pass => f.write_str("<span class=\"pass\">&#10003; pass</span>"),
+            KindVerdict::Fail(_) => f.write_str("<span class=\"fail\">&#10007; fail</span>"),
+        }
+    }
+}
+
+/// After how many packets something is above its limit, where it ever is.
+#[derive(Clone, Copy, Debug)]
+struct Above {
+    what: &'static str,
+    count: u64,
+    first: Option<u64>,
+}
+
+impl fmt::Display for Above {
+    ghost use Rattle.std.specs.Prelude.{Some};
+    ghost use Rattle.flow_page.specs.Words.{above_text};
+
+    ghost output = { λ above. Some (above_text above.what.now above.count above.first) };
+
+    fn fmt<W: fmt::Write>(&self, f: &mut fmt::Formatter<W>) -> fmt::Result {
+        match self.first {
+            None => Ok(()),
+            Some(first) => write!(
+                f,
+                "; after {} packets the {} is above its limit, first after packet {first}",
+                self.count, self.what
+            ),
+        }
+    }
+}
+
+/// By how much the worst packet is late.
+#[derive(Clone, Copy, Debug)]
+struct Worst {
+    late: Late,
+}
+
+impl fmt::Display for Worst {
+    ghost use Rattle.std.specs.Prelude.{Some};
+    ghost use Rattle.flow_page.specs.Words.{worst_text};
+
+    ghost output = { λ worst. Some (worst_text worst.late.slack) };
+
+    #[tactic(auto, unfolding(crate::specs::Words::worst_text))]
+    fn fmt<W: fmt::Write>(&self, f: &mut fmt::Formatter<W>) -> fmt::Result {
+        write!(f, ", at worst {} ns late", lateness(self.late.slack))
+    }
+}
+
+/// How late a packet is whose slack is below 0.
+fn lateness(slack: i128) -> u128
+    ensures { result ≡ unsigned_abs slack }
+{
+    slack.unsigned_abs()
+}
+
+/// How many packets come late, where one does.
+#[derive(Clone, Copy, Debug)]
+struct Late {
+    late: u64,
+    slack: i128,
+    first: Option<u64>,
+}
+
+impl fmt::Display for Late {
+    ghost use Rattle.std.specs.Prelude.{Some};
+    ghost use Rattle.flow_page.specs.Words.{late_text};
+
+    ghost output = { λ l. Some (late_text l.late l.slack l.first) };
+
+    fn fmt<W: fmt::Write>(&self, f: &mut fmt::Formatter<W>) -> fmt::Result {
+        match self.first {
+            None => Ok(()),
+            Some(first) => {
+                let worst = Worst { late: *self };
+                write!(
+                    f,
+                    "; {} packets come after their reads, first packet {first}{worst}",
+                    self.late
+                )
+            }
+        }
+    }
+}
+
+/// Where the last packet of a fail stands.
+#[derive(Clone, Copy, Debug)]
+struct Named {
+    to: u64,
+    tai: u32,
+    place: Option<Place>,
+}
+
+impl fmt::Display for Named {
+    ghost use Rattle.std.specs.Prelude.{Some};
+    ghost use Rattle.flow_page.specs.Words.{named_text};
+
+    ghost output = { λ named. Some (named_text named.to named.tai named.place) };
+
+    fn fmt<W: fmt::Write>(&self, f: &mut fmt::Formatter<W>) -> fmt::Result {
+        match self.place {
+            None => Ok(()),
+            Some(place) => {
+                let clock = Clock {
+                    ns: utc(self.tai, place.stamp),
+                };
+                write!(
+                    f,
+                    ". Packet {}, with which the verdict's fail ends, is record {} at {clock} UTC",
+                    self.to, place.record
+                )
+            }
+        }
+    }
+}
+
+/// By how much a type passes, or how it fails.
+#[derive(Clone, Copy, Debug)]
+struct Outcome {
+    shown: TypeShown,
+    /// What a group is called.
+    group: &'static str,
+    tai: u32,
+}
+
+impl fmt::Display for Outcome {
+    ghost use Rattle.std.specs.Prelude.{Some};
+    ghost use Rattle.flow_page.specs.Words.{outcome_words};
+
+    ghost output = { λ o. Some (outcome_words o.shown o.group.now o.tai o.shown.verdict) };
+
+    fn fmt<W: fmt::Write>(&self, f: &mut fmt::Formatter<W>) -> fmt::Result {
+        match self.shown.verdict {
+            KindVerdict::Pass => write!(f, "; each packet may come {} ns later", self.shown.slack),
+            KindVerdict::Fail(proof) => {
+                let breaks = Breaks {
+                    shown: self.shown,
+                    group: self.group,
+                    tai: self.tai,
+                    proof,
+                };
+                write!(f, "{breaks}")
+            }
+        }
+    }
+}
+
+/// How many groups break a type.
+#[derive(Clone, Copy, Debug)]
+struct BrokenText {
+    shown: TypeShown,
+    group: &'static str,
+}
+
+impl fmt::Display for BrokenText {
+    ghost use Rattle.std.specs.Prelude.{Some};
+    ghost use Rattle.flow_page.specs.Words.{broken_text};
+
+    ghost output = { λ b. Some (broken_text b.shown b.group.now) };
+
+    #[tactic(auto, unfolding(crate::specs::Words::broken_text))]
+    fn fmt<W: fmt::Write>(&self, f: &mut fmt::Formatter<W>) -> fmt::Result {
+        write!(
+            f,
+            "; {} of {} {}s break it",
+            self.shown.groups_broken, self.shown.groups, self.group
+        )
+    }
+}
+
+/// What is above its limit.
+#[derive(Clone, Copy, Debug)]
+struct OverText {
+    shown: TypeShown,
+}
+
+impl fmt::Display for OverText {
+    ghost use Rattle.std.specs.Prelude.{Some};
+    ghost use Rattle.flow_page.specs.Words.{over_text};
+
+    ghost output = { λ over. Some (over_text over.shown) };
+
+    #[tactic(auto, unfolding(crate::specs::Words::over_text))]
+    fn fmt<W: fmt::Write>(&self, f: &mut fmt::Formatter<W>) -> fmt::Result {
+        let bucket = Above {
+            what: "bucket",
+            count: self.shown.above_bucket,
+            first: self.shown.first_bucket,
+        };
+        let buffer = Above {
+            what: "buffer",
+            count: self.shown.above_buffer,
+            first: self.shown.first_over,
+        };
+        write!(f, "{bucket}{buffer}")
+    }
+}
+
+/// How a type fails.
+#[derive(Clone, Copy, Debug)]
+struct Breaks {
+    shown: TypeShown,
+    group: &'static str,
+    tai: u32,
+    proof: FailProof,
+}
+
+impl fmt::Display for Breaks {
+    ghost use Rattle.std.specs.Prelude.{Some};
+    ghost use Rattle.flow_page.specs.Words.{breaks_text};
+
+    ghost output = { λ b. Some (breaks_text b.shown b.group.now b.tai b.proof) };
+
+    fn fmt<W: fmt::Write>(&self, f: &mut fmt::Formatter<W>) -> fmt::Result {
+        let t = self.shown;
+        let broken = BrokenText {
+            shown: t,
+            group: self.group,
+        };
+        let over = OverText { shown: t };
+        let late = Late {
+            late: t.late,
+            slack: t.slack,
+            first: t.first_empty,
+        };
+        let named = Named {
+            to: self.proof.to,
+            tai: self.tai,
+            place: t.named,
+        };
+        write!(f, "{broken}{over}{late}{named}")
+    }
+}
+
+/// The peaks and the limits of a type.
+#[derive(Clone, Copy, Debug)]
+struct Peaks {
+    shown: TypeShown,
+}
+
+impl fmt::Display for Peaks {
+    ghost use Rattle.std.specs.Prelude.{Some};
+    ghost use Rattle.flow_page.specs.Words.{peaks_words};
+
+    ghost output = { λ peaks. Some (peaks_words peaks.shown) };
+
+    fn fmt<W: fmt::Write>(&self, f: &mut fmt::Formatter<W>) -> fmt::Result {
+        let t = self.shown;
+        write!(
+            f,
+            "</b>: bucket {} of {}, buffer {} of {}",
+            t.bucket_peak, t.c_max, t.buffer_peak, t.vrx_full
+        )
+    }
+}
+
+/// Adds what is told of a type.
+fn add_type_words(
+    text: &mut String,
+    shown: &TypeShown,
+    group: &'static str,
+    tai: u32,
+) -> Result<(), OutOfMemory>
+    ensures { IfOk result (λ _. string_bytes text.new
+        ≡ string_bytes text.old ++ type_words shown.now group.now tai) }
+{
+    let shown = *shown;
+    let sign = Sign {
+        verdict: shown.verdict,
+    };
+    let name = kind_name(shown.kind);
+    let peaks = Peaks { shown };
+    let outcome = Outcome { shown, group, tai };
+    writeln!(text, "<li>{sign} <b>{name}{peaks}{outcome}.</li>")
+}
+
+/// Adds what is told of the types.
+pub(crate) fn add_words(
+    text: &mut String,
+    types: &[TypeShown],
+    group: &'static str,
+    tai: u32,
+) -> Result<(), OutOfMemory>
+    ensures { IfOk result (λ _. string_bytes text.new
+        ≡ string_bytes text.old ++ flat_map (λ t. type_words t group.now tai) types.now) }
+{
+    for shown in types {
+        add_type_words(text, shown, group, tai)?;
+    }
+    Ok(())
+}
