@@ -133,7 +133,8 @@ pub none_from : (p : Plot) (columns : List Extremes) (d : Extremes) (y : ℕ) �
 none_from p columns d y some at =
     let last : Extremes = column_at columns (length columns - 1) in
     let within : length columns - 1 < length columns = omega arith in
-    at ∙ same_at (λ x. y_of p x.greatest) columns (length columns - 1) d no_column within ∙ sym (at_drop_all (comes_from p last) columns (length columns - 0) (omega arith))
+    at ∙ same_at (λ x. y_of p x.greatest) columns (length columns - 1) d no_column within
+    ∙ sym (at_drop_all (comes_from p last) columns (length columns - 0) (omega arith))
 
 -- nothing before the first step
 pub none_back : (p : Plot) (columns : List Extremes) (old : List ℕ)
