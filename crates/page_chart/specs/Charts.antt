@@ -1,6 +1,6 @@
 -- Whole pictures: their axes reach over all numbers and limits, and their left margins have room for the longest
 -- number. Sizes are tenths of a unit of the picture; a digit takes 7.8 units at most. This project's own.
-use Rattle.std.specs.Prelude.{ℕ, ℤ, pos, neg_ℤ, ◌+◌, ◌-◌, ◌*◌, ◌^◌, min, max, Bool, true, false}
+use Rattle.std.specs.Prelude.{◌≤ℤ◌, ℕ, ℤ, pos, neg_ℤ, ◌+◌, ◌-◌, ◌*◌, ◌^◌, min, max, Bool, true, false}
 use Rattle.std.specs.Prelude.{List, [], ◌∷◌, ◌++◌, length}
 use Rattle.std.specs.Fmt.{signed_decimal}
 use Rattle.std.specs.Int.{int_max, int_min}
@@ -12,6 +12,7 @@ use Rattle.page_chart.specs.Curve.{band_text}
 use Rattle.page_chart.specs.Figures.{figure_end, figure_start}
 use Rattle.page_chart.specs.Grid.{frame_rules, grid_text, marks_across, shown, units_text}
 use Rattle.page_chart.specs.Lines.{lines_text}
+use Rattle.page_chart.specs.Marks.{high}
 use Rattle.page_chart.specs.Shades.{shade_text}
 use Rattle.page_chart.specs.declared.axis.Axis.{Axis}
 use Rattle.page_chart.specs.declared.bars.Bar.{Bar}
@@ -44,6 +45,10 @@ bounded z = int_max (int_min z (pos (2 ^ 61))) (neg_ℤ (pos (2 ^ 61)))
 -- the axis from the one to the other
 abbrev pub axis_over : Extremes → Axis
 axis_over e = axis_of (bounded e.least) (int_max (bounded e.greatest) (bounded e.least))
+
+-- a number is on an axis, as far as an axis goes
+abbrev pub IsOn : Axis → ℤ → Type 0
+IsOn a x = (a.low ≤ℤ bounded x) × (bounded x ≤ℤ high a)
 
 -- how wide the numbers of an axis are, and what stands between them and its line
 abbrev pub number_room : ℤ → ℕ

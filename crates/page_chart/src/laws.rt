@@ -2,10 +2,12 @@
 
 ghost use Rattle.std.specs.Prelude.{◌≡◌, ◌<◌, ◌≤◌, ◌≤ℤ◌, ◌<ℤ◌, ◌++◌, ◌∷◌, ℕ, ℤ, false, List, [], codes, length, neg_ℤ, pos};
 ghost use Rattle.std.specs.List.{list_any};
-ghost use Rattle.flow_measure.specs.Columns.{AreColumns, column_at, places_in};
+ghost use Rattle.flow_measure.specs.Columns.{AreColumns, column_at, greatest_at, least_at, places_in};
 ghost use Rattle.flow_measure.specs.declared.columns.Extremes.{Extremes};
 ghost use Rattle.page_chart.specs.Axes.{axis_of};
 ghost use Rattle.page_chart.specs.Bars.{bars_text, some_share};
+ghost use Rattle.page_chart.specs.Charts.{IsOn, curve_axis};
+ghost use Rattle.page_chart.specs.declared.lines.Limit.{Limit};
 ghost use Rattle.page_chart.specs.Curve.{EndsAtNumbers, Spans, band_text};
 ghost use Rattle.page_chart.specs.Escapes.{all_written, escaped, is_markup, unescaped};
 ghost use Rattle.page_chart.specs.Lines.{lines_text};
@@ -59,9 +61,11 @@ pub fn marks_rise()
     ensures within { (height : ℕ) (a : Axis) (x : ℤ) → mark height a x ≤ height }
 {}
 
-/// No peak is hidden: the band of each column reaches over the places of all its numbers, and its ends are the places of
-/// two of them.
+/// No peak is hidden: the axis of a curve reaches over all numbers of its columns, as far as an axis goes; the band of each
+/// column reaches over the places of all its numbers, and its ends are the places of two of them.
 pub fn no_peak_is_hidden()
+    ensures on { (lines : List Limit) (columns : List Extremes) (c : ℕ) (x : ℤ) → c < length columns
+        → least_at columns c ≤ℤ x → x ≤ℤ greatest_at columns c → IsOn (curve_axis lines columns) x }
     ensures spans { (p : Plot) (column_of : ℕ → ℕ) (numbers : ℕ → ℤ) (count i : ℕ) (columns : List Extremes)
         → AreColumns column_of numbers count columns → i < count
         → Spans p (column_at columns (column_of i)) (numbers i) }
