@@ -105,8 +105,10 @@ some-answer (Some (request.Check job)) i texts there told bytes = some-check job
 some-answer (Some (request.Verify job)) i texts there told bytes = some-verify job i texts there told
 some-answer (Some (request.VerifyReport job)) i texts there told bytes = some-reread job i texts there told
 some-answer (Some (request.SelfTest job)) i texts there told bytes = some-self job.frames
-some-answer (Some (request.Window job)) i texts there told bytes = some-reach job i texts (HasWindow job.tai) there told (λ m is text. some-window job.tai m text)
-some-answer (Some (request.Shape job)) i texts there told bytes = some-reach job.flow i texts (HasShapeIn job) there told (λ m is text. some-shape-in job m text is)
+some-answer (Some (request.Window job)) i texts there told bytes =
+    some-reach job i texts (HasWindow job.tai) there told (λ m is text. some-window job.tai m text)
+some-answer (Some (request.Shape job)) i texts there told bytes =
+    some-reach job.flow i texts (HasShapeIn job) there told (λ m is text. some-shape-in job m text is)
 some-answer (Some (request.Skew job)) i texts there told bytes = some-skewed job i texts there told
 some-answer (Some (request.Scan job)) i texts there told bytes = some-scanned job i texts there told
 some-answer (Some (request.Measure job)) i texts there told bytes =

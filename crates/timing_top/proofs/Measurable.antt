@@ -7,7 +7,8 @@ use Rattle.std.proofs.lemmas.Nat.{mul-le}
 use Rattle.timing_base.specs.Captures.{IsStamp, Record}
 use Rattle.timing_base.specs.Flows.{AreStamped, cuts, last_place, markers, read_or_zeros}
 use Rattle.timing_base.specs.Jobs.{CaptureJob, IsCaptureJob}
-use Rattle.timing_base.specs.Judged.{FlowVerdict, RunOutcome, absent, gap, in_one_run, in_runs, judged, no_whole_frame, refused, run_outcome, stamp_of, whole_frames}
+use Rattle.timing_base.specs.Judged.{FlowVerdict, RunOutcome, absent, gap, in_one_run, in_runs, judged, no_whole_frame, refused}
+use Rattle.timing_base.specs.Judged.{run_outcome, stamp_of, whole_frames}
 use Rattle.timing_base.specs.Media.{IsMedia, Media}
 use Rattle.timing_base.specs.declared.packet.FlowPacket.{FlowPacket}
 use Rattle.fail_interval.specs.Row.{verdict_of}

@@ -22,7 +22,9 @@ returns-clause-follows g c =
     reads-twice i (g.H.Shelf.text c.read_flows.new.shelf) (g.H.Shelf.faults c.read_flows.new.shelf) c.answer_read.result c.args.job.now.capture
     (λ text. IsReadingIn (AreFlows c.args.job.now.tai c.args.session.now) text c.in_ok-reading.reading)
     (HasMeasure c.args.job.now c.args.session.now)
-    c.read_flows.ensures.stays.texts c.read_flows.ensures.stays.later (λ text whole. subst (λ l. IsReadingIn (AreFlows c.args.job.now.tai l) text c.in_ok-reading.reading) media (c.in_ok-reading.ensures.told text whole))
+    c.read_flows.ensures.stays.texts c.read_flows.ensures.stays.later
+    (λ text whole. subst (λ l. IsReadingIn (AreFlows c.args.job.now.tai l) text c.in_ok-reading.reading) media
+    (c.in_ok-reading.ensures.told text whole))
     c.in_ok-reading.ensures.there
     (if-ok c.answer_read.result (λ answer is text whole h. has-measure c.args.job.now c.args.session.now text c.in_ok-reading.reading answer h is)
     c.answer_read.ensures.answers)

@@ -31,7 +31,8 @@ loop-number-preserved c =
           c.new-meter.ensures.stands) c.in_ok-push.ensures.items;
       begins = pairs-more BeginsWith c.loop-number.number c.args.firsts.now c.loop-number.flows.items c.push.new.self.items
           c.index-firsts-number.result c.new.result within (sym c.index-firsts-number.is) c.loop-number.invariant.begins
-          (new-begins c.args.tai c.loop-number.number c.index-media-number.result _ c.new-meter.result c.new.result c.index-firsts-number.result c.new.ensures.taker
+          (new-begins c.args.tai c.loop-number.number c.index-media-number.result _ c.new-meter.result c.new.result c.index-firsts-number.result
+          c.new.ensures.taker
           (c.in_ok-found.ensures ∙ ap (λ (x : MeasuredFlow). x.verdict) (sym c.index-firsts-number.is)) c.new-meter.ensures.stands) c.in_ok-push.ensures.items;
       room = All-same (λ (f : FlowOf (SecondMeter RunMeter)). HasRoom (2 ^ 41) f.taker) c.push.new.self.items _ c.in_ok-push.ensures.items
           (All-push (λ (f : FlowOf (SecondMeter RunMeter)). HasRoom (2 ^ 41) f.taker) c.loop-number.flows.items c.new.result c.loop-number.invariant.room

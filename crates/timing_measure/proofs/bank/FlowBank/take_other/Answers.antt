@@ -53,7 +53,8 @@ returns-clause-takes g c =
     let goes =
     place-holds c.args.self.now.flows.items d.target place old
     (subst (λ l. IsPlace l d.target place) (search rules)
-    (subst (λ (t : Target). IsPlace c.as_slice.result.now t place) (ap (λ (d : Datagram). d.target) c.datagram-2.view_is) c.in-Some-place_of.ensures.place)) at in
+    (subst (λ (t : Target). IsPlace c.as_slice.result.now t place) (ap (λ (d : Datagram). d.target) c.datagram-2.view_is)
+    c.in-Some-place_of.ensures.place)) at in
     if-ok c.take_packet.result
     (λ _ takes. one-takes g.F.FlowTaker.takes r c.args.self.now.flows.items place old c.take_packet.new.self g.met.F.FlowTaker.other c.requires.room.apart
     within at (d, is, sym goes)
