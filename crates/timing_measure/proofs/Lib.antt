@@ -7,5 +7,5 @@ mod Firsts
 mod Gauging
 mod Found
 mod Answering
-mod Some
+pub mod Some
 pub mod Unique
