@@ -2,7 +2,7 @@
 
 ghost use Rattle.std.specs.Prelude.{◌≤◌};
 
-use crate::bytes::part;
+use crate::bytes::{part, patch};
 use capture_gen::examples::{NARROW, Spread};
 use capture_gen::{capture_len, write_capture};
 use std::alloc::{AllocError, Global};
@@ -25,6 +25,16 @@ pub fn made(alloc: Global, number: u64, flaw: u32) -> Result<Vec<u8>, Fail>
     let mut sink = MemorySink::new(alloc, capture_len(2, flaw))?;
     write_capture(number, 2, flaw, &mut sink)?;
     Ok(Vec::from_slice(alloc, sink.bytes())?)
+}
+
+/// The plain capture with its first record once more behind the last, with a fraction of a second of
+/// 1,000,000,000: it is refused at its 42nd record.
+pub fn with_bad_stamp(alloc: Global) -> Result<Vec<u8>, Fail> {
+    let mut capture = made(alloc, 0, 0)?;
+    let first = Vec::from_slice(alloc, part(&capture, 24, 96))?;
+    capture.extend_from_slice(&first)?;
+    patch(&mut capture, 2980, b"\x00\xca\x9a\x3b");
+    Ok(capture)
 }
 
 /// A capture with 1,200 bytes of payload more in each frame, of which the file has 40 bytes.

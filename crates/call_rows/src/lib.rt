@@ -15,8 +15,8 @@ pub use call::{
     FEW_WAYS, Outcome, WAYS, Wanted, answer, ends, ends_in, fails_by_reads, judges, passes, prints,
     prints_over, runs, words_of,
 };
-pub use captures::{INTERLACED, captured_at_40, made};
-pub use lines::{ABSENT, CHECK, CHECK_TWO, HEADER, JOINED, LINEAR, NARROW};
+pub use captures::{INTERLACED, captured_at_40, made, with_bad_stamp};
+pub use lines::{ABSENT, CHECK, CHECK_TWO, HEADER, JOINED, LINEAR, NARROW, text_of};
 pub use setting::{Plan, Setting, over, whole, without_text};
 pub use shelf::{put, shelf_of};
 pub use untold::{UntoldSource, Watch};

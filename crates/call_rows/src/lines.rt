@@ -1,5 +1,7 @@
 //! Words that many rows run, and lines that many reports have.
 
+use std::alloc::{AllocError, Global};
+
 /// Judges the plain capture on one thread.
 pub const CHECK: &str = "check --serial --sdp p.sdp a.pcap";
 
@@ -22,3 +24,12 @@ pub const LINEAR: &str =
 
 /// The line of a flow without packets.
 pub const ABSENT: &str = "flow 1.1 239.0.0.1:50000 absent\n";
+
+/// Texts one behind the other.
+pub fn text_of(alloc: Global, parts: &[&str]) -> Result<String, AllocError> {
+    let mut text = String::new(alloc);
+    for part in parts {
+        text.push_str(part)?;
+    }
+    Ok(text)
+}

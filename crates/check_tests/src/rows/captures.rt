@@ -1,30 +1,35 @@
 //! How captures end, and which of their frames are looked at.
 
 use super::variants::{first_cut, largest_record};
-use call_rows::{ABSENT, CHECK, ends, judges, made, over, part, passes, patch};
+use call_rows::{ABSENT, CHECK, ends, judges, made, over, part, passes, patch, text_of};
 use std::sync::Wait;
 use std::test::Fail;
 use std::thread::Threads;
 use timing_report::Status;
 
-#[test]
-fn captures_that_end_early(rt: HostRuntime) -> Result<(), Fail> {
-    let alloc = rt.alloc();
+// The last record is cut off: one frame is judged.
+fn cut_capture<R: AllocGlobal + Wait + Threads + Sync>(rt: &R) -> Result<(), Fail> {
     let plain = made(rt.alloc(), 0, 0)?;
-    // cut_capture
     let text =
         "ST 2110-21 timing report\nfile 1 cut at 2904 a.pcap\nflow 1.1 239.0.0.1:50000 judged: 20 per frame, 1 frames, 20 packets, head 1, tail 19, class narrow, declared N\n  N pass, bucket 1 of 4, buffer 1 of 8\n  NL pass, bucket 1 of 4, buffer 1 of 8\n  W pass, bucket 1 of 16, buffer 1 of 720\nstatus 0\n";
-    let setting = over(alloc, Vec::from_slice(alloc, part(&plain, 0, 2914))?)?;
-    ends(&rt, CHECK, &setting, (Status::Pass, text, ""))?;
-    // compressed_file
-    let text =
-        "ST 2110-21 timing report\nfile 1 refused BadMagic a.pcap\nflow 1.1 239.0.0.1:50000 absent\nstatus 4\n";
-    let mut capture = Vec::from_slice(alloc, b"\x1f\x8b")?;
+    let cut = part(&plain, 0, 2914);
+    let setting = over(rt.alloc(), Vec::from_slice(rt.alloc(), cut)?)?;
+    ends(rt, CHECK, &setting, (Status::Pass, text, ""))
+}
+
+// A compressed file begins otherwise than a capture.
+fn compressed_file<R: AllocGlobal + Wait + Threads + Sync>(rt: &R) -> Result<(), Fail> {
+    let mut capture = Vec::from_slice(rt.alloc(), b"\x1f\x8b")?;
     for _ in 0..98 {
         capture.push(0)?;
     }
-    let setting = over(alloc, capture)?;
-    ends(&rt, CHECK, &setting, (Status::NotAllJudged, text, ""))
+    refuses(rt, capture, "BadMagic")
+}
+
+#[test]
+fn captures_that_end_early(rt: HostRuntime) -> Result<(), Fail> {
+    cut_capture(&rt)?;
+    compressed_file(&rt)
 }
 
 // The capture is refused with this note, before its first record.
@@ -33,8 +38,10 @@ fn refuses<R: AllocGlobal + Wait + Threads + Sync>(
     capture: Vec<u8>,
     note: &str,
 ) -> Result<(), Fail> {
-    let text = format!(in rt.alloc();
-        "ST 2110-21 timing report\nfile 1 refused {note} a.pcap\n{ABSENT}status 4\n"
+    let front = "ST 2110-21 timing report\nfile 1 refused ";
+    let text = text_of(
+        rt.alloc(),
+        &[front, note, " a.pcap\n", ABSENT, "status 4\n"],
     )?;
     let setting = over(rt.alloc(), capture)?;
     ends(

@@ -1,8 +1,11 @@
 //! Session descriptions, most of them refused.
 
-use call_rows::{CHECK, HEADER, ends, made, over, part, runs, shelf_of, without_text};
+use call_rows::{
+    ABSENT, CHECK, HEADER, Setting, ends, made, over, part, runs, shelf_of, text_of, without_text,
+};
 use capture_gen::examples::{MEDIA, described};
 use sdp_reader::{SdpCause, SdpFault};
+use std::alloc::Global;
 use std::sync::Wait;
 use std::test::Fail;
 use std::thread::Threads;
@@ -30,21 +33,46 @@ fn refuses<R: AllocGlobal + Wait + Threads + Sync>(
     ends(rt, CHECK, &setting, (Status::SdpRefused(fault), "", line))
 }
 
+// The answer on a description of no bytes, on both streams.
+const REFUSED: (Status, &str, &str) = (NO_VERSION, "", "sdp refused: line 1 NoVersion\n");
+
+// A description of no bytes, and a capture whose first read and whose fetch fail.
+fn unreadable(alloc: Global) -> Result<Setting, Fail> {
+    let mut setting = without_text(alloc)?;
+    setting.plan.fails = Vec::from_slice(alloc, &[1])?;
+    setting.plan.fetch_fails = true;
+    Ok(setting)
+}
+
+// A description of no bytes, and a capture that is cut.
+fn cut(alloc: Global) -> Result<Setting, Fail> {
+    let mut setting = without_text(alloc)?;
+    setting.capture = Vec::from_slice(alloc, part(&made(alloc, 0, 0)?, 0, 2914))?;
+    Ok(setting)
+}
+
+// The description is refused where the capture's first read fails, and where its fetch does too.
+fn refused_before_reads<R: AllocGlobal + Wait + Threads + Sync>(rt: &R) -> Result<(), Fail> {
+    let mut setting = unreadable(rt.alloc())?;
+    ends(rt, CHECK, &setting, REFUSED)?;
+    setting.plan.fetch_fails = false;
+    ends(rt, CHECK, &setting, REFUSED)
+}
+
+// It is refused where the capture isn't there.
+fn refused_before_fetch<R: AllocGlobal + Wait + Threads + Sync>(rt: &R) -> Result<(), Fail> {
+    let setting = unreadable(rt.alloc())?;
+    let mut shelf = shelf_of(rt.alloc(), &setting, "b.pcap")?;
+    runs(rt, CHECK, &setting, &mut shelf, REFUSED)
+}
+
 // The description is judged before the capture is fetched, whatever the capture is.
 #[test]
 fn sdp_refused(rt: HostRuntime) -> Result<(), Fail> {
-    let wanted = (NO_VERSION, "", "sdp refused: line 1 NoVersion\n");
-    let mut setting = without_text(rt.alloc())?;
-    ends(&rt, CHECK, &setting, wanted)?;
-    setting.plan.fails = Vec::from_slice(rt.alloc(), &[1])?;
-    ends(&rt, CHECK, &setting, wanted)?;
-    setting.plan.fetch_fails = true;
-    ends(&rt, CHECK, &setting, wanted)?;
-    let mut shelf = shelf_of(rt.alloc(), &setting, "b.pcap")?;
-    runs(&rt, CHECK, &setting, &mut shelf, wanted)?;
-    setting = without_text(rt.alloc())?;
-    setting.capture = Vec::from_slice(rt.alloc(), part(&made(rt.alloc(), 0, 0)?, 0, 2914))?;
-    ends(&rt, CHECK, &setting, wanted)
+    ends(&rt, CHECK, &without_text(rt.alloc())?, REFUSED)?;
+    refused_before_reads(&rt)?;
+    refused_before_fetch(&rt)?;
+    ends(&rt, CHECK, &cut(rt.alloc())?, REFUSED)
 }
 
 // Of a description that is too large one byte more than the limit is read, and no read comes after it.
@@ -116,32 +144,34 @@ fn sdp_same_target(rt: HostRuntime) -> Result<(), Fail> {
     refuses(&rt, &sdp, fault, "sdp refused: line 11 SameTarget\n")
 }
 
-#[test]
-fn sdp_dup_pair(rt: HostRuntime) -> Result<(), Fail> {
-    let alloc = rt.alloc();
-    let plain = made(rt.alloc(), 0, 0)?;
+// The pair, over a capture without packets.
+fn dup_pair(alloc: Global) -> Result<Setting, Fail> {
+    let plain = made(alloc, 0, 0)?;
     let mut setting = over(alloc, Vec::from_slice(alloc, part(&plain, 0, 24))?)?;
     setting.sdp = Vec::from_slice(alloc, DUP_PAIR.as_bytes())?;
-    let text = format!(in alloc;
-        "{HEADER}flow 1.1 239.0.0.1:50000 absent\nflow 1.2 239.0.1.1:50000 absent\nstatus 4\n"
-    )?;
-    ends(
-        &rt,
-        CHECK,
-        &setting,
-        (Status::NotAllJudged, text.as_str(), ""),
-    )?;
-    let sdp = DUP_PAIR.replace(alloc, "TPNL;\na=mid:a", "TPNL; MAXUDP=8960;\na=mid:a")?;
+    Ok(setting)
+}
+
+// The pair is read as two media.
+fn dup_pair_is_read<R: AllocGlobal + Wait + Threads + Sync>(rt: &R) -> Result<(), Fail> {
+    let second = "flow 1.2 239.0.1.1:50000 absent\n";
+    let text = text_of(rt.alloc(), &[HEADER, ABSENT, second, "status 4\n"])?;
+    let wanted = (Status::NotAllJudged, text.as_str(), "");
+    ends(rt, CHECK, &dup_pair(rt.alloc())?, wanted)
+}
+
+// And refused where its packets may be larger than the standard's.
+#[test]
+fn sdp_dup_pair(rt: HostRuntime) -> Result<(), Fail> {
+    dup_pair_is_read(&rt)?;
+    let (plain, extended) = ("TPNL;\na=mid:a", "TPNL; MAXUDP=8960;\na=mid:a");
+    let sdp = DUP_PAIR.replace(rt.alloc(), plain, extended)?;
     let fault = SdpFault {
         line: 9,
         what: SdpCause::ExtendedUdp,
     };
-    refuses(
-        &rt,
-        sdp.as_bytes(),
-        fault,
-        "sdp refused: line 9 ExtendedUdp\n",
-    )
+    let line = "sdp refused: line 9 ExtendedUdp\n";
+    refuses(&rt, sdp.as_bytes(), fault, line)
 }
 
 // 64 media are within the limit, and the 65th begins on line 195.

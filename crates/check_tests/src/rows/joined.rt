@@ -1,8 +1,10 @@
 //! Captures that are one capture.
 
-use call_rows::{CHECK_TWO, JOINED, NARROW, Setting, ends, made, over, part};
+use call_rows::{CHECK_TWO, JOINED, NARROW, Setting, ends, made, over, part, text_of};
 use std::alloc::Global;
+use std::sync::Wait;
 use std::test::Fail;
+use std::thread::Threads;
 use timing_report::Status;
 
 // The plain capture in two: the head packet and 19 packets, and from the first marker of a frame on.
@@ -18,18 +20,26 @@ fn halves(alloc: Global, more: u8) -> Result<Setting, Fail> {
     Ok(setting)
 }
 
+// Joined, the two are answered with these lines of their files, those of the plain flow, and this status.
+fn joins<R: AllocGlobal + Wait + Threads + Sync>(
+    rt: &R,
+    setting: &Setting,
+    files: &str,
+    status: (Status, &str),
+) -> Result<(), Fail> {
+    let title = "ST 2110-21 timing report\n";
+    let text = text_of(rt.alloc(), &[title, files, NARROW, status.1])?;
+    ends(rt, JOINED, setting, (status.0, text.as_str(), ""))
+}
+
 #[test]
 fn joined_halves(rt: HostRuntime) -> Result<(), Fail> {
-    let alloc = rt.alloc();
     let setting = halves(rt.alloc(), 0)?;
-    let files = "ST 2110-21 timing report\nfile 1 end a.pcap\nfile 2 end b.pcap\n";
-    let text = format!(in alloc; "{files}{NARROW}status 0\n")?;
-    ends(&rt, JOINED, &setting, (Status::Pass, text.as_str(), ""))?;
-    let text = format!(in alloc;
-        "{files}flow 1.1 239.0.0.1:50000 no whole frame, head 1\nflow 2.1 239.0.0.1:50000 judged: 20 per frame, 1 frames, 20 packets, head 1, tail 0, class narrow, declared N\n  N pass, bucket 1 of 4, buffer 1 of 8\n  NL pass, bucket 1 of 4, buffer 1 of 8\n  W pass, bucket 1 of 16, buffer 1 of 720\nstatus 4\n"
-    )?;
-    let wanted = (Status::NotAllJudged, text.as_str(), "");
-    ends(&rt, CHECK_TWO, &setting, wanted)
+    let files = "file 1 end a.pcap\nfile 2 end b.pcap\n";
+    joins(&rt, &setting, files, (Status::Pass, "status 0\n"))?;
+    let text =
+        "ST 2110-21 timing report\nfile 1 end a.pcap\nfile 2 end b.pcap\nflow 1.1 239.0.0.1:50000 no whole frame, head 1\nflow 2.1 239.0.0.1:50000 judged: 20 per frame, 1 frames, 20 packets, head 1, tail 0, class narrow, declared N\n  N pass, bucket 1 of 4, buffer 1 of 8\n  NL pass, bucket 1 of 4, buffer 1 of 8\n  W pass, bucket 1 of 16, buffer 1 of 720\nstatus 4\n";
+    ends(&rt, CHECK_TWO, &setting, (Status::NotAllJudged, text, ""))
 }
 
 #[test]
@@ -44,17 +54,11 @@ fn joined_backwards(rt: HostRuntime) -> Result<(), Fail> {
 // A capture that is cut or refused gives its records before that place.
 #[test]
 fn joined_behind_cuts(rt: HostRuntime) -> Result<(), Fail> {
-    let alloc = rt.alloc();
-    let mut setting = halves(rt.alloc(), 10)?;
-    let text = format!(in alloc;
-        "ST 2110-21 timing report\nfile 1 cut at 1464 a.pcap\nfile 2 end b.pcap\n{NARROW}status 0\n"
-    )?;
-    ends(&rt, JOINED, &setting, (Status::Pass, text.as_str(), ""))?;
-    setting.capture = Vec::from_slice(alloc, b"\x1f\x8b")?;
+    let setting = halves(rt.alloc(), 10)?;
+    let files = "file 1 cut at 1464 a.pcap\nfile 2 end b.pcap\n";
+    joins(&rt, &setting, files, (Status::Pass, "status 0\n"))?;
+    let mut setting = over(rt.alloc(), Vec::from_slice(rt.alloc(), b"\x1f\x8b")?)?;
     setting.second = made(rt.alloc(), 0, 0)?;
-    let text = format!(in alloc;
-        "ST 2110-21 timing report\nfile 1 refused BadMagic a.pcap\nfile 2 end b.pcap\n{NARROW}status 4\n"
-    )?;
-    let wanted = (Status::NotAllJudged, text.as_str(), "");
-    ends(&rt, JOINED, &setting, wanted)
+    let files = "file 1 refused BadMagic a.pcap\nfile 2 end b.pcap\n";
+    joins(&rt, &setting, files, (Status::NotAllJudged, "status 4\n"))
 }

@@ -1,6 +1,6 @@
 //! Captures in the layout of pcapng, which are judged as the classic ones of the same packets.
 
-use call_rows::{ABSENT, CHECK, ends, made, over, part, passes};
+use call_rows::{ABSENT, CHECK, ends, made, over, part, passes, text_of};
 use capture_gen::examples::{MICROS, NANOS, NARROW, SECTION, Spread, as_pcapng, push_packet};
 use std::test::Fail;
 use timing_report::Status;
@@ -32,9 +32,8 @@ fn pcapng_no_interface(rt: HostRuntime) -> Result<(), Fail> {
     let mut file = Vec::from_slice(alloc, &SECTION)?;
     file.extend_from_slice(&NANOS)?;
     push_packet(&mut file, 1, 3_000_000_005, &[1, 2, 3, 4], 0)?;
-    let text = format!(in alloc;
-        "ST 2110-21 timing report\nfile 1 refused BadLength at record 1 a.pcap\n{ABSENT}status 4\n"
-    )?;
+    let front = "ST 2110-21 timing report\nfile 1 refused BadLength at record 1 a.pcap\n";
+    let text = text_of(alloc, &[front, ABSENT, "status 4\n"])?;
     let setting = over(alloc, file)?;
     ends(
         &rt,

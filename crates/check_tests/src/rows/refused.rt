@@ -3,6 +3,7 @@
 use super::variants::{gaps, large_frame, low_halves};
 use call_rows::{
     ABSENT, CHECK, FEW_WAYS, HEADER, captured_at_40, ends_in, judges, made, over, part, patch,
+    text_of,
 };
 use std::test::Fail;
 use timing_report::Status;
@@ -91,7 +92,7 @@ fn too_many_gaps(rt: HostRuntime) -> Result<(), Fail> {
 fn frame_too_large(rt: HostRuntime) -> Result<(), Fail> {
     let alloc = rt.alloc();
     let flow = "flow 1.1 239.0.0.1:50000 refused at record 262146: FrameTooLarge\n";
-    let text = format!(in alloc; "{HEADER}{flow}status 4\n")?;
+    let text = text_of(alloc, &[HEADER, flow, "status 4\n"])?;
     let setting = over(alloc, large_frame(alloc)?)?;
     let wanted = (Status::NotAllJudged, text.as_str(), "");
     ends_in(&rt, &FEW_WAYS, CHECK, &setting, wanted)

@@ -1,10 +1,12 @@
 //! What is said of one flow, by how its sender spreads the packets.
 
 use super::variants::{big_endian, last_second_of, tagged, with_payload};
-use call_rows::{CHECK, INTERLACED, LINEAR, NARROW, Setting, judges, made, over, passes};
+use call_rows::{CHECK, INTERLACED, LINEAR, NARROW, Setting, judges, made, over, passes, text_of};
 use capture_gen::examples::{NARROW as PLAIN, Spread, described, usual_equipment as usual};
 use std::alloc::{AllocError, Global};
+use std::sync::Wait;
 use std::test::Fail;
+use std::thread::Threads;
 use timing_report::Status;
 
 // The plain description and capture, but that so many packets of the first frame come at once.
@@ -13,24 +15,42 @@ fn bunched(alloc: Global, at_once: u8) -> Result<Setting, AllocError> {
     over(alloc, spread.capture(alloc)?)
 }
 
+// The plain description and this capture pass.
+fn passes_over<R: AllocGlobal + Wait + Threads + Sync>(
+    rt: &R,
+    capture: Vec<u8>,
+) -> Result<(), Fail> {
+    passes(rt, &over(rt.alloc(), capture)?)
+}
+
+// In the other order of bytes, with a VLAN tag, and with a payload.
+fn other_forms_pass<R: AllocGlobal + Wait + Threads + Sync>(
+    rt: &R,
+    plain: &[u8],
+) -> Result<(), Fail> {
+    passes_over(rt, big_endian(rt.alloc(), plain)?)?;
+    passes_over(rt, tagged(rt.alloc(), plain)?)?;
+    passes_over(rt, with_payload(rt.alloc(), plain)?)
+}
+
+// In the last second that a capture can hold, with the most seconds added.
+fn last_second_passes<R: AllocGlobal + Wait + Threads + Sync>(
+    rt: &R,
+    plain: &[u8],
+) -> Result<(), Fail> {
+    let setting = over(rt.alloc(), last_second_of(rt.alloc(), plain)?)?;
+    let line = "check --serial --sdp p.sdp --tai 1000 a.pcap";
+    judges(rt, line, &setting, NARROW, Status::Pass)
+}
+
+// Also where the packets' numbers wrap.
 #[test]
 fn senders_that_keep_to_their_type(rt: HostRuntime) -> Result<(), Fail> {
+    passes_over(&rt, made(rt.alloc(), 4_294_967_295, 0)?)?;
     let plain = made(rt.alloc(), 0, 0)?;
-    let alloc = rt.alloc();
-    // plain_narrow, number_wraps, other_orders, big_payload
-    for capture in [
-        made(rt.alloc(), 0, 0)?,
-        made(rt.alloc(), 4_294_967_295, 0)?,
-        big_endian(alloc, &plain)?,
-        tagged(alloc, &plain)?,
-        with_payload(alloc, &plain)?,
-    ] {
-        passes(&rt, &over(alloc, capture)?)?;
-    }
-    // last_second
-    let setting = over(alloc, last_second_of(alloc, &plain)?)?;
-    let line = "check --serial --sdp p.sdp --tai 1000 a.pcap";
-    judges(&rt, line, &setting, NARROW, Status::Pass)
+    other_forms_pass(&rt, &plain)?;
+    last_second_passes(&rt, &plain)?;
+    passes_over(&rt, plain)
 }
 
 #[test]
@@ -57,10 +77,10 @@ fn burst_in_second_frame(rt: HostRuntime) -> Result<(), Fail> {
     let flow =
         "flow 1.1 239.0.0.1:50000 judged: 20 per frame, 2 frames, 40 packets, head 1, tail 0, class wide, declared";
     let mut setting = over(rt.alloc(), made(rt.alloc(), 0, 1)?)?;
-    let narrow = format!(in rt.alloc(); "{flow} N\n{lines}")?;
+    let narrow = text_of(rt.alloc(), &[flow, " N\n", lines])?;
     judges(&rt, CHECK, &setting, narrow.as_str(), Status::Fail)?;
     setting.sdp = described(rt.alloc(), "2110TPN;", "2110TPW;")?;
-    let wide = format!(in rt.alloc(); "{flow} W\n{lines}")?;
+    let wide = text_of(rt.alloc(), &[flow, " W\n", lines])?;
     judges(&rt, CHECK, &setting, wide.as_str(), Status::Pass)
 }
 

@@ -1,6 +1,8 @@
 //! Several captures and media, and JSON.
 
-use call_rows::{CHECK_TWO, HEADER, LINEAR, NARROW, ends, made, over, part, runs, shelf_of};
+use call_rows::{
+    CHECK_TWO, HEADER, LINEAR, NARROW, ends, made, over, part, runs, shelf_of, text_of,
+};
 use capture_gen::examples::three_media;
 use std::test::Fail;
 use timing_report::Status;
@@ -12,9 +14,15 @@ fn two_captures_three_media(rt: HostRuntime) -> Result<(), Fail> {
     setting.second = made(rt.alloc(), 0, 2)?;
     setting.sdp = three_media(alloc)?;
     let linear = LINEAR.replace(alloc, "flow 1.1", "flow 2.1")?;
-    let text = format!(in alloc;
-        "{HEADER}file 2 end b.pcap\n{NARROW}flow 1.2 239.0.0.1:50002 absent\nflow 1.3 239.0.0.1:50004 absent\n{linear}flow 2.2 239.0.0.1:50002 absent\nflow 2.3 239.0.0.1:50004 absent\nstatus 4\n"
-    )?;
+    let parts = [
+        HEADER,
+        "file 2 end b.pcap\n",
+        NARROW,
+        "flow 1.2 239.0.0.1:50002 absent\nflow 1.3 239.0.0.1:50004 absent\n",
+        linear.as_str(),
+        "flow 2.2 239.0.0.1:50002 absent\nflow 2.3 239.0.0.1:50004 absent\nstatus 4\n",
+    ];
+    let text = text_of(alloc, &parts)?;
     let wanted = (Status::NotAllJudged, text.as_str(), "");
     ends(&rt, CHECK_TWO, &setting, wanted)
 }

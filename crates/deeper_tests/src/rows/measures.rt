@@ -1,12 +1,15 @@
 //! The rows of `measure`.
 
 use call_rows::{
-    INTERLACED, captured_at_40, ends, fails_by_reads, made, over, part, patch, prints, prints_over,
-    runs, shelf_of,
+    INTERLACED, captured_at_40, ends, fails_by_reads, made, over, part, prints, prints_over, runs,
+    shelf_of, text_of, with_bad_stamp,
 };
 use capture_gen::examples::{NANOS, NARROW as SPREAD, Spread, as_pcapng, described, two_paths};
 use sdp_reader::{SdpCause, SdpFault};
+use std::alloc::{AllocError, Global};
+use std::sync::Wait;
 use std::test::Fail;
+use std::thread::Threads;
 use timing_outside::MemoryShelf;
 use timing_report::{Input, Status};
 
@@ -119,31 +122,49 @@ fn measure_fields(rt: HostRuntime) -> Result<(), Fail> {
     prints(&rt, LINE, &setting, (Status::Pass, FIELDS))
 }
 
-// The same packets to two addresses, those of the second media first. Of the first alone the second media is absent.
-#[test]
-fn measure_two(rt: HostRuntime) -> Result<(), Fail> {
-    let alloc = rt.alloc();
-    let capture = made(rt.alloc(), 0, 0)?;
-    let mut setting = over(alloc, Vec::from_slice(alloc, part(&capture, 0, 24))?)?;
+// The packets of the plain capture to two addresses, those of the second media first.
+fn two_targets(alloc: Global) -> Result<Vec<u8>, Fail> {
+    let capture = made(alloc, 0, 0)?;
+    let mut both = Vec::from_slice(alloc, part(&capture, 0, 24))?;
     for record in part(&capture, 24, capture.len()).chunks(72) {
-        let both = &mut setting.capture;
         both.extend_from_slice(part(record, 0, 49))?;
         both.push(2)?;
         both.extend_from_slice(part(record, 50, 72))?;
         both.extend_from_slice(record)?;
     }
-    setting.sdp = two_paths(alloc)?;
+    Ok(both)
+}
+
+// The plain flow as the second media.
+fn second_media(alloc: Global, flow: &str) -> Result<String, AllocError> {
+    let flow = flow.replace(alloc, "\"media\":1,", "\"media\":2,")?;
+    flow.replace(alloc, "239.0.0.1", "239.0.0.2")
+}
+
+// Of two media each is measured so.
+fn measures_two<R: AllocGlobal + Wait + Threads + Sync>(
+    rt: &R,
+    capture: Vec<u8>,
+    first: &str,
+    second: &str,
+) -> Result<(), Fail> {
+    let mut setting = over(rt.alloc(), capture)?;
+    setting.sdp = two_paths(rt.alloc())?;
+    let text = text_of(rt.alloc(), &[FRONT, first, ",", second, BACK])?;
+    prints(rt, LINE, &setting, (Status::Pass, text.as_str()))
+}
+
+// The same packets to two addresses. Of the first alone the second media is absent.
+#[test]
+fn measure_two(rt: HostRuntime) -> Result<(), Fail> {
+    let alloc = rt.alloc();
     let flow = PLAIN.replace(alloc, FRONT, "")?.replace(alloc, BACK, "")?;
     let first = flow.replace(alloc, "\"record\":1,", "\"record\":2,")?;
-    let second = flow.replace(alloc, "\"media\":1,", "\"media\":2,")?;
-    let second = second.replace(alloc, "239.0.0.1", "239.0.0.2")?;
-    let text = format!(in alloc; "{FRONT}{first},{second}{BACK}")?;
-    prints(&rt, LINE, &setting, (Status::Pass, text.as_str()))?;
-    setting.capture = capture;
-    let text = format!(in alloc;
-        "{FRONT}{flow},{{\"media\":2,\"packets\":0,\"target\":\"239.0.0.2:50000\",\"verdict\":\"absent\"}}{BACK}"
-    )?;
-    prints(&rt, LINE, &setting, (Status::Pass, text.as_str()))
+    let second = second_media(alloc, flow.as_str())?;
+    measures_two(&rt, two_targets(alloc)?, first.as_str(), second.as_str())?;
+    let absent =
+        "{\"media\":2,\"packets\":0,\"target\":\"239.0.0.2:50000\",\"verdict\":\"absent\"}";
+    measures_two(&rt, made(alloc, 0, 0)?, flow.as_str(), absent)
 }
 
 // Nothing is judged: a frame without its last packet, no packet, the first two, and packets that aren't read, as the
@@ -178,18 +199,16 @@ fn measure_refused(rt: HostRuntime) -> Result<(), Fail> {
 #[test]
 fn measure_ends(rt: HostRuntime) -> Result<(), Fail> {
     let alloc = rt.alloc();
-    let mut capture = made(rt.alloc(), 0, 0)?;
+    let capture = made(alloc, 0, 0)?;
     let text = GAP.replace(alloc, "\"end\":\"end\"", "\"end\":\"cut at 2904\"")?;
     let text = text.replace(alloc, "\"tail\":10,", "\"tail\":19,")?;
     let text = text.replace(alloc, "\"verdict\":\"runs\"", "\"verdict\":\"judged\"")?;
     let cut = part(&capture, 0, 2914);
     prints_over(&rt, LINE, cut, (Status::Pass, text.as_str()))?;
-    let first = Vec::from_slice(alloc, part(&capture, 24, 96))?;
-    capture.extend_from_slice(&first)?;
-    patch(&mut capture, 2980, b"\x00\xca\x9a\x3b");
     let note = "\"end\":\"refused BadStamp at record 42\"";
     let text = PLAIN.replace(alloc, "\"end\":\"end\"", note)?;
-    prints_over(&rt, LINE, &capture, (Status::NotAllJudged, text.as_str()))
+    let wanted = (Status::NotAllJudged, text.as_str());
+    prints_over(&rt, LINE, &with_bad_stamp(alloc)?, wanted)
 }
 
 #[test]

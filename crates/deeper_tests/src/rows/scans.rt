@@ -1,8 +1,8 @@
 //! The rows of `scan`.
 
 use call_rows::{
-    CHECK, NARROW, ends, fails_by_reads, made, over, part, patch, prints, prints_over, runs,
-    shelf_of,
+    CHECK, HEADER, NARROW, ends, fails_by_reads, made, over, part, patch, prints, prints_over,
+    runs, shelf_of, text_of, with_bad_stamp,
 };
 use capture_gen::examples::{NANOS, as_pcapng};
 use std::test::Fail;
@@ -30,7 +30,8 @@ fn scan_plain(rt: HostRuntime) -> Result<(), Fail> {
     let alloc = rt.alloc();
     let capture = made(rt.alloc(), 0, 0)?;
     let file = as_pcapng(alloc, &capture, &NANOS, 1)?;
-    let lines = format!(in alloc; "capture a.pcap: end, 41 records, 1 streams\n{PLAIN_STREAM}")?;
+    let count = "capture a.pcap: end, 41 records, 1 streams\n";
+    let lines = text_of(alloc, &[count, PLAIN_STREAM])?;
     for text in [capture.as_slice(), file.as_slice()] {
         prints_over(&rt, JSON, text, (Status::Pass, PLAIN_JSON))?;
         prints_over(&rt, LINES, text, (Status::Pass, lines.as_str()))?;
@@ -49,14 +50,12 @@ fn scan_gap(rt: HostRuntime) -> Result<(), Fail> {
 #[test]
 fn scan_draft(rt: HostRuntime) -> Result<(), Fail> {
     let alloc = rt.alloc();
-    let capture = made(rt.alloc(), 0, 0)?;
+    let capture = made(alloc, 0, 0)?;
     prints_over(&rt, DRAFT, &capture, (Status::Pass, PLAIN_DRAFT))?;
     let mut setting = over(alloc, capture)?;
     setting.sdp = Vec::from_slice(alloc, PLAIN_DRAFT.as_bytes())?;
     let flow = NARROW.replace(alloc, "declared N\n", "declared none\n")?;
-    let report = format!(in alloc;
-        "ST 2110-21 timing report\nfile 1 end a.pcap\n{flow}status 0\n"
-    )?;
+    let report = text_of(alloc, &[HEADER, flow.as_str(), "status 0\n"])?;
     prints(&rt, CHECK, &setting, (Status::Pass, report.as_str()))
 }
 
@@ -108,13 +107,9 @@ fn scan_refused(rt: HostRuntime) -> Result<(), Fail> {
         "{\"end\":\"refused BadMagic\",\"more\":0,\"name\":\"a.pcap\",\"passed_over\":{\"broken\":0,\"empty\":0,\"fragment\":0,\"ipv6\":0,\"not_udp\":0,\"other\":0,\"tags\":0},\"records\":0,\"streams\":[],\"unread\":[]}\n";
     prints_over(&rt, JSON, b"\x1f\x8b", (Status::NotAllJudged, json))?;
     prints_over(&rt, DRAFT, b"\x1f\x8b", (Status::NotAllJudged, ""))?;
-    let mut capture = made(rt.alloc(), 0, 0)?;
-    let first = Vec::from_slice(alloc, part(&capture, 24, 96))?;
-    capture.extend_from_slice(&first)?;
-    patch(&mut capture, 2980, b"\x00\xca\x9a\x3b");
-    let lines = format!(in alloc;
-        "capture a.pcap: refused BadStamp at record 42, 41 records, 1 streams\n{PLAIN_STREAM}"
-    )?;
+    let capture = with_bad_stamp(alloc)?;
+    let count = "capture a.pcap: refused BadStamp at record 42, 41 records, 1 streams\n";
+    let lines = text_of(alloc, &[count, PLAIN_STREAM])?;
     prints_over(&rt, LINES, &capture, (Status::NotAllJudged, lines.as_str()))?;
     prints_over(&rt, DRAFT, &capture, (Status::NotAllJudged, PLAIN_DRAFT))
 }

@@ -2,7 +2,7 @@
 
 use call_rows::{
     CHECK, CHECK_TWO, FEW_WAYS, HEADER, JOINED, NARROW, ends, ends_in, made, over, part, passes,
-    runs, shelf_of, without_text,
+    runs, shelf_of, text_of, without_text,
 };
 use sdp_reader::{SdpCause, SdpFault};
 use std::str;
@@ -103,7 +103,7 @@ fn each_read_of_sdp_fails(rt: HostRuntime) -> Result<(), Fail> {
 #[test]
 fn each_room(rt: HostRuntime) -> Result<(), Fail> {
     let mut setting = over(rt.alloc(), made(rt.alloc(), 0, 0)?)?;
-    let text = format!(in rt.alloc(); "{HEADER}{NARROW}status 0\n")?;
+    let text = text_of(rt.alloc(), &[HEADER, NARROW, "status 0\n"])?;
     for room in 0..text.len() {
         setting.room = room as u64;
         let front = str::from_utf8(part(text.as_bytes(), 0, room))?;

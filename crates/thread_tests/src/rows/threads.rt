@@ -1,7 +1,9 @@
 //! That intakes and workers run beside each other.
 
 use super::self_tests::SELFTEST_2;
-use call_rows::{CHECK_TWO, HEADER, NARROW, UntoldSource, Watch, answer, made, over, shelf_of};
+use call_rows::{
+    CHECK_TWO, HEADER, NARROW, UntoldSource, Watch, answer, made, over, shelf_of, text_of,
+};
 use capture_gen::{capture_len, write_capture};
 use std::process::Abort;
 use std::sync::Wait;
@@ -80,7 +82,7 @@ fn two_threads_at_once(rt: HostRuntime) -> Result<(), Fail> {
     let alloc = rt.alloc();
     let setting = over(alloc, made(rt.alloc(), 0, 0)?)?;
     let mut shelf = shelf_of(alloc, &setting, "a.pcap")?;
-    let text = format!(in alloc; "{HEADER}{NARROW}status 0\n")?;
+    let text = text_of(alloc, &[HEADER, NARROW, "status 0\n"])?;
     let line = "check --workers 1 --sdp p.sdp a.pcap";
     meets(&rt, line, &mut shelf, text.as_str())?;
     let mut shelf = MemoryShelf::new(alloc);
