@@ -1,5 +1,5 @@
-//! A capture that changes once it was fetched: a command that reads it twice says so, and one that reads it once
-//! answers on what it read.
+//! A capture that changes once it was fetched: a command that reads it twice says so, or answers on what it read last,
+//! and one that reads it once answers on what it read.
 
 ghost use Rattle.std.specs.Prelude.{◌≡◌, IfSome};
 ghost use Rattle.timing_outside.specs.MemorySources.{faults_of, name_of};
@@ -11,6 +11,7 @@ use call_rows::{
     Setting, UntoldSource, Wanted, Watch, answer, made, over, part, put, shelf_of, whole,
 };
 use capture_gen::{capture_len, write_capture};
+use std::alloc::{AllocError, Global};
 use std::process::Abort;
 use std::sync::Wait;
 use std::test::Fail;
@@ -118,9 +119,11 @@ fn answers_changing<R: Abort + AllocGlobal + Wait + Threads + Sync>(
 // The commands that read a capture twice.
 const TWICE: [&str; 3] = [LIST, WRITE, measures::LINE];
 
-// The later text isn't the first: where it is read nothing is printed, and `window` answers on the first.
+// The later text isn't the first: where it is read by one of these commands nothing is printed, and `window` answers
+// on the first.
 fn differs<R: Abort + AllocGlobal + Wait + Threads + Sync>(
     rt: &R,
+    lines: &[&str],
     setting: &Setting,
     later: &[u8],
 ) -> Result<(), Fail> {
@@ -129,7 +132,7 @@ fn differs<R: Abort + AllocGlobal + Wait + Threads + Sync>(
         b"".as_slice(),
         "read fault: capture 1\n",
     );
-    for line in TWICE.iter() {
+    for line in lines {
         answers_changing(rt, line, setting, later, changed, (2, 1))?;
     }
     let first = (Status::Pass, PLAIN.as_bytes(), "");
@@ -163,25 +166,70 @@ fn the_same_again(rt: HostRuntime) -> Result<(), Fail> {
 fn shorter_and_longer(rt: HostRuntime) -> Result<(), Fail> {
     let capture = made(rt.alloc(), 0, 0)?;
     let setting = over(rt.alloc(), Vec::from_slice(rt.alloc(), &capture)?)?;
-    differs(&rt, &setting, b"")?;
+    differs(&rt, &TWICE, &setting, b"")?;
     let cut = capture.len().saturating_sub(RECORD);
-    differs(&rt, &setting, part(&capture, 0, cut))?;
+    differs(&rt, &TWICE, &setting, part(&capture, 0, cut))?;
     let mut longer = MemorySink::new(rt.alloc(), capture_len(3, 0))?;
     write_capture(0, 3, 0, &mut longer)?;
-    differs(&rt, &setting, longer.bytes())
+    differs(&rt, &TWICE, &setting, longer.bytes())
+}
+
+// The numbers where the first judged packet comes a nanosecond later: that of the first frame, the gap behind it, and
+// how much time is left to its read.
+const FIRST_LATER: [(&str, &str); 3] = [
+    (
+        "{\"first\":764000,\"greatest\":764000,\"last\":764000,\"least\":764000,\"sum\":1528000,",
+        "{\"first\":764001,\"greatest\":764001,\"last\":764000,\"least\":764000,\"sum\":1528001,",
+    ),
+    (
+        "\"least\":960000,\"sum\":38240000",
+        "\"least\":959999,\"sum\":38239999",
+    ),
+    ("\"slack\":444", "\"slack\":443"),
+];
+
+// And where the last comes a nanosecond earlier: that of the last frame, and the gap before it.
+const LAST_EARLIER: [(&str, &str); 2] = [
+    (
+        "{\"first\":19004000,\"greatest\":19004000,\"last\":19004000,\"least\":19004000,\"sum\":38008000}",
+        "{\"first\":19004000,\"greatest\":19004000,\"last\":19003999,\"least\":19003999,\"sum\":38007999}",
+    ),
+    (
+        "\"least\":960000,\"sum\":38240000",
+        "\"least\":959999,\"sum\":38239999",
+    ),
+];
+
+// What `measure` prints of the plain capture, with other numbers.
+fn with_numbers(alloc: Global, numbers: &[(&str, &str)]) -> Result<String, AllocError> {
+    let mut text = String::from_str(alloc, measures::PLAIN)?;
+    for (from, to) in numbers {
+        text = text.replace(alloc, from, to)?;
+    }
+    Ok(text)
+}
+
+// The record has another stamp at the second reading. `shape` keeps the first and the last stamp and tells; each verdict
+// is as it was, so `measure` prints the numbers of the second reading.
+fn stamp_moves<R: Abort + AllocGlobal + Wait + Threads + Sync>(
+    rt: &R,
+    record: u16,
+    nanos: u32,
+    numbers: &[(&str, &str)],
+) -> Result<(), Fail> {
+    let setting = over(rt.alloc(), made(rt.alloc(), 0, 0)?)?;
+    let later = with_stamp(rt.alloc(), &setting.capture, record, 1_600_000_000, nanos)?;
+    differs(rt, &[LIST, WRITE], &setting, &later)?;
+    let text = with_numbers(rt.alloc(), numbers)?;
+    let wanted = (Status::Pass, text.as_bytes(), "");
+    answers_changing(rt, measures::LINE, &setting, &later, wanted, (2, 0))
 }
 
 // The first judged packet comes a nanosecond later, or the last a nanosecond earlier.
 #[test]
 fn other_stamps(rt: HostRuntime) -> Result<(), Fail> {
-    let alloc = rt.alloc();
-    let capture = made(rt.alloc(), 0, 0)?;
-    let setting = over(alloc, Vec::from_slice(alloc, &capture)?)?;
-    for (record, nanos) in [(1, 764_001), (40, 39_003_999)] {
-        let later = with_stamp(alloc, &capture, record, 1_600_000_000, nanos)?;
-        differs(&rt, &setting, &later)?;
-    }
-    Ok(())
+    stamp_moves(&rt, 1, 764_001, &FIRST_LATER)?;
+    stamp_moves(&rt, 40, 39_003_999, &LAST_EARLIER)
 }
 
 // Where no flow is judged there is nothing to measure, and the capture is read once.
