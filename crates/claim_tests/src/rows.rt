@@ -1,0 +1,7 @@
+//! Words, reports and claims.
+
+mod claims;
+mod json;
+mod lines;
+mod verify;
+mod words;
