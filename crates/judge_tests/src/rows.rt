@@ -1,0 +1,6 @@
+//! Flows, claims and reports.
+
+mod bank;
+mod checker;
+mod judge;
+mod report;
