@@ -1,4 +1,4 @@
-//! Tests of what is judged and told, worked by hand: rows of flows, claims, and lines of a report.
+//! Tests of what is judged, found and told, worked by hand: rows of flows, claims, captures, and lines of a report.
 #![tactic(auto)]
 
 #[cfg(test)]

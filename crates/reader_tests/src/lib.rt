@@ -1,4 +1,4 @@
-//! Tests of what is read, worked by hand: descriptions, captures, and files and texts of the outside.
+//! Tests of what is read, and of made captures, worked by hand.
 #![tactic(auto)]
 
 #[cfg(test)]
