@@ -19,6 +19,7 @@ pub mod Joined
 pub mod Posting
 pub mod Steps
 pub mod Rows
+pub mod Leading
 pub mod Reported
 -- workers
 pub mod Taking

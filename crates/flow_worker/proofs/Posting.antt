@@ -1,9 +1,8 @@
 -- The row that a worker makes of what it took is the flow's row, where it took all of it.
-use Rattle.std.proofs.Common.{◌≡◌, ◌≤◌, ◌<◌, ◌+◌, ◌*◌, ℕ, Bool, true, false, if◌then◌else◌, eqb, nat_lt, List, [], ◌++◌, length, map, slice_get, get_or, Some}
+use Rattle.std.proofs.Common.{◌≡◌, ◌<◌, ◌+◌, ℕ, Bool, true, false, if◌then◌else◌, eqb, nat_lt, List, [], ◌++◌, length, map, slice_get, get_or, Some}
 use Rattle.std.proofs.Common.{refl, sym, ap, ◌∙◌, subst, eq-eqb, ltb-true, lt-ltb, arith}
 use Rattle.std.specs.Prelude.{Option, IsTrue}
 use Rattle.std.proofs.lemmas.Bool.{and_parts}
-use Rattle.std.proofs.lemmas.Nat.{mod_below}
 use Rattle.std.proofs.lemmas.Option.{slice_get-get_or, slice_get_within}
 use Rattle.timing_base.specs.Captures.{Record, joined}
 use Rattle.timing_base.specs.Media.{Media}
@@ -16,7 +15,7 @@ use Rattle.timing_base.specs.Keys.{key_of, no_media, media_of}
 use Rattle.ruled_intake.specs.Packets.{Packet}
 use Rattle.ruled_intake.specs.declared.message.Message.{Message}
 use Rattle.flow_worker.specs.Messages.{file_packets, has_end, media_packets, of_file, packets_in, records_told}
-use Rattle.flow_worker.specs.Opening.{Capture, IsSetting, Setting, for_lane, lane_packets, media_lane, messages, packet_lane, sends_if, session_packets}
+use Rattle.flow_worker.specs.Opening.{Capture, IsSetting, Setting, lane_packets, media_lane, messages, packet_lane, session_packets}
 use Rattle.flow_worker.specs.Posting.{is_key, joined_packets, key_lane, key_records, key_row, records_if, row_over, taken_packets, taken_row}
 use Rattle.flow_worker.specs.Kept.{HasTaken, HasTakenAll, is_in_file}
 use Rattle.flow_worker.specs.Cut.{AreWhole}

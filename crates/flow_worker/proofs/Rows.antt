@@ -40,7 +40,7 @@ pub record MayPost (s : Setting) (files lane : ℕ) (key : FlowKey) (state : Sta
   pub none : times key state.posted ≡ 0
   pub whole : IsTrue (is_whole s files (state.taken lane) key)
 
-may_post-true : (s : Setting) (files lane : ℕ) (key : FlowKey) (state : State) → may_post s files lane key state ≡ true → MayPost s files lane key state
+pub may_post-true : (s : Setting) (files lane : ℕ) (key : FlowKey) (state : State) → may_post s files lane key state ≡ true → MayPost s files lane key state
 may_post-true s files lane key state e =
     let a = is_key s files key in
     let b = eqb (key_lane s key) lane in
@@ -55,6 +55,15 @@ may_post-true s files lane key state e =
       none = eqb-true (times key state.posted) 0 second.1;
       whole = first.1;
     }
+
+-- and where it may
+pub may_post-from : (s : Setting) (files lane : ℕ) (key : FlowKey) (state : State) → MayPost s files lane key state → may_post s files lane key state ≡ true
+may_post-from s files lane key state may =
+    let a = is_key s files key in
+    let b = eqb (key_lane s key) lane in
+    let c = eqb (times key state.posted) 0 in
+    and_from (a && b && c) (is_whole s files (state.taken lane) key)
+    (and_from (a && b) c (and_from a b may.is (eq-eqb (key_lane s key) lane may.own)) (eq-eqb (times key state.posted) 0 may.none)) may.whole
 
 -- the end of each of the first files is among the messages
 pub has_ends-at : (n f : ℕ) (taken : List Message) → has_ends n taken ≡ true → f < n → has_end f taken ≡ true
@@ -206,10 +215,7 @@ ended_posted s captures state key is kept ended k =
     elim (cases_eq (times key state.posted) 0) [
       | inl none ↦
           absurd (both_ways (may_post s (length captures) lane key state) (ended.posts lane key)
-          (and_from (is_key s (length captures) key && eqb (key_lane s key) lane && eqb (times key state.posted) 0)
-          (is_whole s (length captures) (state.taken lane) key)
-          (and_from (is_key s (length captures) key && eqb (key_lane s key) lane) (eqb (times key state.posted) 0)
-          (and_from (is_key s (length captures) key) (eqb (key_lane s key) lane) k (eq-eqb lane lane refl)) (eq-eqb (times key state.posted) 0 none)) whole))
+          (may_post-from s (length captures) lane key state (record { is = k; own = refl; none = none; whole = whole })))
       | inr some ↦ omega arith
     ]
 

@@ -1,11 +1,11 @@
 -- One record, as an intake takes it.
-use Rattle.std.proofs.Common.{◌≡◌, ◌<◌, ◌≤◌, ◌+◌, ◌^◌, ℕ, List, [], ◌∷◌, ◌++◌, length, refl, sym, ap, ◌∙◌, subst, append-nil, arith}
+use Rattle.std.proofs.Common.{◌≡◌, ◌<◌, ◌≤◌, ◌+◌, ℕ, List, [], ◌∷◌, length, refl, sym, ap, ◌∙◌, subst, append-nil, arith}
 use Rattle.std.specs.Prelude.{Option, Some, None}
 use Rattle.std.specs.List.{cons_option}
 use Rattle.timing_base.specs.Captures.{Record}
 use Rattle.ruled_intake.specs.Packets.{Packet}
 use Rattle.flow_worker.specs.Opening.{for_lane, full_batches, packet_from}
-use Rattle.flow_worker.specs.Sending.{AreCut, Cuts, HaveAllFew, HaveFew, IsRouting, Puts, Stays, route_of, sent_to}
+use Rattle.flow_worker.specs.Sending.{AreCut, Cuts, HaveFew, IsRouting, Puts, Stays, route_of}
 use Rattle.flow_worker.specs.Sorting.{HasRoom, LeavesOff, Sorts}
 use Rattle.flow_worker.specs.declared.intakes.Sorter.{Sorter}
 use Rattle.flow_worker.specs.declared.outboxes.Outboxes.{Outboxes}

@@ -15,11 +15,11 @@ use Rattle.flow_worker.proofs.Lists.{for_lane-here, for_lane-other}
 use Rattle.flow_worker.proofs.Files.{AreOf, AreOf-behind, AreOf-messages}
 
 -- the list that was changed
-changed-here : {X : Type 0} (place i : ℕ) (xs : List X) (lists : ℕ → List X) → i ≡ place → changed place xs lists i ≡ xs
+pub changed-here : {X : Type 0} (place i : ℕ) (xs : List X) (lists : ℕ → List X) → i ≡ place → changed place xs lists i ≡ xs
 changed-here place i xs lists e = ap (λ (b : Bool). if b then xs else lists i) (eq-eqb i place e)
 
 -- and another
-changed-other : {X : Type 0} (place i : ℕ) (xs : List X) (lists : ℕ → List X) → (i ≡ place → ⊥) → changed place xs lists i ≡ lists i
+pub changed-other : {X : Type 0} (place i : ℕ) (xs : List X) (lists : ℕ → List X) → (i ≡ place → ⊥) → changed place xs lists i ≡ lists i
 changed-other place i xs lists n = ap (λ (b : Bool). if b then xs else lists i) (ne_eqb i place n)
 
 -- the messages of a file, and one more of it

@@ -9,7 +9,6 @@ use Rattle.ruled_intake.specs.Packets.{Packet}
 use Rattle.flow_worker.specs.Opening.{for_lane, full_batches, packet_from, session_packets}
 use Rattle.flow_worker.specs.Sending.{AreCut, AreOutboxes, AreSame, Cuts, HaveAllFew, IsRouting, route_of, sent_to}
 use Rattle.flow_worker.specs.declared.intakes.Sorter.{Sorter}
-use Rattle.flow_worker.specs.declared.outboxes.Outboxes.{Outboxes}
 use Rattle.flow_worker.specs.declared.routing.Routing.{Routing}
 
 -- the routing is within its limits, and there are outboxes for its lanes

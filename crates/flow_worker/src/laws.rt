@@ -77,6 +77,13 @@ pub fn world_rows()
         → taken_row s (length captures) taken key ≡ key_row s captures key }
 {}
 
+/// From each state of a run some steps lead to one that has ended: no run gets stuck on its way.
+/// That threads take these steps is no part of it.
+pub fn runs_can_end()
+    ensures { (s : Setting) (captures : List Capture) (steps : List Step)
+        → (later : List Step) × HasEnded s (length captures) (after_steps s captures (steps ++ later)) }
+{}
+
 /// The rows of the keys of a run, by rising file and then media, are the rows of its files: of each
 /// for itself, or where they are joined of all as one.
 pub fn keys_in_order()

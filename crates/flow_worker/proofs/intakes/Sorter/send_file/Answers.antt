@@ -1,5 +1,4 @@
-use Rattle.std.proofs.Common.{◌≡◌, ◌≤◌, ◌+◌, ◌^◌, ap, sym, ◌∙◌, length, refl, Err, rules, arith}
-use Rattle.flow_worker.specs.Sending.{AreSame}
+use Rattle.std.proofs.Common.{◌≡◌, ◌+◌, ◌^◌, ap, sym, ◌∙◌, length, refl, Err, rules, arith}
 use Rattle.flow_worker.specs.Sorting.{HasRoom}
 use Rattle.flow_worker.proofs.Outgoing.{AreSame-then, match_err}
 use Rattle.flow_worker.proofs.Sorting.{few-within}
