@@ -36,8 +36,23 @@ fn first_unread(notes: &[Option<FileNote>]) -> Option<u32>
     None
 }
 
+/// The workers of a run where so many are asked for: no more than there are flows, since one without a flow has
+/// nothing to judge.
+fn worker_count(asked: u32, captures: usize, media: usize, joined: bool) -> u32
+    requires { 1 ≤ asked }
+    ensures some { 1 ≤ result }
+    ensures most { result ≤ asked }
+{
+    let flows = if joined {
+        media
+    } else {
+        captures.saturating_mul(media)
+    };
+    asked.min(flows.max(1).min(16) as u32)
+}
+
 /// Judges the media in the captures, in each by itself or in all of them as in one, with so many
-/// workers. Where captures couldn't be read, the first of them is named. The sources go back to the shelf
+/// workers at most. Where captures couldn't be read, the first of them is named. The sources go back to the shelf
 /// before, also where memory ran out in an intake.
 pub fn judge_many<R: Threads + Wait + Sync, H: Shelf, G: Gate>(
     rt: &R,
@@ -60,6 +75,7 @@ pub fn judge_many<R: Threads + Wait + Sync, H: Shelf, G: Gate>(
         H.Shelf H.Source.Source shelf.old shelf.new sources.items result }
     ensures stays { StaysAs H.text H.lacks H.faults shelf.old shelf.new }
 {
+    let workers = worker_count(workers, sources.len(), media.len(), joined);
     let Judged {
         sources,
         notes,
