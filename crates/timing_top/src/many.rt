@@ -36,8 +36,8 @@ fn first_unread(notes: &[Option<FileNote>]) -> Option<u32>
     None
 }
 
-/// The workers of a run where so many are asked for: no more than there are flows, since one without a flow has
-/// nothing to judge.
+/// The workers of a run where so many are asked for: no more than there are flows, since one without a
+/// flow has nothing to judge.
 fn worker_count(asked: u32, captures: usize, media: usize, joined: bool) -> u32
     requires { 1 ≤ asked }
     ensures some { 1 ≤ result }
@@ -52,8 +52,8 @@ fn worker_count(asked: u32, captures: usize, media: usize, joined: bool) -> u32
 }
 
 /// Judges the media in the captures, in each by itself or in all of them as in one, with so many
-/// workers at most. Where captures couldn't be read, the first of them is named. The sources go back to the shelf
-/// before, also where memory ran out in an intake.
+/// workers at most. Where captures couldn't be read, the first of them is named. The sources go back to
+/// the shelf before, also where memory ran out in an intake.
 pub fn judge_many<R: Threads + Wait + Sync, H: Shelf, G: Gate>(
     rt: &R,
     alloc: Global,
