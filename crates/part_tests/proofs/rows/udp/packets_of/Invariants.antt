@@ -1,7 +1,7 @@
 use Rattle.std.proofs.Common.{◌≡◌, take}
 use Rattle.std.specs.Prelude.{map}
 use Rattle.udp_rtp.specs.Flow.{flow}
-use Rattle.reader_tests.proofs.rows.udp.packets_of.Given as goal
+use Rattle.part_tests.proofs.rows.udp.packets_of.Given as goal
 
 abbrev pub invariant-loop-record : goal.invariant-loop-record
 invariant-loop-record l = l.packets.items
