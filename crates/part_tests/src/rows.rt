@@ -1,5 +1,7 @@
 //! Tests by the part that they call, in the order of the layers.
 
+mod compare;
+
 // Descriptions, captures, the outside, and made captures.
 mod base;
 mod examples;

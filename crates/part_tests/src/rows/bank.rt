@@ -1,10 +1,12 @@
 ghost use Rattle.std.specs.Prelude.{◌≡◌, ◌≤◌, ◌^◌, None, IfOk};
 ghost use Rattle.pcap_reader.specs.Readers.{end_note, frame_count, most_of};
 
+use super::compare::{same, same_at};
 use capture_gen::examples::{FRAME, HEAD, source_of};
 use fail_interval::Bank;
 use pcap_reader::{MOST, PcapReader, Taken, take_records};
 use std::alloc::{AllocError, Global};
+use std::process::Abort;
 use std::test::Fail;
 use timing_base::worked::undeclared_to;
 use timing_base::{FileNote, FlowKey, PacketFault, PcapFault, Row, Unjudged, Verdict};
@@ -73,24 +75,44 @@ fn taken(alloc: Global, text: &[u8], fails: &[u32]) -> Result<(Taken, Vec<Row>),
     Ok((taken, rows))
 }
 
-#[test]
-fn one_row_for_each_media(rt: HostRuntime) -> Result<(), Fail> {
-    let text = capture(rt.alloc())?;
-    let (taken, rows) = taken(rt.alloc(), &text, &[])?;
-    let want = Taken {
-        note: FileNote::End,
-        records: 7,
-    };
-    assert_eq!(rt; taken, want);
-    assert_eq!(rt; rows.len(), 3);
+// There are three rows, one for each media of the third file.
+fn has_keys(rt: &impl Abort, rows: &[Row]) {
+    same(rt, &rows.len(), &3);
     for (number, row) in rows.iter().enumerate() {
         let key = FlowKey {
             file: 2,
             media: number as u32,
         };
-        assert_eq!(rt; row.key, key);
+        same(rt, &row.key, &key);
     }
+}
+
+// The first bytes of the capture come to this note and count of records, and to a row for each media.
+fn comes_to(rt: &impl Abort, alloc: Global, text: &[u8], want: Taken) -> Result<(), Fail> {
+    let (taken, rows) = taken(alloc, text, &[])?;
+    same(rt, &taken, &want);
+    has_keys(rt, &rows);
     Ok(())
+}
+
+#[test]
+fn one_row_for_each_media(rt: HostRuntime) -> Result<(), Fail> {
+    let text = capture(rt.alloc())?;
+    let want = Taken {
+        note: FileNote::End,
+        records: 7,
+    };
+    comes_to(&rt, rt.alloc(), &text, want)
+}
+
+// No row is judged, for these reasons.
+fn has_reasons(rt: &impl Abort, rows: &[Row], reasons: &[Unjudged]) {
+    for (row, want) in rows.iter().zip(reasons) {
+        match &row.verdict {
+            Verdict::Unjudged(unjudged) => same(rt, unjudged, want),
+            _ => panic!(rt; "judged"),
+        }
+    }
 }
 
 // The first packets come up to a marker that is the only one, the second media's first packet is the
@@ -107,25 +129,25 @@ fn each_media_has_its_own_packets(rt: HostRuntime) -> Result<(), Fail> {
         },
         Unjudged::Absent,
     ];
-    for (row, want) in rows.iter().zip(&want) {
-        match &row.verdict {
-            Verdict::Unjudged(unjudged) => assert_eq!(rt; unjudged, want),
-            _ => panic!(rt; "judged"),
-        }
-    }
+    has_reasons(&rt, &rows, &want);
     Ok(())
 }
 
 #[test]
 fn cut_capture(rt: HostRuntime) -> Result<(), Fail> {
     let text = capture(rt.alloc())?;
-    let (taken, rows) = taken(rt.alloc(), text.get(..200).unwrap_or(&[]), &[])?;
     let want = Taken {
         note: FileNote::Cut { at: 152 },
         records: 2,
     };
-    assert_eq!(rt; taken, want);
-    assert_eq!(rt; rows.len(), 3);
+    comes_to(&rt, rt.alloc(), text.get(..200).unwrap_or(&[]), want)
+}
+
+// The read of this number fails, and that is the note.
+fn fails_at(rt: &impl Abort, alloc: Global, text: &[u8], number: u32) -> Result<(), Fail> {
+    let (taken, _) = taken(alloc, text, &[number])?;
+    let want = FileNote::Refused(PcapFault::ReadFault);
+    same_at(rt, &number, &taken.note, &want);
     Ok(())
 }
 
@@ -133,9 +155,7 @@ fn cut_capture(rt: HostRuntime) -> Result<(), Fail> {
 fn failed_read(rt: HostRuntime) -> Result<(), Fail> {
     let text = capture(rt.alloc())?;
     for number in 1..7 {
-        let (taken, _) = taken(rt.alloc(), &text, &[number])?;
-        let want = FileNote::Refused(PcapFault::ReadFault);
-        assert_eq!(rt; taken.note, want, "at read {number}");
+        fails_at(&rt, rt.alloc(), &text, number)?;
     }
     Ok(())
 }

@@ -1,5 +1,6 @@
 //! The calls once each, on rows and targets that are known.
 
+use super::compare::same;
 use std::alloc::Global;
 use timing_base::{FlowKey, Items, Row, Run, RunVerdict, Runs, Target, Verdict, route};
 
@@ -7,18 +8,19 @@ const FLOW: FlowKey = FlowKey { file: 2, media: 1 };
 
 #[test]
 fn flows_are_dealt_out_in_order(rt: HostRuntime) {
-    assert_eq!(rt; route(FLOW, 3, 4), 3);
-    assert_eq!(rt; route(FLOW, 3, 1), 0);
-    assert_eq!(rt;
-        route(
+    same(&rt, &route(FLOW, 3, 4), &3);
+    same(&rt, &route(FLOW, 3, 1), &0);
+    same(
+        &rt,
+        &route(
             FlowKey {
                 file: 15,
-                media: 63
+                media: 63,
             },
             64,
-            16
+            16,
         ),
-        15
+        &15,
     );
 }
 
@@ -29,7 +31,7 @@ fn target_is_written_in_octets(rt: HostRuntime) {
         port: 50000,
     };
     let text = format!(in rt.alloc(); "{target}").expect(&rt, "there is memory");
-    assert_eq!(rt; text.as_str(), "239.0.0.1:50000");
+    same(&rt, &text.as_str(), &"239.0.0.1:50000");
 }
 
 // A run without a whole frame.
@@ -69,12 +71,12 @@ fn copied_row_has_the_same_runs(rt: HostRuntime) {
         verdict: Verdict::Runs(runs(rt.alloc()).expect(&rt, "there is memory")),
     };
     let copy = row.try_copy(rt.alloc()).expect(&rt, "there is memory");
-    assert_eq!(rt; copy.key, FLOW);
+    same(&rt, &copy.key, &FLOW);
     match copy.verdict {
         Verdict::Runs(runs) => match runs.list.as_slice() {
             [first, second] => {
-                assert_eq!(rt; *first, run(1, None));
-                assert_eq!(rt; *second, run(3, Some(8)));
+                same(&rt, first, &run(1, None));
+                same(&rt, second, &run(3, Some(8)));
             }
             _ => assert!(rt; false, "not two runs"),
         },

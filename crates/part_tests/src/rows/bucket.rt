@@ -1,5 +1,6 @@
 //! The bucket's part of worked rows.
 
+use super::compare::{same, same_at};
 use drain_bucket::Bucket;
 use sender_params::Params;
 use sender_params::worked::video;
@@ -32,12 +33,12 @@ fn plain_narrow(rt: HostRuntime) {
     for frame in 0..2 {
         for place in 0..20 {
             let late = 20_000_000 * frame + 960_000 * place;
-            assert_eq!(rt; fed_late(&rt, &mut bucket, late), 1, "at {late}");
+            same_at(&rt, &late, &fed_late(&rt, &mut bucket, late), &1);
         }
     }
-    assert_eq!(rt; bucket.peak, 1);
-    assert_eq!(rt; bucket.seen, 40);
-    assert_eq!(rt; plain().c_max(Kind::N), 4);
+    same(&rt, &bucket.peak, &1);
+    same(&rt, &bucket.seen, &40);
+    same(&rt, &plain().c_max(Kind::N), &4);
 }
 
 // 1080i at 25 with 10 packets per field: T_DRAIN is 1,818,181 9/11 ns.
@@ -49,11 +50,11 @@ fn interlaced_narrow(rt: HostRuntime) {
     for field in 0..4 {
         for place in 0..10 {
             let at = first + 20_000_000 * field + 1_920_000 * place;
-            assert_eq!(rt; fed(&rt, &params, &mut bucket, at), 1, "at {at}");
+            same_at(&rt, &at, &fed(&rt, &params, &mut bucket, at), &1);
         }
     }
-    assert_eq!(rt; bucket.peak, 1);
-    assert_eq!(rt; bucket.seen, 40);
+    same(&rt, &bucket.peak, &1);
+    same(&rt, &bucket.seen, &40);
 }
 
 // 1080p at 60000/1001 with 4320 packets per frame: T_DRAIN is 284,375/81 ns. Two frames from TAI second
@@ -67,20 +68,20 @@ fn usual_equipment(rt: HostRuntime) {
         let (frame, place) = (packet / 4320, packet % 4320);
         let read = (450_450_000 * frame + 17_217_200 + 100_100 * place) / 27;
         let at = 1_601_600_000_000_000_000 + read - 1_000;
-        assert_eq!(rt; fed(&rt, &params, &mut bucket, at), 1, "packet {packet}");
+        same_at(&rt, &packet, &fed(&rt, &params, &mut bucket, at), &1);
     }
-    assert_eq!(rt; bucket.peak, 1);
-    assert_eq!(rt; bucket.seen, 8640);
-    assert_eq!(rt; params.c_max(Kind::N), 6);
-    assert_eq!(rt; params.c_max(Kind::NL), 5);
-    assert_eq!(rt; params.c_max(Kind::W), 16);
+    same(&rt, &bucket.peak, &1);
+    same(&rt, &bucket.seen, &8640);
+    same(&rt, &params.c_max(Kind::N), &6);
+    same(&rt, &params.c_max(Kind::NL), &5);
+    same(&rt, &params.c_max(Kind::W), &16);
 }
 
 // Feeds packets of the plain video, and asserts count and begin after each.
 fn fed_rows(rt: &impl Abort, bucket: &mut Bucket, rows: &[(u64, u64, u64)]) {
     for (late, count, begin) in rows {
-        assert_eq!(rt; fed_late(rt, bucket, *late), *count, "at {late}");
-        assert_eq!(rt; bucket.begin, *begin, "at {late}");
+        same_at(rt, &late, &fed_late(rt, bucket, *late), count);
+        same_at(rt, &late, &bucket.begin, begin);
     }
 }
 
@@ -97,8 +98,8 @@ fn five_at_once(rt: HostRuntime) {
     ];
     let mut bucket = Bucket::new(&plain(), FIRST);
     fed_rows(&rt, &mut bucket, &rows);
-    assert_eq!(rt; bucket.peak, 5);
-    assert_eq!(rt; bucket.seen, 6);
+    same(&rt, &bucket.peak, &5);
+    same(&rt, &bucket.seen, &6);
 }
 
 #[test]
@@ -112,25 +113,26 @@ fn four_at_once(rt: HostRuntime) {
     ];
     let mut bucket = Bucket::new(&plain(), FIRST);
     fed_rows(&rt, &mut bucket, &rows);
-    assert_eq!(rt; bucket.peak, 4);
+    same(&rt, &bucket.peak, &4);
 }
 
 #[test]
 fn burst_in_second_frame(rt: HostRuntime) {
     let mut bucket = Bucket::new(&plain(), FIRST);
     for place in 0..20 {
-        assert_eq!(rt;
-            fed_late(&rt, &mut bucket, 960_000 * place),
-            1,
-            "packet {place}"
+        same_at(
+            &rt,
+            &place,
+            &fed_late(&rt, &mut bucket, 960_000 * place),
+            &1,
         );
-        assert_eq!(rt; bucket.begin, place, "packet {place}");
+        same_at(&rt, &place, &bucket.begin, &place);
     }
     for count in 1..6 {
-        assert_eq!(rt; fed_late(&rt, &mut bucket, 20_000_000), count);
-        assert_eq!(rt; bucket.begin, 20);
+        same(&rt, &fed_late(&rt, &mut bucket, 20_000_000), &count);
+        same(&rt, &bucket.begin, &20);
     }
-    assert_eq!(rt; bucket.peak, 5);
+    same(&rt, &bucket.peak, &5);
 }
 
 // Ticks come 909,090 10/11 and 1,818,181 9/11 ns after the first packet. The second packet finds the
@@ -149,6 +151,6 @@ fn ticks_after_spaced(rt: HostRuntime) {
     ];
     let mut bucket = Bucket::new(&plain(), FIRST);
     fed_rows(&rt, &mut bucket, &rows);
-    assert_eq!(rt; bucket.peak, 2);
-    assert_eq!(rt; bucket.seen, 7);
+    same(&rt, &bucket.peak, &2);
+    same(&rt, &bucket.seen, &7);
 }

@@ -2,6 +2,7 @@
 
 ghost use Rattle.std.specs.Prelude.{◌≤◌, ◌*◌};
 
+use super::compare::{same, same_at};
 use read_schedule::Schedule;
 use sender_params::Params;
 use sender_params::worked::video;
@@ -22,7 +23,7 @@ fn plain() -> Params {
 }
 
 // A buffer, the packets fed, and the schedule that says what is due at them.
-#[derive(Clone, Copy, Debug)]
+#[derive(Clone, Copy)]
 struct Flow {
     buffer: Vrx,
     seen: u64,
@@ -59,7 +60,7 @@ fn after(rt: &impl Abort, params: &Params, kind: Kind, first: u64, step: u64) ->
             fed(rt, params, &mut flow, first.saturating_add(late));
         }
     }
-    assert_eq!(rt; flow.seen, 40);
+    same(rt, &flow.seen, &40);
     flow.buffer
 }
 
@@ -67,20 +68,20 @@ fn after(rt: &impl Abort, params: &Params, kind: Kind, first: u64, step: u64) ->
 fn plain_narrow(rt: HostRuntime) {
     for kind in KINDS {
         let vrx = after(&rt, &plain(), kind, FIRST, 960_000);
-        assert_eq!(rt; vrx.fault, None);
-        assert_eq!(rt; vrx.peak, 1);
+        same(&rt, &vrx.fault, &None);
+        same(&rt, &vrx.peak, &1);
     }
 }
 
 #[test]
 fn linear_sender(rt: HostRuntime) {
     let narrow = after(&rt, &plain(), Kind::N, FIRST, 1_000_000);
-    assert_eq!(rt; narrow.fault, Some(VrxFault::Empty { packet: 1 }));
-    assert_eq!(rt; narrow.peak, 1);
+    same(&rt, &narrow.fault, &Some(VrxFault::Empty { packet: 1 }));
+    same(&rt, &narrow.peak, &1);
     for kind in [Kind::NL, Kind::W] {
         let vrx = after(&rt, &plain(), kind, FIRST, 1_000_000);
-        assert_eq!(rt; vrx.fault, None);
-        assert_eq!(rt; vrx.peak, 1);
+        same(&rt, &vrx.fault, &None);
+        same(&rt, &vrx.peak, &1);
     }
 }
 
@@ -94,9 +95,9 @@ fn five_at_once(rt: HostRuntime) {
             } else {
                 FIRST + 960_000 * place
             };
-            assert_eq!(rt; fed(&rt, &plain(), &mut flow, at), None);
+            same(&rt, &fed(&rt, &plain(), &mut flow, at), &None);
         }
-        assert_eq!(rt; flow.buffer.peak, 5);
+        same(&rt, &flow.buffer.peak, &5);
     }
 }
 
@@ -109,8 +110,8 @@ fn on_its_read(rt: HostRuntime) {
     let rows = [(Kind::N, 0), (Kind::NL, 1), (Kind::W, 1)];
     for (kind, peak) in rows {
         let vrx = after(&rt, &params, kind, SECOND + 700_000, 960_000);
-        assert_eq!(rt; vrx.fault, None);
-        assert_eq!(rt; vrx.peak, peak);
+        same(&rt, &vrx.fault, &None);
+        same(&rt, &vrx.peak, &peak);
     }
 }
 
@@ -121,7 +122,7 @@ fn one_ns_late(rt: HostRuntime) {
     let params = Params::of(&media, 20);
     for kind in KINDS {
         let vrx = after(&rt, &params, kind, SECOND + 700_001, 960_000);
-        assert_eq!(rt; vrx.fault, Some(VrxFault::Empty { packet: 0 }));
+        same(&rt, &vrx.fault, &Some(VrxFault::Empty { packet: 0 }));
     }
 }
 
@@ -131,7 +132,7 @@ fn height_720(rt: HostRuntime) {
     let params = Params::of(&video(720, false, 50, 1), 20);
     for kind in KINDS {
         let vrx = after(&rt, &params, kind, FIRST, 960_000);
-        assert_eq!(rt; vrx.fault, Some(VrxFault::Empty { packet: 0 }));
+        same(&rt, &vrx.fault, &Some(VrxFault::Empty { packet: 0 }));
     }
 }
 
@@ -143,11 +144,11 @@ fn interlaced_narrow(rt: HostRuntime) {
         for field in 0..4 {
             for place in 0..10 {
                 let at = SECOND + 782_000 + 20_000_000 * field + 1_920_000 * place;
-                assert_eq!(rt; fed(&rt, &params, &mut flow, at), None, "at {at}");
+                same_at(&rt, &at, &fed(&rt, &params, &mut flow, at), &None);
             }
         }
-        assert_eq!(rt; flow.buffer.peak, 1);
-        assert_eq!(rt; flow.seen, 40);
+        same(&rt, &flow.buffer.peak, &1);
+        same(&rt, &flow.seen, &40);
     }
 }
 
@@ -177,7 +178,7 @@ fn usual_equipment(rt: HostRuntime) {
                 1_601_600_000_000_000_000 + read - 1_000,
             );
         }
-        assert_eq!(rt; flow.buffer.fault, fault);
-        assert_eq!(rt; flow.buffer.peak, peak);
+        same(&rt, &flow.buffer.fault, &fault);
+        same(&rt, &flow.buffer.peak, &peak);
     }
 }

@@ -3,9 +3,11 @@
 ghost use Rattle.std.specs.Prelude.{◌≡◌, ◌≤◌, ◌+◌, ◌^◌, IfOk, length};
 ghost use Rattle.interval_checker.specs.Readings.{HaveRoom};
 
+use super::compare::{same, same_at};
 use capture_gen::examples::{FRAME, HEAD, source_of};
 use interval_checker::{Asked, CheckFault, Reading, read_sources};
 use std::alloc::{AllocError, Global};
+use std::process::Abort;
 use std::test::Fail;
 use timing_base::worked::{LATE, PLAIN};
 use timing_base::{Broken, FailProof, Kind, PacketFault, Unjudged};
@@ -128,15 +130,17 @@ fn told(alloc: Global, text: Vec<u8>, run: u32, proof: FailProof) -> Result<Said
     Ok(answer)
 }
 
-// Of two captures that are one, the reads of these numbers of the second fail: how many sources come
-// back, and what they say of the burst.
-fn joined(alloc: Global, fails: &[u32]) -> Result<(usize, Said), OpenFault> {
-    let first = capture(alloc, Sender::Burst, 0, 4)?;
-    let second = capture(alloc, Sender::Burst, 4, 21)?;
-    let mut sources = Vec::new(alloc);
-    add(&mut sources, source_of(alloc, &first, 100, &[])?)?;
-    add(&mut sources, source_of(alloc, &second, 100, fails)?)?;
-    said(alloc, 0, BURST, sources)
+// A capture of the packets from one number on and below another says this of a claim about a run.
+fn says(
+    rt: &(impl Abort + AllocGlobal),
+    (sender, from, to): (Sender, u8, u8),
+    (run, proof): (u32, FailProof),
+    want: Said,
+) -> Result<(), Fail> {
+    let text = capture(rt.alloc(), sender, from, to)?;
+    let answer = told(rt.alloc(), text, run, proof)?;
+    same_at(rt, &proof, &answer, &want);
+    Ok(())
 }
 
 // A claim is confirmed, and with any of its numbers changed by one it isn't.
@@ -164,13 +168,7 @@ fn verify_burst(rt: HostRuntime) -> Result<(), Fail> {
             count,
             limit,
         };
-        let text = capture(rt.alloc(), Sender::Burst, 0, 21)?;
-        let answer = told(rt.alloc(), text, 0, proof)?;
-        assert_eq!(rt;
-            answer,
-            Ok(Ok(want)),
-            "{from} to {to} count {count} limit {limit}"
-        );
+        says(&rt, (Sender::Burst, 0, 21), (0, proof), Ok(Ok(want)))?;
     }
     Ok(())
 }
@@ -181,47 +179,41 @@ fn verify_burst(rt: HostRuntime) -> Result<(), Fail> {
 fn verify_empty(rt: HostRuntime) -> Result<(), Fail> {
     for (count, want) in [(1, true), (2, false), (0, false)] {
         let proof = FailProof { count, ..LATE };
-        let text = capture(rt.alloc(), Sender::Linear, 0, 21)?;
-        let answer = told(rt.alloc(), text, 0, proof)?;
-        assert_eq!(rt; answer, Ok(Ok(want)), "count {count}");
+        says(&rt, (Sender::Linear, 0, 21), (0, proof), Ok(Ok(want)))?;
     }
     Ok(())
 }
 
 #[test]
 fn no_packets(rt: HostRuntime) -> Result<(), Fail> {
-    let text = capture(rt.alloc(), Sender::Burst, 0, 0)?;
-    let answer = told(rt.alloc(), text, 0, BURST)?;
-    assert_eq!(rt; answer, Ok(Err(Unjudged::Absent)));
-    Ok(())
+    let want = Ok(Err(Unjudged::Absent));
+    says(&rt, (Sender::Burst, 0, 0), (0, BURST), want)
 }
 
 // The packets of a frame but for its last.
 #[test]
 fn no_marker(rt: HostRuntime) -> Result<(), Fail> {
-    let text = capture(rt.alloc(), Sender::Burst, 1, 6)?;
-    let answer = told(rt.alloc(), text, 0, BURST)?;
-    let want = Unjudged::NoWholeFrame { head: 5 };
-    assert_eq!(rt; answer, Ok(Err(want)));
-    Ok(())
+    let want = Ok(Err(Unjudged::NoWholeFrame { head: 5 }));
+    says(&rt, (Sender::Burst, 1, 6), (0, BURST), want)
 }
 
 // There is one run, which has number 0.
 #[test]
 fn another_run(rt: HostRuntime) -> Result<(), Fail> {
-    let text = capture(rt.alloc(), Sender::Burst, 0, 21)?;
-    let answer = told(rt.alloc(), text, 1, BURST)?;
-    assert_eq!(rt; answer, Ok(Ok(false)));
-    Ok(())
+    says(&rt, (Sender::Burst, 0, 21), (1, BURST), Ok(Ok(false)))
 }
 
-// The second record is stamped one ns before the first.
-#[test]
-fn stamp_back(rt: HostRuntime) -> Result<(), Fail> {
-    let mut text = Vec::from_slice(rt.alloc(), &HEAD)?;
+// Two records, of which the second is stamped one ns before the first.
+fn going_back(alloc: Global) -> Result<Vec<u8>, AllocError> {
+    let mut text = Vec::from_slice(alloc, &HEAD)?;
     put(&mut text, 1_599_999_999, 999_000_000, 0, 0, true)?;
     put(&mut text, 1_599_999_999, 998_999_999, 1, 1, false)?;
-    let answer = told(rt.alloc(), text, 0, BURST)?;
+    Ok(text)
+}
+
+#[test]
+fn stamp_back(rt: HostRuntime) -> Result<(), Fail> {
+    let text = going_back(rt.alloc())?;
     let want = Unjudged::Refused {
         rec: 2,
         fault: PacketFault::StampBack {
@@ -229,26 +221,40 @@ fn stamp_back(rt: HostRuntime) -> Result<(), Fail> {
             got: 1_599_999_999_998_999_999,
         },
     };
-    assert_eq!(rt; answer, Ok(Err(want)));
+    same(&rt, &told(rt.alloc(), text, 0, BURST)?, &Ok(Err(want)));
+    Ok(())
+}
+
+// Two captures that are one, where the reads of these numbers of the second fail.
+fn joined(alloc: Global, fails: &[u32]) -> Result<Vec<MemorySource>, OpenFault>
+    ensures { IfOk result (λ sources. length sources.items ≤ 16) }
+{
+    let first = capture(alloc, Sender::Burst, 0, 4)?;
+    let second = capture(alloc, Sender::Burst, 4, 21)?;
+    let mut sources = Vec::new(alloc);
+    add(&mut sources, source_of(alloc, &first, 100, &[])?)?;
+    add(&mut sources, source_of(alloc, &second, 100, fails)?)?;
+    Ok(sources)
+}
+
+// Such captures say this of the burst, and both come back.
+fn both_say(rt: &impl Abort, alloc: Global, fails: &[u32], want: Said) -> Result<(), Fail> {
+    let sources = joined(alloc, fails)?;
+    same_at(rt, &fails, &said(alloc, 0, BURST, sources)?, &(2, want));
     Ok(())
 }
 
 #[test]
 fn two_captures_are_one(rt: HostRuntime) -> Result<(), Fail> {
-    let (count, answer) = joined(rt.alloc(), &[])?;
-    assert_eq!(rt; count, 2);
-    assert_eq!(rt; answer, Ok(Ok(true)));
-    Ok(())
+    both_say(&rt, rt.alloc(), &[], Ok(Ok(true)))
 }
 
 // Every source comes back, and that of the failed read is named.
 #[test]
 fn failed_read_names_its_source(rt: HostRuntime) -> Result<(), Fail> {
     for number in 1..7 {
-        let (count, answer) = joined(rt.alloc(), &[number])?;
-        assert_eq!(rt; count, 2);
         let want = Err(CheckFault::ReadFault { source: 1 });
-        assert_eq!(rt; answer, want, "at read {number}");
+        both_say(&rt, rt.alloc(), &[number], want)?;
     }
     Ok(())
 }

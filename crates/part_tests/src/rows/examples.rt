@@ -1,5 +1,6 @@
 //! The plain capture and description are those that are made.
 
+use super::compare::{same, same_at};
 use capture_gen::examples::{
     MEDIA, NARROW, Spread, described, second_path, three_media, two_paths, usual_equipment,
 };
@@ -18,6 +19,14 @@ fn made(rt: &impl Abort, alloc: Global, flaw: u32) -> Result<MemorySink, Fail> {
     Ok(sink)
 }
 
+// A capture of this sender is the one that is made with this flaw.
+fn is_as_made(rt: &impl Abort, alloc: Global, spread: &Spread, flaw: u32) -> Result<(), Fail> {
+    let sink = made(rt, alloc, flaw)?;
+    let capture = spread.capture(alloc)?;
+    same_at(rt, &flaw, &capture.as_slice(), &sink.bytes());
+    Ok(())
+}
+
 // The plain capture, one with five packets of its last frame at once, and one that is spread evenly.
 #[test]
 fn captures_are_as_made(rt: HostRuntime) -> Result<(), Fail> {
@@ -30,49 +39,56 @@ fn captures_are_as_made(rt: HostRuntime) -> Result<(), Fail> {
         packet_nanos: 1_000_000,
         ..NARROW
     };
-    for (spread, flaw) in [(NARROW, 0), (burst, 1), (even, 2)] {
-        let sink = made(&rt, rt.alloc(), flaw)?;
-        assert_eq!(rt;
-            spread.capture(rt.alloc())?.as_slice(),
-            sink.bytes(),
-            "flaw {flaw}"
-        );
-    }
-    Ok(())
+    is_as_made(&rt, rt.alloc(), &NARROW, 0)?;
+    is_as_made(&rt, rt.alloc(), &burst, 1)?;
+    is_as_made(&rt, rt.alloc(), &even, 2)
 }
 
 // A file head of 24 bytes, and 72 for each of 8,641 packets.
 #[test]
 fn usual_capture(rt: HostRuntime) -> Result<(), Fail> {
     let capture = usual_equipment(rt.alloc())?;
-    assert_eq!(rt; capture.len(), 24 + 72 * 8641);
+    same(&rt, &capture.len(), &(24 + 72 * 8641));
     Ok(())
 }
 
-// A height of one digit less, a text that isn't there, and no media.
-fn check_described(rt: &impl Abort, alloc: Global) -> Result<(), Fail> {
-    let sdp = described(alloc, "height=1080;", "height=720;")?;
-    assert_eq!(rt; sdp.len(), sdp_bytes().len() - 1);
-    let same = described(alloc, "absent", "")?;
-    assert_eq!(rt; same.as_slice(), sdp_bytes());
-    let none = described(alloc, MEDIA, "")?;
-    assert_eq!(rt; none.len(), sdp_bytes().len() - MEDIA.len());
+// The description with another text in this one's place has so many bytes less.
+fn is_shorter(
+    rt: &impl Abort,
+    alloc: Global,
+    (old, new): (&str, &str),
+    less: usize,
+) -> Result<(), Fail> {
+    let sdp = described(alloc, old, new)?;
+    let want = sdp_bytes().len().checked_sub(less);
+    same_at(rt, &old, &Some(sdp.len()), &want);
+    Ok(())
+}
+
+// A text that isn't there changes nothing.
+fn is_unchanged(rt: &impl Abort, alloc: Global) -> Result<(), Fail> {
+    let sdp = described(alloc, "absent", "")?;
+    same(rt, &sdp.as_slice(), &sdp_bytes());
     Ok(())
 }
 
 // One media more, and two, with the same lengths.
-fn check_more(rt: &impl Abort, alloc: Global) -> Result<(), Fail> {
-    let more = three_media(alloc)?;
-    assert_eq!(rt; more.len(), sdp_bytes().len() + 2 * MEDIA.len());
-    let two = two_paths(alloc)?;
-    assert_eq!(rt; two.len(), sdp_bytes().len() + MEDIA.len());
+fn has_more(rt: &impl Abort, alloc: Global) -> Result<(), Fail> {
+    let more = three_media(alloc)?.len();
+    same(rt, &more, &(sdp_bytes().len() + 2 * MEDIA.len()));
+    let two = two_paths(alloc)?.len();
+    same(rt, &two, &(sdp_bytes().len() + MEDIA.len()));
     Ok(())
 }
 
+// A height of one digit less, no media, and more of them.
 #[test]
 fn other_description(rt: HostRuntime) -> Result<(), Fail> {
-    check_described(&rt, rt.alloc())?;
-    check_more(&rt, rt.alloc())
+    let height = ("height=1080;", "height=720;");
+    is_shorter(&rt, rt.alloc(), height, 1)?;
+    is_shorter(&rt, rt.alloc(), (MEDIA, ""), MEDIA.len())?;
+    is_unchanged(&rt, rt.alloc())?;
+    has_more(&rt, rt.alloc())
 }
 
 // The bytes of a record, which is one of 40 and more.
@@ -86,35 +102,38 @@ fn record<'a>(rt: &impl Abort, capture: &'a [u8], number: usize) -> &'a [u8] {
 // A record of the other path has its stamp so many nanoseconds later, in the same second, and another last byte of its
 // address.
 fn check_later(rt: &impl Abort, own: &[u8], late: &[u8], wanted: u32, number: usize) {
-    assert!(rt; own.len() == 72);
-    assert!(rt; late.len() == 72);
+    assert!(rt; own.len() == 72 && late.len() == 72);
     let nanos = u32::from_le_bytes([own[4], own[5], own[6], own[7]]);
     let later = u32::from_le_bytes([late[4], late[5], late[6], late[7]]);
-    assert_eq!(rt; later.wrapping_sub(nanos), wanted, "record {number}");
-    assert_eq!(rt; (own[49], late[49]), (1, 2), "record {number}");
-    assert_eq!(rt; &own[..4], &late[..4], "record {number}");
+    same_at(rt, &number, &later.wrapping_sub(nanos), &wanted);
+    same_at(rt, &number, &(own[49], late[49]), &(1, 2));
+    same_at(rt, &number, &(&own[..4]), &(&late[..4]));
 }
 
 // All else of a record is the same.
 fn check_same(rt: &impl Abort, own: &[u8], late: &[u8], number: usize) {
-    assert!(rt; own.len() == 72);
-    assert!(rt; late.len() == 72);
-    assert_eq!(rt; &own[8..49], &late[8..49], "record {number}");
-    assert_eq!(rt; &own[50..], &late[50..], "record {number}");
+    assert!(rt; own.len() == 72 && late.len() == 72);
+    same_at(rt, &number, &(&own[8..49]), &(&late[8..49]));
+    same_at(rt, &number, &(&own[50..]), &(&late[50..]));
 }
 
-// A head of 24 bytes and 40 records of 72. A record differs from the plain one in its stamp, which is 150 ns
-// later or 900 ns, and in the last byte of its address.
+// A record differs from the plain one in its stamp, which is 150 ns later or 900 ns, and in the last byte of its
+// address.
+fn check_records(rt: &impl Abort, plain: &[u8], other: &[u8]) {
+    for number in 0..40usize {
+        let (own, late) = (record(rt, plain, number), record(rt, other, number));
+        let wanted = if number == 4 { 900 } else { 150 };
+        check_later(rt, own, late, wanted, number);
+        check_same(rt, own, late, number);
+    }
+}
+
+// A head of 24 bytes and 40 records of 72.
 #[test]
 fn second_path_is_later(rt: HostRuntime) -> Result<(), Fail> {
     let plain = NARROW.capture(rt.alloc())?;
     let other = second_path(rt.alloc())?;
-    assert_eq!(rt; other.len(), 24 + 72 * 40);
-    for number in 0..40usize {
-        let (own, late) = (record(&rt, &plain, number), record(&rt, &other, number));
-        let wanted = if number == 4 { 900 } else { 150 };
-        check_later(&rt, own, late, wanted, number);
-        check_same(&rt, own, late, number);
-    }
+    same(&rt, &other.len(), &(24 + 72 * 40));
+    check_records(&rt, &plain, &other);
     Ok(())
 }

@@ -1,13 +1,14 @@
 //! Floors, and the instants of a line.
 
+use super::compare::{same, same_at};
 use fraction128::{Clock, Line, floor_of, floor_signed};
 
 // T_DRAIN of 1080p at 50 with 20 packets per frame is 10,000,000 / 11 ns: ticks after 3,840,000 ns.
 #[test]
 fn floors(rt: HostRuntime) {
-    assert_eq!(rt; floor_of(3_840_000, 11, 10_000_000), 4);
-    assert_eq!(rt; floor_signed(7, 2), 3);
-    assert_eq!(rt; floor_signed(-7, 2), -4);
+    same(&rt, &floor_of(3_840_000, 11, 10_000_000), &4);
+    same(&rt, &floor_signed(7, 2), &3);
+    same(&rt, &floor_signed(-7, 2), &-4);
 }
 
 // Ticks 10,000,000 / 11 ns apart from 7 on, each counted once: none before the first, two steps, and
@@ -31,6 +32,6 @@ fn instants(rt: HostRuntime) {
     ];
     for (t, count) in rows {
         assert!(rt; t < 1 << 62);
-        assert_eq!(rt; clock.advance(&line, t), count, "at {t}");
+        same_at(&rt, &t, &clock.advance(&line, t), &count);
     }
 }

@@ -3,6 +3,7 @@
 ghost use Rattle.std.specs.Prelude.{◌≡◌, ◌≤◌, ◌<◌, ◌^◌};
 ghost use Rattle.frame_group.specs.Stands.{count_fed};
 
+use super::compare::{same, same_at};
 use frame_group::Grouper;
 use std::process::Abort;
 use timing_base::worked::reading;
@@ -44,7 +45,7 @@ fn start(number: u32) -> u64
 /// Feeds a marked packet 1 ms before frame 0.
 fn feed_head(rt: &impl Abort, flow: &mut Flow, number: u32) {
     let answer = flow.feed(rt, start(number) - 1_000_000, reading(number, 0, true));
-    assert_eq!(rt; answer, Ok(None));
+    same(rt, &answer, &Ok(None));
 }
 
 /// Feeds so many packets after the head, numbers in order, in frames of 20 ms with 20 packets each.
@@ -58,7 +59,7 @@ fn feed_frames(rt: &impl Abort, flow: &mut Flow, number: u32, count: u32) {
         let timestamp = (1 + j / 20).wrapping_mul(1800);
         let last = j % 20 == 19;
         let answer = flow.feed(rt, at, reading(next, timestamp, last));
-        assert_eq!(rt; answer, Ok(None), "packet {j}");
+        same_at(rt, &j, &answer, &Ok(None));
     }
 }
 
@@ -77,9 +78,10 @@ fn second_source(rt: HostRuntime) {
         ssrc: 2,
         ..reading(1, 1800, false)
     };
-    assert_eq!(rt;
-        flow.feed(&rt, start(0) + 764_000, other),
-        Err(PacketFault::SecondSource)
+    same(
+        &rt,
+        &flow.feed(&rt, start(0) + 764_000, other),
+        &Err(PacketFault::SecondSource),
     );
 }
 
@@ -87,15 +89,15 @@ fn second_source(rt: HostRuntime) {
 fn stamp_back(rt: HostRuntime) {
     let mut flow = Flow::new();
     let first = flow.feed(&rt, 1_599_999_999_999_000_000, reading(0, 0, true));
-    assert_eq!(rt; first, Ok(None));
+    same(&rt, &first, &Ok(None));
     let want = PacketFault::StampBack {
         before: 1_599_999_999_999_000_000,
         got: 1_599_999_999_998_999_999,
     };
     let second = flow.feed(&rt, 1_599_999_999_998_999_999, reading(1, 1800, false));
-    assert_eq!(rt; second, Err(want));
+    same(&rt, &second, &Err(want));
     let third = flow.feed(&rt, 1_599_999_999_999_000_000, reading(2, 1800, false));
-    assert_eq!(rt; third, Err(want));
+    same(&rt, &third, &Err(want));
 }
 
 #[test]
@@ -104,7 +106,11 @@ fn short_frame(rt: HostRuntime) {
     feed_head(&rt, &mut flow, 0);
     feed_frames(&rt, &mut flow, 0, 38);
     let answer = flow.feed(&rt, start(0) + 38_044_000, reading(39, 3600, true));
-    assert_eq!(rt; answer, Err(PacketFault::FrameSize { want: 20, got: 19 }));
+    same(
+        &rt,
+        &answer,
+        &Err(PacketFault::FrameSize { want: 20, got: 19 }),
+    );
 }
 
 #[test]
@@ -113,38 +119,48 @@ fn equal_low_halves(rt: HostRuntime) {
     feed_head(&rt, &mut flow, 6);
     feed_frames(&rt, &mut flow, 6, 1);
     let answer = flow.feed(&rt, start(6) + 1_724_000, reading(65_544, 1800, false));
-    assert_eq!(rt; answer, Ok(Some(8)));
+    same(&rt, &answer, &Ok(Some(8)));
 }
 
 #[test]
 fn too_many_gaps(rt: HostRuntime) {
     let mut flow = Flow::new();
-    assert_eq!(rt; flow.feed(&rt, start(0), reading(0, 0, false)), Ok(None));
+    same(
+        &rt,
+        &flow.feed(&rt, start(0), reading(0, 0, false)),
+        &Ok(None),
+    );
     for j in 1..1025_u32 {
-        assert_eq!(rt;
-            flow.feed(&rt, start(0), reading(2 * j, 0, false)),
-            Ok(Some(2 * j - 1)),
-            "packet {j}"
+        same_at(
+            &rt,
+            &j,
+            &flow.feed(&rt, start(0), reading(2 * j, 0, false)),
+            &Ok(Some(2 * j - 1)),
         );
     }
     let want = PacketFault::Number {
         expected: 2049,
         got: 2050,
     };
-    assert_eq!(rt;
-        flow.feed(&rt, start(0), reading(2050, 0, false)),
-        Err(want)
+    same(
+        &rt,
+        &flow.feed(&rt, start(0), reading(2050, 0, false)),
+        &Err(want),
     );
 }
 
 #[test]
 fn frame_too_large(rt: HostRuntime) {
     let mut flow = Flow::new();
-    assert_eq!(rt; flow.feed(&rt, start(0), reading(0, 0, true)), Ok(None));
+    same(
+        &rt,
+        &flow.feed(&rt, start(0), reading(0, 0, true)),
+        &Ok(None),
+    );
     for j in 0..262_144_u32 {
         let answer = flow.feed(&rt, start(0), reading(j + 1, 1800, false));
-        assert_eq!(rt; answer, Ok(None), "packet {j}");
+        same_at(&rt, &j, &answer, &Ok(None));
     }
     let answer = flow.feed(&rt, start(0), reading(262_145, 1800, false));
-    assert_eq!(rt; answer, Err(PacketFault::FrameTooLarge));
+    same(&rt, &answer, &Err(PacketFault::FrameTooLarge));
 }

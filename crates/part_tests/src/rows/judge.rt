@@ -3,6 +3,7 @@
 ghost use Rattle.std.specs.Prelude.{◌≡◌, ◌≤◌, ◌<◌, ◌*◌, ◌^◌};
 ghost use Rattle.fail_interval.specs.Stands.{count_fed};
 
+use super::compare::same;
 use fail_interval::FlowJudge;
 use sender_params::worked::video;
 use std::alloc::Global;
@@ -67,11 +68,18 @@ fn unjudged(row: &Row) -> Option<Unjudged> {
     }
 }
 
+// This comes of a flow that isn't judged.
+fn comes_to_none(rt: &impl Abort, flow: Flow, want: Unjudged) {
+    same(rt, &unjudged(&flow.finish()), &Some(want));
+}
+
 // A made capture: a marked packet 1 ms before the first group, and a group every 20 ms.
 #[derive(Clone, Copy)]
 struct Made {
     // When the first group begins, in seconds.
     start: u32,
+    // The stamps are so many seconds too low.
+    tai: u64,
     // The number of the marked packet.
     number: u32,
     // The packets of a group.
@@ -87,6 +95,7 @@ struct Made {
 
 const PLAIN: Made = Made {
     start: 1_600_000_000,
+    tai: 0,
     number: 0,
     size: 20,
     first: 764_000,
@@ -127,11 +136,13 @@ impl Made {
         }
     }
 
-    // What comes of the head and so many packets.
-    fn judged(&self, rt: &impl Abort, mut flow: Flow, count: u32) -> Option<Judged> {
+    // This comes of the head and so many packets to this media.
+    fn comes_to(&self, rt: &impl Abort, alloc: Global, media: &Media, count: u32, want: Judged) {
+        assert!(rt; self.tai <= 1000);
+        let mut flow = Flow::later(alloc, media, self.tai);
         self.feed_head(rt, &mut flow);
         self.feed(rt, &mut flow, 0, count);
-        judged(&flow.finish())
+        same(rt, &judged(&flow.finish()), &Some(want));
     }
 }
 
@@ -163,8 +174,7 @@ fn plain() -> Media {
 
 #[test]
 fn plain_narrow(rt: HostRuntime) {
-    let flow = Flow::new(rt.alloc(), &plain());
-    assert_eq!(rt; PLAIN.judged(&rt, flow, 40), Some(passes(2)));
+    PLAIN.comes_to(&rt, rt.alloc(), &plain(), 40, passes(2))
 }
 
 #[test]
@@ -181,8 +191,7 @@ fn linear_sender(rt: HostRuntime) {
         ],
         ..passes(2)
     };
-    let flow = Flow::new(rt.alloc(), &plain());
-    assert_eq!(rt; made.judged(&rt, flow, 40), Some(want));
+    made.comes_to(&rt, rt.alloc(), &plain(), 40, want)
 }
 
 // What comes of two frames where five packets come at once, the first of them this one.
@@ -202,8 +211,7 @@ fn five_from(first: u64) -> Judged
 #[test]
 fn five_at_once(rt: HostRuntime) {
     let made = Made { up_to: 4, ..PLAIN };
-    let flow = Flow::new(rt.alloc(), &plain());
-    assert_eq!(rt; made.judged(&rt, flow, 40), Some(five_from(0)));
+    made.comes_to(&rt, rt.alloc(), &plain(), 40, five_from(0))
 }
 
 #[test]
@@ -215,8 +223,7 @@ fn four_at_once(rt: HostRuntime) {
         linear_peak: 4,
         ..passes(2)
     };
-    let flow = Flow::new(rt.alloc(), &plain());
-    assert_eq!(rt; made.judged(&rt, flow, 40), Some(want));
+    made.comes_to(&rt, rt.alloc(), &plain(), 40, want)
 }
 
 #[test]
@@ -226,8 +233,7 @@ fn burst_in_second_frame(rt: HostRuntime) {
         up_to: 4,
         ..PLAIN
     };
-    let flow = Flow::new(rt.alloc(), &plain());
-    assert_eq!(rt; made.judged(&rt, flow, 40), Some(five_from(20)));
+    made.comes_to(&rt, rt.alloc(), &plain(), 40, five_from(20))
 }
 
 // The verdicts don't hang on the type that is declared.
@@ -242,8 +248,7 @@ fn declared_wide(rt: HostRuntime) {
         declared: Some(Kind::W),
         ..plain()
     };
-    let flow = Flow::new(rt.alloc(), &media);
-    assert_eq!(rt; made.judged(&rt, flow, 40), Some(five_from(20)));
+    made.comes_to(&rt, rt.alloc(), &media, 40, five_from(20))
 }
 
 // P with TROFF=700.
@@ -264,8 +269,7 @@ fn on_its_read(rt: HostRuntime) {
         gapped_peak: 0,
         ..passes(2)
     };
-    let flow = Flow::new(rt.alloc(), &early_reads());
-    assert_eq!(rt; made.judged(&rt, flow, 40), Some(want));
+    made.comes_to(&rt, rt.alloc(), &early_reads(), 40, want)
 }
 
 // What comes of two frames each of whose packets comes just after its gapped read.
@@ -284,14 +288,12 @@ fn one_ns_late(rt: HostRuntime) {
         first: 700_001,
         ..PLAIN
     };
-    let flow = Flow::new(rt.alloc(), &early_reads());
-    assert_eq!(rt; made.judged(&rt, flow, 40), Some(all_late()));
+    made.comes_to(&rt, rt.alloc(), &early_reads(), 40, all_late())
 }
 
 #[test]
 fn height_720(rt: HostRuntime) {
-    let flow = Flow::new(rt.alloc(), &video(720, false, 50, 1));
-    assert_eq!(rt; PLAIN.judged(&rt, flow, 40), Some(all_late()));
+    PLAIN.comes_to(&rt, rt.alloc(), &video(720, false, 50, 1), 40, all_late())
 }
 
 #[test]
@@ -312,8 +314,7 @@ fn cmax_of_declared(rt: HostRuntime) {
         ],
         ..passes(2)
     };
-    let flow = Flow::new(rt.alloc(), &media);
-    assert_eq!(rt; made.judged(&rt, flow, 40), Some(want));
+    made.comes_to(&rt, rt.alloc(), &media, 40, want)
 }
 
 #[test]
@@ -323,18 +324,17 @@ fn number_wraps(rt: HostRuntime) {
         number: 4_294_967_295,
         ..PLAIN
     };
-    let flow = Flow::new(rt.alloc(), &plain());
-    assert_eq!(rt; made.judged(&rt, flow, 40), Some(passes(2)));
+    made.comes_to(&rt, rt.alloc(), &plain(), 40, passes(2))
 }
 
 #[test]
 fn last_second(rt: HostRuntime) {
     let made = Made {
         start: 4_294_967_295,
+        tai: 1000,
         ..PLAIN
     };
-    let flow = Flow::later(rt.alloc(), &plain(), 1000);
-    assert_eq!(rt; made.judged(&rt, flow, 40), Some(passes(2)));
+    made.comes_to(&rt, rt.alloc(), &plain(), 40, passes(2))
 }
 
 #[test]
@@ -343,8 +343,7 @@ fn cut_capture(rt: HostRuntime) {
         tail: 19,
         ..passes(1)
     };
-    let flow = Flow::new(rt.alloc(), &plain());
-    assert_eq!(rt; PLAIN.judged(&rt, flow, 39), Some(want));
+    PLAIN.comes_to(&rt, rt.alloc(), &plain(), 39, want)
 }
 
 #[test]
@@ -360,8 +359,7 @@ fn interlaced_narrow(rt: HostRuntime) {
         frames: 4,
         ..passes(2)
     };
-    let flow = Flow::new(rt.alloc(), &video(1080, true, 25, 1));
-    assert_eq!(rt; made.judged(&rt, flow, 40), Some(want));
+    made.comes_to(&rt, rt.alloc(), &video(1080, true, 25, 1), 40, want)
 }
 
 // Two frames from TAI second 1,601,600,000 on, where frame 96,000,000,000 begins; each packet comes 1,000 ns before
@@ -391,13 +389,13 @@ fn usual_equipment(rt: HostRuntime) {
             KindVerdict::Pass,
         ],
     };
-    assert_eq!(rt; judged(&flow.finish()), Some(want));
+    same(&rt, &judged(&flow.finish()), &Some(want));
 }
 
 #[test]
 fn no_packets(rt: HostRuntime) {
     let flow = Flow::new(rt.alloc(), &plain());
-    assert_eq!(rt; unjudged(&flow.finish()), Some(Unjudged::Absent));
+    comes_to_none(&rt, flow, Unjudged::Absent)
 }
 
 #[test]
@@ -406,15 +404,12 @@ fn no_marker(rt: HostRuntime) {
     for number in 0..5 {
         flow.feed(&rt, 7, reading(number, 7, false));
     }
-    assert_eq!(rt;
-        unjudged(&flow.finish()),
-        Some(Unjudged::NoWholeFrame { head: 5 })
-    );
+    comes_to_none(&rt, flow, Unjudged::NoWholeFrame { head: 5 })
 }
 
 // What comes of a flow whose first fault is this one, of this record.
-fn refused(rec: u64, fault: PacketFault) -> Option<Unjudged> {
-    Some(Unjudged::Refused { rec, fault })
+fn refused(rec: u64, fault: PacketFault) -> Unjudged {
+    Unjudged::Refused { rec, fault }
 }
 
 #[test]
@@ -424,7 +419,7 @@ fn short_frame(rt: HostRuntime) {
     PLAIN.feed(&rt, &mut flow, 0, 38);
     flow.feed(&rt, PLAIN.stamp(1, 18), reading(39, 3600, true));
     let want = refused(40, PacketFault::FrameSize { want: 20, got: 19 });
-    assert_eq!(rt; unjudged(&flow.finish()), want);
+    comes_to_none(&rt, flow, want)
 }
 
 // The packets after the fault are passed over.
@@ -438,10 +433,7 @@ fn second_source(rt: HostRuntime) {
     };
     flow.feed(&rt, PLAIN.stamp(0, 0), other);
     PLAIN.feed(&rt, &mut flow, 1, 40);
-    assert_eq!(rt;
-        unjudged(&flow.finish()),
-        refused(2, PacketFault::SecondSource)
-    );
+    comes_to_none(&rt, flow, refused(2, PacketFault::SecondSource))
 }
 
 // The stamps that are told are those of the capture.
@@ -454,7 +446,7 @@ fn stamp_back(rt: HostRuntime) {
         before: 1_599_999_999_999_000_000,
         got: 1_599_999_999_998_999_999,
     };
-    assert_eq!(rt; unjudged(&flow.finish()), refused(2, want));
+    comes_to_none(&rt, flow, refused(2, want))
 }
 
 #[test]
@@ -462,8 +454,8 @@ fn captured_at_40(rt: HostRuntime) {
     let mut judge = FlowJudge::new(rt.alloc(), &plain(), KEY, 0);
     let answer = judge.feed(1, 7, Err(PacketFault::Short));
     assert!(rt; answer.is_ok());
-    let row = judge.finish();
-    assert_eq!(rt; unjudged(&row), refused(1, PacketFault::Short));
+    let want = refused(1, PacketFault::Short);
+    same(&rt, &unjudged(&judge.finish()), &Some(want));
 }
 
 #[test]
@@ -474,7 +466,7 @@ fn frame_too_large(rt: HostRuntime) {
         flow.feed(&rt, 7, reading(j + 1, 1800, false));
     }
     let want = refused(262_146, PacketFault::FrameTooLarge);
-    assert_eq!(rt; unjudged(&flow.finish()), want);
+    comes_to_none(&rt, flow, want)
 }
 
 #[test]
@@ -488,18 +480,16 @@ fn too_many_gaps(rt: HostRuntime) {
         expected: 2049,
         got: 2050,
     };
-    assert_eq!(rt; unjudged(&flow.finish()), Some(want));
+    comes_to_none(&rt, flow, want)
 }
 
 // Asserts that these two runs come of a flow.
 fn are_two(rt: &impl Abort, flow: Flow, first: Run, second: Run) {
     match flow.finish().verdict {
         Verdict::Runs(runs) => {
-            assert_eq!(rt; runs.list.len(), 2);
-            assert_eq!(rt; runs.list.as_slice().first().copied(), Some(first));
-            assert_eq!(rt; runs.list.as_slice().last().copied(), Some(second));
+            same(rt, &runs.list.as_slice(), &[first, second].as_slice());
         }
-        _ => assert!(rt; false, "not runs"),
+        _ => panic!(rt; "not runs"),
     }
 }
 

@@ -1,5 +1,6 @@
 //! Made captures on a sink in memory, and sinks that fail.
 
+use super::compare::{same, same_at};
 use byteorder::{BigEndian, ByteOrder, LittleEndian};
 use capture_gen::{capture_len, file_head, record_head, sdp_bytes, write_capture};
 use std::alloc::Global;
@@ -56,6 +57,18 @@ fn adler32(bytes: &[u8]) -> u32 {
     high % 65_521 * 65_536 + low % 65_521
 }
 
+// A made capture has so many bytes.
+fn has_length(
+    rt: &impl Abort,
+    alloc: Global,
+    (frames, flaw): (u32, u32),
+    expected: usize,
+) -> Result<(), Fail> {
+    let sink = made(rt, alloc, 7, frames, flaw)?;
+    same_at(rt, &(frames, flaw), &sink.bytes().len(), &expected);
+    Ok(())
+}
+
 #[test]
 fn lengths(rt: HostRuntime) -> Result<(), Fail> {
     let rows = [
@@ -67,14 +80,21 @@ fn lengths(rt: HostRuntime) -> Result<(), Fail> {
     for (frames, whole, short) in rows {
         for flaw in 0..5 {
             let expected = if flaw < 3 { whole } else { short };
-            let sink = made(&rt, rt.alloc(), 7, frames, flaw)?;
-            assert_eq!(rt;
-                sink.bytes().len(),
-                expected,
-                "{frames} frames, flaw {flaw}"
-            );
+            has_length(&rt, rt.alloc(), (frames, flaw), expected)?;
         }
     }
+    Ok(())
+}
+
+// A made capture has this checksum.
+fn has_checksum(
+    rt: &impl Abort,
+    alloc: Global,
+    (number, frames, flaw): (u64, u32, u32),
+    checksum: u32,
+) -> Result<(), Fail> {
+    let sink = made(rt, alloc, number, frames, flaw)?;
+    same_at(rt, &(number, flaw), &adler32(sink.bytes()), &checksum);
     Ok(())
 }
 
@@ -82,32 +102,32 @@ fn lengths(rt: HostRuntime) -> Result<(), Fail> {
 // script in another language made from the documented format.
 #[test]
 fn checksums(rt: HostRuntime) -> Result<(), Fail> {
-    assert_eq!(rt; adler32(sdp_bytes()), 0x0172_5f81);
+    same(&rt, &adler32(sdp_bytes()), &0x0172_5f81);
     let rows = [
         // number, frames, flaw, checksum
-        (0, 2, 0, 0x8df3_750f),
-        (0, 2, 1, 0x4d5a_75ff),
-        (0, 2, 2, 0x054d_7ae1),
-        (0, 2, 3, 0xb115_6bd9),
-        (0, 2, 4, 0xfb77_6c75),
-        (1_234_567, 2, 0, 0x420b_d265),
-        (u64::MAX, 3, 0, 0x4209_785e),
+        ((0, 2, 0), 0x8df3_750f),
+        ((0, 2, 1), 0x4d5a_75ff),
+        ((0, 2, 2), 0x054d_7ae1),
+        ((0, 2, 3), 0xb115_6bd9),
+        ((0, 2, 4), 0xfb77_6c75),
+        ((1_234_567, 2, 0), 0x420b_d265),
+        ((u64::MAX, 3, 0), 0x4209_785e),
     ];
-    for (number, frames, flaw, checksum) in rows {
-        let sink = made(&rt, rt.alloc(), number, frames, flaw)?;
-        assert_eq!(rt;
-            adler32(sink.bytes()),
-            checksum,
-            "number {number}, flaw {flaw}"
-        );
+    for (capture, checksum) in rows {
+        has_checksum(&rt, rt.alloc(), capture, checksum)?;
     }
     Ok(())
+}
+
+// From one byte on and below another these stand.
+fn has_bytes(rt: &impl Abort, capture: &[u8], from: usize, to: usize, expected: &[u8]) {
+    let bytes = capture.get(from..to);
+    same_at(rt, &from, &bytes, &Some(expected));
 }
 
 #[test]
 fn first_bytes(rt: HostRuntime) -> Result<(), Fail> {
     let sink = made(&rt, rt.alloc(), 0, 2, 0)?;
-    let capture = sink.bytes();
     let rows: [(usize, usize, &[u8]); 7] = [
         // from byte, to byte, what stands there: the magic, two record heads, the Ethernet frame of
         // the second record
@@ -132,9 +152,7 @@ fn first_bytes(rt: HostRuntime) -> Result<(), Fail> {
         ),
     ];
     for (from, to, expected) in rows {
-        assert!(rt; from <= to);
-        assert!(rt; to <= capture.len());
-        assert_eq!(rt; &capture[from..to], expected, "from {from}");
+        has_bytes(&rt, sink.bytes(), from, to, expected);
     }
     Ok(())
 }
@@ -148,7 +166,7 @@ fn heads(rt: HostRuntime) {
         (&sparse[8..], b"\x38\x00\x00\x00\x38\x00\x00\x00"),
     ];
     for (got, expected) in rows {
-        assert_eq!(rt; got, expected);
+        same(&rt, &got, &expected);
     }
 }
 
@@ -156,10 +174,23 @@ fn heads(rt: HostRuntime) {
 fn number_wraps(rt: HostRuntime) -> Result<(), Fail> {
     let sink = made(&rt, rt.alloc(), 4_294_967_295, 2, 0)?;
     for (number, expected) in [(1, 0xffff_ffff), (2, 0), (3, 1)] {
-        assert_eq!(rt; seen(&rt, sink.bytes(), number).3, expected);
+        same(&rt, &seen(&rt, sink.bytes(), number).3, &expected);
     }
     // Frame 0 starts 967,295 seconds after 1,600,000,000.
-    assert_eq!(rt; seen(&rt, sink.bytes(), 2).0, 1_600_967_295);
+    same(&rt, &seen(&rt, sink.bytes(), 2).0, &1_600_967_295);
+    Ok(())
+}
+
+// A record of a capture of two frames shows these numbers.
+fn has_record(
+    rt: &impl Abort,
+    alloc: Global,
+    (flaw, number): (u32, usize),
+    expected: (u32, u32, bool, u32),
+) -> Result<(), Fail> {
+    let sink = made(rt, alloc, 0, 2, flaw)?;
+    let got = seen(rt, sink.bytes(), number);
+    same_at(rt, &(flaw, number), &got, &expected);
     Ok(())
 }
 
@@ -191,24 +222,22 @@ fn flaws(rt: HostRuntime) -> Result<(), Fail> {
         (4, 40, 38_044_000, true, 39),
     ];
     for (flaw, number, nanoseconds, marker, packet) in rows {
-        let sink = made(&rt, rt.alloc(), 0, 2, flaw)?;
         let expected = (1_600_000_000, nanoseconds, marker, packet);
-        assert_eq!(rt;
-            seen(&rt, sink.bytes(), number),
-            expected,
-            "flaw {flaw}, record {number}"
-        );
+        has_record(&rt, rt.alloc(), (flaw, number), expected)?;
     }
     Ok(())
 }
 
+// The first 100 bytes of a capture go into a sink that has room for no more.
+fn fills(rt: &impl Abort, small: &mut MemorySink, whole: &[u8]) {
+    assert!(rt; write_capture(0, 2, 0, small).is_err());
+    same(rt, &Some(small.bytes()), &whole.get(..100));
+}
+
 #[test]
 fn small_room(rt: HostRuntime) -> Result<(), Fail> {
-    let sink = made(&rt, rt.alloc(), 0, 2, 0)?;
-    let whole = sink.bytes();
-    assert!(rt; 100 <= whole.len());
+    let whole = made(&rt, rt.alloc(), 0, 2, 0)?;
     let mut small = MemorySink::new(rt.alloc(), 100)?;
-    assert!(rt; write_capture(0, 2, 0, &mut small).is_err());
-    assert_eq!(rt; small.bytes(), &whole[..100]);
+    fills(&rt, &mut small, whole.bytes());
     Ok(())
 }

@@ -1,5 +1,6 @@
 //! The numbers of small runs.
 
+use super::compare::same;
 use flow_measure::{Margins, Place, RunMeter, RunNumbers, Summary};
 use sender_params::Params;
 use sender_params::worked::video;
@@ -43,9 +44,9 @@ fn measured(rt: &impl Abort, to: [Option<u64>; 3], step: u64, burst: bool) -> Ru
 
 // A summary of these.
 fn has(rt: &impl Abort, summary: Summary, least: i128, greatest: i128, sum: i128) {
-    assert_eq!(rt; summary.least, least);
-    assert_eq!(rt; summary.greatest, greatest);
-    assert_eq!(rt; summary.sum, sum);
+    same(rt, &summary.least, &least);
+    same(rt, &summary.greatest, &greatest);
+    same(rt, &summary.sum, &sum);
 }
 
 #[test]
@@ -54,32 +55,38 @@ fn measure_plain(rt: HostRuntime) {
     has(&rt, x.bucket, 1, 1, 40);
     has(&rt, x.gapped.occupancy, 1, 1, 40);
     has(&rt, x.linear.occupancy, 1, 1, 40);
-    assert_eq!(rt;
-        x.gapped.margins,
-        Margins {
+    same(
+        &rt,
+        &x.gapped.margins,
+        &Margins {
             slack: 444,
-            late: 0
-        }
+            late: 0,
+        },
     );
-    assert_eq!(rt;
-        x.linear.margins,
-        Margins {
+    same(
+        &rt,
+        &x.linear.margins,
+        &Margins {
             slack: 444,
-            late: 0
-        }
+            late: 0,
+        },
     );
     let [narrow, _, wide] = x.kinds;
-    assert_eq!(rt; narrow.bucket.limit, 4);
-    assert!(rt; narrow.bucket.counts() == [0, 40, 0, 0, 0].as_slice());
-    assert_eq!(rt; narrow.buffer.limit, 8);
-    assert!(rt; narrow.buffer.counts() == [0, 40, 0, 0, 0, 0, 0, 0, 0].as_slice());
-    assert_eq!(rt; wide.buffer.limit, 720);
-    assert_eq!(rt; wide.buffer.width, 12);
-    assert_eq!(rt; narrow.groups_broken, 0);
-    assert!(rt; narrow.named.is_none());
+    same(&rt, &narrow.bucket.limit, &4);
+    same(&rt, &narrow.bucket.counts(), &[0, 40, 0, 0, 0].as_slice());
+    same(&rt, &narrow.buffer.limit, &8);
+    same(
+        &rt,
+        &narrow.buffer.counts(),
+        &[0, 40, 0, 0, 0, 0, 0, 0, 0].as_slice(),
+    );
+    same(&rt, &wide.buffer.limit, &720);
+    same(&rt, &wide.buffer.width, &12);
+    same(&rt, &narrow.groups_broken, &0);
+    same(&rt, &narrow.named, &None);
     has(&rt, x.first, 764_000, 764_000, 1_528_000);
     has(&rt, x.last, 19_004_000, 19_004_000, 38_008_000);
-    assert_eq!(rt; x.target, 764_444);
+    same(&rt, &x.target, &764_444);
     has(&rt, x.step.expect(&rt, "two frames"), 1800, 1800, 1800);
     has(&rt, x.offset, 1_663_502_088, 1_663_502_088, 3_327_004_176);
     has(
@@ -91,9 +98,9 @@ fn measure_plain(rt: HostRuntime) {
     );
     let gap = x.gap.expect(&rt, "forty packets");
     has(&rt, gap.summary, 960_000, 1_760_000, 38_240_000);
-    assert_eq!(rt; gap.classes.counts().len(), 22);
-    assert_eq!(rt; gap.classes.counts().get(20), Some(&38));
-    assert_eq!(rt; gap.classes.counts().get(21), Some(&1));
+    same(&rt, &gap.classes.counts().len(), &22);
+    same(&rt, &gap.classes.counts().get(20), &Some(&38));
+    same(&rt, &gap.classes.counts().get(21), &Some(&1));
 }
 
 #[test]
@@ -101,32 +108,33 @@ fn measure_burst(rt: HostRuntime) {
     let x = measured(&rt, [Some(24), None, None], 960_000, true);
     has(&rt, x.bucket, 1, 5, 50);
     let [narrow, _, _] = x.kinds;
-    assert!(rt; narrow.bucket.counts() == [0, 36, 1, 1, 1].as_slice());
-    assert_eq!(rt; narrow.bucket.above, 1);
-    assert_eq!(rt; narrow.first_bucket, Some(24));
-    assert_eq!(rt; narrow.groups_broken, 1);
+    same(&rt, &narrow.bucket.counts(), &[0, 36, 1, 1, 1].as_slice());
+    same(&rt, &narrow.bucket.above, &1);
+    same(&rt, &narrow.first_bucket, &Some(24));
+    same(&rt, &narrow.groups_broken, &1);
     let stamp = 1_600_000_000_020_764_000;
-    assert_eq!(rt; narrow.named, Some(Place { record: 26, stamp }));
+    same(&rt, &narrow.named, &Some(Place { record: 26, stamp }));
     let gap = x.gap.expect(&rt, "forty packets");
-    assert_eq!(rt; gap.classes.counts().get(0), Some(&4));
+    same(&rt, &gap.classes.counts().get(0), &Some(&4));
 }
 
 #[test]
 fn measure_linear(rt: HostRuntime) {
     let x = measured(&rt, [Some(1), None, None], 1_000_000, false);
-    assert_eq!(rt;
-        x.gapped.margins,
-        Margins {
+    same(
+        &rt,
+        &x.gapped.margins,
+        &Margins {
             slack: -759_556,
-            late: 38
-        }
+            late: 38,
+        },
     );
-    assert_eq!(rt; x.linear.margins.late, 0);
+    same(&rt, &x.linear.margins.late, &0);
     let [narrow, linear, _] = x.kinds;
-    assert_eq!(rt; narrow.groups_broken, 2);
-    assert_eq!(rt; narrow.first_empty, Some(1));
-    assert!(rt; narrow.first_bucket.is_none());
+    same(&rt, &narrow.groups_broken, &2);
+    same(&rt, &narrow.first_empty, &Some(1));
+    same(&rt, &narrow.first_bucket, &None);
     let stamp = 1_600_000_000_001_764_000;
-    assert_eq!(rt; narrow.named, Some(Place { record: 3, stamp }));
-    assert_eq!(rt; linear.groups_broken, 0);
+    same(&rt, &narrow.named, &Some(Place { record: 3, stamp }));
+    same(&rt, &linear.groups_broken, &0);
 }

@@ -1,5 +1,6 @@
 //! The calls with memory at hand, and files that are not there.
 
+use super::compare::{same, same_at};
 use std::alloc::{AllocError, Global};
 use std::process::Abort;
 use std::test::Fail;
@@ -9,86 +10,115 @@ use timing_outside::{
 };
 
 // A plan of pieces of at most 3 bytes, whose second read fails.
-fn plan(alloc: Global) -> Result<ReadPlan, AllocError> {
+fn plan(alloc: Global, fetch_fails: bool) -> Result<ReadPlan, AllocError> {
     Ok(ReadPlan {
-        fetch_fails: false,
+        fetch_fails,
         piece: 3,
         fails: Vec::from_slice(alloc, &[2])?,
     })
 }
 
-fn shelf_with(alloc: Global, name: &str, text: &[u8]) -> Result<MemoryShelf, AllocError> {
-    let mut shelf = MemoryShelf::new(alloc);
-    shelf.put(
-        String::from_str(alloc, name)?,
-        Vec::from_slice(alloc, text)?,
-        plan(alloc)?,
-    )?;
-    Ok(shelf)
+// Puts a text with such a plan on a shelf.
+fn put(
+    alloc: Global,
+    shelf: &mut MemoryShelf,
+    name: &str,
+    text: &[u8],
+    fetch_fails: bool,
+) -> Result<(), AllocError> {
+    let name = String::from_str(alloc, name)?;
+    let text = Vec::from_slice(alloc, text)?;
+    shelf.put(name, text, plan(alloc, fetch_fails)?)?;
+    Ok(())
 }
 
 // Reads once, and compares what was read.
 fn reads<S: Source>(rt: &impl Abort, source: &mut S, expected: Result<&[u8], Failed>) {
     let mut buf = [0u8; 8];
     match (source.read(&mut buf), expected) {
-        (Ok(count), Ok(bytes)) => assert_eq!(rt; &buf[..count], bytes),
-        (got, expected) => assert_eq!(rt; got.is_ok(), expected.is_ok()),
+        (Ok(count), Ok(bytes)) => same(rt, &(&buf[..count]), &bytes),
+        (got, expected) => same(rt, &got.is_ok(), &expected.is_ok()),
     }
+}
+
+// What is fetched under this name reads so first.
+fn reads_first<S: Shelf>(
+    rt: &impl Abort,
+    shelf: &mut S,
+    name: &str,
+    expected: Result<&[u8], Failed>,
+) {
+    match shelf.fetch(name) {
+        Ok(mut source) => {
+            reads(rt, &mut source, expected);
+            shelf.give_back(source);
+        }
+        Err(_) => panic!(rt; "no {name}"),
+    }
+}
+
+// Something is fetched under this name, or nothing.
+fn fetches<S: Shelf>(rt: &impl Abort, shelf: &mut S, name: &str, expected: bool) {
+    match shelf.fetch(name) {
+        Ok(source) => {
+            shelf.give_back(source);
+            same_at(rt, &name, &true, &expected);
+        }
+        Err(fault) => {
+            same_at(rt, &name, &false, &expected);
+            same_at(rt, &name, &fault, &OpenFault::Failed);
+        }
+    }
+}
+
+// The reads of five bytes by the plan.
+fn reads_five<S: Source>(rt: &impl Abort, source: &mut S) {
+    reads(rt, source, Ok(b"123"));
+    reads(rt, source, Err(Failed));
+    reads(rt, source, Ok(b"45"));
+    reads(rt, source, Ok(b""));
 }
 
 #[test]
 fn planned_reads(rt: HostRuntime) -> Result<(), Fail> {
-    let mut shelf = shelf_with(rt.alloc(), "a.pcap", b"12345")?;
+    let mut shelf = MemoryShelf::new(rt.alloc());
+    put(rt.alloc(), &mut shelf, "a.pcap", b"12345", false)?;
     let mut source = shelf.fetch("a.pcap")?;
-    reads(&rt, &mut source, Ok(b"123"));
-    reads(&rt, &mut source, Err(Failed));
-    reads(&rt, &mut source, Ok(b"45"));
-    reads(&rt, &mut source, Ok(b""));
+    reads_five(&rt, &mut source);
     shelf.give_back(source);
-    assert_eq!(rt; shelf.fetch("b.pcap").err(), Some(OpenFault::Failed));
+    fetches(&rt, &mut shelf, "b.pcap", false);
     Ok(())
 }
 
 #[test]
 fn put_replaces(rt: HostRuntime) -> Result<(), Fail> {
-    let alloc = rt.alloc();
-    let mut shelf = shelf_with(alloc, "a", b"old")?;
-    let refusing = ReadPlan {
-        fetch_fails: true,
-        piece: 1,
-        fails: Vec::new(alloc),
-    };
-    shelf.put(String::from_str(alloc, "a")?, Vec::new(alloc), refusing)?;
-    assert_eq!(rt; shelf.fetch("a").err(), Some(OpenFault::Failed));
-    shelf.put(
-        String::from_str(alloc, "a")?,
-        Vec::from_slice(alloc, b"new")?,
-        plan(alloc)?,
-    )?;
-    reads(&rt, &mut shelf.fetch("a")?, Ok(b"new"));
+    let mut shelf = MemoryShelf::new(rt.alloc());
+    put(rt.alloc(), &mut shelf, "a", b"old", false)?;
+    put(rt.alloc(), &mut shelf, "a", b"", true)?;
+    fetches(&rt, &mut shelf, "a", false);
+    put(rt.alloc(), &mut shelf, "a", b"new", false)?;
+    reads_first(&rt, &mut shelf, "a", Ok(b"new"));
     Ok(())
 }
 
 #[test]
 fn steady_texts(rt: HostRuntime) -> Result<(), Fail> {
-    let alloc = rt.alloc();
-    let mut shelf = SteadyShelf::new(alloc);
-    shelf.put(
-        String::from_str(alloc, "a")?,
-        Vec::from_slice(alloc, b"text")?,
-    )?;
-    reads(&rt, &mut shelf.fetch("a")?, Ok(b"text"));
-    reads(&rt, &mut shelf.fetch("b")?, Ok(b""));
+    let name = String::from_str(rt.alloc(), "a")?;
+    let text = Vec::from_slice(rt.alloc(), b"text")?;
+    let mut shelf = SteadyShelf::new(rt.alloc());
+    shelf.put(name, text)?;
+    reads_first(&rt, &mut shelf, "a", Ok(b"text"));
+    reads_first(&rt, &mut shelf, "b", Ok(b""));
     Ok(())
 }
 
 #[test]
 fn room_of_ten(rt: HostRuntime) -> Result<(), Fail> {
     let mut sink = MemorySink::new(rt.alloc(), 10)?;
-    assert_eq!(rt; sink.write(b""), Ok(0));
-    assert_eq!(rt; put_all(&mut sink, b"ST 2110-21 timing"), Err(Failed));
-    assert_eq!(rt; sink.bytes(), b"ST 2110-21".as_slice());
-    assert_eq!(rt; sink.write(b""), Ok(0));
+    same(&rt, &sink.write(b""), &Ok(0));
+    same(&rt, &put_all(&mut sink, b"ST 2110-21 timing"), &Err(Failed));
+    same(&rt, &sink.bytes(), &b"ST 2110-21".as_slice());
+    same(&rt, &sink.write(b""), &Ok(0));
     Ok(())
 }
 
@@ -102,54 +132,57 @@ fn fourth_write_fails(rt: HostRuntime) -> Result<(), Fail> {
     let mut sink = MemorySink::with_plan(alloc, 4096, plan)?;
     let text =
         b"0001020304050607080910111213141516171819202122232425262728293031323334353637383940414243444546474849";
-    assert_eq!(rt; put_all(&mut sink, text), Err(Failed));
-    assert_eq!(rt; sink.bytes(), b"000102030405060708091011121314".as_slice());
-    Ok(())
-}
-
-#[test]
-fn files_of_the_system(rt: HostRuntime) -> Result<(), Fail> {
-    let mut shelf = FileShelf::new(rt);
-    reads(&rt, &mut shelf.fetch("/dev/null")?, Ok(b""));
-    assert_eq!(rt;
-        shelf.fetch("/dev/null/none").err(),
-        Some(OpenFault::Failed)
+    same(&rt, &put_all(&mut sink, text), &Err(Failed));
+    same(
+        &rt,
+        &sink.bytes(),
+        &b"000102030405060708091011121314".as_slice(),
     );
-
-    // A folder opens, and its first read fails.
-    match shelf.fetch("/") {
-        Ok(mut folder) => {
-            reads(&rt, &mut folder, Err(Failed));
-            shelf.give_back(folder);
-        }
-        Err(fault) => assert_eq!(rt; fault, OpenFault::Failed),
-    }
     Ok(())
 }
 
-// The null device isn't a regular file: it is fetched once.
-#[test]
-fn fetched_again(rt: HostRuntime) -> Result<(), Fail> {
-    let mut shelf = FileShelf::new(rt);
-    let null = shelf.fetch("/dev/null")?;
-    shelf.give_back(null);
-    assert_eq!(rt; shelf.fetch("/dev/null").err(), Some(OpenFault::Failed));
-    assert_eq!(rt; shelf.fetch("/dev/null").err(), Some(OpenFault::Failed));
-
-    // The program itself is one.
-    for _ in 0..2 {
-        let program = shelf.fetch("/proc/self/exe")?;
-        shelf.give_back(program);
+// A folder opens, and its first read fails.
+fn has_no_bytes<S: Shelf>(rt: &impl Abort, shelf: &mut S, folder: &str) {
+    match shelf.fetch(folder) {
+        Ok(mut source) => {
+            reads(rt, &mut source, Err(Failed));
+            shelf.give_back(source);
+        }
+        Err(fault) => same(rt, &fault, &OpenFault::Failed),
     }
-    Ok(())
+}
+
+#[test]
+fn files_of_the_system(rt: HostRuntime) {
+    let mut shelf = FileShelf::new(rt);
+    reads_first(&rt, &mut shelf, "/dev/null", Ok(b""));
+    fetches(&rt, &mut shelf, "/dev/null/none", false);
+    has_no_bytes(&rt, &mut shelf, "/");
+}
+
+// The null device isn't a regular file: it is fetched once. The program itself is one.
+#[test]
+fn fetched_again(rt: HostRuntime) {
+    let mut shelf = FileShelf::new(rt);
+    let rows = [
+        ("/dev/null", true),
+        ("/dev/null", false),
+        ("/dev/null", false),
+        ("/proc/self/exe", true),
+        ("/proc/self/exe", true),
+    ];
+    for (name, fetched) in rows {
+        fetches(&rt, &mut shelf, name, fetched);
+    }
+}
+
+// A line is written whole.
+fn takes_line<S: Sink>(rt: &impl Abort, sink: &mut S) {
+    same(rt, &put_all(sink, b"a line\n"), &Ok(()));
 }
 
 #[test]
 fn standard_streams(rt: HostRuntime) {
-    for mut sink in [
-        StdSink::out(&rt, rt.stdout()),
-        StdSink::err(&rt, rt.stderr()),
-    ] {
-        assert_eq!(rt; put_all(&mut sink, b"a line\n"), Ok(()));
-    }
+    takes_line(&rt, &mut StdSink::out(&rt, rt.stdout()));
+    takes_line(&rt, &mut StdSink::err(&rt, rt.stderr()));
 }

@@ -1,5 +1,6 @@
 //! Captures in pieces, reads that fail, and the largest record.
 
+use super::compare::{same, same_at};
 use capture_gen::examples::source_of;
 use pcap_reader::{MOST, PcapReader, Step};
 use std::alloc::{AllocError, Global};
@@ -137,106 +138,154 @@ fn has_records(
         let mut reader = open(rt.alloc(), text, piece, &[], MOST)?;
         for index in 0..count {
             let want = Ok((stamp(index), 56));
-            assert_eq!(rt; sight(&mut reader), want, "at {index} in pieces of {piece}");
+            same_at(rt, &(index, piece), &sight(&mut reader), &want);
         }
-        assert_eq!(rt; reader.note(), None, "in pieces of {piece}");
-        assert_eq!(rt; sight(&mut reader), Err(note), "in pieces of {piece}");
-        assert_eq!(rt; reader.note(), Some(note), "in pieces of {piece}");
+        same_at(rt, &piece, &reader.note(), &None);
+        same_at(rt, &piece, &sight(&mut reader), &Err(note));
+        same_at(rt, &piece, &reader.note(), &Some(note));
+    }
+    Ok(())
+}
+
+// The next record has this stamp and these bytes.
+fn has_frame(rt: &impl Abort, reader: &mut PcapReader<MemorySource>, stamp: u64, frame: &[u8]) {
+    match reader.next() {
+        Ok(Step::Frame { at, bytes }) => {
+            same(rt, &at, &stamp);
+            assert!(rt; bytes == frame, "at {stamp}");
+        }
+        _ => panic!(rt; "no frame at {stamp}"),
+    }
+}
+
+// The records end so, and go on ending so.
+fn stays(rt: &impl Abort, reader: &mut PcapReader<MemorySource>, note: FileNote) {
+    for _ in 0..2 {
+        same(rt, &sight(reader), &Err(note));
+    }
+}
+
+// A reader of records of 100 bytes at most hands out the first one alone.
+fn stops_behind_first(rt: &impl Abort, alloc: Global, text: &[u8]) -> Result<(), Fail> {
+    for piece in PIECES {
+        let mut reader = open(alloc, text, piece, &[], 100)?;
+        has_frame(rt, &mut reader, 1_599_999_999_999_000_000, &frame(0));
+        stays(rt, &mut reader, FileNote::Refused(PcapFault::TooLong));
     }
     Ok(())
 }
 
 #[test]
 fn reader_stops(rt: HostRuntime) -> Result<(), Fail> {
-    let alloc = rt.alloc();
-    let text = capture(alloc, Kind::LittleNanos)?;
+    let text = capture(rt.alloc(), Kind::LittleNanos)?;
+    stops_behind_first(&rt, rt.alloc(), &text)
+}
+
+// So many bytes that count up to 250 and begin again.
+fn counted(alloc: Global, count: u32) -> Result<Vec<u8>, AllocError> {
+    let mut body = Vec::new(alloc);
+    for place in 0..count {
+        body.push((place % 251) as u8)?;
+    }
+    Ok(body)
+}
+
+// A capture of one record of these bytes, 7 seconds after 1970.
+fn one_record(alloc: Global, body: &[u8]) -> Result<Vec<u8>, AllocError> {
+    let mut text = Kind::LittleNanos.header(alloc, 4, 1)?;
+    for number in [7, 0, 262_144, 262_144] {
+        Kind::LittleNanos.number(&mut text, number)?;
+    }
+    text.extend_from_slice(body)?;
+    Ok(text)
+}
+
+// In whatever pieces this text comes, it has these bytes alone.
+fn has_one(rt: &impl Abort, alloc: Global, text: &[u8], body: &[u8]) -> Result<(), Fail> {
     for piece in PIECES {
-        let mut reader = open(alloc, &text, piece, &[], 100)?;
-        match reader.next() {
-            Ok(Step::Frame { at, bytes }) => {
-                assert_eq!(rt; at, 1_599_999_999_999_000_000);
-                assert_eq!(rt; bytes, &frame(0)[..]);
-            }
-            _ => assert!(rt; false, "no first frame"),
-        }
-        assert_eq!(rt; reader.next().err(), Some(PcapFault::TooLong));
-        assert_eq!(rt; reader.next().err(), Some(PcapFault::TooLong));
+        let mut reader = open(alloc, text, piece, &[], MOST)?;
+        has_frame(rt, &mut reader, 7 * SECOND, body);
+        stays(rt, &mut reader, FileNote::End);
     }
     Ok(())
 }
 
 #[test]
 fn largest_record(rt: HostRuntime) -> Result<(), Fail> {
-    let alloc = rt.alloc();
-    let mut body = Vec::new(alloc);
-    for place in 0..262_144u32 {
-        body.push((place % 251) as u8)?;
-    }
-    let mut text = Kind::LittleNanos.header(alloc, 4, 1)?;
-    Kind::LittleNanos.head(&mut text, 7 * SECOND, 262_144)?;
-    text.extend_from_slice(&body)?;
-    for piece in PIECES {
-        let mut reader = open(alloc, &text, piece, &[], MOST)?;
-        match reader.next() {
-            Ok(Step::Frame { at, bytes }) => {
-                assert_eq!(rt; at, 7 * SECOND);
-                assert!(rt; bytes == body.as_slice(), "in pieces of {piece}");
-            }
-            _ => assert!(rt; false, "no frame"),
-        }
-        assert!(rt; matches!(reader.next(), Ok(Step::End)));
-        assert!(rt; matches!(reader.next(), Ok(Step::End)));
-    }
-    Ok(())
+    let body = counted(rt.alloc(), 262_144)?;
+    let text = one_record(rt.alloc(), &body)?;
+    has_one(&rt, rt.alloc(), &text, &body)
+}
+
+// So many bytes of a header with this minor version and link type have this note.
+fn has_header(
+    rt: &(impl Abort + AllocGlobal),
+    (count, minor, link): (usize, u8, u32),
+    note: FileNote,
+) -> Result<(), Fail> {
+    let header = Kind::LittleNanos.header(rt.alloc(), minor, link)?;
+    has_records(rt, header.get(..count).unwrap_or(&[]), 0, note)
 }
 
 #[test]
 fn bad_headers(rt: HostRuntime) -> Result<(), Fail> {
-    let alloc = rt.alloc();
-    let good = Kind::LittleNanos.header(alloc, 4, 1)?;
-    let short = Vec::from_slice(alloc, good.get(..23).unwrap_or(&[]))?;
-    let version = Kind::LittleNanos.header(alloc, 3, 1)?;
-    let link = Kind::LittleNanos.header(alloc, 4, 101)?;
-    let high = Kind::LittleNanos.header(alloc, 4, 0xf000_0001)?;
     let rows = [
-        (short, FileNote::Refused(PcapFault::BadMagic)),
-        (version, FileNote::Refused(PcapFault::BadVersion)),
-        (link, FileNote::Refused(PcapFault::BadLink)),
-        (high, FileNote::End),
+        // bytes, minor version, link type
+        ((23, 4, 1), FileNote::Refused(PcapFault::BadMagic)),
+        ((24, 3, 1), FileNote::Refused(PcapFault::BadVersion)),
+        ((24, 4, 101), FileNote::Refused(PcapFault::BadLink)),
+        ((24, 4, 0xf000_0001), FileNote::End),
     ];
-    for (text, note) in &rows {
-        has_records(&rt, text, 0, *note)?;
+    for (header, note) in rows {
+        has_header(&rt, header, note)?;
     }
     Ok(())
 }
 
+// A record with a head of these numbers has this note.
+fn has_head(
+    rt: &(impl Abort + AllocGlobal),
+    numbers: [u32; 4],
+    note: FileNote,
+) -> Result<(), Fail> {
+    let mut text = Kind::LittleNanos.header(rt.alloc(), 4, 1)?;
+    for number in numbers {
+        Kind::LittleNanos.number(&mut text, number)?;
+    }
+    has_records(rt, &text, 0, note)
+}
+
+// A billion nanoseconds, and more bytes than a record may have.
 #[test]
 fn bad_records(rt: HostRuntime) -> Result<(), Fail> {
-    let alloc = rt.alloc();
-    let kind = Kind::LittleNanos;
-    let mut stamped = kind.header(alloc, 4, 1)?;
-    for number in [1_600_000_000, 1_000_000_000, 56, 56] {
-        kind.number(&mut stamped, number)?;
+    let stamp = FileNote::Refused(PcapFault::BadStamp { rec: 1 });
+    has_head(&rt, [1_600_000_000, 1_000_000_000, 56, 56], stamp)?;
+    let length = FileNote::Refused(PcapFault::BadLength { rec: 1 });
+    let numbers = [1_599_999_999, 999_000_000, 262_145, 262_145];
+    has_head(&rt, numbers, length)
+}
+
+// In whatever pieces this text comes, it has the stamps and frames of that capture.
+fn has_frames(rt: &impl Abort, alloc: Global, text: &[u8]) -> Result<(), Fail> {
+    for piece in PIECES {
+        let mut reader = open(alloc, text, piece, &[], MOST)?;
+        for index in 0..41 {
+            has_frame(rt, &mut reader, stamp(index), &frame(index));
+        }
+        stays(rt, &mut reader, FileNote::End);
     }
-    let mut long = kind.header(alloc, 4, 1)?;
-    kind.head(&mut long, stamp(0), 262_145)?;
-    has_records(
-        &rt,
-        &stamped,
-        0,
-        FileNote::Refused(PcapFault::BadStamp { rec: 1 }),
-    )?;
-    has_records(
-        &rt,
-        &long,
-        0,
-        FileNote::Refused(PcapFault::BadLength { rec: 1 }),
-    )
+    Ok(())
+}
+
+// That capture with its numbers in this order.
+fn has_order(rt: &(impl Abort + AllocGlobal), kind: Kind) -> Result<(), Fail> {
+    let text = capture(rt.alloc(), kind)?;
+    has_records(rt, &text, 41, FileNote::End)?;
+    has_frames(rt, rt.alloc(), &text)
 }
 
 #[test]
 fn other_orders(rt: HostRuntime) -> Result<(), Fail> {
-    let alloc = rt.alloc();
     let kinds = [
         Kind::LittleMicros,
         Kind::LittleNanos,
@@ -244,21 +293,7 @@ fn other_orders(rt: HostRuntime) -> Result<(), Fail> {
         Kind::BigNanos,
     ];
     for kind in kinds {
-        let text = capture(alloc, kind)?;
-        has_records(&rt, &text, 41, FileNote::End)?;
-        for piece in PIECES {
-            let mut reader = open(alloc, &text, piece, &[], MOST)?;
-            for index in 0..41 {
-                match reader.next() {
-                    Ok(Step::Frame { at, bytes }) => {
-                        assert_eq!(rt; at, stamp(index), "at {index}");
-                        assert_eq!(rt; bytes, &frame(index)[..], "at {index}");
-                    }
-                    _ => assert!(rt; false, "no frame at {index}"),
-                }
-            }
-            assert!(rt; matches!(reader.next(), Ok(Step::End)));
-        }
+        has_order(&rt, kind)?;
     }
     Ok(())
 }
@@ -266,13 +301,9 @@ fn other_orders(rt: HostRuntime) -> Result<(), Fail> {
 #[test]
 fn cut_capture(rt: HostRuntime) -> Result<(), Fail> {
     let text = capture(rt.alloc(), Kind::LittleNanos)?;
-    assert_eq!(rt; text.len(), 2976);
-    has_records(
-        &rt,
-        text.get(..2914).unwrap_or(&[]),
-        40,
-        FileNote::Cut { at: 2904 },
-    )
+    same(&rt, &text.len(), &2976);
+    let front = text.get(..2914).unwrap_or(&[]);
+    has_records(&rt, front, 40, FileNote::Cut { at: 2904 })
 }
 
 #[test]
@@ -283,19 +314,22 @@ fn compressed_file(rt: HostRuntime) -> Result<(), Fail> {
     has_records(&rt, &text, 0, FileNote::Refused(PcapFault::BadMagic))
 }
 
-// After a failed read nothing is read, though the source would go on.
+// Two records, and then nothing is read, though the source would go on.
+fn stops_at_failure(rt: &impl Abort, reader: &mut PcapReader<MemorySource>) {
+    same(rt, &sight(reader), &Ok((stamp(0), 56)));
+    same(rt, &sight(reader), &Ok((stamp(1), 56)));
+    for _ in 0..3 {
+        same(
+            rt,
+            &sight(reader),
+            &Err(FileNote::Refused(PcapFault::ReadFault)),
+        );
+    }
+}
+
 #[test]
 fn failed_read(rt: HostRuntime) -> Result<(), Fail> {
-    let alloc = rt.alloc();
-    let text = capture(alloc, Kind::LittleNanos)?;
-    let mut reader = open(alloc, &text, 100, &[3], MOST)?;
-    assert_eq!(rt; sight(&mut reader), Ok((stamp(0), 56)));
-    assert_eq!(rt; sight(&mut reader), Ok((stamp(1), 56)));
-    assert_eq!(rt;
-        sight(&mut reader),
-        Err(FileNote::Refused(PcapFault::ReadFault))
-    );
-    assert_eq!(rt; reader.next().err(), Some(PcapFault::ReadFault));
-    assert_eq!(rt; reader.next().err(), Some(PcapFault::ReadFault));
+    let text = capture(rt.alloc(), Kind::LittleNanos)?;
+    stops_at_failure(&rt, &mut open(rt.alloc(), &text, 100, &[3], MOST)?);
     Ok(())
 }

@@ -2,6 +2,7 @@
 
 ghost use Rattle.std.specs.Prelude.{◌≤◌, ◌*◌};
 
+use super::compare::{same, same_at};
 use read_schedule::{Due, NextRead, Schedule};
 use sender_params::Params;
 use sender_params::worked::video;
@@ -24,7 +25,7 @@ fn advanced(
     assert!(rt; n0 >= -480 && n0 <= 1 << 42);
     let due = schedule.advance(at);
     let counted = Schedule::new(params, gapped, n0).advance(at);
-    assert_eq!(rt; counted, due, "at {at}");
+    same_at(rt, &at, &counted, &due);
     due
 }
 
@@ -37,11 +38,11 @@ fn linear_sender(rt: HostRuntime) {
     for (gapped, count) in rows {
         let mut schedule = Schedule::new(&params, gapped, FRAME);
         let due = advanced(&rt, &params, (gapped, FRAME), &mut schedule, FIRST);
-        assert_eq!(rt; due.count, 0);
+        same(&rt, &due.count, &0);
         let at = FIRST + 1_000_000;
         let due = advanced(&rt, &params, (gapped, FRAME), &mut schedule, at);
-        assert_eq!(rt; due.count, count);
-        assert!(rt; !due.on_time);
+        same(&rt, &due.count, &count);
+        same(&rt, &due.on_time, &false);
     }
 }
 
@@ -62,7 +63,7 @@ fn next_reads(rt: HostRuntime) {
         assert!(rt; late < 1 << 40 && next < 1 << 40);
         let read = schedule.next_after(FIRST + late);
         let at = FIRST + next;
-        assert_eq!(rt; read, NextRead { number, at }, "at {late}");
+        same_at(&rt, &late, &read, &NextRead { number, at });
     }
 }
 
@@ -81,16 +82,16 @@ fn spans(rt: HostRuntime) {
     for (last, lasts, end) in rows {
         assert!(rt; last < 1 << 40 && end < 1 << 40);
         let mut span = schedule.between(0, 1, FIRST + last);
-        assert_eq!(rt; span.lasts, lasts);
-        assert!(rt; !span.holds(FIRST + 444));
-        assert!(rt; span.holds(FIRST + 445));
-        assert!(rt; !span.holds(FIRST + end + 1));
-        assert!(rt; span.holds(FIRST + end));
+        same(&rt, &span.lasts, &lasts);
+        same(&rt, &span.holds(FIRST + 444), &false);
+        same(&rt, &span.holds(FIRST + 445), &true);
+        same(&rt, &span.holds(FIRST + end + 1), &false);
+        same(&rt, &span.holds(FIRST + end), &true);
         span.go_on(FIRST + end);
-        assert!(rt; !span.holds(FIRST + 960_445));
-        assert!(rt; span.holds(FIRST + 960_446));
-        assert!(rt; span.holds(FIRST + end + 960_001));
-        assert!(rt; !span.holds(FIRST + end + 960_002));
+        same(&rt, &span.holds(FIRST + 960_445), &false);
+        same(&rt, &span.holds(FIRST + 960_446), &true);
+        same(&rt, &span.holds(FIRST + end + 960_001), &true);
+        same(&rt, &span.holds(FIRST + end + 960_002), &false);
     }
 }
 
@@ -106,8 +107,8 @@ fn on_its_read(rt: HostRuntime) {
         for packet in 0..20 {
             let at = first + 960_000 * packet + late;
             let due = advanced(&rt, &params, (true, FRAME), &mut schedule, at);
-            assert_eq!(rt; due.count, packet + 1, "at {at}");
-            assert_eq!(rt; due.on_time, late == 0, "at {at}");
+            same_at(&rt, &at, &due.count, &(packet + 1));
+            same_at(&rt, &at, &due.on_time, &(late == 0));
         }
     }
 }
@@ -124,7 +125,7 @@ fn usual_equipment(rt: HostRuntime) {
         let read = (450_450_000 * frame + 17_217_200 + 100_100 * place) / 27;
         let at = 1_601_600_000_000_000_000 + read - 1_000;
         let due = advanced(&rt, &params, (true, n0), &mut schedule, at);
-        assert_eq!(rt; due.count, packet, "packet {packet}");
+        same_at(&rt, &packet, &due.count, &packet);
     }
 }
 

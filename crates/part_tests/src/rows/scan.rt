@@ -3,6 +3,7 @@
 ghost use Rattle.std.specs.Prelude.{◌≤◌};
 ghost use Rattle.capture_scan.specs.Stands.{count_records};
 
+use super::compare::same;
 use capture_scan::{Found, Line, Packet, Scan, Seen, Span, Stream, UnreadTarget, look_at};
 use std::alloc::Global;
 use std::process::Abort;
@@ -58,7 +59,7 @@ fn sees_a_packet(rt: HostRuntime) {
             second_field: true,
         }),
     };
-    assert_eq!(rt; look_at(7, 70, &FRAME), Seen::Read(packet));
+    same(&rt, &look_at(7, 70, &FRAME), &Seen::Read(packet));
 }
 
 // A scan, and how many records it was given.
@@ -105,24 +106,25 @@ fn five_records(rt: &impl Abort, alloc: Global) -> Result<Found, Fail> {
 
 // Two packets of 48 bytes, and one between them that is lost.
 fn check_stream(rt: &impl Abort, stream: &Stream) {
-    assert_eq!(rt; stream.ssrc, 1);
-    assert_eq!(rt; stream.packets, 2);
-    assert_eq!(rt; stream.order.lost, 1);
-    assert_eq!(rt; stream.bytes, 96);
+    same(rt, &stream.ssrc, &1);
+    same(rt, &stream.packets, &2);
+    same(rt, &stream.order.lost, &1);
+    same(rt, &stream.bytes, &96);
 }
 
 fn check_found(rt: &impl Abort, found: &Found) {
-    assert_eq!(rt; found.records, 5);
-    assert_eq!(rt;
-        found.span,
-        Some(Span {
+    same(rt, &found.records, &5);
+    same(
+        rt,
+        &found.span,
+        &Some(Span {
             first: 10,
-            last: 50
-        })
+            last: 50,
+        }),
     );
-    assert_eq!(rt; found.passed_over.empty, 1);
-    assert_eq!(rt; found.more, 0);
-    assert_eq!(rt; found.streams.len(), 2);
+    same(rt, &found.passed_over.empty, &1);
+    same(rt, &found.more, &0);
+    same(rt, &found.streams.len(), &2);
     let Some(stream) = found.streams.first() else {
         panic!(rt; "no stream");
     };
@@ -130,12 +132,13 @@ fn check_found(rt: &impl Abort, found: &Found) {
     let Some(unread) = found.unread.first() else {
         panic!(rt; "no unread packet");
     };
-    assert_eq!(rt;
-        *unread,
-        UnreadTarget {
+    same(
+        rt,
+        unread,
+        &UnreadTarget {
             target: TARGET,
-            packets: 1
-        }
+            packets: 1,
+        },
     );
 }
 

@@ -3,6 +3,7 @@
 
 ghost use Rattle.std.specs.Prelude.{◌≤◌};
 
+use super::compare::{same, same_at};
 use SdpCause::*;
 use sdp_reader::{SdpCause, SdpError, SdpFault, read_sdp};
 use std::alloc::{AllocError, Global};
@@ -10,7 +11,7 @@ use std::process::Abort;
 use timing_base::worked::PLAIN;
 use timing_base::{Kind, Media};
 
-// The plain description: lines 1 to 4, 5, 6, 7, and after line 8 the lines 9 and 10.
+// The plain description: lines 1 to 4, 5, 6, 7, three parts of line 8, and after its end lines 9 and 10.
 const SESSION: &str = "v=0\no=- 1 1 IN IP4 192.0.2.1\ns=test\nt=0 0\n";
 
 const MEDIA: &str = "m=video 50000 RTP/AVP 96\n";
@@ -19,27 +20,17 @@ const CONNECTION: &str = "c=IN IP4 239.0.0.1/32\n";
 
 const MAP: &str = "a=rtpmap:96 raw/90000\n";
 
+const SIZE: &str = "a=fmtp:96 sampling=YCbCr-4:2:2; width=1920; height=1080; exactframerate=";
+
+const RATE: &str = "50";
+
+const REST: &str =
+    "; depth=10; TCS=SDR; colorimetry=BT709; PM=2110GPM; SSN=ST2110-20:2017; TP=2110TPN;";
+
 const CLOCKS: &str =
-    "a=mediaclk:direct=0\na=ts-refclk:ptp=IEEE1588-2008:39-A7-94-FF-FE-07-CB-D0:37\n";
+    "\na=mediaclk:direct=0\na=ts-refclk:ptp=IEEE1588-2008:39-A7-94-FF-FE-07-CB-D0:37\n";
 
-// Line 8 of the plain description, with this rate and this after its parameters.
-fn parameter_line(alloc: Global, rate: &str, more: &str) -> Result<String, AllocError> {
-    format!(in alloc;
-        "a=fmtp:96 sampling=YCbCr-4:2:2; width=1920; height=1080; exactframerate={rate}; depth=10; TCS=SDR; colorimetry=BT709; PM=2110GPM; SSN=ST2110-20:2017; TP=2110TPN;{more}\n"
-    )
-}
-
-// Lines 5 to 8 of the plain description, with such a line 8.
-fn plain_part(alloc: Global, rate: &str, more: &str) -> Result<String, AllocError> {
-    let list = parameter_line(alloc, rate, more)?;
-    format!(in alloc; "{MEDIA}{CONNECTION}{MAP}{list}")
-}
-
-// The plain description, with such a line 8.
-fn plain_with(alloc: Global, rate: &str, more: &str) -> Result<String, AllocError> {
-    let part = plain_part(alloc, rate, more)?;
-    format!(in alloc; "{SESSION}{part}{CLOCKS}")
-}
+const PLAIN_TEXT: [&str; 8] = [SESSION, MEDIA, CONNECTION, MAP, SIZE, RATE, REST, CLOCKS];
 
 // Two video parts of the same packets on two paths, the first with the session's connection.
 const PAIR: &str =
@@ -77,97 +68,150 @@ fn fault_of(rt: &impl Abort, alloc: Global, text: &[u8]) -> Option<SdpFault> {
     match read_sdp(alloc, text) {
         Ok(_) => None,
         Err(SdpError::Refused(fault)) => Some(fault),
-        Err(SdpError::OutOfMemory) => {
-            assert!(rt; false, "out of memory");
-            None
-        }
+        Err(SdpError::OutOfMemory) => panic!(rt; "out of memory"),
     }
 }
 
 // The text has this first fault, or is accepted where there is none.
 fn assert_fault(rt: &impl Abort, alloc: Global, text: &str, want: Option<(u32, SdpCause)>) {
     let want = want.map(|(line, what)| SdpFault { line, what });
-    assert_eq!(rt; fault_of(rt, alloc, text.as_bytes()), want, "{text:?}");
+    same_at(rt, &text, &fault_of(rt, alloc, text.as_bytes()), &want);
+}
+
+// Each of these texts has its first fault.
+fn assert_faults(rt: &impl Abort, alloc: Global, rows: &[(&str, u32, SdpCause)]) {
+    for (text, line, what) in rows {
+        assert_fault(rt, alloc, text, Some((*line, *what)));
+    }
+}
+
+// The text of these parts.
+fn joined(alloc: Global, parts: &[&str]) -> Result<String, AllocError> {
+    let mut text = String::new(alloc);
+    for part in parts {
+        text.push_str(part)?;
+    }
+    Ok(text)
+}
+
+// The text of these parts has this first fault, or is accepted where there is none.
+fn assert_joined(
+    rt: &impl Abort,
+    alloc: Global,
+    parts: &[&str],
+    want: Option<(u32, SdpCause)>,
+) -> Result<(), AllocError> {
+    let text = joined(alloc, parts)?;
+    assert_fault(rt, alloc, &text, want);
+    Ok(())
 }
 
 // The text is accepted, and has these media.
 fn assert_media(rt: &impl Abort, alloc: Global, text: &str, want: &[Media]) {
     match read_sdp(alloc, text.as_bytes()) {
-        Ok(session) => assert_eq!(rt; session.media.as_slice(), want, "{text:?}"),
-        Err(e) => assert!(rt; false, "{text:?}: {e:?}"),
+        Ok(session) => same_at(rt, &text, &session.media.as_slice(), &want),
+        Err(e) => panic!(rt; "{text:?}: {e:?}"),
     }
+}
+
+// The text of these parts is accepted, and has these media.
+fn assert_joined_media(
+    rt: &impl Abort,
+    alloc: Global,
+    parts: &[&str],
+    want: &[Media],
+) -> Result<(), AllocError> {
+    let text = joined(alloc, parts)?;
+    assert_media(rt, alloc, &text, want);
+    Ok(())
 }
 
 #[test]
 fn plain(rt: HostRuntime) -> Result<(), AllocError> {
-    let text = plain_with(rt.alloc(), "50", "")?;
-    assert_media(&rt, rt.alloc(), &text, &[PLAIN]);
-    Ok(())
+    assert_joined_media(&rt, rt.alloc(), &PLAIN_TEXT, &[PLAIN])
 }
 
 #[test]
 fn sdp_empty(rt: HostRuntime) {
-    assert_fault(&rt, rt.alloc(), "", Some((1, NoVersion)));
-    assert_fault(&rt, rt.alloc(), "v=0", Some((0, NoVideo)));
+    let rows = [("", 1, NoVersion), ("v=0", 0, NoVideo)];
+    assert_faults(&rt, rt.alloc(), &rows)
 }
 
 #[test]
 fn sdp_no_connection(rt: HostRuntime) -> Result<(), AllocError> {
-    let list = parameter_line(rt.alloc(), "50", "")?;
-    let text = format!(in rt.alloc(); "{SESSION}{MEDIA}{MAP}{list}{CLOCKS}")?;
-    assert_fault(&rt, rt.alloc(), &text, Some((5, NoConnection)));
-    Ok(())
+    let parts = [SESSION, MEDIA, MAP, SIZE, RATE, REST, CLOCKS];
+    assert_joined(&rt, rt.alloc(), &parts, Some((5, NoConnection)))
 }
 
 #[test]
 fn sdp_bad_values(rt: HostRuntime) -> Result<(), AllocError> {
-    let rate = plain_with(rt.alloc(), "241", "")?;
-    assert_fault(&rt, rt.alloc(), &rate, Some((8, BadRate)));
-    let troff = plain_with(rt.alloc(), "50", " TROFF=1000001")?;
-    assert_fault(&rt, rt.alloc(), &troff, Some((8, BadParameter)));
-    Ok(())
+    let rate = [
+        SESSION, MEDIA, CONNECTION, MAP, SIZE, "241", REST, "", CLOCKS,
+    ];
+    assert_joined(&rt, rt.alloc(), &rate, Some((8, BadRate)))?;
+    let troff = [
+        SESSION,
+        MEDIA,
+        CONNECTION,
+        MAP,
+        SIZE,
+        RATE,
+        REST,
+        " TROFF=1000001",
+        CLOCKS,
+    ];
+    assert_joined(&rt, rt.alloc(), &troff, Some((8, BadParameter)))
 }
 
+// The plain description, and its lines 5 to 8 once more.
 #[test]
 fn sdp_same_target(rt: HostRuntime) -> Result<(), AllocError> {
-    let plain = plain_with(rt.alloc(), "50", "")?;
-    let part = plain_part(rt.alloc(), "50", "")?;
-    let text = format!(in rt.alloc(); "{plain}{part}")?;
-    assert_fault(&rt, rt.alloc(), &text, Some((11, SameTarget)));
-    Ok(())
+    let parts = [
+        SESSION, MEDIA, CONNECTION, MAP, SIZE, RATE, REST, CLOCKS, MEDIA, CONNECTION, MAP, SIZE,
+        RATE, REST, "\n",
+    ];
+    assert_joined(&rt, rt.alloc(), &parts, Some((11, SameTarget)))
 }
 
 #[test]
 fn sdp_dup_pair(rt: HostRuntime) -> Result<(), AllocError> {
-    let text = format!(in rt.alloc(); "{PAIR}{PAIR_END}")?;
     let first = video(7, 0xef00_0001, 50_000, (1280, 720), Kind::NL);
     let second = video(11, 0xef00_0101, 50_000, (1280, 720), Kind::NL);
-    assert_media(&rt, rt.alloc(), &text, &[first, second]);
-    let text = format!(in rt.alloc(); "{PAIR}MAXUDP=8960;{PAIR_END}")?;
-    match fault_of(&rt, rt.alloc(), text.as_bytes()) {
-        Some(fault) => assert_eq!(rt;
-            format!(in rt.alloc(); "{fault}")?.as_str(),
-            "line 9 ExtendedUdp"
-        ),
-        None => assert!(rt; false, "accepted"),
-    }
+    assert_joined_media(&rt, rt.alloc(), &[PAIR, PAIR_END], &[first, second])?;
+    assert_extended(&rt, rt.alloc(), &[PAIR, "MAXUDP=8960;", PAIR_END])
+}
+
+// The text of these parts is refused with this line.
+fn assert_extended(rt: &impl Abort, alloc: Global, parts: &[&str]) -> Result<(), AllocError> {
+    let text = joined(alloc, parts)?;
+    let Some(fault) = fault_of(rt, alloc, text.as_bytes()) else {
+        panic!(rt; "accepted");
+    };
+    let line = format!(in alloc; "{fault}")?;
+    same(rt, &line.as_str(), &"line 9 ExtendedUdp");
     Ok(())
 }
 
 #[test]
 fn sdp_too_large(rt: HostRuntime) -> Result<(), AllocError> {
     let text = vec![in rt.alloc(); b' '; 1_048_577]?;
+    assert_blanks(&rt, rt.alloc(), &text);
+    Ok(())
+}
+
+// These blanks are too many by one.
+fn assert_blanks(rt: &impl Abort, alloc: Global, text: &[u8]) {
     let large = SdpFault {
         line: 0,
         what: TooLarge,
     };
-    assert_eq!(rt; fault_of(&rt, rt.alloc(), &text), Some(large));
+    same(rt, &fault_of(rt, alloc, text), &Some(large));
     let blank = SdpFault {
         line: 1,
         what: NoVersion,
     };
-    assert_eq!(rt; fault_of(&rt, rt.alloc(), &text[1..]), Some(blank));
-    Ok(())
+    let rest = text.get(1..).unwrap_or(&[]);
+    same(rt, &fault_of(rt, alloc, rest), &Some(blank));
 }
 
 // Some raw parts of three lines, from port 5001 on.
@@ -183,36 +227,52 @@ fn parts(alloc: Global, count: u16) -> Result<String, AllocError> {
     Ok(text)
 }
 
-#[test]
-fn sdp_too_many_media(rt: HostRuntime) -> Result<(), AllocError> {
-    let most = parts(rt.alloc(), 64)?;
-    assert_fault(&rt, rt.alloc(), &most, None);
-    let more = parts(rt.alloc(), 65)?;
-    assert_fault(&rt, rt.alloc(), &more, Some((195, TooManyMedia)));
+// The text of so many parts has this first fault, or is accepted where there is none.
+fn assert_parts(
+    rt: &impl Abort,
+    alloc: Global,
+    count: u16,
+    want: Option<(u32, SdpCause)>,
+) -> Result<(), AllocError> {
+    let text = parts(alloc, count)?;
+    assert_fault(rt, alloc, &text, want);
     Ok(())
 }
 
-// A text that is good but for one place.
-#[derive(Clone, Copy)]
-struct Around {
-    before: &'static str,
-    after: &'static str,
+#[test]
+fn sdp_too_many_media(rt: HostRuntime) -> Result<(), AllocError> {
+    assert_parts(&rt, rt.alloc(), 64, None)?;
+    assert_parts(&rt, rt.alloc(), 65, Some((195, TooManyMedia)))
 }
 
-impl Around {
-    // With each of these in its place the text has this first fault, or is accepted where there is
-    // none.
+// A text that is good but for one place, what is accepted there, and what has the first fault of a line and cause.
+#[derive(Clone, Copy)]
+struct Around<'a> {
+    before: &'a str,
+    after: &'a str,
+    good: &'a [&'a str],
+    bad: &'a [(u32, SdpCause, &'a [&'a str])],
+}
+
+impl Around<'_> {
+    // With each of these in its place the text has this first fault, or is accepted where there is none.
     fn assert_each(
         &self,
         rt: &impl Abort,
         alloc: Global,
-        want: Option<(u32, SdpCause)>,
         rows: &[&str],
+        want: Option<(u32, SdpCause)>,
     ) -> Result<(), AllocError> {
-        let Around { before, after } = self;
         for row in rows {
-            let text = format!(in alloc; "{before}{row}{after}")?;
-            assert_fault(rt, alloc, &text, want);
+            assert_joined(rt, alloc, &[self.before, row, self.after], want)?;
+        }
+        Ok(())
+    }
+
+    fn holds(&self, rt: &impl Abort, alloc: Global) -> Result<(), AllocError> {
+        self.assert_each(rt, alloc, self.good, None)?;
+        for (line, what, rows) in self.bad {
+            self.assert_each(rt, alloc, rows, Some((*line, *what)))?;
         }
         Ok(())
     }
@@ -223,30 +283,38 @@ fn sizes(rt: HostRuntime) -> Result<(), AllocError> {
     let around = Around {
         before: "v=0\nc=IN IP4 239.0.0.1\nm=video 5000 RTP/AVP 96\na=rtpmap:96 raw/90000\na=fmtp:96 exactframerate=25; ",
         after: "\n",
+        good: &[
+            "width=1; height=1",
+            "width=32767 ;\theight=0000032767;; ;",
+            "WIDTH=2; Height=2",
+        ],
+        bad: &[
+            (
+                5,
+                BadParameter,
+                &[
+                    "width=0; height=2",
+                    "width=32768; height=2",
+                    "width=2; height=0",
+                    "width=2; height=32768",
+                    "width=00000000002; height=2",
+                    "width= 2; height=2",
+                    "width=+2; height=2",
+                    "width; height=2",
+                    // A width in a bad form isn't missing.
+                    "width=x; height=2",
+                    "width=2; height=",
+                    "width=2; height=2; width",
+                ],
+            ),
+            (
+                5,
+                RepeatedParameter,
+                &["width=2; height=2; height=2", "width=2; Width=2; height=2"],
+            ),
+        ],
     };
-    let good = [
-        "width=1; height=1",
-        "width=32767 ;\theight=0000032767;; ;",
-        "WIDTH=2; Height=2",
-    ];
-    around.assert_each(&rt, rt.alloc(), None, &good)?;
-    let bad = [
-        "width=0; height=2",
-        "width=32768; height=2",
-        "width=2; height=0",
-        "width=2; height=32768",
-        "width=00000000002; height=2",
-        "width= 2; height=2",
-        "width=+2; height=2",
-        "width; height=2",
-        // A width in a bad form isn't missing.
-        "width=x; height=2",
-        "width=2; height=",
-        "width=2; height=2; width",
-    ];
-    around.assert_each(&rt, rt.alloc(), Some((5, BadParameter)), &bad)?;
-    let repeated = ["width=2; height=2; height=2", "width=2; Width=2; height=2"];
-    around.assert_each(&rt, rt.alloc(), Some((5, RepeatedParameter)), &repeated)
+    around.holds(&rt, rt.alloc())
 }
 
 #[test]
@@ -254,30 +322,33 @@ fn rates(rt: HostRuntime) -> Result<(), AllocError> {
     let around = Around {
         before: "v=0\nc=IN IP4 239.0.0.1\nm=video 5000 RTP/AVP 96\na=rtpmap:96 RaW/90000\na=fmtp:96 width=2; height=2; exactframerate",
         after: "\n",
+        good: &[
+            "=1",
+            "=1/1001",
+            "=240",
+            "=480/2",
+            "=60000/1001",
+            "=240240/1001",
+            "=0000000025/0000000001",
+        ],
+        bad: &[(
+            5,
+            BadRate,
+            &[
+                "=241",
+                "=481/2",
+                "=240241/1001",
+                "=1/1002",
+                "=1/0",
+                "=0",
+                "=0/1",
+                "=1/",
+                "=480/2/1",
+                "",
+            ],
+        )],
     };
-    let good = [
-        "=1",
-        "=1/1001",
-        "=240",
-        "=480/2",
-        "=60000/1001",
-        "=240240/1001",
-        "=0000000025/0000000001",
-    ];
-    around.assert_each(&rt, rt.alloc(), None, &good)?;
-    let bad = [
-        "=241",
-        "=481/2",
-        "=240241/1001",
-        "=1/1002",
-        "=1/0",
-        "=0",
-        "=0/1",
-        "=1/",
-        "=480/2/1",
-        "",
-    ];
-    around.assert_each(&rt, rt.alloc(), Some((5, BadRate)), &bad)
+    around.holds(&rt, rt.alloc())
 }
 
 #[test]
@@ -285,37 +356,43 @@ fn other_parameters(rt: HostRuntime) -> Result<(), AllocError> {
     let around = Around {
         before: "v=0\nc=IN IP4 239.0.0.1\nm=video 5000 RTP/AVP 96\na=rtpmap:96 raw/90000\na=fmtp:96 width=2; height=2; exactframerate=25; ",
         after: "\n",
+        good: &[
+            "interlace",
+            "TP=2110TPW",
+            "TROFF=0",
+            "TROFF=1000000",
+            "CMAX=1",
+            "CMAX=65535",
+            "MAXUDP=1",
+            "MAXUDP=1460",
+            // Names that aren't known are passed over, also a second time.
+            "width =5; foo; bar=baz=1; foo",
+        ],
+        bad: &[
+            (
+                5,
+                BadParameter,
+                &[
+                    "interlace=1",
+                    "segmented=",
+                    "TP=2110tpn",
+                    "TROFF=1000001",
+                    "CMAX=0",
+                    "CMAX=65536",
+                    "MAXUDP=0",
+                    "MAXUDP=65536",
+                ],
+            ),
+            (5, ExtendedUdp, &["MAXUDP=1461", "MAXUDP=65535"]),
+            (5, Segmented, &["segmented", "interlace; segmented"]),
+            (
+                5,
+                RepeatedParameter,
+                &["tp=2110TPN; TP=2110TPN", "interlace; interlace"],
+            ),
+        ],
     };
-    let good = [
-        "interlace",
-        "TP=2110TPW",
-        "TROFF=0",
-        "TROFF=1000000",
-        "CMAX=1",
-        "CMAX=65535",
-        "MAXUDP=1",
-        "MAXUDP=1460",
-        // Names that aren't known are passed over, also a second time.
-        "width =5; foo; bar=baz=1; foo",
-    ];
-    around.assert_each(&rt, rt.alloc(), None, &good)?;
-    let bad = [
-        "interlace=1",
-        "segmented=",
-        "TP=2110tpn",
-        "TROFF=1000001",
-        "CMAX=0",
-        "CMAX=65536",
-        "MAXUDP=0",
-        "MAXUDP=65536",
-    ];
-    around.assert_each(&rt, rt.alloc(), Some((5, BadParameter)), &bad)?;
-    let extended = ["MAXUDP=1461", "MAXUDP=65535"];
-    around.assert_each(&rt, rt.alloc(), Some((5, ExtendedUdp)), &extended)?;
-    let segmented = ["segmented", "interlace; segmented"];
-    around.assert_each(&rt, rt.alloc(), Some((5, Segmented)), &segmented)?;
-    let repeated = ["tp=2110TPN; TP=2110TPN", "interlace; interlace"];
-    around.assert_each(&rt, rt.alloc(), Some((5, RepeatedParameter)), &repeated)
+    around.holds(&rt, rt.alloc())
 }
 
 // Two causes and more on one line: that with the smallest number.
@@ -324,20 +401,19 @@ fn several_causes(rt: HostRuntime) -> Result<(), AllocError> {
     let around = Around {
         before: "v=0\nc=IN IP4 239.0.0.1\nm=video 5000 RTP/AVP 96\na=rtpmap:96 raw/90000\na=fmtp:96 height=2; segmented; MAXUDP=",
         after: "\n",
+        good: &[],
+        bad: &[
+            (5, BadParameter, &["0; width=2; width=2; exactframerate=0"]),
+            (
+                5,
+                RepeatedParameter,
+                &["1461; width=2; width=2; exactframerate=0"],
+            ),
+            (5, BadRate, &["1461; width=2; exactframerate=0"]),
+            (5, Segmented, &["1461; width=2; exactframerate=25"]),
+        ],
     };
-    let rows = [
-        ("0; width=2; width=2; exactframerate=0", BadParameter),
-        (
-            "1461; width=2; width=2; exactframerate=0",
-            RepeatedParameter,
-        ),
-        ("1461; width=2; exactframerate=0", BadRate),
-        ("1461; width=2; exactframerate=25", Segmented),
-    ];
-    for (row, cause) in rows {
-        around.assert_each(&rt, rt.alloc(), Some((5, cause)), &[row])?;
-    }
-    Ok(())
+    around.holds(&rt, rt.alloc())
 }
 
 #[test]
@@ -345,29 +421,32 @@ fn addresses(rt: HostRuntime) -> Result<(), AllocError> {
     let around = Around {
         before: "v=0\nc=",
         after: "\nm=video 1 RTP/AVP 0\na=rtpmap:0 raw/90000\na=fmtp:0 width=1;height=1;exactframerate=1",
+        good: &[
+            "IN IP4 0.0.0.0",
+            "IN IP4 255.255.255.255/255",
+            "IN IP4 001.02.3.4/0",
+        ],
+        bad: &[(
+            2,
+            BadAddress,
+            &[
+                "IN IP4 1.2.3",
+                "IN IP4 1.2.3.",
+                "IN IP4 1.2.3.4.5",
+                "IN IP4 256.2.3.4",
+                "IN IP4 1.2.3.256",
+                "IN IP4 1.2.3.0004",
+                "IN IP4 1.2.3.4/",
+                "IN IP4 1.2.3.4/256",
+                "IN IP4 1.2.3.4/1/2",
+                "IN IP4  1.2.3.4",
+                "in ip4 1.2.3.4",
+                "IN IP6 ::1",
+                "",
+            ],
+        )],
     };
-    let good = [
-        "IN IP4 0.0.0.0",
-        "IN IP4 255.255.255.255/255",
-        "IN IP4 001.02.3.4/0",
-    ];
-    around.assert_each(&rt, rt.alloc(), None, &good)?;
-    let bad = [
-        "IN IP4 1.2.3",
-        "IN IP4 1.2.3.",
-        "IN IP4 1.2.3.4.5",
-        "IN IP4 256.2.3.4",
-        "IN IP4 1.2.3.256",
-        "IN IP4 1.2.3.0004",
-        "IN IP4 1.2.3.4/",
-        "IN IP4 1.2.3.4/256",
-        "IN IP4 1.2.3.4/1/2",
-        "IN IP4  1.2.3.4",
-        "in ip4 1.2.3.4",
-        "IN IP6 ::1",
-        "",
-    ];
-    around.assert_each(&rt, rt.alloc(), Some((2, BadAddress)), &bad)
+    around.holds(&rt, rt.alloc())
 }
 
 #[test]
@@ -375,30 +454,33 @@ fn video_lines(rt: HostRuntime) -> Result<(), AllocError> {
     let around = Around {
         before: "v=0\nc=IN IP4 1.2.3.4\nm=video ",
         after: "\na=rtpmap:0 raw/90000\na=fmtp:0 width=1;height=1;exactframerate=1",
+        good: &[
+            "1 RTP/AVP 0",
+            "65535 RTP/AVP 000",
+            "0000000001 RTP/AVP 0 0 x",
+        ],
+        bad: &[(
+            3,
+            BadMedia,
+            &[
+                "",
+                " 1 RTP/AVP 0",
+                "0 RTP/AVP 0",
+                "65536 RTP/AVP 0",
+                "00000000001 RTP/AVP 0",
+                "1/2 RTP/AVP 0",
+                "1  RTP/AVP 0",
+                "1 RTP/SAVP 0",
+                "1 rtp/avp 0",
+                "1 RTP/AVP 128",
+                "1 RTP/AVP 0x",
+                "1 RTP/AVP\t0",
+                "1 RTP/AVP",
+                "1",
+            ],
+        )],
     };
-    let good = [
-        "1 RTP/AVP 0",
-        "65535 RTP/AVP 000",
-        "0000000001 RTP/AVP 0 0 x",
-    ];
-    around.assert_each(&rt, rt.alloc(), None, &good)?;
-    let bad = [
-        "",
-        " 1 RTP/AVP 0",
-        "0 RTP/AVP 0",
-        "65536 RTP/AVP 0",
-        "00000000001 RTP/AVP 0",
-        "1/2 RTP/AVP 0",
-        "1  RTP/AVP 0",
-        "1 RTP/SAVP 0",
-        "1 rtp/avp 0",
-        "1 RTP/AVP 128",
-        "1 RTP/AVP 0x",
-        "1 RTP/AVP\t0",
-        "1 RTP/AVP",
-        "1",
-    ];
-    around.assert_each(&rt, rt.alloc(), Some((3, BadMedia)), &bad)
+    around.holds(&rt, rt.alloc())
 }
 
 // Each text is accepted.
@@ -439,60 +521,80 @@ fn single_lines(rt: HostRuntime) {
         ("v=0\na=\nz=\n{=", 4, BadLine),
         ("v=0\n`=", 2, BadLine),
     ];
-    for (text, line, what) in rows {
-        assert_fault(&rt, rt.alloc(), text, Some((line, what)));
-    }
+    assert_faults(&rt, rt.alloc(), &rows)
 }
+
+// Parts that are passed over: a map of another format, fields that a tab cuts, and no map.
+const PASSED_OVER: Around = Around {
+    before: "v=0\nm=video",
+    after: "",
+    good: &[],
+    bad: &[(
+        0,
+        NoVideo,
+        &[
+            " 1 RTP/AVP 0\na=rtpmap:1 raw/90000\na=fmtp:0 width",
+            "\t1 RTP/AVP 96",
+            " 0000000001 RTP/AVP 96 96 ",
+        ],
+    )],
+};
 
 // A part that is passed over, or has a fault of its own; the text's first line is the version.
 #[test]
 fn raw_parts(rt: HostRuntime) -> Result<(), AllocError> {
-    // A map of another format, fields that a tab cuts, and no map.
-    let passed_over = Around {
-        before: "v=0\nm=video",
-        after: "",
-    };
-    let rows = [
-        " 1 RTP/AVP 0\na=rtpmap:1 raw/90000\na=fmtp:0 width",
-        "\t1 RTP/AVP 96",
-        " 0000000001 RTP/AVP 96 96 ",
-    ];
-    passed_over.assert_each(&rt, rt.alloc(), Some((0, NoVideo)), &rows)?;
     let raw = Around {
         before: "v=0\nc=IN IP4 1.2.3.4\nm=video 1 RTP/AVP 0\na=rtpmap:0 raw/90000\n",
         after: "",
+        good: &[],
+        bad: &[
+            // The part's own connection, before the session's.
+            (
+                5,
+                BadAddress,
+                &["c=bad\na=fmtp:0 width=1;height=1;exactframerate=1"],
+            ),
+            // No list at all, a list of another format beside a line without one, and no rate.
+            (
+                3,
+                MissingParameter,
+                &[
+                    "",
+                    "a=fmtp:0\na=fmtp:1 width=1;height=1;exactframerate=1",
+                    "a=fmtp:0 width=1;height=1",
+                ],
+            ),
+            // A second time in a second line, once in a bad form.
+            (
+                6,
+                RepeatedParameter,
+                &[
+                    "a=fmtp:0 width=1;height=1;exactframerate=1\na=fmtp:0 Width=1",
+                    "a=fmtp:0 width=1;height=1;exactframerate=1\na=fmtp:0 exactframerate=x",
+                ],
+            ),
+        ],
     };
-    // The part's own connection, before the session's.
-    let own = ["c=bad\na=fmtp:0 width=1;height=1;exactframerate=1"];
-    raw.assert_each(&rt, rt.alloc(), Some((5, BadAddress)), &own)?;
-    // No list at all, a list of another format beside a line without one, and no rate.
-    let missing = [
-        "",
-        "a=fmtp:0\na=fmtp:1 width=1;height=1;exactframerate=1",
-        "a=fmtp:0 width=1;height=1",
-    ];
-    raw.assert_each(&rt, rt.alloc(), Some((3, MissingParameter)), &missing)?;
-    // A second time in a second line, once in a bad form.
-    let repeated = [
-        "a=fmtp:0 width=1;height=1;exactframerate=1\na=fmtp:0 Width=1",
-        "a=fmtp:0 width=1;height=1;exactframerate=1\na=fmtp:0 exactframerate=x",
-    ];
-    raw.assert_each(&rt, rt.alloc(), Some((6, RepeatedParameter)), &repeated)
+    PASSED_OVER.holds(&rt, rt.alloc())?;
+    raw.holds(&rt, rt.alloc())
 }
 
 // A part, and a second one on line 6.
 #[test]
 fn second_parts(rt: HostRuntime) -> Result<(), AllocError> {
-    let second = Around {
+    let around = Around {
         before: "v=0\nc=IN IP4 1.2.3.4\nm=video 1 RTP/AVP 0\na=rtpmap:0 raw/90000\na=fmtp:0 width=1;height=1;exactframerate=1\nm=video ",
         after: "\na=rtpmap:0 raw/90000\na=fmtp:0 width=1;height=1;exactframerate=1",
+        // One address and two ports, and one port at two addresses.
+        good: &["2 RTP/AVP 0", "1 RTP/AVP 0\nc=IN IP4 1.2.3.5"],
+        // The same address, also in another form.
+        bad: &[(
+            6,
+            SameTarget,
+            &["1 RTP/AVP 0", "1 RTP/AVP 0\nc=IN IP4 01.2.3.4/7"],
+        )],
     };
-    // One address and two ports, and one port at two addresses.
-    let other = ["2 RTP/AVP 0", "1 RTP/AVP 0\nc=IN IP4 1.2.3.5"];
-    second.assert_each(&rt, rt.alloc(), None, &other)?;
-    // The same address, also in another form.
-    let same = ["1 RTP/AVP 0", "1 RTP/AVP 0\nc=IN IP4 01.2.3.4/7"];
-    second.assert_each(&rt, rt.alloc(), Some((6, SameTarget)), &same)
+    around.holds(&rt, rt.alloc())
 }
 
 // The least line, though a later one has a cause with a smaller number.
@@ -526,9 +628,7 @@ fn least_lines(rt: HostRuntime) {
             MissingParameter,
         ),
     ];
-    for (text, line, what) in rows {
-        assert_fault(&rt, rt.alloc(), text, Some((line, what)));
-    }
+    assert_faults(&rt, rt.alloc(), &rows)
 }
 
 #[test]

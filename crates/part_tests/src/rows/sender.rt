@@ -2,6 +2,7 @@
 
 ghost use Rattle.std.specs.Prelude.{◌<◌, ◌^◌};
 
+use super::compare::same;
 use sender_params::worked::video;
 use sender_params::{Params, sizes_of};
 use timing_base::Kind;
@@ -39,35 +40,35 @@ fn step_of(params: &Params, gapped: bool) -> (u128, u128)
 #[test]
 fn limits_at_5994(rt: HostRuntime) {
     let params = Params::of(&video(1080, false, 60_000, 1001), 4320);
-    assert_eq!(rt; limits(&params), [(6, 9), (5, 9), (16, 863)]);
+    same(&rt, &limits(&params), &[(6, 9), (5, 9), (16, 863)]);
 }
 
 #[test]
 fn limits_at_50(rt: HostRuntime) {
     let params = Params::of(&video(1080, false, 50, 1), 17_280);
-    assert_eq!(rt; limits(&params), [(20, 32), (20, 32), (40, 2880)]);
+    same(&rt, &limits(&params), &[(20, 32), (20, 32), (40, 2880)]);
 }
 
 #[test]
 fn interlaced_limits(rt: HostRuntime) {
     let params = Params::of(&video(1080, true, 25, 1), 8640);
-    assert_eq!(rt; limits(&params), [(10, 16), (10, 16), (20, 1440)]);
+    same(&rt, &limits(&params), &[(10, 16), (10, 16), (20, 1440)]);
 }
 
 // 746,666 2/3 ns.
 #[test]
 fn height_720(rt: HostRuntime) {
     let (num, den) = offset_of(&Params::of(&video(720, false, 50, 1), 20));
-    assert_eq!(rt; num * 3, 2_240_000 * den);
+    same(&rt, &(num * 3), &(2_240_000 * den));
 }
 
 // 1,664,000 ns, and 1,271,111 1/9 ns.
 #[test]
 fn interlaced_offsets(rt: HostRuntime) {
     let (num, den) = offset_of(&Params::of(&video(576, true, 25, 1), 20));
-    assert_eq!(rt; num, 1_664_000 * den);
+    same(&rt, &num, &(1_664_000 * den));
     let (num, den) = offset_of(&Params::of(&video(480, true, 30_000, 1001), 20));
-    assert_eq!(rt; num * 9, 11_440_000 * den);
+    same(&rt, &(num * 9), &(11_440_000 * den));
 }
 
 // 1080p at 50 with 20 packets per frame, and a first packet at 764,000 ns of frame 80,000,000,000:
@@ -77,18 +78,22 @@ fn interlaced_offsets(rt: HostRuntime) {
 fn plain_narrow(rt: HostRuntime) {
     let params = Params::of(&video(1080, false, 50, 1), 20);
     let (num, den) = step_of(&params, true);
-    assert_eq!(rt; num, 960_000 * den);
+    same(&rt, &num, &(960_000 * den));
     let (num, den) = step_of(&params, false);
-    assert_eq!(rt; num, 1_000_000 * den);
+    same(&rt, &num, &(1_000_000 * den));
     let (num, den) = offset_of(&params);
-    assert_eq!(rt; num * 9, 6_880_000 * den);
-    assert_eq!(rt; params.drain.num * 11, 10_000_000 * params.drain.den);
+    same(&rt, &(num * 9), &(6_880_000 * den));
+    same(
+        &rt,
+        &(params.drain.num * 11),
+        &(10_000_000 * params.drain.den),
+    );
     let (num, den) = params.group();
-    assert_eq!(rt; num, 20_000_000 * den);
-    assert_eq!(rt; params.n(), 20);
-    assert_eq!(rt; limits(&params), [(4, 8), (4, 8), (16, 720)]);
-    assert_eq!(rt; params.anchor(FIRST), 80_000_000_000);
-    assert_eq!(rt; params.ticks(FIRST, FIRST + 3_840_000), 4);
+    same(&rt, &num, &(20_000_000 * den));
+    same(&rt, &params.n(), &20);
+    same(&rt, &limits(&params), &[(4, 8), (4, 8), (16, 720)]);
+    same(&rt, &params.anchor(FIRST), &80_000_000_000);
+    same(&rt, &params.ticks(FIRST, FIRST + 3_840_000), &4);
 }
 
 // Gapped read 1 is at 1,724,444 4/9 ns of the frame, before packet 1 at 1,764,000 ns; linear read 1
@@ -96,14 +101,14 @@ fn plain_narrow(rt: HostRuntime) {
 #[test]
 fn linear_sender(rt: HostRuntime) {
     let params = Params::of(&video(1080, false, 50, 1), 20);
-    assert_eq!(rt; params.anchor(FIRST), 80_000_000_000);
+    same(&rt, &params.anchor(FIRST), &80_000_000_000);
     let (offset, den) = offset_of(&params);
     let (step, parts) = step_of(&params, true);
-    assert_eq!(rt; step, 960_000 * parts);
-    assert_eq!(rt; (offset + 960_000 * den) * 9, 15_520_000 * den);
+    same(&rt, &step, &(960_000 * parts));
+    same(&rt, &((offset + 960_000 * den) * 9), &(15_520_000 * den));
     assert!(rt; offset + 960_000 * den < 1_764_000 * den);
     let (step, parts) = step_of(&params, false);
-    assert_eq!(rt; step, 1_000_000 * parts);
-    assert_eq!(rt; (offset + 1_000_000 * den) * 9, 15_880_000 * den);
+    same(&rt, &step, &(1_000_000 * parts));
+    same(&rt, &((offset + 1_000_000 * den) * 9), &(15_880_000 * den));
     assert!(rt; 1_764_000 * den < offset + 1_000_000 * den);
 }

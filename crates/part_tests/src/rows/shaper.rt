@@ -2,6 +2,7 @@
 
 ghost use Rattle.std.specs.Prelude.{◌<◌, ◌≤◌, ◌^◌};
 
+use super::compare::{same, same_at};
 use flow_shaper::{Bound, Departure, Late, Shaper};
 use read_schedule::Schedule;
 use sender_params::Params;
@@ -65,10 +66,11 @@ fn leaves(rt: &impl Abort, params: &Params, at_once: u64, delayed: &[(u64, u64, 
             at: at.saturating_add(delay),
             bound,
         };
-        assert_eq!(rt;
-            fed(rt, params, &mut shaper, at),
-            Ok(departure),
-            "packet {packet}"
+        same_at(
+            rt,
+            &packet,
+            &fed(rt, params, &mut shaper, at),
+            &Ok(departure),
         );
     }
 }
@@ -132,7 +134,22 @@ fn keeps_limits(rt: &impl Abort, params: &Params, departures: &[u64]) -> bool {
     keeps
 }
 
-// The departures keep the limits, and no delayed packet could leave a nanosecond earlier.
+// The departures keep the limits, and where the last one is later than its arrival they wouldn't a nanosecond earlier.
+// Answers whether it is later.
+fn is_least_at(rt: &impl Abort, params: &Params, departures: &mut [u64], at: u64) -> bool {
+    same_at(rt, &at, &keeps_limits(rt, params, departures), &true);
+    assert!(rt; departures.len() > 0);
+    let (place, last) = (departures.len() - 1, departures[departures.len() - 1]);
+    if last <= at {
+        return false;
+    }
+    departures[place] = last - 1;
+    same_at(rt, &at, &keeps_limits(rt, params, departures), &false);
+    departures[place] = last;
+    true
+}
+
+// Each departure of two frames is the least one, and so many are later than their arrivals.
 fn is_least(
     rt: &impl Abort,
     alloc: Global,
@@ -147,16 +164,10 @@ fn is_least(
         let at = stamp(packet, at_once);
         let departure = fed(rt, params, &mut shaper, at).ok().ok_or("late")?;
         departures.push(departure.at)?;
-        assert!(rt; keeps_limits(rt, params, &departures), "packet {packet}");
-        if departure.at > at {
-            delayed = delayed.saturating_add(1);
-            let mut earlier = departures.clone()?;
-            earlier.pop();
-            earlier.push(departure.at - 1)?;
-            assert!(rt; !keeps_limits(rt, params, &earlier), "packet {packet}");
-        }
+        let is_delayed = is_least_at(rt, params, &mut departures, at);
+        delayed = delayed.saturating_add(u64::from(is_delayed));
     }
-    assert_eq!(rt; delayed, count);
+    same(rt, &delayed, &count);
     Ok(())
 }
 
@@ -179,30 +190,33 @@ fn late_at_the_end(rt: HostRuntime) {
             at: FIRST,
             bound: Bound::Arrival,
         };
-        assert_eq!(rt;
-            fed(&rt, &params, &mut in_time, FIRST),
-            Ok(departure),
-            "packet {packet}"
+        same_at(
+            &rt,
+            &packet,
+            &fed(&rt, &params, &mut in_time, FIRST),
+            &Ok(departure),
         );
-        assert_eq!(rt;
-            fed(&rt, &params, &mut late, FIRST),
-            Ok(departure),
-            "packet {packet}"
+        same_at(
+            &rt,
+            &packet,
+            &fed(&rt, &params, &mut late, FIRST),
+            &Ok(departure),
         );
     }
     let departure = Departure {
         at: FIRST + 909_091,
         bound: Bound::Bucket { from: 0 },
     };
-    assert_eq!(rt; fed(&rt, &params, &mut in_time, FIRST), Ok(departure));
-    assert_eq!(rt;
-        fed(&rt, &params, &mut late, FIRST),
-        Err(Late { packet: 4 })
+    same(&rt, &fed(&rt, &params, &mut in_time, FIRST), &Ok(departure));
+    same(
+        &rt,
+        &fed(&rt, &params, &mut late, FIRST),
+        &Err(Late { packet: 4 }),
     );
     let stopped = late;
     for after in [0, 1, 909_090] {
         let answer = fed(&rt, &params, &mut late, FIRST + after);
-        assert_eq!(rt; answer, Err(Late { packet: 4 }), "after {after}");
-        assert_eq!(rt; late, stopped, "after {after}");
+        same_at(&rt, &after, &answer, &Err(Late { packet: 4 }));
+        same_at(&rt, &after, &late, &stopped);
     }
 }

@@ -3,10 +3,10 @@
 ghost use Rattle.std.specs.Prelude.{◌≡◌, ◌<◌, ◌^◌};
 ghost use Rattle.path_skew.specs.Stands.{count_first, count_second};
 
+use super::compare::same;
 use path_skew::{Extreme, Skew, SkewRow};
 use std::alloc::Global;
 use std::process::Abort;
-use std::test::Fail;
 use timing_base::worked::reading;
 use timing_base::{FlowPacket, PacketFault};
 
@@ -50,21 +50,19 @@ impl Pair {
         }
     }
 
-    // Asserts what `first` requires, since a proof does not follow the packets of a loop.
-    fn first(&mut self, rt: &impl Abort, packet: FlowPacket) -> Result<(), Fail> {
+    // Asserts what the call requires, since a proof does not follow the packets of a loop.
+    fn first(&mut self, rt: &impl Abort, packet: FlowPacket) {
         assert!(rt; packet.at < 1 << 62);
         assert!(rt; self.firsts < 1 << 41);
-        self.skew.first(packet)?;
+        self.skew.first(packet).expect(rt, "there is memory");
         self.firsts += 1;
-        Ok(())
     }
 
-    fn second(&mut self, rt: &impl Abort, packet: FlowPacket) -> Result<(), Fail> {
+    fn second(&mut self, rt: &impl Abort, packet: FlowPacket) {
         assert!(rt; packet.at < 1 << 62);
         assert!(rt; self.seconds < 1 << 41);
-        self.skew.second(packet)?;
+        self.skew.second(packet).expect(rt, "there is memory");
         self.seconds += 1;
-        Ok(())
     }
 
     fn finish(self) -> SkewRow {
@@ -92,13 +90,13 @@ fn later(rec: u64) -> u64 {
 }
 
 #[test]
-fn skew_pair(rt: HostRuntime) -> Result<(), Fail> {
+fn skew_pair(rt: HostRuntime) {
     let mut pair = Pair::new(rt.alloc());
     for rec in 1..42u32 {
-        pair.first(&rt, came(u64::from(rec), stamp(u64::from(rec)), rec - 1))?;
+        pair.first(&rt, came(u64::from(rec), stamp(u64::from(rec)), rec - 1));
     }
     for rec in 1..41u32 {
-        pair.second(&rt, came(u64::from(rec), later(u64::from(rec)), rec - 1))?;
+        pair.second(&rt, came(u64::from(rec), later(u64::from(rec)), rec - 1));
     }
     let row = SkewRow {
         matched: 40,
@@ -109,19 +107,18 @@ fn skew_pair(rt: HostRuntime) -> Result<(), Fail> {
         least: extreme(150, 1, 1),
         greatest: extreme(900, 5, 5),
     };
-    assert_eq!(rt; pair.finish(), row);
-    Ok(())
+    same(&rt, &pair.finish(), &row);
 }
 
 // The packets of the two flows come in turn.
 #[test]
-fn skew_swapped(rt: HostRuntime) -> Result<(), Fail> {
+fn skew_swapped(rt: HostRuntime) {
     let mut pair = Pair::new(rt.alloc());
     for rec in 1..41u32 {
-        pair.second(&rt, came(u64::from(rec), stamp(u64::from(rec)), rec - 1))?;
-        pair.first(&rt, came(u64::from(rec), later(u64::from(rec)), rec - 1))?;
+        pair.second(&rt, came(u64::from(rec), stamp(u64::from(rec)), rec - 1));
+        pair.first(&rt, came(u64::from(rec), later(u64::from(rec)), rec - 1));
     }
-    pair.second(&rt, came(41, stamp(41), 40))?;
+    pair.second(&rt, came(41, stamp(41), 40));
     let row = SkewRow {
         matched: 40,
         first_only: 0,
@@ -131,32 +128,31 @@ fn skew_swapped(rt: HostRuntime) -> Result<(), Fail> {
         least: extreme(-900, 5, 5),
         greatest: extreme(-150, 1, 1),
     };
-    assert_eq!(rt; pair.finish(), row);
-    Ok(())
+    same(&rt, &pair.finish(), &row);
 }
 
 // Two packets of each flow, of which one each isn't read.
-fn with_unread(rt: &impl Abort, pair: &mut Pair) -> Result<(), Fail> {
-    pair.first(rt, unread(1, 10, PacketFault::Short))?;
-    pair.first(rt, came(2, 20, 7))?;
-    pair.second(rt, came(4, 40, 6))?;
-    pair.second(rt, unread(5, 50, PacketFault::Version))
+fn with_unread(rt: &impl Abort, pair: &mut Pair) {
+    pair.first(rt, unread(1, 10, PacketFault::Short));
+    pair.first(rt, came(2, 20, 7));
+    pair.second(rt, came(4, 40, 6));
+    pair.second(rt, unread(5, 50, PacketFault::Version));
 }
 
 // Number 7 of the second flow twice, and number 6 of the first; one more isn't read.
-fn with_repeated(rt: &impl Abort, pair: &mut Pair) -> Result<(), Fail> {
-    pair.second(rt, came(9, 60, 7))?;
-    pair.second(rt, came(11, 61, 7))?;
-    pair.first(rt, came(12, 70, 6))?;
-    pair.first(rt, came(13, 75, 6))?;
-    pair.first(rt, unread(14, 80, PacketFault::Short))
+fn with_repeated(rt: &impl Abort, pair: &mut Pair) {
+    pair.second(rt, came(9, 60, 7));
+    pair.second(rt, came(11, 61, 7));
+    pair.first(rt, came(12, 70, 6));
+    pair.first(rt, came(13, 75, 6));
+    pair.first(rt, unread(14, 80, PacketFault::Short));
 }
 
 #[test]
-fn unread_and_repeated(rt: HostRuntime) -> Result<(), Fail> {
+fn unread_and_repeated(rt: HostRuntime) {
     let mut pair = Pair::new(rt.alloc());
-    with_unread(&rt, &mut pair)?;
-    with_repeated(&rt, &mut pair)?;
+    with_unread(&rt, &mut pair);
+    with_repeated(&rt, &mut pair);
     let row = SkewRow {
         matched: 2,
         first_only: 0,
@@ -166,8 +162,7 @@ fn unread_and_repeated(rt: HostRuntime) -> Result<(), Fail> {
         least: extreme(-30, 12, 4),
         greatest: extreme(40, 2, 9),
     };
-    assert_eq!(rt; pair.finish(), row);
-    Ok(())
+    same(&rt, &pair.finish(), &row);
 }
 
 const MANY: u32 = 100_000;
@@ -199,17 +194,17 @@ fn number(numbers: Numbers, i: u32) -> u32 {
 }
 
 // The row of two flows with these numbers, the second 3 ns later, and 5 ns from packet 50,000 on.
-fn many(rt: &impl Abort, alloc: Global, numbers: Numbers) -> Result<SkewRow, Fail> {
+fn many(rt: &impl Abort, alloc: Global, numbers: Numbers) -> SkewRow {
     let mut pair = Pair::new(alloc);
     for i in 0..MANY {
         let at = 4_444 * u64::from(i);
-        pair.first(rt, came(u64::from(i) + 1, at, number(numbers, i)))?;
+        pair.first(rt, came(u64::from(i) + 1, at, number(numbers, i)));
     }
     for i in 0..MANY {
         let at = 4_444 * u64::from(i) + if i < 50_000 { 3 } else { 5 };
-        pair.second(rt, came(u64::from(i) + 1, at, number(numbers, i)))?;
+        pair.second(rt, came(u64::from(i) + 1, at, number(numbers, i)));
     }
-    Ok(pair.finish())
+    pair.finish()
 }
 
 // What is told where each number is matched or repeated.
@@ -226,18 +221,25 @@ fn matched(matched: u64) -> SkewRow {
 }
 
 #[test]
-fn many_in_order(rt: HostRuntime) -> Result<(), Fail> {
-    assert_eq!(rt; many(&rt, rt.alloc(), Numbers::Rising)?, matched(100_000));
-    assert_eq!(rt; many(&rt, rt.alloc(), Numbers::Low)?, matched(65_536));
-    Ok(())
+fn many_in_order(rt: HostRuntime) {
+    same(
+        &rt,
+        &many(&rt, rt.alloc(), Numbers::Rising),
+        &matched(100_000),
+    );
+    same(&rt, &many(&rt, rt.alloc(), Numbers::Low), &matched(65_536));
 }
 
 #[test]
-fn many_out_of_order(rt: HostRuntime) -> Result<(), Fail> {
-    assert_eq!(rt; many(&rt, rt.alloc(), Numbers::Falling)?, matched(100_000));
-    assert_eq!(rt;
-        many(&rt, rt.alloc(), Numbers::Alternating)?,
-        matched(100_000)
+fn many_out_of_order(rt: HostRuntime) {
+    same(
+        &rt,
+        &many(&rt, rt.alloc(), Numbers::Falling),
+        &matched(100_000),
     );
-    Ok(())
+    same(
+        &rt,
+        &many(&rt, rt.alloc(), Numbers::Alternating),
+        &matched(100_000),
+    );
 }

@@ -1,5 +1,6 @@
 //! The numbers of two frames as JSON, and as rows.
 
+use super::compare::same;
 use flow_measure::{
     Bins, Buffer, Classes, Gaps, KindNumbers, Margins, MeasuredFlow, MeasuredRun, RunNumbers,
     Summary,
@@ -15,7 +16,7 @@ use timing_base::{FileNote, Items, Verdict};
 // of frame k comes 764,000 + 960,000 j ns after the frame begins.
 
 // The same number each time, with this sum.
-fn same(number: i128, sum: i128) -> Summary {
+fn steady(number: i128, sum: i128) -> Summary {
     Summary {
         least: number,
         greatest: number,
@@ -73,7 +74,7 @@ fn kept(rt: &impl Abort, bucket: u64, buffer: u64) -> KindNumbers {
 // One packet in the buffer at each of 40.
 fn held() -> Buffer {
     Buffer {
-        occupancy: same(1, 40),
+        occupancy: steady(1, 40),
         margins: Margins {
             slack: 444,
             late: 0,
@@ -83,16 +84,16 @@ fn held() -> Buffer {
 
 fn numbers(rt: &impl Abort) -> RunNumbers {
     RunNumbers {
-        bucket: same(1, 40),
+        bucket: steady(1, 40),
         gapped: held(),
         linear: held(),
         kinds: [kept(rt, 4, 8), kept(rt, 4, 8), kept(rt, 16, 720)],
-        first: same(764_000, 1_528_000),
-        last: same(19_004_000, 38_008_000),
+        first: steady(764_000, 1_528_000),
+        last: steady(19_004_000, 38_008_000),
         target: 764_444,
-        step: Some(same(1800, 1800)),
-        offset: same(1_663_502_088, 3_327_004_176),
-        latency: same(-1_663_502_020, -3_327_004_040),
+        step: Some(steady(1800, 1800)),
+        offset: steady(1_663_502_088, 3_327_004_176),
+        latency: steady(-1_663_502_020, -3_327_004_040),
         gap: Some(gaps(rt)),
     }
 }
@@ -115,13 +116,18 @@ fn plain_flow(rt: &impl Abort, alloc: Global) -> Result<MeasuredFlow, AllocError
     })
 }
 
+// The numbers of that flow are this JSON.
+fn is_told_as(rt: &impl Abort, alloc: Global, expected: &str) -> Result<(), Fail> {
+    let flow = plain_flow(rt, alloc)?;
+    assert!(rt; flow.media == 0);
+    let session = plain_session(alloc)?;
+    let text = json_of(alloc, "a.pcap", FileNote::End, &session, &[flow])?;
+    same(rt, &text.as_str(), &expected);
+    Ok(())
+}
+
 #[test]
 fn measure_plain(rt: HostRuntime) -> Result<(), Fail> {
-    let alloc = rt.alloc();
-    let session = plain_session(alloc)?;
-    let flow = plain_flow(&rt, alloc)?;
-    assert!(rt; flow.media == 0);
-    let text = json_of(alloc, "a.pcap", FileNote::End, &session, &[flow])?;
     let expected = "{\"end\":\"end\",\"flows\":[{\"media\":1,\"packets\":41,\"runs\":[{\
          \"bucket\":{\"greatest\":1,\"least\":1,\"sum\":40},\"first\":{\"first\":764000,\"greatest\":764000,\
          \"last\":764000,\"least\":764000,\"sum\":1528000,\"target\":764444},\"frames\":2,\
@@ -147,8 +153,7 @@ fn measure_plain(rt: HostRuntime) -> Result<(), Fail> {
          0,0,0,0,0,0,0,0,0,0,0,0,0,0,0,0,0,0,0,0,0,0,0,0,0,0,0,0],\"limit\":720,\"width\":12},\
          \"frames_broken\":0,\"pass\":true,\"type\":\"W\"}]}],\
          \"ssrc\":\"00000001\",\"target\":\"239.0.0.1:50000\",\"verdict\":\"judged\"}],\"name\":\"a.pcap\"}\n";
-    assert_eq!(rt; text.as_str(), expected);
-    Ok(())
+    is_told_as(&rt, rt.alloc(), expected)
 }
 
 // The rows of the first packet and of both groups, from one writer.
@@ -167,7 +172,7 @@ fn series_plain(rt: HostRuntime) {
         linear: 1,
     };
     let expected = "1,0,2,1600000000000764000,0,0,1,1,1\n";
-    assert!(rt; writer.of_packet(&packet) == expected.as_bytes());
+    same(&rt, &writer.of_packet(&packet), &expected.as_bytes());
     let group = GroupRow {
         run: 1,
         group: 0,
@@ -187,7 +192,7 @@ fn series_plain(rt: HostRuntime) {
     };
     let expected =
         "1,0,2,1600000000000764000,764000,19004000,1800,,1663502088,-1663502020,1,1,1,1,1\n";
-    assert!(rt; writer.of_group(&group) == expected.as_bytes());
+    same(&rt, &writer.of_group(&group), &expected.as_bytes());
     let later = GroupRow {
         group: 1,
         rec: 22,
@@ -198,5 +203,5 @@ fn series_plain(rt: HostRuntime) {
     };
     let expected =
         "1,1,22,1600000000020764000,764000,19004000,3600,1800,1663502088,-1663502020,1,1,1,1,1\n";
-    assert!(rt; writer.of_group(&later) == expected.as_bytes());
+    same(&rt, &writer.of_group(&later), &expected.as_bytes());
 }

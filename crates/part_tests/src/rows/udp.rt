@@ -3,7 +3,9 @@
 ghost use Rattle.std.specs.Prelude.{◌≡◌, map, IfOk};
 ghost use Rattle.udp_rtp.specs.Flow.{flow};
 
+use super::compare::{same, same_at};
 use std::alloc::{AllocError, Global};
+use std::process::Abort;
 use timing_base::worked::PLAIN;
 use timing_base::{FlowPacket, Media, PacketFault, Rtp};
 use udp_rtp::{datagram, packet_of, read_rtp};
@@ -37,6 +39,15 @@ const READ: Rtp = Rtp {
     ssrc: 1,
 };
 
+// The frame with another byte in this place.
+fn with(place: usize, byte: u8) -> [u8; 56] {
+    let mut frame = FRAME;
+    if let Some(old) = frame.get_mut(place) {
+        *old = byte;
+    }
+    frame
+}
+
 // What is read of a frame that goes to the media.
 fn reading_of(frame: &[u8]) -> Option<Result<Rtp, PacketFault>> {
     packet_of(&PLAIN, 1, 0, frame).map(|packet| packet.rtp)
@@ -47,64 +58,59 @@ fn shows_each_part(rt: HostRuntime) {
     let Some(seen) = datagram(&FRAME) else {
         panic!(rt; "no datagram");
     };
-    assert_eq!(rt; seen.target, PLAIN.target());
-    assert!(rt; seen.payload == &FRAME[42..]);
-    assert_eq!(rt; read_rtp(seen.payload), Ok(READ));
+    same(&rt, &seen.target, &PLAIN.target());
+    same(&rt, &seen.payload, &(&FRAME[42..]));
+    same(&rt, &read_rtp(seen.payload), &Ok(READ));
+}
+
+// No datagram is seen in these bytes.
+fn is_ignored(rt: &impl Abort, frame: &[u8]) {
+    same_at(rt, &frame, &datagram(frame).is_none(), &true);
+}
+
+// The frame with two tags in front of the type field.
+fn with_two_tags() -> [u8; 64] {
+    let mut frame = [0; 64];
+    frame[..12].copy_from_slice(&FRAME[..12]);
+    frame[12..16].copy_from_slice(&TAG);
+    frame[16..20].copy_from_slice(&TAG);
+    frame[20..].copy_from_slice(&FRAME[12..]);
+    frame
 }
 
 #[test]
 fn ignored_frames(rt: HostRuntime) {
-    let mut four_words = FRAME;
-    four_words[14] = 0x44;
-    let mut version_6 = FRAME;
-    version_6[14] = 0x65;
-    let mut other_type = FRAME;
-    other_type[13] = 0x06;
-    let mut tcp = FRAME;
-    tcp[23] = 6;
-    let mut first_fragment = FRAME;
-    first_fragment[20] = 0x20;
-    let mut last_fragment = FRAME;
-    last_fragment[21] = 0x01;
-    let mut two_tags = [0; 64];
-    two_tags[..12].copy_from_slice(&FRAME[..12]);
-    two_tags[12..16].copy_from_slice(&TAG);
-    two_tags[16..20].copy_from_slice(&TAG);
-    two_tags[20..].copy_from_slice(&FRAME[12..]);
     let rows = [
-        &four_words[..],
-        &FRAME[..37],
-        &FRAME[..0],
-        &version_6[..],
-        &other_type[..],
-        &tcp[..],
-        &first_fragment[..],
-        &last_fragment[..],
-        &two_tags[..],
+        // place, and the byte in it
+        (14, 0x44), // a header of four words
+        (14, 0x65), // version 6
+        (13, 0x06), // another type
+        (23, 6), // TCP
+        (20, 0x20), // the first fragment
+        (21, 0x01), // the last fragment
     ];
-    for frame in rows {
-        assert!(rt; datagram(frame).is_none(), "of {} bytes", frame.len());
+    for (place, byte) in rows {
+        is_ignored(&rt, &with(place, byte));
     }
+    is_ignored(&rt, &FRAME[..37]);
+    is_ignored(&rt, &FRAME[..0]);
+    is_ignored(&rt, &with_two_tags());
+}
+
+// The frame goes to the media, and its packet is too short.
+fn is_short(rt: &impl Abort, frame: &[u8]) {
+    let want = Some(Err(PacketFault::Short));
+    same_at(rt, &frame, &reading_of(frame), &want);
 }
 
 #[test]
 fn short_packets(rt: HostRuntime) {
-    let mut length_7 = FRAME;
-    length_7[39] = 7;
-    let mut sources_15 = FRAME;
-    sources_15[42] = 0x8f;
-    // Its extension's head is the two bytes of the extended sequence number, and is cut.
-    let mut extension = FRAME;
-    extension[42] = 0x90;
-    let rows = [&length_7[..], &FRAME[..38], &sources_15[..], &extension[..]];
-    for frame in rows {
-        assert_eq!(rt;
-            reading_of(frame),
-            Some(Err(PacketFault::Short)),
-            "of {} bytes",
-            frame.len()
-        );
+    // A length of 7, 15 sources, and an extension: its head is the two bytes of the extended sequence
+    // number, and is cut.
+    for (place, byte) in [(39, 7), (42, 0x8f), (42, 0x90)] {
+        is_short(&rt, &with(place, byte));
     }
+    is_short(&rt, &FRAME[..38]);
 
     // A header extension of 65,535 words, which the payload does not have.
     let past = [
@@ -112,12 +118,12 @@ fn short_packets(rt: HostRuntime) {
         0xbe, 0xde, 0xff, 0xff, // the extension's head
         0x00, 0x01, 0x00, 0x01,
     ];
-    assert_eq!(rt; read_rtp(&past), Err(PacketFault::Short));
+    same(&rt, &read_rtp(&past), &Err(PacketFault::Short));
 }
 
 #[test]
 fn captured_at_40(rt: HostRuntime) {
-    assert_eq!(rt; reading_of(&FRAME[..40]), Some(Err(PacketFault::Short)));
+    is_short(&rt, &FRAME[..40]);
 }
 
 #[test]
@@ -132,8 +138,8 @@ fn big_payload(rt: HostRuntime) {
     let Some(seen) = datagram(&frame) else {
         panic!(rt; "no datagram");
     };
-    assert_eq!(rt; seen.payload.len(), 22);
-    assert_eq!(rt; reading_of(&frame), Some(Ok(READ)));
+    same(&rt, &seen.payload.len(), &22);
+    same(&rt, &reading_of(&frame), &Some(Ok(READ)));
 }
 
 // A tag in front of the type field; the other orders are those of captures.
@@ -143,7 +149,7 @@ fn other_orders(rt: HostRuntime) {
     tagged[..12].copy_from_slice(&FRAME[..12]);
     tagged[12..16].copy_from_slice(&TAG);
     tagged[16..].copy_from_slice(&FRAME[12..]);
-    assert_eq!(rt; reading_of(&tagged), Some(Ok(READ)));
+    same(&rt, &reading_of(&tagged), &Some(Ok(READ)));
 }
 
 #[test]
@@ -160,7 +166,7 @@ fn names_each_fault(rt: HostRuntime) {
         (&version_1[..], PacketFault::Version),
     ];
     for (bytes, fault) in rows {
-        assert_eq!(rt; read_rtp(bytes), Err(fault), "of {} bytes", bytes.len());
+        same_at(&rt, &bytes.len(), &read_rtp(bytes), &Err(fault));
     }
 }
 
@@ -186,10 +192,8 @@ fn packets_of(
 
 #[test]
 fn flow_of_records(rt: HostRuntime) {
-    let mut other_port = FRAME;
-    other_port[37] = 0x51;
-    let mut other_group = FRAME;
-    other_group[33] = 0x02;
+    let other_port = with(37, 0x51);
+    let other_group = with(33, 0x02);
     let records = [
         (1, 500, &FRAME[..]),
         (2, 510, &other_port[..]),
@@ -206,8 +210,8 @@ fn flow_of_records(rt: HostRuntime) {
         (3, 505, Err(PacketFault::Short)),
         (6, 540, Ok(READ)),
     ];
-    assert_eq!(rt; packets.len(), want.len());
+    same(&rt, &packets.len(), &want.len());
     for (packet, (rec, at, rtp)) in packets.iter().zip(want) {
-        assert_eq!(rt; *packet, FlowPacket { rec, at, rtp });
+        same(&rt, packet, &FlowPacket { rec, at, rtp });
     }
 }

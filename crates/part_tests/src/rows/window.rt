@@ -1,5 +1,6 @@
 //! The window's part of worked rows, and windows against offsets that are tried one by one.
 
+use super::compare::same;
 use offset_window::{Window, WindowEnd, WindowMeter};
 use read_schedule::{Due, Schedule};
 use sender_params::Params;
@@ -107,7 +108,7 @@ fn try_windows(
     let stamps = sent.stamps(alloc)?;
     for (kind, (lower, upper)) in KINDS.into_iter().zip(windows) {
         let window = window(rt, &params, kind, stamps.as_slice());
-        assert_eq!(rt; window, Window { lower, upper });
+        same(rt, &window, &Window { lower, upper });
     }
     Ok(())
 }
@@ -143,11 +144,11 @@ fn window_linear(rt: HostRuntime) -> Result<(), Fail> {
 fn no_window(rt: HostRuntime) {
     let params = Params::of(&plain(), 20);
     let late = window(&rt, &params, Kind::N, &[SECOND, SECOND + 1_000_960_001]);
-    assert_eq!(rt; late.lower, WindowEnd::Absent);
-    assert_eq!(rt; late.upper, free(1_000_000));
+    same(&rt, &late.lower, &WindowEnd::Absent);
+    same(&rt, &late.upper, &free(1_000_000));
     let early = window(&rt, &params, Kind::NL, &[SECOND - 1; 9]);
-    assert_eq!(rt; early.lower, free(0));
-    assert_eq!(rt; early.upper, WindowEnd::Absent);
+    same(&rt, &early.lower, &free(0));
+    same(&rt, &early.upper, &WindowEnd::Absent);
 }
 
 // How a packet is broken.
@@ -233,12 +234,12 @@ impl Flow<'_> {
                 assert!(rt; broken.is_some());
             }
             WindowEnd::At { micros, binding } => {
-                assert_eq!(rt; self.first_broken(rt, fault, micros), None);
+                same(rt, &self.first_broken(rt, fault, micros), &None);
                 match fault.beyond(micros) {
-                    None => assert_eq!(rt; binding, None),
+                    None => same(rt, &binding, &None),
                     Some(other) => {
                         assert!(rt; binding.is_some());
-                        assert_eq!(rt; self.first_broken(rt, fault, other), binding);
+                        same(rt, &self.first_broken(rt, fault, other), &binding);
                     }
                 }
             }
