@@ -77,7 +77,7 @@ fn taken(alloc: Global, text: &[u8], fails: &[u32]) -> Result<(Taken, Vec<Row>),
 
 // There are three rows, one for each media of the third file.
 fn has_keys(rt: &impl Abort, rows: &[Row]) {
-    same(rt, &rows.len(), &3);
+    assert!(rt; rows.len() == 3);
     for (number, row) in rows.iter().enumerate() {
         let key = FlowKey {
             file: 2,

@@ -6,8 +6,8 @@ use std::process::Abort;
 use std::test::Fail;
 use timing_base::worked::{LINEAR, NARROW, PLAIN, check_of, plain_session};
 use timing_base::{
-    FileName, FileNote, FlowKey, Items, Judged, PcapFault, Row, Run, RunVerdict, Runs, Session,
-    Unjudged, Verdict,
+    FileName, FileNote, FlowKey, Items, Judged, PcapFault, Row, Run, RunVerdict, Runs, Unjudged,
+    Verdict,
 };
 use timing_report::{Status, add_files, status_of, text_of, verdict_of};
 
@@ -94,20 +94,22 @@ fn cut_capture(rt: HostRuntime) -> Result<(), Fail> {
 }
 
 // A judged row, and a capture that was refused.
-fn has_statuses(rt: &impl Abort, session: &Session) {
+fn has_statuses(rt: &impl Abort, alloc: Global) -> Result<(), AllocError> {
+    let session = plain_session(alloc)?;
     let judged = Row {
         key: FlowKey { file: 0, media: 0 },
         verdict: Verdict::Judged(NARROW),
     };
-    let status = status_of(session, &[FileNote::End], &[judged]);
+    let status = status_of(&session, &[FileNote::End], &[judged]);
     same(rt, &status, &Status::Pass);
     let refused = FileNote::Refused(PcapFault::BadMagic);
-    let status = status_of(session, &[refused], &[]);
+    let status = status_of(&session, &[refused], &[]);
     same(rt, &status, &Status::NotAllJudged);
+    Ok(())
 }
 
 #[test]
 fn statuses(rt: HostRuntime) -> Result<(), Fail> {
-    has_statuses(&rt, &plain_session(rt.alloc())?);
+    has_statuses(&rt, rt.alloc())?;
     Ok(())
 }
