@@ -1,0 +1,161 @@
+ghost use Rattle.std.specs.Prelude.{◌≡◌, ◌≤◌, ◌^◌, None, IfOk};
+ghost use Rattle.pcap_reader.specs.Readers.{end_note, frame_count, most_of};
+
+use super::compare::{same, same_at};
+use capture_gen::examples::{FRAME, HEAD, source_of};
+use fail_interval::Bank;
+use pcap_reader::{MOST, PcapReader, Taken, take_records};
+use std::alloc::{AllocError, Global};
+use std::process::Abort;
+use std::test::Fail;
+use timing_base::worked::undeclared_to;
+use timing_base::{FileNote, FlowKey, PacketFault, PcapFault, Row, Unjudged, Verdict};
+use timing_outside::{MemorySource, OpenFault};
+
+// A frame to port 50000 and so many more, with the packet of this number: the last of its frame, or
+// not, of this frame of video.
+fn frame(more: u8, number: u8, marker: bool, group: u8) -> [u8; 56] {
+    let mut bytes = FRAME;
+    bytes[37] = more.saturating_add(0x50);
+    bytes[43] = if marker { 0xe0 } else { 0x60 };
+    bytes[45] = number;
+    bytes[47] = group;
+    bytes
+}
+
+// A record of the first bytes of a frame, all of them or fewer.
+fn put(text: &mut Vec<u8>, nanos: u32, frame: &[u8; 56], captured: u8) -> Result<(), AllocError> {
+    let captured = captured.min(56);
+    for number in [1_600_000_000, nanos, u32::from(captured), 56] {
+        text.extend_from_slice(&number.to_le_bytes())?;
+    }
+    text.extend_from_slice(&frame[..usize::from(captured)])
+}
+
+// Seven records: three packets to port 50000, of which the second ends its frame; to port 50001 one
+// that is too short, and one more; one to port 50009; and a frame that was cut within its ports.
+fn capture(alloc: Global) -> Result<Vec<u8>, AllocError> {
+    let mut text = Vec::from_slice(alloc, &HEAD)?;
+    put(&mut text, 1000, &frame(0, 0, false, 0), 56)?;
+    put(&mut text, 2000, &frame(1, 0, false, 0), 40)?;
+    put(&mut text, 3000, &frame(9, 0, false, 0), 56)?;
+    put(&mut text, 4000, &frame(0, 1, true, 0), 56)?;
+    put(&mut text, 5000, &frame(1, 1, true, 0), 56)?;
+    put(&mut text, 6000, &frame(0, 2, false, 0), 37)?;
+    put(&mut text, 7000, &frame(0, 2, false, 1), 56)?;
+    Ok(text)
+}
+
+// A reader of this text, which comes in pieces of 100 bytes. The reads of these numbers fail.
+fn open(alloc: Global, text: &[u8], fails: &[u32]) -> Result<PcapReader<MemorySource>, OpenFault>
+    ensures fresh { IfOk result (λ reader. end_note reader ≡ None) }
+    ensures first { IfOk result (λ reader. frame_count reader ≡ 0) }
+    ensures most { IfOk result (λ reader. most_of reader ≤ 2 ^ 40) }
+{
+    let source = source_of(alloc, text, 100, fails)?;
+    match PcapReader::start(alloc, source, MOST) {
+        Ok(reader) => Ok(reader),
+        Err(_) => Err(OpenFault::OutOfMemory),
+    }
+}
+
+// What a bank of the media at ports 50000 to 50002, in the third file, takes of this text behind 100
+// records.
+fn taken(alloc: Global, text: &[u8], fails: &[u32]) -> Result<(Taken, Vec<Row>), OpenFault> {
+    let all = [
+        undeclared_to(50_000),
+        undeclared_to(50_001),
+        undeclared_to(50_002),
+    ];
+    let mut bank = Bank::new(alloc, &all, 2, 37)?;
+    let mut reader = open(alloc, text, fails)?;
+    let taken = take_records(&mut reader, 100, &mut bank)?;
+    let mut rows = Vec::new(alloc);
+    bank.finish(&mut rows)?;
+    Ok((taken, rows))
+}
+
+// There are three rows, one for each media of the third file.
+fn has_keys(rt: &impl Abort, rows: &[Row]) {
+    assert!(rt; rows.len() == 3);
+    for (number, row) in rows.iter().enumerate() {
+        let key = FlowKey {
+            file: 2,
+            media: number as u32,
+        };
+        same(rt, &row.key, &key);
+    }
+}
+
+// The first bytes of the capture come to this note and count of records, and to a row for each media.
+fn comes_to(rt: &impl Abort, alloc: Global, text: &[u8], want: Taken) -> Result<(), Fail> {
+    let (taken, rows) = taken(alloc, text, &[])?;
+    same(rt, &taken, &want);
+    has_keys(rt, &rows);
+    Ok(())
+}
+
+#[test]
+fn one_row_for_each_media(rt: HostRuntime) -> Result<(), Fail> {
+    let text = capture(rt.alloc())?;
+    let want = Taken {
+        note: FileNote::End,
+        records: 7,
+    };
+    comes_to(&rt, rt.alloc(), &text, want)
+}
+
+// No row is judged, for these reasons.
+fn has_reasons(rt: &impl Abort, rows: &[Row], reasons: &[Unjudged]) {
+    for (row, want) in rows.iter().zip(reasons) {
+        match &row.verdict {
+            Verdict::Unjudged(unjudged) => same(rt, unjudged, want),
+            _ => panic!(rt; "judged"),
+        }
+    }
+}
+
+// The first packets come up to a marker that is the only one, the second media's first packet is the
+// 102nd record and too short, and the third media has none.
+#[test]
+fn each_media_has_its_own_packets(rt: HostRuntime) -> Result<(), Fail> {
+    let text = capture(rt.alloc())?;
+    let (_, rows) = taken(rt.alloc(), &text, &[])?;
+    let want = [
+        Unjudged::NoWholeFrame { head: 2 },
+        Unjudged::Refused {
+            rec: 102,
+            fault: PacketFault::Short,
+        },
+        Unjudged::Absent,
+    ];
+    has_reasons(&rt, &rows, &want);
+    Ok(())
+}
+
+#[test]
+fn cut_capture(rt: HostRuntime) -> Result<(), Fail> {
+    let text = capture(rt.alloc())?;
+    let want = Taken {
+        note: FileNote::Cut { at: 152 },
+        records: 2,
+    };
+    comes_to(&rt, rt.alloc(), text.get(..200).unwrap_or(&[]), want)
+}
+
+// The read of this number fails, and that is the note.
+fn fails_at(rt: &impl Abort, alloc: Global, text: &[u8], number: u32) -> Result<(), Fail> {
+    let (taken, _) = taken(alloc, text, &[number])?;
+    let want = FileNote::Refused(PcapFault::ReadFault);
+    same_at(rt, &number, &taken.note, &want);
+    Ok(())
+}
+
+#[test]
+fn failed_read(rt: HostRuntime) -> Result<(), Fail> {
+    let text = capture(rt.alloc())?;
+    for number in 1..7 {
+        fails_at(&rt, rt.alloc(), &text, number)?;
+    }
+    Ok(())
+}

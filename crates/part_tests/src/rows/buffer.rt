@@ -1,0 +1,184 @@
+//! The buffer's part of worked rows.
+
+ghost use Rattle.std.specs.Prelude.{◌≤◌, ◌*◌};
+
+use super::compare::{same, same_at};
+use read_schedule::Schedule;
+use sender_params::Params;
+use sender_params::worked::video;
+use std::process::Abort;
+use timing_base::Kind;
+use vrx_buffer::{Vrx, VrxFault};
+
+// TAI second 1,600,000,000 begins frame 80,000,000,000 at 50 frames per second.
+const SECOND: u64 = 1_600_000_000_000_000_000;
+
+const FIRST: u64 = SECOND + 764_000;
+
+const KINDS: [Kind; 3] = [Kind::N, Kind::NL, Kind::W];
+
+// 1080p at 50 with 20 packets per frame.
+fn plain() -> Params {
+    Params::of(&video(1080, false, 50, 1), 20)
+}
+
+// A buffer, the packets fed, and the schedule that says what is due at them.
+#[derive(Clone, Copy)]
+struct Flow {
+    buffer: Vrx,
+    seen: u64,
+    schedule: Schedule,
+}
+
+// Both of a flow that begins at `first`.
+fn started(rt: &impl Abort, params: &Params, kind: Kind, first: u64) -> Flow {
+    assert!(rt; first < 1 << 62);
+    Flow {
+        buffer: Vrx::new(kind),
+        seen: 0,
+        schedule: Schedule::new(params, kind == Kind::N, params.anchor(first)),
+    }
+}
+
+// Asserts what the calls require, since a proof does not follow the rows of a table.
+fn fed(rt: &impl Abort, params: &Params, flow: &mut Flow, at: u64) -> Option<VrxFault> {
+    assert!(rt; at < 1 << 62);
+    assert!(rt; flow.seen < 1 << 41);
+    let due = flow.schedule.advance(at);
+    let packet = flow.seen;
+    flow.seen += 1;
+    flow.buffer.feed_due(params, packet, due)
+}
+
+// The buffer after two frames of 20 packets, each so long after the first.
+fn after(rt: &impl Abort, params: &Params, kind: Kind, first: u64, step: u64) -> Vrx {
+    let mut flow = started(rt, params, kind, first);
+    for frame in 0..2 {
+        for place in 0..20u64 {
+            let late = 20_000_000u64.saturating_mul(frame);
+            let late = late.saturating_add(place.saturating_mul(step));
+            fed(rt, params, &mut flow, first.saturating_add(late));
+        }
+    }
+    same(rt, &flow.seen, &40);
+    flow.buffer
+}
+
+#[test]
+fn plain_narrow(rt: HostRuntime) {
+    for kind in KINDS {
+        let vrx = after(&rt, &plain(), kind, FIRST, 960_000);
+        same(&rt, &vrx.fault, &None);
+        same(&rt, &vrx.peak, &1);
+    }
+}
+
+#[test]
+fn linear_sender(rt: HostRuntime) {
+    let narrow = after(&rt, &plain(), Kind::N, FIRST, 1_000_000);
+    same(&rt, &narrow.fault, &Some(VrxFault::Empty { packet: 1 }));
+    same(&rt, &narrow.peak, &1);
+    for kind in [Kind::NL, Kind::W] {
+        let vrx = after(&rt, &plain(), kind, FIRST, 1_000_000);
+        same(&rt, &vrx.fault, &None);
+        same(&rt, &vrx.peak, &1);
+    }
+}
+
+#[test]
+fn five_at_once(rt: HostRuntime) {
+    for kind in KINDS {
+        let mut flow = started(&rt, &plain(), kind, FIRST);
+        for place in 0..20 {
+            let at = if place < 5 {
+                FIRST
+            } else {
+                FIRST + 960_000 * place
+            };
+            same(&rt, &fed(&rt, &plain(), &mut flow, at), &None);
+        }
+        same(&rt, &flow.buffer.peak, &5);
+    }
+}
+
+// TROFF=700: each packet stands on its gapped read.
+#[test]
+fn on_its_read(rt: HostRuntime) {
+    let mut media = video(1080, false, 50, 1);
+    media.troff = Some(700);
+    let params = Params::of(&media, 20);
+    let rows = [(Kind::N, 0), (Kind::NL, 1), (Kind::W, 1)];
+    for (kind, peak) in rows {
+        let vrx = after(&rt, &params, kind, SECOND + 700_000, 960_000);
+        same(&rt, &vrx.fault, &None);
+        same(&rt, &vrx.peak, &peak);
+    }
+}
+
+#[test]
+fn one_ns_late(rt: HostRuntime) {
+    let mut media = video(1080, false, 50, 1);
+    media.troff = Some(700);
+    let params = Params::of(&media, 20);
+    for kind in KINDS {
+        let vrx = after(&rt, &params, kind, SECOND + 700_001, 960_000);
+        same(&rt, &vrx.fault, &Some(VrxFault::Empty { packet: 0 }));
+    }
+}
+
+// Read 0 is at 746,666 2/3 ns.
+#[test]
+fn height_720(rt: HostRuntime) {
+    let params = Params::of(&video(720, false, 50, 1), 20);
+    for kind in KINDS {
+        let vrx = after(&rt, &params, kind, FIRST, 960_000);
+        same(&rt, &vrx.fault, &Some(VrxFault::Empty { packet: 0 }));
+    }
+}
+
+#[test]
+fn interlaced_narrow(rt: HostRuntime) {
+    let params = Params::of(&video(1080, true, 25, 1), 10);
+    for kind in KINDS {
+        let mut flow = started(&rt, &params, kind, SECOND + 782_000);
+        for field in 0..4 {
+            for place in 0..10 {
+                let at = SECOND + 782_000 + 20_000_000 * field + 1_920_000 * place;
+                same_at(&rt, &at, &fed(&rt, &params, &mut flow, at), &None);
+            }
+        }
+        same(&rt, &flow.buffer.peak, &1);
+        same(&rt, &flow.seen, &40);
+    }
+}
+
+// 1080p at 60000/1001 with 4320 packets per frame, from TAI second 1,601,600,000 on, where frame
+// 96,000,000,000 begins; each packet comes 1,000 ns before the floor of its gapped read.
+#[test]
+fn usual_equipment(rt: HostRuntime) {
+    let params = Params::of(&video(1080, false, 60_000, 1001), 4320);
+    let over = Some(VrxFault::Over {
+        packet: 219,
+        held: 10,
+    });
+    let rows = [
+        (Kind::N, None, 1),
+        (Kind::NL, over, 174),
+        (Kind::W, None, 174),
+    ];
+    for (kind, fault, peak) in rows {
+        let mut flow = started(&rt, &params, kind, 1_601_600_000_000_636_674);
+        for packet in 0..8640 {
+            let (frame, place) = (packet / 4320, packet % 4320);
+            let read = (450_450_000 * frame + 17_217_200 + 100_100 * place) / 27;
+            fed(
+                &rt,
+                &params,
+                &mut flow,
+                1_601_600_000_000_000_000 + read - 1_000,
+            );
+        }
+        same(&rt, &flow.buffer.fault, &fault);
+        same(&rt, &flow.buffer.peak, &peak);
+    }
+}
