@@ -1,0 +1,7 @@
+//! Tests of whole calls: the words that the program is given, the files that it reads, and what it prints.
+#![tactic(auto)]
+
+#[cfg(test)]
+mod call;
+#[cfg(test)]
+mod rows;

@@ -1,0 +1,308 @@
+//! A capture that changes once it was fetched: a command that reads it twice says so, or answers on what it read last,
+//! and one that reads it once answers on what it read.
+
+ghost use Rattle.std.specs.Prelude.{◌≡◌, IfSome};
+ghost use Rattle.timing_outside.specs.MemorySources.{faults_of, name_of};
+
+use super::measures::{self, REFUSED};
+use super::shapes::{LIST, NONE_LINES, WRITE};
+use super::windows;
+use crate::call::{PASS, PLAIN, Row, SINKS, Step, UntoldSource, WHOLE, Watch, answered, shelve};
+use std::process::Abort;
+use std::sync::Wait;
+use std::test::Fail;
+use std::thread::Threads;
+use timing_outside::{MemoryShelf, MemorySource, NoGate, OpenFault, Shelf};
+use timing_report::{Input, Status};
+
+// A source whose reads nobody watches.
+type Untold = UntoldSource<Unwatched>;
+
+#[derive(Drop)]
+struct Unwatched;
+
+impl Watch for Unwatched {
+    fn before(&mut self, _taken: usize, asked: usize) -> usize {
+        asked
+    }
+}
+
+// A shelf that doesn't tell its texts: the capture reads as a later text from its second fetch on.
+#[derive(Drop)]
+struct ChangingShelf {
+    inner: MemoryShelf,
+    later: MemoryShelf,
+    fetched: u32,
+    noted: u32,
+}
+
+impl ChangingShelf {
+    // The later text, where this is the capture and it was fetched before.
+    fn later_of(&mut self, name: &str) -> Option<MemorySource>
+        ensures stays { self.new.inner ≡ self.old.inner }
+        ensures named { IfSome result (λ s. name_of s ≡ name.now) }
+        ensures fresh { IfSome result (λ s. faults_of s ≡ 0) }
+    {
+        if name != "a.pcap" {
+            return None;
+        }
+        self.fetched = self.fetched.saturating_add(1);
+        if self.fetched == 1 {
+            return None;
+        }
+        self.later.fetch(name).ok()
+    }
+}
+
+impl Shelf for ChangingShelf {
+    ghost use Rattle.std.specs.Prelude.{None};
+    ghost use Rattle.timing_outside.specs.MemoryShelves.{count_of};
+
+    type Source = Untold;
+
+    ghost text = { λ s n. None };
+
+    ghost lacks = { λ s n. ⊥ };
+
+    ghost faults = { λ s n. count_of s.inner n };
+
+    fn fetch(&mut self, name: &str) -> Result<Untold, OpenFault> {
+        let first = self.inner.fetch(name)?;
+        let later = self.later_of(name);
+        Ok(UntoldSource {
+            inner: later.unwrap_or(first),
+            taken: 0,
+            watch: Unwatched,
+        })
+    }
+
+    fn give_back(&mut self, source: Untold) {
+        let UntoldSource { inner, .. } = source;
+        self.inner.give_back(inner);
+    }
+
+    fn note_change(&mut self, name: &str) {
+        self.noted = self.noted.saturating_add(1);
+        self.inner.note_change(name);
+    }
+}
+
+// A row whose capture has a later text once it was fetched.
+#[derive(Clone, Copy)]
+struct Changing {
+    row: Row,
+    later: &'static [Step],
+    // How often it is fetched, and how often the change is noted.
+    fetched: u32,
+    noted: u32,
+}
+
+impl Changing {
+    // Runs the row, and compares the answer and how often the capture is fetched and noted.
+    fn holds<R: Abort + AllocGlobal + Wait + Threads + Sync>(&self, rt: &R) -> Result<(), Fail> {
+        let alloc = rt.alloc();
+        let (row, line) = (&self.row, self.row.line);
+        let wanted = row.wanted(alloc)?;
+        let mut shelf = ChangingShelf {
+            inner: row.shelf(alloc)?,
+            later: MemoryShelf::new(alloc),
+            fetched: 0,
+            noted: 0,
+        };
+        shelve(alloc, &mut shelf.later, "a.pcap", self.later, WHOLE)?;
+        let found = answered(rt, line, SINKS, &mut shelf, &NoGate)?;
+        found.is(line, (row.status, &wanted, row.err))?;
+        assert_eq!(rt; shelf.fetched, self.fetched, "{line}");
+        assert_eq!(rt; shelf.noted, self.noted, "{line}");
+        Ok(())
+    }
+}
+
+// Runs such rows.
+fn hold_changing<R: Abort + AllocGlobal + Wait + Threads + Sync>(
+    rt: &R,
+    rows: &[Changing],
+) -> Result<(), Fail> {
+    for row in rows {
+        row.holds(rt)?;
+    }
+    Ok(())
+}
+
+// The later text is read, and answered on as if it had been there before.
+const LISTED: Changing = Changing {
+    row: Row {
+        line: LIST,
+        out: &[NONE_LINES],
+        ..PASS
+    },
+    later: &[PLAIN],
+    fetched: 2,
+    noted: 0,
+};
+
+const WRITTEN: Changing = Changing {
+    row: Row {
+        line: WRITE,
+        out: &[],
+        file: &[PLAIN],
+        ..PASS
+    },
+    ..LISTED
+};
+
+const MEASURED: Changing = Changing {
+    row: Row {
+        line: measures::LINE,
+        out: measures::TEXT,
+        ..PASS
+    },
+    ..LISTED
+};
+
+static THE_SAME_AGAIN: [Changing; 3] = [LISTED, WRITTEN, MEASURED];
+
+#[test]
+fn the_same_again(rt: HostRuntime) -> Result<(), Fail> {
+    hold_changing(&rt, &THE_SAME_AGAIN)
+}
+
+// The commands that read a capture twice.
+const TWICE: [&str; 3] = [LIST, WRITE, measures::LINE];
+
+// Where the later text isn't the first, nothing is printed.
+const CHANGED: Changing = Changing {
+    row: Row {
+        status: Status::ReadFault(Input::Capture(0)),
+        out: &[],
+        err: "read fault: capture 1\n",
+        ..PASS
+    },
+    noted: 1,
+    ..LISTED
+};
+
+// And `window` answers on the first.
+const WINDOW: Changing = Changing {
+    row: Row {
+        line: windows::LINE,
+        out: &[windows::TEXT],
+        ..PASS
+    },
+    fetched: 1,
+    ..LISTED
+};
+
+// The later text is read by one of these commands, and by `window`.
+fn differs<R: Abort + AllocGlobal + Wait + Threads + Sync>(
+    rt: &R,
+    lines: &[&'static str],
+    later: &'static [Step],
+) -> Result<(), Fail> {
+    for line in lines {
+        let changed = Changing {
+            row: Row {
+                line: *line,
+                ..CHANGED.row
+            },
+            later,
+            ..CHANGED
+        };
+        changed.holds(rt)?;
+    }
+    let window = Changing { later, ..WINDOW };
+    window.holds(rt)
+}
+
+// Nothing more, as from a pipe; without the last packet; and with a frame more.
+#[test]
+fn shorter_and_longer(rt: HostRuntime) -> Result<(), Fail> {
+    differs(&rt, &TWICE, &[])?;
+    differs(&rt, &TWICE, &[PLAIN, Step::Part(0, 2904)])?;
+    differs(&rt, &TWICE, &[Step::Frames(3)])
+}
+
+// The numbers where the first judged packet comes a nanosecond later: that of the first frame, the gap behind it, and
+// how much time is left to its read.
+const FIRST_LATER: &[(&str, &str)] = &[
+    (
+        "{\"first\":764000,\"greatest\":764000,\"last\":764000,\"least\":764000,\"sum\":1528000,",
+        "{\"first\":764001,\"greatest\":764001,\"last\":764000,\"least\":764000,\"sum\":1528001,",
+    ),
+    (
+        "\"least\":960000,\"sum\":38240000",
+        "\"least\":959999,\"sum\":38239999",
+    ),
+    ("\"slack\":444", "\"slack\":443"),
+];
+
+// And where the last comes a nanosecond earlier: that of the last frame, and the gap before it.
+const LAST_EARLIER: &[(&str, &str)] = &[
+    (
+        "{\"first\":19004000,\"greatest\":19004000,\"last\":19004000,\"least\":19004000,\"sum\":38008000}",
+        "{\"first\":19004000,\"greatest\":19004000,\"last\":19003999,\"least\":19003999,\"sum\":38007999}",
+    ),
+    (
+        "\"least\":960000,\"sum\":38240000",
+        "\"least\":959999,\"sum\":38239999",
+    ),
+];
+
+// A record has another stamp at the second reading. `shape` keeps the first and the last stamp and tells; each verdict
+// is as it was, so `measure` prints the numbers of the second reading. The first judged packet comes a nanosecond
+// later, at 764,001 ns of second 1,600,000,000, or the last a nanosecond earlier, at 39,003,999 ns.
+const FIRST_LATE: &[Step] = &[PLAIN, Step::Patch(96, b"\x00\x10\x5e\x5f\x61\xa8\x0b\x00")];
+
+const LAST_EARLY: &[Step] = &[
+    PLAIN,
+    Step::Patch(2904, b"\x00\x10\x5e\x5f\x5f\x27\x53\x02"),
+];
+
+static OTHER_STAMPS: [Changing; 2] = [
+    Changing {
+        row: Row {
+            line: measures::LINE,
+            out: measures::TEXT,
+            changes: FIRST_LATER,
+            ..PASS
+        },
+        later: FIRST_LATE,
+        ..LISTED
+    },
+    Changing {
+        row: Row {
+            line: measures::LINE,
+            out: measures::TEXT,
+            changes: LAST_EARLIER,
+            ..PASS
+        },
+        later: LAST_EARLY,
+        ..LISTED
+    },
+];
+
+#[test]
+fn other_stamps(rt: HostRuntime) -> Result<(), Fail> {
+    differs(&rt, &[LIST, WRITE], FIRST_LATE)?;
+    differs(&rt, &[LIST, WRITE], LAST_EARLY)?;
+    hold_changing(&rt, &OTHER_STAMPS)
+}
+
+// Where no flow is judged there is nothing to measure, and the capture is read once.
+static NOTHING_TO_MEASURE: Changing = Changing {
+    row: Row {
+        line: measures::LINE,
+        capture: &[Step::Made(0, 4)],
+        status: Status::NotAllJudged,
+        out: &[REFUSED],
+        ..PASS
+    },
+    later: &[],
+    fetched: 1,
+    noted: 0,
+};
+
+#[test]
+fn nothing_to_measure(rt: HostRuntime) -> Result<(), Fail> {
+    NOTHING_TO_MEASURE.holds(&rt)
+}
