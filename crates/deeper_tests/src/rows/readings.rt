@@ -11,7 +11,6 @@ use call_rows::{
     Setting, UntoldSource, Wanted, Watch, answer, made, over, part, put, shelf_of, whole,
 };
 use capture_gen::{capture_len, write_capture};
-use std::alloc::{AllocError, Global};
 use std::process::Abort;
 use std::sync::Wait;
 use std::test::Fail;
@@ -174,62 +173,23 @@ fn shorter_and_longer(rt: HostRuntime) -> Result<(), Fail> {
     differs(&rt, &TWICE, &setting, longer.bytes())
 }
 
-// The numbers where the first judged packet comes a nanosecond later: that of the first frame, the gap behind it, and
-// how much time is left to its read.
-const FIRST_LATER: [(&str, &str); 3] = [
-    (
-        "{\"first\":764000,\"greatest\":764000,\"last\":764000,\"least\":764000,\"sum\":1528000,",
-        "{\"first\":764001,\"greatest\":764001,\"last\":764000,\"least\":764000,\"sum\":1528001,",
-    ),
-    (
-        "\"least\":960000,\"sum\":38240000",
-        "\"least\":959999,\"sum\":38239999",
-    ),
-    ("\"slack\":444", "\"slack\":443"),
-];
-
-// And where the last comes a nanosecond earlier: that of the last frame, and the gap before it.
-const LAST_EARLIER: [(&str, &str); 2] = [
-    (
-        "{\"first\":19004000,\"greatest\":19004000,\"last\":19004000,\"least\":19004000,\"sum\":38008000}",
-        "{\"first\":19004000,\"greatest\":19004000,\"last\":19003999,\"least\":19003999,\"sum\":38007999}",
-    ),
-    (
-        "\"least\":960000,\"sum\":38240000",
-        "\"least\":959999,\"sum\":38239999",
-    ),
-];
-
-// What `measure` prints of the plain capture, with other numbers.
-fn with_numbers(alloc: Global, numbers: &[(&str, &str)]) -> Result<String, AllocError> {
-    let mut text = String::from_str(alloc, measures::PLAIN)?;
-    for (from, to) in numbers {
-        text = text.replace(alloc, from, to)?;
-    }
-    Ok(text)
-}
-
-// The record has another stamp at the second reading. `shape` keeps the first and the last stamp and tells; each verdict
-// is as it was, so `measure` prints the numbers of the second reading.
+// The record has another stamp at the second reading.
 fn stamp_moves<R: Abort + AllocGlobal + Wait + Threads + Sync>(
     rt: &R,
     record: u16,
     nanos: u32,
-    numbers: &[(&str, &str)],
 ) -> Result<(), Fail> {
     let setting = over(rt.alloc(), made(rt.alloc(), 0, 0)?)?;
     let later = with_stamp(rt.alloc(), &setting.capture, record, 1_600_000_000, nanos)?;
-    differs(rt, &[LIST, WRITE], &setting, &later)?;
-    let text = with_numbers(rt.alloc(), numbers)?;
-    let wanted = (Status::Pass, text.as_bytes(), "");
-    answers_changing(rt, measures::LINE, &setting, &later, wanted, (2, 0))
+    differs(rt, &TWICE, &setting, &later)
 }
 
-// The first judged packet comes a nanosecond later, or the last a nanosecond earlier.
+// The first judged packet comes a nanosecond later, or the last a nanosecond earlier: each verdict is as it was, but the
+// judged packets begin or end at another instant.
 #[test]
 fn other_stamps(rt: HostRuntime) -> Result<(), Fail> {
-    stamp_moves(&rt, 1, 764_001, &FIRST_LATER)?;
-    stamp_moves(&rt, 40, 39_003_999, &LAST_EARLIER)
+    stamp_moves(&rt, 1, 764_001)?;
+    stamp_moves(&rt, 40, 39_003_999)
 }
 
 // Where no flow is judged there is nothing to measure, and the capture is read once.
