@@ -1,7 +1,7 @@
 -- What follows for `measure` from what a reading of its capture came to.
 use Rattle.std.specs.Prelude.{◌&&◌, ◌<◌, All, IfErr, IfOk, Result, Ok, Err, if◌then◌else◌, not}
 use Rattle.std.specs.List.{list_any}
-use Rattle.std.proofs.Common.{◌≡◌, ◌+◌, ◌^◌, ℕ, Bool, true, false, List, [], ◌∷◌, length, Option, Some, refl, ap, ◌∙◌, sym, subst, arith, inl, inr}
+use Rattle.std.proofs.Common.{◌≡◌, ◌+◌, ℕ, Bool, true, false, List, [], ◌∷◌, length, Some, refl, sym, subst, arith}
 use Rattle.std.proofs.lemmas.List.Elements.{All-cons, All-nil, All-weaker}
 use Rattle.timing_base.specs.Captures.{Record}
 use Rattle.timing_base.specs.Jobs.{CaptureJob}
@@ -12,7 +12,6 @@ use Rattle.measure_text.specs.Json.{AreOfMedia}
 use Rattle.sdp_reader.specs.Session.{session}
 use Rattle.timing_outside.specs.Causes.{Rose}
 use Rattle.timing_report.specs.Outcomes.{is_refused}
-use Rattle.timing_report.specs.declared.status.Status.{Status}
 use Rattle.timing_report.specs.declared.status.Status.TheVariants as status
 use Rattle.timing_report.specs.declared.status.Input.TheVariants as input
 use Rattle.timing_steps.specs.Answers.{Answer, Gives, Inputs, OnReadFault, Yields}
@@ -44,13 +43,13 @@ flows-of tai items number (m ∷ media) (f ∷ flows) h =
     (All-weaker (λ (f : MeasuredFlow). f.media < number + 1 + length media) (λ (f : MeasuredFlow). f.media < number + length (m ∷ media))
     (λ f few. omega (arith, few)) flows (flows-of tai items (number + 1) media flows h.1))
 
-pub of-media : (tai : ℕ) (media : List Media) (r : Reading) → IsReadingOf (AreFlows tai media) r → AreOfMedia media r.flows.items
+pub of-media : (tai : ℕ) (media : List Media) (r : Reading MeasuredFlow) → IsReadingOf (AreFlows tai media) r → AreOfMedia media r.flows.items
 of-media tai media r h =
     All-weaker (λ (f : MeasuredFlow). f.media < 0 + length media) (λ (f : MeasuredFlow). f.media < length media) (λ f few. omega (arith, few)) r.flows.items
     (flows-of tai h.items 0 media r.flows.items h.are)
 
 -- the answer on what was read
-pub has-measure : (job : CaptureJob) (media : List Media) (text : List ℕ) (r : Reading) (answer : Answer) → IsReadingIn (AreFlows job.tai media) text r
+pub has-measure : (job : CaptureJob) (media : List Media) (text : List ℕ) (r : Reading MeasuredFlow) (answer : Answer) → IsReadingIn (AreFlows job.tai media) text r
     → answer ≡ measured job.capture r.note media r.flows.items → HasMeasure job media text answer
 has-measure job media text r answer h e = record {
   items = h.items;

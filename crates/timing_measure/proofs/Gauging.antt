@@ -1,5 +1,5 @@
 -- What the meter of a run says of its judged packets.
-use Rattle.std.proofs.Common.{◌≡◌, ◌≤◌, ◌<◌, ◌+◌, ◌*◌, ◌++◌, ◌∷◌, ℕ, List, [], length, map, Option, Some, None, ap, ◌∙◌, sym, subst, arith, refl, slice_index}
+use Rattle.std.proofs.Common.{◌≡◌, ◌+◌, ◌*◌, ◌++◌, ◌∷◌, ℕ, List, [], length, map, Option, Some, None, ap, ◌∙◌, sym, subst, arith, refl}
 use Rattle.std.proofs.Common.{length-append, slice_index_or}
 use Rattle.std.specs.Prelude.{MatchOption}
 use Rattle.std.proofs.Math.Seq.{get_or-append_seam}

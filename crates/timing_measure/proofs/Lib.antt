@@ -1,5 +1,6 @@
 mod Planning
 pub mod Plans
+mod Edging
 mod Meterings
 mod Eaches
 mod Banked

@@ -1,12 +1,10 @@
 -- A flow meter takes a packet in, and ends.
 use Rattle.std.proofs.Common.{◌≡◌, ◌≤◌, ◌<◌, ◌+◌, ◌^◌, ℕ, zero, suc, Bool, true, false, List, [], ◌∷◌, ◌++◌, length, take, Option, Some, None, Ok, Err}
 use Rattle.std.proofs.Common.{refl, arith, ap, ap₂, ◌∙◌, sym, subst, append_assoc, length-append}
-use Rattle.std.specs.Prelude.{◌==◌, ◌||◌, All, Result}
-use Rattle.std.proofs.lemmas.Bool.Decides.{nat_tests}
+use Rattle.std.specs.Prelude.{All, Result}
 use Rattle.std.proofs.lemmas.List.{take_more}
 use Rattle.std.proofs.lemmas.List.Elements.{All-pop}
-use Rattle.std.proofs.Math.Seq.{get_or-append_seam}
-use Rattle.timing_base.specs.Flows.{AreStamped, cuts, is_cut, last_place, no_packet, packet}
+use Rattle.timing_base.specs.Flows.{AreStamped, cuts, last_place, no_packet, packet}
 use Rattle.timing_base.specs.Judged.{judged}
 use Rattle.timing_base.specs.Media.{Media}
 use Rattle.timing_base.specs.Verdicts.{Judged}
@@ -24,6 +22,7 @@ use Rattle.timing_measure.specs.metering.Plan.{IsWhole, planned_at, planned_betw
 use Rattle.timing_measure.specs.metering.Walks.{IsWalk, begins_at}
 use Rattle.timing_measure.specs.declared.metering.flow.FlowMeter.{FlowMeter}
 use Rattle.timing_measure.specs.declared.metering.open.OpenRun.{OpenRun}
+use Rattle.timing_measure.proofs.Edging.{begins-later, stands-on}
 use Rattle.timing_measure.proofs.Planning.{none-some, some-same}
 use Rattle.timing_measure.proofs.Plans.{parts-whole, planned-parts}
 
@@ -154,12 +153,6 @@ abbrev pub IsTurned : {G : Type 0} → Standing G → Measuring → Media → (t
 IsTurned stands measures m tai found packets i done last =
     IsGoing stands measures m tai found packets i (length (cuts packets (i + 1))) (last_place (0 ∷ cuts packets (i + 1))) (cuts packets (i + 1)) done last
 
--- behind the first packet a run begins at a cut
-begins-later : (packets : List FlowPacket) (i : ℕ) (b : Bool) → begins_at packets (suc i) ≡ b → is_cut packets (suc i) ≡ b
-begins-later packets i b e =
-    let later : (suc i == 0) ≡ false = grind (arith, nat_tests) in
-    sym (ap (λ c. c || is_cut packets (suc i)) later) ∙ e
-
 -- packet i goes on with the run
 pub turned-other : {G : Type 0} (stands : Standing G) (measures : Measuring) (m : Media) (tai : ℕ) (found : Verdict) (packets : List FlowPacket) (i : ℕ)
     (done : List MeasuredRun) (last : Option (OpenRun G)) → begins_at packets i ≡ false
@@ -245,14 +238,8 @@ pub stands-more : {G : Type 0} (stands : Standing G) (measures : Measuring) (m :
     → IsAt stands measures m number tai found old packets i → IsAt stands measures m number tai found new packets (i + 1))
     → (packets : List FlowPacket) → StandsFor stands measures m number tai found old packets
     → StandsFor stands measures m number tai found new (packets ++ p ∷ [])
-stands-more stands measures m number tai found old new p next packets h = λ rest.
-    let all = packets ++ p ∷ rest in
-    let same : (packets ++ p ∷ []) ++ rest ≡ all = append_assoc packets (p ∷ []) rest in
-    let long : length (packets ++ p ∷ []) ≡ length packets + 1 = length-append packets (p ∷ []) in
-    let whole : length all ≡ length packets + length (p ∷ rest) = length-append packets (p ∷ rest) in
-    subst (λ n. IsAt stands measures m number tai found new ((packets ++ p ∷ []) ++ rest) n) (sym long)
-    (subst (λ l. IsAt stands measures m number tai found new l (length packets + 1)) (sym same)
-    (next all (length packets) (omega (arith, whole)) (get_or-append_seam packets p rest no_packet) (h (p ∷ rest))))
+stands-more stands measures m number tai found old new p next packets h =
+    stands-on (IsAt stands measures m number tai found old) (IsAt stands measures m number tai found new) p next packets h
 
 -- one packet more, and the first source
 or-same : (r : Result Rtp PacketFault) (a b : Option ℕ) (s : ℕ) → source_or r a ≡ Some s → (a ≡ Some s → b ≡ Some s) → source_or r b ≡ Some s

@@ -1,5 +1,5 @@
 -- The texts of `measure` have an answer.
-use Rattle.std.proofs.Common.{◌≡◌, ◌<◌, ◌≤◌, ◌+◌, ◌*◌, ◌^◌, ◌∷◌, ℕ, zero, suc, List, [], length, map, Option, Some, None, refl, ap, ◌∙◌, sym, subst, arith}
+use Rattle.std.proofs.Common.{◌≡◌, ◌<◌, ◌≤◌, ◌+◌, ◌^◌, ◌∷◌, ℕ, zero, suc, List, [], length, map, Option, Some, None, refl, ◌∙◌, arith}
 use Rattle.std.proofs.Common.{slice_index}
 use Rattle.std.specs.Prelude.{All, slice_index_or}
 use Rattle.std.specs.List.{cons_option}
@@ -24,7 +24,7 @@ use Rattle.udp_rtp.specs.Flow.{flow, flow_packet}
 use Rattle.timing_measure.specs.Each.{EachOf}
 use Rattle.timing_measure.specs.Measured.{AreMeasured, IsMeasuredFlow, IsMeasuredRun, JudgedPart, first_source, judged_parts, part_of, parts_between}
 use Rattle.timing_measure.specs.Measured.{parts_in, stamps_of}
-use Rattle.timing_measure.specs.Measures.{AreFlows, HasMeasure, HasNumbers, measured, named_by, records_of, timestamps_of}
+use Rattle.timing_measure.specs.Measures.{HasMeasure, HasNumbers, measured, named_by, records_of, timestamps_of}
 use Rattle.timing_measure.specs.metering.Plan.{IsWhole}
 use Rattle.timing_measure.proofs.Plans.{parts-whole}
 

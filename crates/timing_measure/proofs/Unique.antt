@@ -1,5 +1,5 @@
 -- The texts of `measure` have one answer.
-use Rattle.std.specs.Prelude.{◌&&◌, if◌then◌else◌, nat_lt, not, Bool, MatchOption}
+use Rattle.std.specs.Prelude.{◌&&◌, if◌then◌else◌, nat_lt, not, MatchOption}
 use Rattle.std.specs.List.{list_any}
 use Rattle.std.proofs.Common.{◌≡◌, ◌≤◌, ◌-◌, ◌+◌, ◌^◌, ℕ, ℤ, true, false, List, [], ◌∷◌, length, map, Option, Some, None, refl, ap, ap₂, ◌∙◌, sym, subst, arith}
 use Rattle.std.proofs.Common.{slice_index}
@@ -36,7 +36,7 @@ use Rattle.timing_report.specs.declared.status.Status.TheVariants as status
 use Rattle.timing_steps.specs.Answers.{Answer}
 use Rattle.timing_measure.specs.Each.{EachOf}
 use Rattle.timing_measure.specs.Measured.{AreMeasured, IsMeasuredFlow, IsMeasuredRun, JudgedPart, judged_parts}
-use Rattle.timing_measure.specs.Measures.{AreFlows, HasMeasure, HasNumbers, has_run, measured}
+use Rattle.timing_measure.specs.Measures.{AreFlows, HasMeasure, HasNumbers, has_run}
 
 -- what is told of bins that tell the same
 bins-same : (b c : Bins) → TellSame b c → bins_told b ≡ bins_told c

@@ -1,3 +1,5 @@
+pub mod Edged
+pub mod Edges
 pub mod Fed
 pub mod Firsts
 pub mod Gauged

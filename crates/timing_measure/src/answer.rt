@@ -13,15 +13,15 @@ use timing_base::{CaptureJob, FileNote, Session};
 use timing_report::{Status, any_refused};
 use timing_steps::Answer;
 
-/// Whether a run of the flow is judged.
+/// Whether the flow has a judged run, which was measured.
 fn has_run(flow: &MeasuredFlow) -> bool
     ensures { result ≡ has_run flow.now }
 {
     flow.runs.len() > 0
 }
 
-/// Whether a run of one of the flows is judged.
-fn is_one_judged(flows: &[MeasuredFlow]) -> bool
+/// Whether one of the flows has a judged run, which was measured.
+fn is_one_measured(flows: &[MeasuredFlow]) -> bool
     ensures { result ≡ list_any has_run flows.now }
 {
     flows.iter().any(has_run)
@@ -32,7 +32,7 @@ fn status_of(note: FileNote, flows: &[MeasuredFlow]) -> Status
     ensures status { result ≡ measure_status note flows.now }
     ensures ends { measure_ends result ≡ true }
 {
-    if !is_one_judged(flows) {
+    if !is_one_measured(flows) {
         return Status::NotAllJudged;
     }
     if any_refused(&[note]) {
@@ -46,7 +46,7 @@ pub fn measured(
     alloc: Global,
     job: &CaptureJob,
     session: &Session,
-    reading: &Reading,
+    reading: &Reading<MeasuredFlow>,
 ) -> Result<Answer, OutOfMemory>
     requires { AreOfMedia session.now reading.now.flows.items }
     ensures { IfOk result (λ answer. answer

@@ -12,6 +12,7 @@ ghost use Rattle.timing_measure.specs.Measures.{FollowsMeasure, HasMeasure, Meas
 
 use crate::answer::measured;
 use crate::readings::{Reading, read_flows};
+use flow_measure::MeasuredFlow;
 use std::alloc::Global;
 use timing_base::{CaptureJob, Session};
 use timing_outside::{Shelf, Sink};
@@ -23,7 +24,7 @@ fn answer_read(
     alloc: Global,
     job: &CaptureJob,
     session: &Session,
-    reading: &Reading,
+    reading: &Reading<MeasuredFlow>,
 ) -> Result<Answer, Failure>
     requires { AreOfMedia session.now reading.now.flows.items }
     ensures answered { IfOk result (HasStatus measure_ends) }

@@ -1,6 +1,8 @@
 //! The numbers of the judged runs of a flow. A first reading judged the flow; in a second one each judged run's packets
 //! go to a meter.
 
+pub mod edged;
+pub mod edges;
 pub mod first;
 pub mod flow;
 pub mod gauge;
@@ -12,6 +14,8 @@ pub mod second;
 pub mod source;
 pub mod walk;
 
+pub use edged::Edged;
+pub use edges::{Edge, EdgeMeter};
 pub use first::FirstMeter;
 pub use flow::FlowMeter;
 pub use gauge::RunGauge;

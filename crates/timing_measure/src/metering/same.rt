@@ -1,10 +1,37 @@
 //! Whether two readings of a flow found the same.
 
 ghost use Rattle.std.specs.Prelude.{◌≡◌, true};
+ghost use Rattle.timing_measure.specs.metering.Edged.{IsAgain};
 
+use crate::metering::edges::Edge;
 use timing_base::{Judged, KindVerdict, Run, RunVerdict, Verdict};
 
-/// Whether two readings of a flow found the same.
+/// Whether a second reading of a flow found what the first found: its verdict, and how the judged packets of its runs
+/// begin and end.
+pub fn is_again(first: &Verdict, before: &[Edge], second: &Verdict, edges: &[Edge]) -> bool
+    ensures same { result ≡ true → IsAgain first.now before.now second.now edges.now }
+    ensures told { IsAgain first.now before.now second.now edges.now → result ≡ true }
+{
+    is_same(first, second) && are_same_edges(before, edges)
+}
+
+/// Whether the judged packets of two lists of runs begin and end alike.
+fn are_same_edges(first: &[Edge], second: &[Edge]) -> bool
+    ensures same { result ≡ true → second.now ≡ first.now }
+    ensures told { second.now ≡ first.now → result ≡ true }
+{
+    if first.len() != second.len() {
+        return false;
+    }
+    for place in 0..first.len() {
+        if first[place] != second[place] {
+            return false;
+        }
+    }
+    true
+}
+
+/// Whether two readings of a flow came to the same verdict.
 pub fn is_same(first: &Verdict, second: &Verdict) -> bool
     ensures same { result ≡ true → second.now ≡ first.now }
     ensures told { second.now ≡ first.now → result ≡ true }

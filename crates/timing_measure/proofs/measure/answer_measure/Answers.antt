@@ -1,7 +1,7 @@
-use Rattle.std.proofs.Common.{rules, ◌≡◌, ◌∙◌}
+use Rattle.std.proofs.Common.{rules, ◌∙◌}
 use Rattle.timing_steps.specs.Answers.{seen_of}
 use Rattle.timing_steps.proofs.Seeing.{sees-rest}
-use Rattle.timing_measure.proofs.Answering.{cause-seen, session-follows}
+use Rattle.timing_measure.proofs.Answering.{session-follows}
 use Rattle.timing_measure.proofs.measure.answer_measure.Goals as goal
 
 pub returns-in-Ok-clause-follows : goal.returns-in-Ok-clause-follows

@@ -1,5 +1,4 @@
 use Rattle.std.proofs.Common.{◌≡◌, rules, subst}
-use Rattle.timing_base.specs.Targets.{HaveOwnTargets}
 use Rattle.timing_steps.specs.Answers.{seen_of}
 use Rattle.timing_measure.specs.Measures.{AreFlows, HasMeasure}
 use Rattle.timing_measure.specs.Readings.{IsReadingIn, IsReadingOf}

@@ -1,4 +1,4 @@
-use Rattle.std.proofs.Common.{◌≡◌, ◌∙◌, ◌^◌, ◌≤◌, ◌+◌, ℕ, List, [], length, rules, refl, subst, sym, ap, arith}
+use Rattle.std.proofs.Common.{◌≡◌, ◌∙◌, ◌^◌, ◌+◌, ℕ, List, [], length, rules, refl, subst, sym, ap, arith}
 use Rattle.std.proofs.lemmas.List.Elements.{All-weaker}
 use Rattle.timing_outside.specs.Causes.{Rose}
 use Rattle.timing_steps.proofs.Seeing.{rose-within}
@@ -6,7 +6,7 @@ use Rattle.timing_measure.specs.Banks.{HaveRoom}
 use Rattle.timing_measure.specs.Measures.{AreFlows}
 use Rattle.timing_measure.specs.Each.{AllPairs}
 use Rattle.timing_measure.specs.Readings.{AreSeconds, AreUnmeasured, BeginsWith, IsReadingIn, IsReadingOf}
-use Rattle.timing_measure.specs.metering.Firsts.{IsFirst}
+use Rattle.timing_measure.specs.metering.Edged.{HaveRoom as BothHaveRoom, room_less as both_less}
 use Rattle.timing_measure.specs.metering.Seconds.{HasRoom, room_less}
 use Rattle.timing_measure.proofs.Eaches.{each-long}
 use Rattle.timing_measure.proofs.Found.{changed-untold, second-in, second-of, second-room}
@@ -19,21 +19,22 @@ begin_again-requires-clause-each g c =
 
 pub new-bank-requires : goal.new-bank-requires
 new-bank-requires g c =
-    second-room HasRoom c.job.inside.tai (2 ^ 36) c.args.media.now c.in_ok-begin_again.field-0.items c.requires.targets
+    second-room (BothHaveRoom HasRoom) c.job.inside.tai (2 ^ 36) c.args.media.now c.in_ok-begin_again.field-0.items c.requires.targets
     c.in_ok-begin_again.ensures.stands
-    (All-weaker (λ f. HasRoom (2 ^ 41) f.taker) (λ f. HasRoom (2 ^ 36) f.taker) (λ f room. room_less (2 ^ 36) (2 ^ 41) f.taker (omega arith) room)
+    (All-weaker (λ f. BothHaveRoom HasRoom (2 ^ 41) f.taker) (λ f. BothHaveRoom HasRoom (2 ^ 36) f.taker)
+    (λ f room. both_less HasRoom room_less (2 ^ 36) (2 ^ 41) f.taker (omega arith) room)
     c.in_ok-begin_again.field-0.items c.in_ok-begin_again.ensures.room)
 
 pub end_again-requires : goal.end_again-requires
 end_again-requires g c =
     let few = c.in_ok-taken.ensures.few in
     let flows : c.new-bank.result.flows.items ≡ c.in_ok-begin_again.field-0.items = search rules in
-    let before = second-room HasRoom c.job.inside.tai (c.in_ok-taken.taken.records + 1) c.args.media.now c.in_ok-begin_again.field-0.items
+    let before = second-room (BothHaveRoom HasRoom) c.job.inside.tai (c.in_ok-taken.taken.records + 1) c.args.media.now c.in_ok-begin_again.field-0.items
     c.requires.targets c.in_ok-begin_again.ensures.stands
-    (All-weaker (λ f. HasRoom (2 ^ 41) f.taker) (λ f. HasRoom (c.in_ok-taken.taken.records + 1) f.taker)
-    (λ f room. room_less (c.in_ok-taken.taken.records + 1) (2 ^ 41) f.taker (omega (arith, few)) room)
+    (All-weaker (λ f. BothHaveRoom HasRoom (2 ^ 41) f.taker) (λ f. BothHaveRoom HasRoom (c.in_ok-taken.taken.records + 1) f.taker)
+    (λ f room. both_less HasRoom room_less (c.in_ok-taken.taken.records + 1) (2 ^ 41) f.taker (omega (arith, few)) room)
     c.in_ok-begin_again.field-0.items c.in_ok-begin_again.ensures.room) in
-    record { room = (c.in_ok-taken.ensures.room 1 (subst (HaveRoom HasRoom (c.in_ok-taken.taken.records + 1)) (sym flows) before)).each }
+    record { room = (c.in_ok-taken.ensures.room 1 (subst (HaveRoom (BothHaveRoom HasRoom) (c.in_ok-taken.taken.records + 1)) (sym flows) before)).each }
 
 pub returns-in-Some-clause-told : goal.returns-in-Some-clause-told
 returns-in-Some-clause-told g c = λ text whole.

@@ -1,15 +1,17 @@
-use Rattle.std.proofs.Common.{◌≡◌, ◌^◌, ◌≤◌, ℕ, [], rules, refl, subst, sym, arith}
+use Rattle.std.proofs.Common.{◌≡◌, ◌^◌, ℕ, [], rules, refl, subst, sym, arith}
 use Rattle.std.proofs.lemmas.List.Elements.{All-weaker}
-use Rattle.timing_measure.specs.Banks.{HaveRoom}
 use Rattle.timing_measure.specs.Readings.{AreFirsts, AreUnmeasured, IsReadingIn, IsReadingOf}
+use Rattle.timing_measure.specs.metering.Edged.{HaveRoom as BothHaveRoom, room_less as both_less}
 use Rattle.timing_measure.specs.metering.Firsts.{HasRoom, room_less}
 use Rattle.timing_measure.proofs.Found.{first-in, first-of, first-room}
 use Rattle.timing_measure.proofs.readings.read_first.Goals as goal
 
 pub new-bank-requires : goal.new-bank-requires
 new-bank-requires g c =
-    first-room HasRoom c.job.inside.tai (2 ^ 36) c.args.media.now c.in_ok-begin_first.field-0.items c.requires.targets c.in_ok-begin_first.ensures.stands
-    (All-weaker (λ f. HasRoom (2 ^ 41) f.taker) (λ f. HasRoom (2 ^ 36) f.taker) (λ f room. room_less (2 ^ 36) (2 ^ 41) f.taker (omega arith) room)
+    first-room (BothHaveRoom HasRoom) c.job.inside.tai (2 ^ 36) c.args.media.now c.in_ok-begin_first.field-0.items c.requires.targets
+    c.in_ok-begin_first.ensures.stands
+    (All-weaker (λ f. BothHaveRoom HasRoom (2 ^ 41) f.taker) (λ f. BothHaveRoom HasRoom (2 ^ 36) f.taker)
+    (λ f room. both_less HasRoom room_less (2 ^ 36) (2 ^ 41) f.taker (omega arith) room)
     c.in_ok-begin_first.field-0.items c.in_ok-begin_first.ensures.room)
 
 pub returns-clause-told : goal.returns-clause-told

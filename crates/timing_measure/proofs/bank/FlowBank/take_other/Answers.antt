@@ -1,13 +1,13 @@
-use Rattle.std.proofs.Common.{◌≡◌, ◌<◌, ◌+◌, ◌∷◌, ◌∙◌, [], ap, length, sym, subst, refl, rules, arith, set}
+use Rattle.std.proofs.Common.{◌≡◌, ◌<◌, ◌+◌, ◌∷◌, ◌∙◌, [], ap, length, sym, subst, refl, rules, arith}
 use Rattle.std.specs.Prelude.{All, Some}
 use Rattle.std.proofs.lemmas.List.Elements.{All-get_or}
 use Rattle.timing_base.specs.Captures.{Record}
 use Rattle.timing_base.specs.Targets.{target_of}
 use Rattle.timing_base.specs.declared.target.Target.{Target}
-use Rattle.udp_rtp.specs.Frames.{Datagram, datagram_of}
+use Rattle.udp_rtp.specs.Frames.{Datagram}
 use Rattle.timing_reach.specs.declared.judged.flows.FlowOf.{FlowOf}
 use Rattle.timing_reach.proofs.Takings.{if-ok}
-use Rattle.timing_measure.specs.Banks.{HaveRoom, IsPlace, TakesAll, room_less}
+use Rattle.timing_measure.specs.Banks.{IsPlace, room_less}
 use Rattle.timing_measure.proofs.Banked.{elsewhere-takes, nothing-takes, ok-both, one-takes, packet-goes, place-holds, place-in, room-one}
 use Rattle.timing_measure.proofs.bank.FlowBank.take_other.Goals as goal
 

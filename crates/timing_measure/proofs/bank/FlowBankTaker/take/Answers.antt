@@ -1,5 +1,4 @@
-use Rattle.std.proofs.Common.{◌≡◌, rules, subst, true, false}
-use Rattle.std.specs.Prelude.{Ok}
+use Rattle.std.proofs.Common.{rules}
 use Rattle.timing_measure.proofs.bank.FlowBankTaker.take.Goals as goal
 
 pub returns-then-branch-clause-room : goal.returns-then-branch-clause-room

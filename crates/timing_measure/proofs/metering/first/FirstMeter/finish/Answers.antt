@@ -1,4 +1,4 @@
-use Rattle.std.proofs.Common.{◌∙◌, ap, sym}
+use Rattle.std.proofs.Common.{◌∙◌, ap}
 use Rattle.timing_base.specs.Keys.{key_of}
 use Rattle.timing_base.specs.declared.row.Row.{Row}
 use Rattle.timing_measure.proofs.metering.first.FirstMeter.finish.Goals as goal

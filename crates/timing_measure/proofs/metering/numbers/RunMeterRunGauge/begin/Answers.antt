@@ -1,4 +1,4 @@
-use Rattle.std.proofs.Common.{◌≡◌, ℕ, map, List, [], ◌∷◌, Option, ap, sym, subst, ◌∙◌, slice_index_or}
+use Rattle.std.proofs.Common.{ℕ, map, List, [], ◌∷◌, Option, ap, sym, subst, ◌∙◌, slice_index_or}
 use Rattle.flow_measure.specs.RunStands.{StandsFor}
 use Rattle.timing_base.specs.Media.{Media}
 use Rattle.timing_base.specs.Verdicts.{Judged}
