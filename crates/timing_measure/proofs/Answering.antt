@@ -49,7 +49,8 @@ of-media tai media r h =
     (flows-of tai h.items 0 media r.flows.items h.are)
 
 -- the answer on what was read
-pub has-measure : (job : CaptureJob) (media : List Media) (text : List ℕ) (r : Reading MeasuredFlow) (answer : Answer) → IsReadingIn (AreFlows job.tai media) text r
+pub has-measure : (job : CaptureJob) (media : List Media) (text : List ℕ) (r : Reading MeasuredFlow) (answer : Answer)
+    → IsReadingIn (AreFlows job.tai media) text r
     → answer ≡ measured job.capture r.note media r.flows.items → HasMeasure job media text answer
 has-measure job media text r answer h e = record {
   items = h.items;

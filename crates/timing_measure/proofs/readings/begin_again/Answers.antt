@@ -26,7 +26,8 @@ loop-number-preserved c =
       stands = each-more (IsSecondOf c.args.tai []) c.loop-number.number c.args.media.now c.loop-number.flows.items c.push.new.self.items
           c.index-media-number.result c.new-flow.result (search rules)
           (sym c.index-media-number.is) c.loop-number.invariant.stands
-          (new-second c.args.tai c.loop-number.number c.index-media-number.result _ c.new-meter.result c.new-taker.result c.new-flow.result c.new-flow.ensures.media
+          (new-second c.args.tai c.loop-number.number c.index-media-number.result _ c.new-meter.result c.new-taker.result c.new-flow.result
+          c.new-flow.ensures.media
           c.new-flow.ensures.taker c.new-taker.ensures.meter c.new-taker.ensures.stands c.new-meter.ensures.stands) c.in_ok-push.ensures.items;
       begins = pairs-more BeginsWith c.loop-number.number c.args.firsts.now c.loop-number.flows.items c.push.new.self.items
           c.index-firsts-number.result c.new-flow.result within (sym c.index-firsts-number.is) c.loop-number.invariant.begins

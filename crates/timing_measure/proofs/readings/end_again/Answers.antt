@@ -18,7 +18,8 @@ end_flow-requires c = record {
 pub loop-flow-preserved : goal.loop-flow-preserved
 loop-flow-preserved c =
     through-next SecondEnds c.args.flows.items c.loop-flow.ends.items c.push.new.self.items c.loop-flow.flow-iterator.rest.items
-    c.next.new.self.rest.items c.in-Some.flow c.in-Some-2.end c.in-Some.ensures.steps.0 c.in_ok-push-in-Some-2.ensures.items (search rules) c.loop-flow.invariant
+    c.next.new.self.rest.items c.in-Some.flow c.in-Some-2.end c.in-Some.ensures.steps.0 c.in_ok-push-in-Some-2.ensures.items (search rules)
+    c.loop-flow.invariant
 
 pub returns-clause-same : goal.returns-clause-same
 returns-clause-same c =

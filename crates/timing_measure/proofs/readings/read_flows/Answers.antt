@@ -10,7 +10,8 @@ read_again-requires-clause-known g c = λ lifetimes lives text whole.
 
 pub returns-clause-told : goal.returns-clause-told
 returns-clause-told g c = λ text whole.
-    none-in c.args.job.now.tai c.args.media.now text c.in_ok-first.first _ (search rules) refl c.in_ok-unmeasured.ensures (c.in_ok-first.ensures.told text whole)
+    none-in c.args.job.now.tai c.args.media.now text c.in_ok-first.first _ (search rules) refl c.in_ok-unmeasured.ensures
+    (c.in_ok-first.ensures.told text whole)
 
 pub returns-clause-some : goal.returns-clause-some
 returns-clause-some g c =
