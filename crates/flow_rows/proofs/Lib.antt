@@ -1,0 +1,4 @@
+mod Filling
+mod Numbering
+mod Grouping
+mod Rowing

@@ -1,0 +1,85 @@
+//! The rows of a judged run, as text.
+
+ghost use Rattle.std.specs.Prelude.{◌≡◌, ◌<◌, ◌+◌, ◌^◌, [], ℕ, IfOk};
+ghost use Rattle.flow_rows.specs.Rows.{header_text};
+
+use crate::groups::GroupRows;
+use crate::packets::PacketRows;
+use measure_text::{RowText, group_header, packet_header};
+use sender_params::Params;
+use std::alloc::AllocError as OutOfMemory;
+use timing_base::{Judged, Media};
+
+/// The line above the rows, of packets or of groups.
+pub fn header(frames: bool) -> &'static str
+    ensures { result.now ≡ header_text frames }
+{
+    if frames {
+        group_header()
+    } else {
+        packet_header()
+    }
+}
+
+/// The rows of one judged run, of its packets or of its groups.
+#[derive(Clone, Copy, Debug, PartialEq, Eq)]
+pub enum RunRows {
+    Packets(PacketRows),
+    Groups(GroupRows),
+}
+
+impl RunRows {
+    ghost use Rattle.flow_rows.specs.making.Stands.{PutsRow, StandsFor, seen_of};
+
+    /// Before the first judged packet of the run of this number, of which this is judged.
+    pub fn begin(media: &Media, run: u32, judged: &Judged, frames: bool) -> RunRows
+        ensures seen { seen_of result ≡ 0 }
+        ensures stands { (tai : ℕ) → StandsFor frames media.now tai run judged.now.n result [] }
+    {
+        let params = Params::of(media, judged.n);
+        if frames {
+            RunRows::Groups(GroupRows::new(&params, run))
+        } else {
+            RunRows::Packets(PacketRows::new(&params, run))
+        }
+    }
+
+    /// The packets so far.
+    #[inline(always)]
+    pub fn seen(&self) -> u64
+        ensures { result ≡ seen_of self.now }
+    {
+        match self {
+            RunRows::Packets(packets) => packets.levels.seen,
+            RunRows::Groups(groups) => groups.levels.seen,
+        }
+    }
+
+    /// Takes the next judged packet: its record, when it came, in nanoseconds of TAI, and its RTP timestamp. The row that is
+    /// made of it, where one is, is put behind `text`. What it says is so where no stamp is below the one before.
+    #[inline(always)]
+    pub fn put(
+        &mut self,
+        rec: u64,
+        at: u64,
+        timestamp: u32,
+        row: &mut RowText,
+        text: &mut Vec<u8>,
+    ) -> Result<(), OutOfMemory>
+        requires in_time { at < 2 ^ 62 }
+        requires few { seen_of self.old < 2 ^ 41 }
+        ensures seen { seen_of self.new ≡ seen_of self.old + 1 }
+        ensures puts { IfOk result (λ _. PutsRow self.old self.new rec at timestamp text.old.items text.new.items) }
+    {
+        match self {
+            RunRows::Packets(packets) => {
+                let made = packets.feed(rec, at);
+                text.extend_from_slice(row.of_packet(&made))
+            }
+            RunRows::Groups(groups) => match groups.feed(rec, at, timestamp) {
+                Some(made) => text.extend_from_slice(row.of_group(&made)),
+                None => Ok(()),
+            },
+        }
+    }
+}
