@@ -405,8 +405,8 @@ goes-on m tai run n x y before p place row levels n0 earlier at within is t =
       gapped_are = t.gapped_are;
       linear_are = t.linear_are;
       begun = λ _.
-          subst (λ j. IsBegun m n j (length all) (anchor_in m now) (slice_index now) (records_in all) (ticks_in all) (buckets_of m n now) t.gapped t.linear y.row)
-          group
+          subst (λ j. IsBegun m n j (length all) (anchor_in m now) (slice_index now) (records_in all) (ticks_in all) (buckets_of m n now) t.gapped
+          t.linear y.row) group
           (subst (λ r. IsBegun m n (count / n) (length all) (anchor_in m now) (slice_index now) (records_in all) (ticks_in all) (buckets_of m n now) t.gapped
           t.linear r) (sym row) t.begun);
     }

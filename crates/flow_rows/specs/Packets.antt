@@ -1,5 +1,5 @@
--- The judged packets of a run: when each came, in nanoseconds of TAI, and its RTP timestamp, in ticks of 90 kHz. `tai` is in
--- seconds, which are added to the stamps of a capture.
+-- The judged packets of a run: when each came, in nanoseconds of TAI, and its RTP timestamp, in ticks of 90 kHz.
+-- `tai` is in seconds, which are added to the stamps of a capture.
 use Rattle.std.specs.Prelude.{ℕ, List, map}
 use Rattle.timing_base.specs.Flows.{read_or_zeros}
 use Rattle.timing_base.specs.Judged.{stamp_of}

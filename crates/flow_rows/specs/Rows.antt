@@ -1,7 +1,7 @@
--- The rows of the judged runs of a flow: what SMPTE ST 2110-21's two models and the media clock of ST 2110-10 say of each
--- judged packet, or of each judged group. m is the video, n the packets of one group, and `number` that of the run. Runs
--- and records count from 1, packets and groups from 0; stamps are nanoseconds of TAI, RTP timestamps ticks of 90 kHz,
--- `tai` is in seconds, and what is held is counted in packets. Which numbers a row has is this project's own.
+-- The rows of a judged run: what SMPTE ST 2110-21's two models and the media clock of ST 2110-10 say of each judged
+-- packet, or of each judged group. m is the video, n the packets of one group, and `number` that of the run. Runs and
+-- records count from 1, packets and groups from 0; stamps are nanoseconds of TAI, RTP timestamps ticks of 90 kHz, `tai`
+-- is in seconds, and what is held is counted in packets. Which numbers a row has is this project's own.
 use Rattle.std.specs.Prelude.{◌≡◌, ◌+◌, ◌-◌, ◌*◌, ◌/◌, ◌%◌, ◌≤◌, ◌<◌, ◌==◌, ℕ, zero, suc, ℤ, pos, Bool, true, false}
 use Rattle.std.specs.Prelude.{List, [], ◌∷◌, ◌++◌, length, slice_index, Option, Some, None}
 use Rattle.timing_base.specs.Flows.{packet}
@@ -60,8 +60,8 @@ pub record IsHeld (m : Media) (n : ℕ) (stamps : List ℕ) (gapped : Bool) (k :
   pub least_is : IsLeast occupancy (IsOfGroup n k) least
   pub greatest_is : IsGreatest occupancy (IsOfGroup n k) greatest
 
--- the row of group k of a run whose judged packets, up to the last one of that group, have these stamps, records and RTP
--- timestamps
+-- the row of group k of a run whose judged packets, up to the last one of that group, have these stamps, records and
+-- RTP timestamps
 pub record IsRowOf (m : Media) (number n k : ℕ) (stamps : List ℕ) (records timestamp : ℕ → ℕ) (r : GroupRow)
     : Type 0 where
   pub run : r.run ≡ number
@@ -90,7 +90,8 @@ ends_group n before = (before + 1) % n == 0
 
 -- a group's row is printed at its last packet, and nothing at the others
 abbrev pub AddsGroup : Media → (tai number n : ℕ) → List FlowPacket → (ends : Bool) → List ℕ → Type 0
-AddsGroup m tai number n packets true here = (r : GroupRow) × IsGroupRow m tai number n packets r × (here ≡ group_row_text r)
+AddsGroup m tai number n packets true here =
+    (r : GroupRow) × IsGroupRow m tai number n packets r × (here ≡ group_row_text r)
 AddsGroup m tai number n packets false here = here ≡ []
 
 -- what is printed at a judged packet behind these: its own row, or where frames are listed that of its group

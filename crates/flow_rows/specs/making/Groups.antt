@@ -10,8 +10,8 @@ use Rattle.flow_rows.specs.declared.groups.GroupRows.{GroupRows}
 use Rattle.flow_rows.specs.declared.levels.Level.{Level}
 
 -- it begins with a packet of this record, stamp and timestamp
-pub record BeginsRow (m : Media) (n0 : ℤ) (before : Option ℕ) (rec at timestamp : ℕ) (level : Level) (old new : GroupRow)
-    : Type 0 where
+pub record BeginsRow (m : Media) (n0 : ℤ) (before : Option ℕ) (rec at timestamp : ℕ) (level : Level)
+    (old new : GroupRow) : Type 0 where
   pub run : new.run ≡ old.run
   pub group : new.group ≡ old.group
   pub rec_is : new.rec ≡ rec
@@ -65,8 +65,8 @@ pub record KeepsRest (old new : GroupRows) : Type 0 where
   pub place_is : new.place ≡ old.place
   pub before_is : new.before ≡ old.before
 
--- a group begins with a packet of this record, stamp and timestamp; the first one is that of the epoch that is nearest to
--- it
+-- a group begins with a packet of this record, stamp and timestamp; the first one is that of the epoch that is nearest
+-- to it
 pub record Begins (rec at timestamp : ℕ) (level : Level) (old new : GroupRows) : Type 0 where
   pub first : old.before ≡ None → new.n0 ≡ anchor_of old.levels.params.media at
   pub later : (before : ℕ) → old.before ≡ Some before → new.n0 ≡ old.n0

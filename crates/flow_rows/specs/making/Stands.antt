@@ -1,7 +1,7 @@
 -- What the makers of rows say of the judged packets of a run that they were fed. m is the video, n the packets of one
 -- group, `run` the number of the run, and `tai` is in seconds.
-use Rattle.std.specs.Prelude.{◌≡◌, ◌<◌, ◌≤◌, ◌*◌, ◌/◌, ◌%◌, ℕ, zero, suc, ℤ, pos, Bool, true, false, List, [], ◌∷◌, ◌++◌, length}
-use Rattle.std.specs.Prelude.{slice_index, Option, Some, None}
+use Rattle.std.specs.Prelude.{◌≡◌, ◌<◌, ◌≤◌, ◌*◌, ◌/◌, ◌%◌, ℕ, zero, suc, ℤ, pos, Bool, true, false, List, [], ◌∷◌}
+use Rattle.std.specs.Prelude.{◌++◌, length, slice_index, Option, Some, None}
 use Rattle.sender_params.specs.Ticks.{NeverFall}
 use Rattle.timing_base.specs.Flows.{packet, read_or_zeros}
 use Rattle.timing_base.specs.Judged.{stamp_of}
@@ -32,8 +32,8 @@ pub record StandsForPackets (m : Media) (tai run n : ℕ) (x : PacketRows) (pack
 abbrev pub OfFront : (n k to : ℕ) → ℕ → Type 0
 OfFront n k to i = (k * n ≤ i) × (i < to)
 
--- group k has begun, and of its packets so much has all that came: of `count` packets `stamp`, `records` and `timestamp`
--- have when they came, their records and RTP timestamps, and `bucket`, `gapped` and `linear` what is held just after them
+-- group k has begun, and this row has all of it that came: of `count` packets `stamp`, `records` and `timestamp` have
+-- when they came, their records and RTP timestamps, and `bucket`, `gapped` and `linear` what is held just after them
 pub record IsBegun (m : Media) (n k count : ℕ) (anchor : ℤ) (stamp records timestamp : ℕ → ℕ)
     (bucket gapped linear : ℕ → ℤ) (r : GroupRow) : Type 0 where
   pub rec : r.rec ≡ firsts_of n records k
