@@ -1,0 +1,10 @@
+mod Planning
+mod Plans
+mod Rowing
+mod Metering
+mod Copying
+mod Capturing
+mod Fronting
+mod Ending
+mod Judging
+mod Resting
