@@ -8,3 +8,5 @@ mod Fronting
 mod Ending
 mod Judging
 mod Resting
+pub mod Some
+pub mod Unique

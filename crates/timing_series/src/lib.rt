@@ -5,6 +5,7 @@
 //! groups count from 0, runs and records from 1; stamps are nanoseconds.
 #![tactic(auto)]
 
+pub mod laws;
 mod meter;
 mod open;
 mod readings;
