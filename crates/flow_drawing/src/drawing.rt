@@ -6,7 +6,7 @@ ghost use Rattle.timing_base.specs.Media.{Media as MediaValue};
 ghost use Rattle.timing_base.specs.Verdicts.{Judged as JudgedValue};
 
 use crate::groups::GroupColumns;
-use crate::packets::{PacketColumns, curve_of};
+use crate::packets::{PacketColumns, listed};
 use crate::region::RegionMeter;
 use crate::regions::{begin_region, feed_region, put_region};
 use flow_page::{Curves, Region};
@@ -31,12 +31,12 @@ fn drawn(count: u64) -> u64
 #[derive(Debug, Drop)]
 pub struct RunDrawing {
     pub levels: LevelMeter,
-    pub packets: PacketColumns,
-    pub groups: GroupColumns,
+    packets: PacketColumns,
+    groups: GroupColumns,
     /// Around the fails of the types N, NL and W.
-    pub narrow: Option<RegionMeter>,
-    pub narrow_linear: Option<RegionMeter>,
-    pub wide: Option<RegionMeter>,
+    narrow: Option<RegionMeter>,
+    narrow_linear: Option<RegionMeter>,
+    wide: Option<RegionMeter>,
     /// The stamps of the first and the last packet so far, in nanoseconds of TAI.
     pub first_at: u64,
     pub last_at: u64,
@@ -83,9 +83,7 @@ impl RunDrawing {
             → Draws m judged self.new (stamps ++ at ∷ []) (timestamps ++ timestamp ∷ []) }
     {
         let place = self.levels.seen;
-        if place == 0 {
-            self.first_at = at;
-        }
+        self.first_at = self.first_with(at);
         self.last_at = at;
         let level = self.levels.feed(at);
         self.packets.feed(level);
@@ -93,6 +91,19 @@ impl RunDrawing {
         feed_region(&mut self.narrow, place, level);
         feed_region(&mut self.narrow_linear, place, level);
         feed_region(&mut self.wide, place, level);
+    }
+
+    /// The stamp of the first packet, where the next packet comes at `at`, in nanoseconds of TAI.
+    #[inline(always)]
+    fn first_with(&self, at: u64) -> u64
+        ensures first { self.now.levels.seen ≡ 0 → result ≡ at }
+        ensures later { 0 < self.now.levels.seen → result ≡ self.now.first_at }
+    {
+        if self.levels.seen == 0 {
+            at
+        } else {
+            self.first_at
+        }
     }
 
     /// The columns, where whole groups were fed. `Err` is want of memory.
@@ -108,10 +119,10 @@ impl RunDrawing {
             bucket_eye: self.packets.bucket.eye(alloc)?,
             gapped_eye: self.packets.gapped.eye(alloc)?,
             linear_eye: self.packets.linear.eye(alloc)?,
-            first: curve_of(alloc, &self.groups.firsts.first)?,
-            last: curve_of(alloc, &self.groups.last)?,
-            offset: curve_of(alloc, &self.groups.firsts.offset)?,
-            latency: curve_of(alloc, &self.groups.firsts.latency)?,
+            first: listed(alloc, &self.groups.firsts.first)?,
+            last: listed(alloc, &self.groups.last)?,
+            offset: listed(alloc, &self.groups.firsts.offset)?,
+            latency: listed(alloc, &self.groups.firsts.latency)?,
         })
     }
 

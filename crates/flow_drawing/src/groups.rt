@@ -2,6 +2,7 @@
 
 ghost use Rattle.std.specs.Prelude.{◌≡◌, ◌≤◌, ◌<◌, ◌+◌, ◌/◌, ◌%◌, ◌^◌, ◌++◌, ◌∷◌, [], ℕ, ℤ, IfOk, List};
 ghost use Rattle.std.specs.Prelude.{pos, negsuc, ◌≤ℤ◌};
+ghost use Rattle.sender_params.specs.Reads.{anchor_of};
 ghost use Rattle.timing_base.specs.Media.{Media as MediaValue};
 
 use crate::packets::CURVE;
@@ -89,13 +90,13 @@ impl FirstColumns {
 #[derive(Debug, Drop)]
 pub struct GroupColumns {
     /// The packets of a group.
-    pub n: u32,
+    n: u32,
     /// The packets fed.
     pub seen: u64,
     /// The place of the next packet in its group.
     place: u32,
     /// The number in the epoch of the group to which the first packet belongs; 0 before that packet.
-    pub n0: i128,
+    n0: i128,
     /// Of each group that has begun.
     pub firsts: FirstColumns,
     /// By how many nanoseconds the last packet of each whole group comes after the group begins.
@@ -145,18 +146,33 @@ impl GroupColumns {
             → DrawsGroups params.now.media params.now.n groups self.new (stamps ++ at ∷ [])
             (timestamps ++ timestamp ∷ []) }
     {
-        if self.seen == 0 {
-            self.n0 = params.anchor(at);
-        }
-        self.firsts
-            .feed_at(self.place, params, self.n0, at, timestamp);
+        let n0 = self.anchor_at(params, at);
+        self.n0 = n0;
+        self.firsts.feed_at(self.place, params, n0, at, timestamp);
         self.seen += 1;
         if self.place + 1 < self.n {
             self.place += 1;
             return;
         }
-        let since = since_start(params, self.n0, self.last.seen, at);
+        let since = since_start(params, n0, self.last.seen, at);
         self.last.feed(since);
         self.place = 0;
+    }
+
+    /// The number in the epoch of the group to which the first packet belongs, where the next packet comes at `at`, in
+    /// nanoseconds of TAI.
+    #[inline(always)]
+    fn anchor_at(&self, params: &Params, at: u64) -> i128
+        requires { at < 2 ^ 62 }
+        ensures first { self.now.seen ≡ 0 → result ≡ anchor_of params.now.media at }
+        ensures later { 0 < self.now.seen → result ≡ self.now.n0 }
+        ensures low { negsuc 479 ≤ℤ result }
+        ensures high { result ≤ℤ pos (2 ^ 42) }
+    {
+        if self.seen == 0 {
+            params.anchor(at)
+        } else {
+            self.n0
+        }
     }
 }

@@ -16,26 +16,18 @@ pub const CURVE: u32 = 1000;
 /// The most columns of groups that are laid over each other.
 const EYE: u32 = 500;
 
-/// The columns so far, as a list. `Err` is want of memory.
-fn listed(alloc: Global, columns: &Columns) -> Result<Items<Extremes>, OutOfMemory>
+/// The columns so far, as a list. Where all numbers came, and they are one group, or none, these are the columns of their
+/// curve. `Err` is want of memory.
+pub fn listed(alloc: Global, columns: &Columns) -> Result<Items<Extremes>, OutOfMemory>
     ensures eye { IfOk result (λ list. (numbers : ℕ → ℤ) → Draws columns.now numbers
         → AreEye columns.now.group columns.now.most numbers columns.now.seen list) }
-    ensures curve { IfOk result (λ list. (numbers : ℕ → ℤ) → Draws columns.now numbers
-        → columns.now.seen ≡ columns.now.group
-        → AreCurve columns.now.most numbers columns.now.seen list) }
+    ensures curve { IfOk result (λ list. (most count : ℕ) (numbers : ℕ → ℤ) → Draws columns.now numbers
+        → columns.now.group ≡ max 1 count → columns.now.most ≡ most → columns.now.seen ≡ count
+        → AreCurve most numbers count list) }
 {
     let mut list = Vec::new(alloc);
     list.extend_from_slice(columns.finish())?;
     Ok(Items::from_vec(list))
-}
-
-/// Those of a curve to which all numbers came, of at most so many columns.
-pub fn curve_of(alloc: Global, columns: &Columns) -> Result<Items<Extremes>, OutOfMemory>
-    ensures { IfOk result (λ list. (most count : ℕ) (numbers : ℕ → ℤ) → Draws columns.now numbers
-        → columns.now.group ≡ max 1 count → columns.now.most ≡ most → columns.now.seen ≡ count
-        → AreCurve most numbers count list) }
-{
-    listed(alloc, columns)
 }
 
 /// The columns of what is held after each packet: over all packets, and of all groups laid over each other.
@@ -43,8 +35,8 @@ pub fn curve_of(alloc: Global, columns: &Columns) -> Result<Items<Extremes>, Out
 pub struct LevelColumns {
     /// The packets fed.
     pub seen: u64,
-    pub curve: Columns,
-    pub eye: Columns,
+    curve: Columns,
+    eye: Columns,
     ghost curve_is: { curve.seen ≡ seen },
     ghost eye_is: { eye.seen ≡ seen },
 }
@@ -86,7 +78,7 @@ impl LevelColumns {
         ensures { IfOk result (λ list. (n packets : ℕ) (level : ℕ → ℤ) → DrawsLevel n packets self.now level
             → self.now.seen ≡ packets → AreCurve 1000 level packets list) }
     {
-        curve_of(alloc, &self.curve)
+        listed(alloc, &self.curve)
     }
 
     /// Those of the groups, laid over each other. `Err` is want of memory.

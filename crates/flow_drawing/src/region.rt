@@ -1,13 +1,13 @@
 //! The columns around a fail.
 
 ghost use Rattle.std.specs.Prelude.{◌≡◌, ◌≤◌, ◌<◌, ◌+◌, ◌-◌, ◌^◌, ◌++◌, ◌∷◌, [], min, max, ℕ, ℤ, IfOk, List, length};
-ghost use Rattle.timing_base.specs.Media.{Media};
+ghost use Rattle.timing_base.specs.Media.{IsMedia, Media};
 ghost use Rattle.timing_base.specs.declared.fail.FailProof.{FailProof as ProofValue};
 ghost use Rattle.timing_base.specs.declared.media.Kind.{Kind as KindValue};
 ghost use Rattle.flow_drawing.specs.Drawn.{IsRegion, count_around, start_around};
 ghost use Rattle.flow_drawing.specs.drawing.Held.{Holds, buffer_of, held_by};
 
-use crate::packets::curve_of;
+use crate::packets::listed;
 use flow_measure::Columns;
 use flow_page::Region;
 use flow_rows::Level;
@@ -40,12 +40,12 @@ fn count_around(proof: FailProof, packets: u64) -> u64
 /// The columns around a fail of a sender type, of the model that breaks, as far as the packets came.
 #[derive(Debug, Drop)]
 pub struct RegionMeter {
-    pub kind: Kind,
-    pub proof: FailProof,
+    kind: Kind,
+    proof: FailProof,
     /// The first packet that is shown, counted from 0, and how many are.
-    pub start: u64,
-    pub count: u64,
-    pub columns: Columns,
+    start: u64,
+    count: u64,
+    columns: Columns,
     ghost count_few: { count < 2 ^ 41 },
     ghost fed_few: { columns.seen ≤ count },
 }
@@ -117,14 +117,15 @@ impl RegionMeter {
     /// The region, where all judged packets came. `Err` is want of memory.
     pub fn finish(&self, alloc: Global) -> Result<Region, OutOfMemory>
         ensures { IfOk result (λ region. (m : Media) (n : ℕ) (kind : KindValue) (proof : ProofValue) (stamps : List ℕ)
-            → DrawsRegion m n (length stamps) kind proof self.now stamps → IsRegion m n stamps kind proof region) }
+            → IsMedia m → 1 ≤ n → DrawsRegion m n (length stamps) kind proof self.now stamps
+            → IsRegion m n stamps kind proof region) }
     {
         Ok(Region {
             kind: self.kind,
             proof: self.proof,
             start: self.start,
             count: self.count,
-            columns: curve_of(alloc, &self.columns)?,
+            columns: listed(alloc, &self.columns)?,
         })
     }
 }

@@ -1,7 +1,7 @@
 //! The columns around the fails of the sender types, where there are fails.
 
-ghost use Rattle.std.specs.Prelude.{◌≡◌, ◌<◌, ◌^◌, ◌++◌, ◌∷◌, [], ℕ, IfOk, List, length};
-ghost use Rattle.timing_base.specs.Media.{Media};
+ghost use Rattle.std.specs.Prelude.{◌≡◌, ◌≤◌, ◌<◌, ◌^◌, ◌++◌, ◌∷◌, [], ℕ, IfOk, List, length};
+ghost use Rattle.timing_base.specs.Media.{IsMedia, Media};
 ghost use Rattle.timing_base.specs.declared.media.Kind.{Kind as KindValue};
 ghost use Rattle.timing_base.specs.declared.row.KindVerdict.{KindVerdict as VerdictValue};
 ghost use Rattle.flow_drawing.specs.drawing.Held.{Holds};
@@ -50,7 +50,7 @@ pub fn put_region(
     regions: &mut Vec<Region>,
 ) -> Result<(), OutOfMemory>
     ensures { IfOk result (λ _. (m : Media) (n : ℕ) (kind : KindValue) (verdict : VerdictValue) (stamps : List ℕ)
-        → DrawsKind m n (length stamps) kind verdict region.now stamps
+        → IsMedia m → 1 ≤ n → DrawsKind m n (length stamps) kind verdict region.now stamps
         → PutsKind m n stamps kind verdict regions.old.items regions.new.items) }
 {
     match region {
