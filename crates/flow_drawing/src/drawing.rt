@@ -1,6 +1,7 @@
 //! The drawing of one judged run.
 
-ghost use Rattle.std.specs.Prelude.{◌≡◌, ◌≤◌, ◌<◌, ◌+◌, ◌*◌, ◌^◌, ◌++◌, ◌∷◌, [], ℕ, IfOk, List, length};
+ghost use Rattle.std.specs.Prelude.{◌≡◌, ◌≤◌, ◌<◌, ◌+◌, ◌*◌, ◌^◌, ◌++◌, ◌∷◌, [], ℕ, IfOk, List};
+ghost use Rattle.std.specs.Prelude.{length};
 ghost use Rattle.sender_params.specs.Ticks.{NeverFall};
 ghost use Rattle.timing_base.specs.Media.{Media as MediaValue};
 ghost use Rattle.timing_base.specs.Verdicts.{Judged as JudgedValue};
@@ -27,7 +28,8 @@ fn drawn(count: u64) -> u64
     count.min(TOO_MANY - 1).max(1)
 }
 
-/// What is drawn of the judged packets of one run, as far as they were fed. Its size doesn't grow with what it is fed.
+/// What is drawn of the judged packets of one run, as far as they were fed. Its size doesn't grow
+/// with what it is fed.
 #[derive(Debug, Drop)]
 pub struct RunDrawing {
     pub levels: LevelMeter,
@@ -51,7 +53,8 @@ impl RunDrawing {
     /// Before the first judged packet of a run of which this is judged. `Err` is want of memory.
     pub fn begin(alloc: Global, media: &Media, judged: &Judged) -> Result<RunDrawing, OutOfMemory>
         ensures seen { IfOk result (λ x. x.levels.seen ≡ 0) }
-        ensures draws { IfOk result (λ x. IsDrawable judged.now → Draws media.now judged.now x [] []) }
+        ensures draws { IfOk result (λ x. IsDrawable judged.now
+            → Draws media.now judged.now x [] []) }
     {
         let params = Params::of(media, judged.n);
         let packets = drawn(u64::from(judged.n).saturating_mul(judged.frames));
@@ -69,8 +72,8 @@ impl RunDrawing {
         })
     }
 
-    /// Takes the next judged packet: when it came in nanoseconds of TAI, and its RTP timestamp. What is said of it is
-    /// so where no stamp is below the one before.
+    /// Takes the next judged packet: when it came in nanoseconds of TAI, and its RTP timestamp.
+    /// What is said of it is so where no stamp is below the one before.
     #[inline(always)]
     pub fn feed(&mut self, at: u64, timestamp: u32)
         requires in_time { at < 2 ^ 62 }
@@ -108,7 +111,8 @@ impl RunDrawing {
 
     /// The columns, where whole groups were fed. `Err` is want of memory.
     pub fn curves(&self, alloc: Global) -> Result<Curves, OutOfMemory>
-        ensures { IfOk result (λ c. (m : MediaValue) (judged : JudgedValue) (stamps timestamps : List ℕ)
+        ensures { IfOk result (λ c. (m : MediaValue) (judged : JudgedValue)
+            (stamps timestamps : List ℕ)
             → Draws m judged self.now stamps timestamps → length stamps ≡ judged.n * judged.frames
             → AreCurves m judged.n judged.frames stamps timestamps c) }
     {
@@ -128,7 +132,8 @@ impl RunDrawing {
 
     /// The regions around the fails. `Err` is want of memory.
     pub fn regions(&self, alloc: Global) -> Result<Items<Region>, OutOfMemory>
-        ensures { IfOk result (λ regions. (m : MediaValue) (judged : JudgedValue) (stamps timestamps : List ℕ)
+        ensures { IfOk result (λ regions. (m : MediaValue) (judged : JudgedValue)
+            (stamps timestamps : List ℕ)
             → Draws m judged self.now stamps timestamps → length stamps ≡ judged.n * judged.frames
             → length judged.kinds ≡ 3
             → AreRegions m judged.n stamps 0 judged.kinds regions) }

@@ -1,6 +1,7 @@
 //! The columns of when the judged groups of a run come, and of their RTP timestamps.
 
-ghost use Rattle.std.specs.Prelude.{◌≡◌, ◌≤◌, ◌<◌, ◌+◌, ◌/◌, ◌%◌, ◌^◌, ◌++◌, ◌∷◌, [], ℕ, ℤ, IfOk, List};
+ghost use Rattle.std.specs.Prelude.{◌≡◌, ◌≤◌, ◌<◌, ◌+◌, ◌/◌, ◌%◌, ◌^◌, ◌++◌, ◌∷◌, [], ℕ, ℤ, IfOk};
+ghost use Rattle.std.specs.Prelude.{List};
 ghost use Rattle.std.specs.Prelude.{pos, negsuc, ◌≤ℤ◌};
 ghost use Rattle.sender_params.specs.Reads.{anchor_of};
 ghost use Rattle.timing_base.specs.Media.{Media as MediaValue};
@@ -17,7 +18,8 @@ pub struct FirstColumns {
     pub seen: u64,
     /// By how many nanoseconds the first packet of each group comes after the group begins.
     pub first: Columns,
-    /// By how many ticks each group's timestamp is after that of the instant with which the group begins.
+    /// By how many ticks each group's timestamp is after that of the instant with which the group
+    /// begins.
     pub offset: Columns,
     /// The ticks from the timestamp to the first packet.
     pub latency: Columns,
@@ -95,7 +97,8 @@ pub struct GroupColumns {
     pub seen: u64,
     /// The place of the next packet in its group.
     place: u32,
-    /// The number in the epoch of the group to which the first packet belongs; 0 before that packet.
+    /// The number in the epoch of the group to which the first packet belongs; 0 before that
+    /// packet.
     n0: i128,
     /// Of each group that has begun.
     pub firsts: FirstColumns,
@@ -121,7 +124,8 @@ impl GroupColumns {
         requires some { 1 ≤ groups }
         requires few { groups < 2 ^ 41 }
         ensures seen { IfOk result (λ c. c.seen ≡ 0) }
-        ensures draws { IfOk result (λ c. DrawsGroups params.now.media params.now.n groups c [] []) }
+        ensures draws { IfOk result (λ c.
+            DrawsGroups params.now.media params.now.n groups c [] []) }
     {
         Ok(GroupColumns {
             n: params.n(),
@@ -159,8 +163,8 @@ impl GroupColumns {
         self.place = 0;
     }
 
-    /// The number in the epoch of the group to which the first packet belongs, where the next packet comes at `at`, in
-    /// nanoseconds of TAI.
+    /// The number in the epoch of the group to which the first packet belongs, where the next
+    /// packet comes at `at`, in nanoseconds of TAI.
     #[inline(always)]
     fn anchor_at(&self, params: &Params, at: u64) -> i128
         requires { at < 2 ^ 62 }

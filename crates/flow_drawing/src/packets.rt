@@ -1,6 +1,7 @@
 //! The columns of what is held at the judged packets of a run.
 
-ghost use Rattle.std.specs.Prelude.{◌≡◌, ◌≤◌, ◌<◌, ◌+◌, ◌^◌, ◌++◌, ◌∷◌, [], max, ℕ, ℤ, IfOk, List, length};
+ghost use Rattle.std.specs.Prelude.{◌≡◌, ◌≤◌, ◌<◌, ◌+◌, ◌^◌, ◌++◌, ◌∷◌, [], max, ℕ, ℤ, IfOk, List};
+ghost use Rattle.std.specs.Prelude.{length};
 ghost use Rattle.timing_base.specs.Media.{Media};
 ghost use Rattle.flow_measure.specs.Columns.{AreCurve, AreEye};
 ghost use Rattle.flow_measure.specs.Stands.{Draws};
@@ -16,12 +17,13 @@ pub const CURVE: u32 = 1000;
 /// The most columns of groups that are laid over each other.
 const EYE: u32 = 500;
 
-/// The columns so far, as a list. Where all numbers came, and they are one group, or none, these are the columns of their
-/// curve. `Err` is want of memory.
+/// The columns so far, as a list. Where all numbers came, and they are one group, or none, these
+/// are the columns of their curve. `Err` is want of memory.
 pub fn listed(alloc: Global, columns: &Columns) -> Result<Items<Extremes>, OutOfMemory>
     ensures eye { IfOk result (λ list. (numbers : ℕ → ℤ) → Draws columns.now numbers
         → AreEye columns.now.group columns.now.most numbers columns.now.seen list) }
-    ensures curve { IfOk result (λ list. (most count : ℕ) (numbers : ℕ → ℤ) → Draws columns.now numbers
+    ensures curve { IfOk result (λ list. (most count : ℕ) (numbers : ℕ → ℤ)
+        → Draws columns.now numbers
         → columns.now.group ≡ max 1 count → columns.now.most ≡ most → columns.now.seen ≡ count
         → AreCurve most numbers count list) }
 {
@@ -30,7 +32,8 @@ pub fn listed(alloc: Global, columns: &Columns) -> Result<Items<Extremes>, OutOf
     Ok(Items::from_vec(list))
 }
 
-/// The columns of what is held after each packet: over all packets, and of all groups laid over each other.
+/// The columns of what is held after each packet: over all packets, and of all groups laid over
+/// each other.
 #[derive(Debug, Drop)]
 pub struct LevelColumns {
     /// The packets fed.
@@ -75,7 +78,8 @@ impl LevelColumns {
 
     /// The columns over all packets, where all came. `Err` is want of memory.
     pub fn curve(&self, alloc: Global) -> Result<Items<Extremes>, OutOfMemory>
-        ensures { IfOk result (λ list. (n packets : ℕ) (level : ℕ → ℤ) → DrawsLevel n packets self.now level
+        ensures { IfOk result (λ list. (n packets : ℕ) (level : ℕ → ℤ)
+            → DrawsLevel n packets self.now level
             → self.now.seen ≡ packets → AreCurve 1000 level packets list) }
     {
         listed(alloc, &self.curve)
@@ -83,7 +87,8 @@ impl LevelColumns {
 
     /// Those of the groups, laid over each other. `Err` is want of memory.
     pub fn eye(&self, alloc: Global) -> Result<Items<Extremes>, OutOfMemory>
-        ensures { IfOk result (λ list. (n packets : ℕ) (level : ℕ → ℤ) → DrawsLevel n packets self.now level
+        ensures { IfOk result (λ list. (n packets : ℕ) (level : ℕ → ℤ)
+            → DrawsLevel n packets self.now level
             → AreEye n 500 level self.now.seen list) }
     {
         listed(alloc, &self.eye)
@@ -130,7 +135,8 @@ impl PacketColumns {
         requires few { self.old.seen < 2 ^ 41 }
         ensures seen { self.new.seen ≡ self.old.seen + 1 }
         ensures draws { (m : Media) (n packets : ℕ) (stamps : List ℕ) (at : ℕ)
-            → DrawsPackets m n packets self.old stamps → Holds m n (stamps ++ at ∷ []) (length stamps) level
+            → DrawsPackets m n packets self.old stamps
+            → Holds m n (stamps ++ at ∷ []) (length stamps) level
             → DrawsPackets m n packets self.new (stamps ++ at ∷ []) }
     {
         self.bucket.feed(i128::from(level.bucket));

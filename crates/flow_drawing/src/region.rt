@@ -1,6 +1,7 @@
 //! The columns around a fail.
 
-ghost use Rattle.std.specs.Prelude.{◌≡◌, ◌≤◌, ◌<◌, ◌+◌, ◌-◌, ◌^◌, ◌++◌, ◌∷◌, [], min, max, ℕ, ℤ, IfOk, List, length};
+ghost use Rattle.std.specs.Prelude.{◌≡◌, ◌≤◌, ◌<◌, ◌+◌, ◌-◌, ◌^◌, ◌++◌, ◌∷◌, [], min, max, ℕ, ℤ};
+ghost use Rattle.std.specs.Prelude.{IfOk, List, length};
 ghost use Rattle.timing_base.specs.Media.{IsMedia, Media};
 ghost use Rattle.timing_base.specs.declared.fail.FailProof.{FailProof as ProofValue};
 ghost use Rattle.timing_base.specs.declared.media.Kind.{Kind as KindValue};
@@ -37,7 +38,8 @@ fn count_around(proof: FailProof, packets: u64) -> u64
     end.saturating_sub(start_around(proof))
 }
 
-/// The columns around a fail of a sender type, of the model that breaks, as far as the packets came.
+/// The columns around a fail of a sender type, of the model that breaks, as far as the packets
+/// came.
 #[derive(Debug, Drop)]
 pub struct RegionMeter {
     kind: Kind,
@@ -97,10 +99,12 @@ impl RegionMeter {
         })
     }
 
-    /// Takes in what is held after the packet at this place, which is the next one, where it is shown.
+    /// Takes in what is held after the packet at this place, which is the next one, where it is
+    /// shown.
     #[inline(always)]
     pub fn feed(&mut self, place: u64, level: Level)
-        ensures { (m : Media) (n packets : ℕ) (kind : KindValue) (proof : ProofValue) (stamps : List ℕ) (at : ℕ)
+        ensures { (m : Media) (n packets : ℕ) (kind : KindValue) (proof : ProofValue)
+            (stamps : List ℕ) (at : ℕ)
             → length stamps ≡ place → DrawsRegion m n packets kind proof self.old stamps
             → Holds m n (stamps ++ at ∷ []) (length stamps) level
             → DrawsRegion m n packets kind proof self.new (stamps ++ at ∷ []) }
@@ -116,7 +120,8 @@ impl RegionMeter {
 
     /// The region, where all judged packets came. `Err` is want of memory.
     pub fn finish(&self, alloc: Global) -> Result<Region, OutOfMemory>
-        ensures { IfOk result (λ region. (m : Media) (n : ℕ) (kind : KindValue) (proof : ProofValue) (stamps : List ℕ)
+        ensures { IfOk result (λ region. (m : Media) (n : ℕ) (kind : KindValue) (proof : ProofValue)
+            (stamps : List ℕ)
             → IsMedia m → 1 ≤ n → DrawsRegion m n (length stamps) kind proof self.now stamps
             → IsRegion m n stamps kind proof region) }
     {
