@@ -5,7 +5,7 @@ use Rattle.std.specs.List.{list_all}
 use Rattle.std.specs.Str.{bytes_eq}
 use Rattle.std.proofs.lemmas.Bool.{leb-true}
 use Rattle.timing_base.specs.Jobs.{CaptureJob, CheckJob, FlowJob, IsCaptureJob, IsCheckJob, IsFlowJob, IsReportJob, IsSelfTestJob}
-use Rattle.timing_base.specs.Jobs.{IsSkewJob, IsVerifyJob, ReportJob, SelfTestJob, ShapeJob}
+use Rattle.timing_base.specs.Jobs.{IsSkewJob, IsVerifyJob, ReportJob, SelfTestJob, SeriesJob, ShapeJob}
 use Rattle.timing_base.specs.Jobs.{SkewJob, VerifyJob}
 use Rattle.timing_base.specs.Name.{is_file_name}
 use Rattle.timing_words.specs.declared.request.Request.{Request}
@@ -16,7 +16,7 @@ use Rattle.timing_words.specs.Limits.{IsWithinLimits}
 use Rattle.timing_words.specs.Line.{Stands, Text, line, stands}
 use Rattle.timing_words.specs.Request.{asked, asked_by, capture_asked, check_asked, check_workers, command_named, file_name, file_names}
 use Rattle.timing_words.specs.Request.{flow_asked, given, help_asked, kind_named, media, need, number, passing}
-use Rattle.timing_words.specs.Request.{proof_asked, report_asked, request, scan_asked, self_test_asked, shape_asked, skew_asked}
+use Rattle.timing_words.specs.Request.{proof_asked, report_asked, request, scan_asked, self_test_asked, series_asked, shape_asked, skew_asked}
 use Rattle.timing_words.specs.Request.{sole, sorts, tai, test_workers, verify_asked, written}
 use Rattle.timing_words.proofs.Checks.{both_true}
 
@@ -163,6 +163,11 @@ skew-within l job e =
     subst IsSkewJob (same _ job d.rest)
     record { media_few = media-few m.a b.a m.rest; pair_few = media-few n.a c.a n.rest; some = few.0; few = few.1 }
 
+series-within : (l : Stands) (job : SeriesJob) → series_asked l ≡ Some job → IsFlowJob job.flow
+series-within l job e =
+    let a = needed (flow_asked l) _ job e in
+    subst (λ (j : SeriesJob). IsFlowJob j.flow) (same _ job a.rest) (flow-within l a.a a.gave)
+
 capture-within : (l : Stands) (job : CaptureJob) → capture_asked l ≡ Some job → IsCaptureJob job
 capture-within l job e =
     let a = needed (given (codes "sdp") l file_name) _ job e in
@@ -199,6 +204,12 @@ asked-within command.Scan l r e =
     subst IsWithinLimits m.2 tt
 asked-within command.Measure l r e =
     let m = mapped asks.Measure (capture_asked l) r e in
+    subst IsWithinLimits m.2 (capture-within l m.0 m.1)
+asked-within command.Series l r e =
+    let m = mapped asks.Series (series_asked l) r e in
+    subst IsWithinLimits m.2 (series-within l m.0 m.1)
+asked-within command.Page l r e =
+    let m = mapped asks.Page (capture_asked l) r e in
     subst IsWithinLimits m.2 (capture-within l m.0 m.1)
 
 by-within : (c : Command) (words : List Text) (r : Request) → asked_by c words ≡ Some r → IsWithinLimits r

@@ -18,6 +18,8 @@ is_told command.Shape = (refl, refl)
 is_told command.Skew = (refl, refl)
 is_told command.Scan = (refl, refl)
 is_told command.Measure = (refl, refl)
+is_told command.Series = (refl, refl)
+is_told command.Page = (refl, refl)
 
 same_asked : (c : Command) (found : Found) (ps : List Part) → Says (sorts c) found ps → asked c (found_stands found) ≡ asked c (stands ps)
 same_asked command.Check found ps s =
@@ -56,6 +58,9 @@ same_asked command.Skew found ps s =
     rw (s.value (codes "sdp") refl, s.value (codes "media") refl, s.value (codes "pair") refl, s.names) refl
 same_asked command.Scan found ps s = rw (s.flag (codes "json") refl, s.flag (codes "draft") refl, s.names) refl
 same_asked command.Measure found ps s = rw (s.value (codes "sdp") refl, s.value (codes "tai") refl, s.names) refl
+same_asked command.Series found ps s =
+    rw (s.value (codes "sdp") refl, s.value (codes "media") refl, s.value (codes "tai") refl, s.flag (codes "frames") refl, s.names) refl
+same_asked command.Page found ps s = rw (s.value (codes "sdp") refl, s.value (codes "tai") refl, s.names) refl
 
 -- the matches of a line ask for what its words do
 pub asked_line : (c : Command) (words : List Text) (found : Found) → IsLine (sorts c) words found → asked_by c words ≡ asked c (found_stands found)

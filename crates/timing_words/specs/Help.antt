@@ -41,6 +41,7 @@ meaning n =
     else if bytes_eq n (codes "draft") then codes "a session description to begin with is printed"
     else if bytes_eq n (codes "joined") then codes "the captures are one, in order"
     else if bytes_eq n (codes "list") then codes "the delays are printed, and no capture"
+    else if bytes_eq n (codes "frames") then codes "a row stands for a frame, and not for a packet"
     else codes "docs/FORMATS.md says what"
 
 -- an option or a flag may be missing: one of these names
@@ -48,7 +49,7 @@ abbrev pub may_be_missing : Text → Bool
 may_be_missing n =
     bytes_eq n (codes "workers") || bytes_eq n (codes "tai") || bytes_eq n (codes "serial")
     || bytes_eq n (codes "json") || bytes_eq n (codes "joined") || bytes_eq n (codes "list")
-    || bytes_eq n (codes "draft")
+    || bytes_eq n (codes "draft") || bytes_eq n (codes "frames")
 
 -- `--name VALUE`, or `--name`
 abbrev pub shown : Sort → Text
@@ -75,6 +76,8 @@ name_of command.Shape = codes "shape"
 name_of command.Skew = codes "skew"
 name_of command.Scan = codes "scan"
 name_of command.Measure = codes "measure"
+name_of command.Series = codes "series"
+name_of command.Page = codes "page"
 
 -- the names that follow its options
 abbrev pub names_shape : Command → Text
@@ -87,6 +90,8 @@ names_shape command.Shape = codes "CAPTURE"
 names_shape command.Skew = codes "CAPTURE [CAPTURE]"
 names_shape command.Scan = codes "CAPTURE"
 names_shape command.Measure = codes "CAPTURE"
+names_shape command.Series = codes "CAPTURE"
+names_shape command.Page = codes "CAPTURE"
 
 -- what it does
 abbrev pub about : Command → Text
@@ -99,6 +104,8 @@ about command.Shape = codes "delays a flow as little as the limits allow, and wr
 about command.Skew = codes "says how far two flows that carry the same packets are apart, packet by packet"
 about command.Scan = codes "says what a capture holds, before there is a description"
 about command.Measure = codes "says how near each video comes to its limits, when, and where in the frame"
+about command.Series = codes "lists the numbers of a flow as CSV, packet by packet or frame by frame"
+about command.Page = codes "writes the report of a capture as one page with pictures"
 
 -- what is printed
 abbrev pub printed : Command → Text
@@ -120,6 +127,12 @@ printed command.Scan =
 printed command.Measure =
     codes "Prints as JSON how the capture ends, and of each judged run what bucket and buffers hold, how near that is\n"
     ++ codes "to each type's limits, when frames begin and end, their RTP timestamps, and the gaps between packets.\n"
+printed command.Series =
+    codes "Prints a header and for each judged packet when it comes, its place in the frame, and what bucket and\n"
+    ++ codes "buffers hold; with --frames for each frame when it begins and ends, its RTP timestamp and its extremes.\n"
+printed command.Page =
+    codes "Prints one HTML page that needs nothing else: of each video what is judged and measured, in words, pictures and\n"
+    ++ codes "tables, and what the capture holds.\n"
 
 -- an example, which reads files of the repository
 abbrev pub example : Command → Text
@@ -136,6 +149,8 @@ example command.Skew =
     codes "./run skew --sdp examples/plain.sdp --media 1 --pair 1 examples/plain.pcap examples/burst.pcap"
 example command.Scan = codes "./run scan examples/plain.pcap"
 example command.Measure = codes "./run measure --sdp examples/plain.sdp examples/burst.pcap"
+example command.Series = codes "./run series --sdp examples/plain.sdp --media 1 --frames examples/burst.pcap"
+example command.Page = codes "./run page --sdp examples/plain.sdp examples/burst.pcap > burst.html"
 
 -- ---- texts
 
@@ -151,7 +166,7 @@ summary c = codes "  " ++ (usage c ++ (codes "\n      " ++ (about c ++ codes "\n
 abbrev pub commands : List Command
 commands =
     command.Check ∷ command.Verify ∷ command.VerifyReport ∷ command.SelfTest ∷ command.Window ∷ command.Shape
-    ∷ command.Skew ∷ command.Scan ∷ command.Measure ∷ []
+    ∷ command.Skew ∷ command.Scan ∷ command.Measure ∷ command.Series ∷ command.Page ∷ []
 
 -- those of all commands
 abbrev pub summaries : Text

@@ -16,4 +16,6 @@ IsWithinLimits (asks.Shape job) = IsFlowJob job.flow
 IsWithinLimits (asks.Skew job) = IsSkewJob job
 IsWithinLimits (asks.Scan job) = ⊤
 IsWithinLimits (asks.Measure job) = IsCaptureJob job
+IsWithinLimits (asks.Series job) = IsFlowJob job.flow
+IsWithinLimits (asks.Page job) = IsCaptureJob job
 IsWithinLimits (asks.Help named) = ⊤

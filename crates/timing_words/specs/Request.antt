@@ -8,7 +8,7 @@ use Rattle.std.specs.Char.{is_ascii_digit}
 use Rattle.std.specs.Str.{bytes_eq}
 use Rattle.std.specs.Str.Parse.{digits_value}
 use Rattle.timing_base.specs.Jobs.{CaptureJob, CheckJob, FlowJob, ReportJob, ScanJob, SelfTestJob, ShapeJob, SkewJob}
-use Rattle.timing_base.specs.Jobs.{VerifyJob}
+use Rattle.timing_base.specs.Jobs.{SeriesJob, VerifyJob}
 use Rattle.timing_base.specs.Name.{is_file_name}
 use Rattle.timing_base.specs.declared.fail.Broken.{Broken}
 use Rattle.timing_base.specs.declared.fail.Broken.TheVariants as broken
@@ -203,7 +203,7 @@ self_test_asked l =
     need (test_workers (l.value (codes "workers"))) (λ workers.
     Some (record { frames = frames; workers = workers })))
 
--- one flow of one capture, as `window` and `shape` ask for it
+-- one flow of one capture, as `window`, `shape` and `series` ask for it
 abbrev pub flow_asked : Stands → Option FlowJob
 flow_asked l =
     need (given (codes "sdp") l file_name) (λ sdp.
@@ -251,17 +251,27 @@ scan_asked l =
     need (need (sole l.names) file_name) (λ capture.
     Some (record { capture = capture; form = printed })))
 
--- what `measure` takes
-abbrev pub measure_sorts : List Sort
-measure_sorts = takes (codes "sdp" ∷ codes "tai" ∷ []) []
+-- what `measure` and `page` take
+abbrev pub capture_sorts : List Sort
+capture_sorts = takes (codes "sdp" ∷ codes "tai" ∷ []) []
 
--- every flow of one capture, as `measure` asks for it
+-- every flow of one capture, as both ask for it
 abbrev pub capture_asked : Stands → Option CaptureJob
 capture_asked l =
     need (given (codes "sdp") l file_name) (λ sdp.
     need (tai (l.value (codes "tai"))) (λ seconds.
     need (need (sole l.names) file_name) (λ capture.
     Some (record { sdp = sdp; tai = seconds; capture = capture }))))
+
+-- what `series` takes
+abbrev pub series_sorts : List Sort
+series_sorts = takes (codes "sdp" ∷ codes "media" ∷ codes "tai" ∷ []) (codes "frames" ∷ [])
+
+-- and what it asks for
+abbrev pub series_asked : Stands → Option SeriesJob
+series_asked l =
+    need (flow_asked l) (λ flow.
+    Some (record { flow = flow; frames = l.flag (codes "frames") }))
 
 -- ---- the whole line
 
@@ -273,6 +283,8 @@ command_named = chosen (
     ∷ (codes "skew", command.Skew)
     ∷ (codes "scan", command.Scan)
     ∷ (codes "measure", command.Measure)
+    ∷ (codes "series", command.Series)
+    ∷ (codes "page", command.Page)
     ∷ [])
 
 -- the options and flags that a command takes
@@ -285,7 +297,9 @@ sorts command.Window = window_sorts
 sorts command.Shape = shape_sorts
 sorts command.Skew = skew_sorts
 sorts command.Scan = scan_sorts
-sorts command.Measure = measure_sorts
+sorts command.Measure = capture_sorts
+sorts command.Series = series_sorts
+sorts command.Page = capture_sorts
 
 -- what a command asks for, by what stands in its line
 abbrev pub asked : Command → Stands → Option Request
@@ -298,6 +312,8 @@ asked command.Shape l = option_map asks.Shape (shape_asked l)
 asked command.Skew l = option_map asks.Skew (skew_asked l)
 asked command.Scan l = option_map asks.Scan (scan_asked l)
 asked command.Measure l = option_map asks.Measure (capture_asked l)
+asked command.Series l = option_map asks.Series (series_asked l)
+asked command.Page l = option_map asks.Page (capture_asked l)
 
 -- what the words after a command ask for
 abbrev pub asked_by : Command → List Text → Option Request

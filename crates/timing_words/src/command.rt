@@ -24,6 +24,8 @@ pub enum Command {
     Skew,
     Scan,
     Measure,
+    Series,
+    Page,
 }
 
 impl Command {
@@ -43,6 +45,8 @@ impl Command {
             "skew" => Some(Command::Skew),
             "scan" => Some(Command::Scan),
             "measure" => Some(Command::Measure),
+            "series" => Some(Command::Series),
+            "page" => Some(Command::Page),
             _ => None,
         }
     }
@@ -71,6 +75,8 @@ impl Command {
             Command::Skew => parser_of(alloc, &["sdp", "media", "pair"], &[]),
             Command::Scan => parser_of(alloc, &[], &["json", "draft"]),
             Command::Measure => parser_of(alloc, &["sdp", "tai"], &[]),
+            Command::Series => parser_of(alloc, &["sdp", "media", "tai"], &["frames"]),
+            Command::Page => parser_of(alloc, &["sdp", "tai"], &[]),
         }
     }
 }

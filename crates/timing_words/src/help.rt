@@ -47,6 +47,7 @@ fn meaning(name: &str) -> &'static str
         "draft" => "a session description to begin with is printed",
         "joined" => "the captures are one, in order",
         "list" => "the delays are printed, and no capture",
+        "frames" => "a row stands for a frame, and not for a packet",
         _ => "docs/FORMATS.md says what",
     }
 }
@@ -57,7 +58,7 @@ fn may_be_missing(name: &str) -> bool
 {
     matches!(
         name,
-        "workers" | "tai" | "serial" | "json" | "joined" | "list" | "draft"
+        "workers" | "tai" | "serial" | "json" | "joined" | "list" | "draft" | "frames"
     )
 }
 
@@ -167,6 +168,8 @@ impl Command {
             Command::Skew => "skew",
             Command::Scan => "scan",
             Command::Measure => "measure",
+            Command::Series => "series",
+            Command::Page => "page",
         }
     }
 
@@ -179,7 +182,7 @@ impl Command {
             Command::SelfTest => "FRAMES",
             Command::Window | Command::Shape => "CAPTURE",
             Command::Skew => "CAPTURE [CAPTURE]",
-            Command::Scan | Command::Measure => "CAPTURE",
+            Command::Scan | Command::Measure | Command::Series | Command::Page => "CAPTURE",
         }
     }
 
@@ -209,6 +212,10 @@ impl Command {
             Command::Measure => {
                 "says how near each video comes to its limits, when, and where in the frame"
             }
+            Command::Series => {
+                "lists the numbers of a flow as CSV, packet by packet or frame by frame"
+            }
+            Command::Page => "writes the report of a capture as one page with pictures",
         }
     }
 
@@ -242,6 +249,12 @@ impl Command {
             Command::Measure => {
                 "Prints as JSON how the capture ends, and of each judged run what bucket and buffers hold, how near that is\nto each type's limits, when frames begin and end, their RTP timestamps, and the gaps between packets.\n"
             }
+            Command::Series => {
+                "Prints a header and for each judged packet when it comes, its place in the frame, and what bucket and\nbuffers hold; with --frames for each frame when it begins and ends, its RTP timestamp and its extremes.\n"
+            }
+            Command::Page => {
+                "Prints one HTML page that needs nothing else: of each video what is judged and measured, in words, pictures and\ntables, and what the capture holds.\n"
+            }
         }
     }
 
@@ -269,6 +282,10 @@ impl Command {
             }
             Command::Scan => "./run scan examples/plain.pcap",
             Command::Measure => "./run measure --sdp examples/plain.sdp examples/burst.pcap",
+            Command::Series => {
+                "./run series --sdp examples/plain.sdp --media 1 --frames examples/burst.pcap"
+            }
+            Command::Page => "./run page --sdp examples/plain.sdp examples/burst.pcap > burst.html",
         }
     }
 }
@@ -318,6 +335,8 @@ fn summaries(alloc: Global) -> Result<String, OutOfMemory>
             Command::Skew,
             Command::Scan,
             Command::Measure,
+            Command::Series,
+            Command::Page,
         ],
     )
 }

@@ -16,7 +16,7 @@ use clap::ArgMatches;
 use std::alloc::Global;
 use timing_base::{
     CaptureJob, CheckJob, FailProof, FileName, FlowJob, Items, ReportJob, ScanJob, SelfTestJob,
-    ShapeJob, SkewJob, VerifyJob,
+    SeriesJob, ShapeJob, SkewJob, VerifyJob,
 };
 
 /// The value of an option that may not be missing.
@@ -204,4 +204,12 @@ pub(crate) fn capture_job(alloc: Global, matches: &ArgMatches<'_>) -> Result<Cap
     let tai = tai(matches.get_str("tai"))?;
     let capture = file_name(alloc, sole_name(matches)?)?;
     Ok(CaptureJob { sdp, tai, capture })
+}
+
+pub(crate) fn series_job(alloc: Global, matches: &ArgMatches<'_>) -> Result<SeriesJob, WordFault>
+    ensures { Gives (words.series_asked (found_stands (found_of matches.now))) result }
+{
+    let flow = flow_job(alloc, matches)?;
+    let frames = matches.contains_id("frames");
+    Ok(SeriesJob { flow, frames })
 }

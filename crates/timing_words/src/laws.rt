@@ -271,6 +271,32 @@ pub fn measures_by_hand()
     ensures json { IsRefused (codes "measure --sdp p --json c") }
 {}
 
+/// Lines of `series`.
+pub fn series_by_hand()
+    ensures packets { Asks (codes "series --sdp p --media 2 c")
+        (asks.Series (record { flow = second_flow 0; frames = false })) }
+    ensures frames { Asks (codes "series c --frames --tai=5 --media=2 --sdp=p")
+        (asks.Series (record { flow = second_flow 5; frames = true })) }
+    ensures no_media { IsRefused (codes "series --sdp p c") }
+    ensures no_sdp { IsRefused (codes "series --media 2 c") }
+    ensures no_capture { IsRefused (codes "series --sdp p --media 2") }
+    ensures two_captures { IsRefused (codes "series --sdp p --media 2 c d") }
+    ensures valued { IsRefused (codes "series --sdp p --media 2 --frames=1 c") }
+{}
+
+/// Lines of `page`.
+pub fn pages_by_hand()
+    ensures plain { Asks (codes "page --sdp p c")
+        (asks.Page (record { sdp = codes "p"; tai = 0; capture = codes "c" })) }
+    ensures later { Asks (codes "page c --tai=1000 --sdp=p")
+        (asks.Page (record { sdp = codes "p"; tai = 1000; capture = codes "c" })) }
+    ensures tai_over { IsRefused (codes "page --sdp p --tai 1001 c") }
+    ensures no_sdp { IsRefused (codes "page c") }
+    ensures no_capture { IsRefused (codes "page --sdp p") }
+    ensures two_captures { IsRefused (codes "page --sdp p c d") }
+    ensures media { IsRefused (codes "page --sdp p --media 1 c") }
+{}
+
 /// First words that are no command.
 pub fn no_commands_by_hand()
     ensures nothing { request [] ≡ None }

@@ -2,7 +2,8 @@
 
 use crate::command::Command;
 use timing_base::{
-    CaptureJob, CheckJob, FlowJob, ReportJob, ScanJob, SelfTestJob, ShapeJob, SkewJob, VerifyJob,
+    CaptureJob, CheckJob, FlowJob, ReportJob, ScanJob, SelfTestJob, SeriesJob, ShapeJob, SkewJob,
+    VerifyJob,
 };
 
 /// What a command line asks for.
@@ -17,6 +18,8 @@ pub enum Request {
     Skew(SkewJob),
     Scan(ScanJob),
     Measure(CaptureJob),
+    Series(SeriesJob),
+    Page(CaptureJob),
     /// The words of all commands, or of this one.
     Help(Option<Command>),
 }

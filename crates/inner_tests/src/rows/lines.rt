@@ -81,6 +81,15 @@ fn shown(alloc: Global, request: &Request) -> Result<String, AllocError> {
             let (sdp, tai, capture) = (job.sdp.as_str(), job.tai, job.capture.as_str());
             format!(in alloc; "measure {sdp} {tai}: {capture}")
         }
+        Request::Series(job) => {
+            let (sdp, capture) = (job.flow.sdp.as_str(), job.flow.capture.as_str());
+            let (media, tai, frames) = (job.flow.media, job.flow.tai, job.frames);
+            format!(in alloc; "series {sdp} {media} {tai} {frames}: {capture}")
+        }
+        Request::Page(job) => {
+            let (sdp, tai, capture) = (job.sdp.as_str(), job.tai, job.capture.as_str());
+            format!(in alloc; "page {sdp} {tai}: {capture}")
+        }
         Request::Help(command) => format!(in alloc; "help {command:?}"),
     }
 }
@@ -133,7 +142,7 @@ fn out_of_range_words(rt: HostRuntime) -> Result<(), Fail> {
     Ok(())
 }
 
-static ROWS: [(&str, &str); 97] = [
+static ROWS: [(&str, &str); 107] = [
     // both forms of an option, in any order, and after names
     ("check|--sdp|p|c", "check p 4 0 false false: c"),
     ("check|--sdp=p|c", "check p 4 0 false false: c"),
@@ -267,10 +276,25 @@ static ROWS: [(&str, &str); 97] = [
     ("measure|--sdp|p|--tai|1001|c", "Usage"),
     ("measure|--sdp|p|c|d", "Usage"),
     ("measure|c", "Usage"),
+    // what is listed
+    ("series|--sdp|p|--media|1|c", "series p 0 0 false: c"),
+    (
+        "series|--frames|c|--tai=37|--media=64|--sdp=p",
+        "series p 63 37 true: c",
+    ),
+    ("series|--sdp|p|--media|65|c", "Usage"),
+    ("series|--sdp|p|c", "Usage"),
+    ("series|--sdp|p|--media|1|--frames=1|c", "Usage"),
+    ("series|--sdp|p|--media|1|c|d", "Usage"),
+    // a page
+    ("page|--sdp|p|c", "page p 0: c"),
+    ("page|c|--tai=37|--sdp=p", "page p 37: c"),
+    ("page|--sdp|p|--json|c", "Usage"),
+    ("page|--sdp|p|c|d", "Usage"),
 ];
 
 // The lines of the commands but `check`.
-static OTHER_ROWS: [(&str, &str); 99] = [
+static OTHER_ROWS: [(&str, &str); 101] = [
     // verify
     (
         "verify|--sdp|p|--media|1|--type|N|--model|Bucket|--from|20|--to|24|--count|5|--limit|4|c",
@@ -479,6 +503,8 @@ static OTHER_ROWS: [(&str, &str); 99] = [
     ("help", "help None"),
     ("help|skew", "help Some(Skew)"),
     ("help|verify-report", "help Some(VerifyReport)"),
+    ("help|series", "help Some(Series)"),
+    ("help|page", "help Some(Page)"),
     ("help|nothing", "Usage"),
     ("help|help", "Usage"),
     ("help|", "Usage"),

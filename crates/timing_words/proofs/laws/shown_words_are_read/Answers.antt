@@ -19,11 +19,13 @@ returns-clause-read c = go
     go command.Skew = refl
     go command.Scan = refl
     go command.Measure = refl
+    go command.Series = refl
+    go command.Page = refl
 
 pub returns-clause-all : goal.returns-clause-all
 returns-clause-all c = go
   where
-    size : length commands ≡ 9
+    size : length commands ≡ 11
     size = refl
 
     go : (told : Command) → Contains commands told
@@ -36,3 +38,5 @@ returns-clause-all c = go
     go command.Skew = (6, omega (arith, size), refl)
     go command.Scan = (7, omega (arith, size), refl)
     go command.Measure = (8, omega (arith, size), refl)
+    go command.Series = (9, omega (arith, size), refl)
+    go command.Page = (10, omega (arith, size), refl)
