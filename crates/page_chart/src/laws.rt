@@ -1,6 +1,7 @@
 //! The pictures tried by hand. Each function is a theorem: it does nothing, and its clauses are proved.
 
 ghost use Rattle.std.specs.Prelude.{◌≡◌, ◌<◌, ◌≤◌, ◌≤ℤ◌, ◌<ℤ◌, ◌++◌, ◌∷◌, ℕ, ℤ, false, List, [], codes, length, neg_ℤ, pos};
+ghost use Rattle.std.specs.Prelude.{Some, None};
 ghost use Rattle.std.specs.List.{list_any};
 ghost use Rattle.flow_measure.specs.Columns.{AreColumns, column_at, greatest_at, least_at, places_in};
 ghost use Rattle.flow_measure.specs.declared.columns.Extremes.{Extremes};
@@ -10,8 +11,8 @@ ghost use Rattle.page_chart.specs.Charts.{IsOn, curve_axis};
 ghost use Rattle.page_chart.specs.declared.lines.Limit.{Limit};
 ghost use Rattle.page_chart.specs.Curve.{EndsAtNumbers, Spans, band_text};
 ghost use Rattle.page_chart.specs.Escapes.{all_written, escaped, is_markup, unescaped};
-ghost use Rattle.page_chart.specs.Lines.{lines_text};
-ghost use Rattle.page_chart.specs.Marks.{apart, high, mark, place, rise, span, tenths_text, y_of};
+ghost use Rattle.page_chart.specs.Lines.{free_of, lines_text, with_name};
+ghost use Rattle.page_chart.specs.Marks.{high, mark, place, rise, span, tenths_text, y_of};
 ghost use Rattle.page_chart.specs.declared.axis.Axis.{Axis};
 ghost use Rattle.page_chart.specs.declared.bars.BarName.TheVariants.{From};
 ghost use Rattle.page_chart.specs.declared.plot.Plot.{Plot};
@@ -89,13 +90,17 @@ pub fn lines_by_hand()
         ++ codes "<path class=\"lim\" d=\"M30 120H110\"/><text class=\"lim\" x=\"116\" y=\"124\">empty</text>" }
 {}
 
-/// Names of lines 13.9 units apart or nearer stand 14 units apart, the later one above; others stand at their lines.
+/// Names of lines 13.9 units apart or nearer stand 14 units apart, the later one above; others
+/// stand at their lines. A third one that would touch the first, of which the second stands clear,
+/// stands above both.
 #[tactic(auto, unfolding(crate::proofs::Numerals::places))]
 pub fn names_by_hand()
-    ensures near_above { apart 440 579 ≡ 439 }
-    ensures near_below { apart 700 579 ≡ 439 }
-    ensures far { apart 439 579 ≡ 439 }
-    ensures far_below { apart 719 579 ≡ 719 }
+    ensures near_above { free_of 440 (with_name 579 None) ≡ 439 }
+    ensures near_below { free_of 700 (with_name 579 None) ≡ 439 }
+    ensures far { free_of 439 (with_name 579 None) ≡ 439 }
+    ensures far_below { free_of 719 (with_name 579 None) ≡ 719 }
+    ensures third { free_of 600 (with_name 439 (Some (with_name 579 None))) ≡ 299 }
+    ensures third_below { free_of 719 (with_name 439 (Some (with_name 579 None))) ≡ 719 }
 {}
 
 /// The bars of how often its bucket holds each number: nothing is drawn of 0, the limit stands before what is above it,
