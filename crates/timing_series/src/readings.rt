@@ -2,7 +2,7 @@
 //! rows of its judged runs.
 
 ghost use Rattle.std.specs.Prelude.{◌≡◌, ◌≢◌, ◌≤◌, ◌⊎◌, ◌^◌, [], ℕ, List, Some, true, false, IfErr, IfOk};
-ghost use Rattle.std.specs.Prelude.{Ok};
+ghost use Rattle.std.specs.Prelude.{◌+◌, Ok};
 ghost use Rattle.timing_outside.specs.Causes.{Rose};
 ghost use Rattle.timing_outside.specs.Shelves.{StaysAs};
 ghost use Rattle.pcapng_reader.specs.Classic.{classic_texts};
@@ -14,7 +14,7 @@ ghost use Rattle.timing_base.specs.declared.capture.PcapFault.TheVariants as fau
 ghost use Rattle.timing_measure.specs.metering.Plan.{has_judged_run};
 ghost use Rattle.timing_base.specs.Captures.{Record};
 ghost use Rattle.pcap_reader.specs.Records.{Records};
-ghost use Rattle.timing_series.specs.Finding.{FindsAgain, FindsElse, IsFoundIn, IsFoundOf, IsNewFlow};
+ghost use Rattle.timing_series.specs.Finding.{FindsAgain, FindsElse, IsAnswerOf, IsFoundIn, IsFoundOf, IsNewFlow};
 ghost use Rattle.timing_series.specs.Reading.{CopiesIn, CopiesSome, HasRoom, Stopped};
 ghost use Rattle.timing_series.specs.Series.{AnswersFlow, BeginsIn, HasSeries, series_status};
 ghost use Rattle.timing_series.specs.Streams.{HasBegun, HasRest, HasRestStatus, OnFailure};
@@ -130,10 +130,11 @@ fn copy_capture<H: Shelf, K: Sink>(
     flow: &mut FlowOf<SeriesMeter>,
     out: &mut K,
 ) -> Result<FileNote, Failure>
-    requires room { HasRoom (2 ^ 36) flow.old.taker.flow }
+    requires room { HasRoom (2 ^ 36 + 1) flow.old.taker.flow }
     ensures told { IfOk result (λ note. (text : List ℕ) → classic_texts (H.text shelf.old) name.now ≡ Some text
         → CopiesIn (output_of K.Sink out.old out.new) flow.old flow.new text note) }
     ensures some { IfOk result (λ _. CopiesSome (output_of K.Sink out.old out.new) flow.old flow.new) }
+    ensures room { IfOk result (λ _. HasRoom 1 flow.new.taker.flow) }
     ensures stopped { IfErr result (λ _. (text : List ℕ) (items : List Record) (end : _)
         → classic_texts (H.text shelf.old) name.now ≡ Some text → Records text (2 ^ 40) items end
         → Stopped (output_of K.Sink out.old out.new) flow.old items) }
@@ -181,7 +182,8 @@ fn is_found_again(rows: FlowRows, before: &[Edge]) -> Result<bool, OutOfMemory>
 
 /// Reads the flow of a job for the second time, of which the first reading found this, and writes the rows of its judged
 /// runs but for the last ones, which are the answer. Where the flow isn't what the first reading found, the capture is
-/// another one now: that is a read fault, which the shelf counts.
+/// another one now: that is a read fault, which the shelf counts. So the rows are those of what the second reading read, also
+/// where the shelf doesn't tell its text.
 pub fn write_rows<H: Shelf, K: Sink>(
     alloc: Global,
     job: &SeriesJob,
@@ -197,6 +199,8 @@ pub fn write_rows<H: Shelf, K: Sink>(
         → classic_texts (H.text shelf.old) job.now.flow.capture ≡ Some text
         → HasRest (output_of K.Sink out.old out.new)
         (HasSeries job.now.frames job.now.flow.tai media.now text) rest) }
+    ensures some { IfOk result (HasRest (output_of K.Sink out.old out.new)
+        (IsAnswerOf job.now.frames media.now job.now.flow.tai)) }
     ensures written { IfOk result (λ _. (written : List ℕ) × Appended (output_of K.Sink out.old out.new) written) }
     ensures ends { IfOk result (HasRestStatus (output_of K.Sink out.old out.new)) }
     ensures stopped { IfErr result (λ _. (text : List ℕ)

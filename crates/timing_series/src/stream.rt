@@ -26,10 +26,11 @@ pub fn copy_rows<S: Source, K: Sink>(
     requires fresh { end_note reader.old ≡ None }
     requires first { frame_count reader.old ≡ 0 }
     requires most { most_of reader.old ≤ 2 ^ 40 }
-    requires room { HasRoom (2 ^ 36) flow.old.taker.flow }
+    requires room { HasRoom (2 ^ 36 + 1) flow.old.taker.flow }
     ensures told { IfOk result (λ note. (items : List Record) (end : _) → WillGive S.left reader.old items end
         → Copied (output_of K.Sink out.old out.new) flow.old flow.new note items end) }
     ensures some { IfOk result (λ _. CopiesSome (output_of K.Sink out.old out.new) flow.old flow.new) }
+    ensures room { IfOk result (λ _. HasRoom 1 flow.new.taker.flow) }
     ensures stopped { IfErr result (λ e. (items : List Record) (end : _) → WillGive S.left reader.old items end
         → Stopped (output_of K.Sink out.old out.new) flow.old items) }
     ensures front { IfErr result (λ _. (front : List ℕ) × Appended (output_of K.Sink out.old out.new) front) }
