@@ -254,6 +254,15 @@ pub take-known : (flow : Flow) (rec_number at : ℕ) (seen : Rtp) (cut : Option 
 take-known flow rec_number at seen cut open_run e none answer known =
     ∥∥₁_map known (λ (packets, c). (c.stands.so_far, can_take flow packets rec_number at seen cut open_run c e none (answer packets c.stands.grouper)))
 
+pub whole-known : (flow : Flow) (rec_number at : ℕ) (seen : Rtp) (cut : Option ℕ) (open_run : OpenRun) → flow.open ≡ Some open_run → cut ≡ None
+    → ((packets : List FlowPacket) → GrouperStandsFor flow.media.pt flow.grouper packets
+    → IsAnswered packets (read_packet rec_number at seen) flow.media.pt cut)
+    → Known flow at
+    → ∥ ((m : Media) × (so_far : SoFar) × CanTake m open_run.judge so_far (at + flow.tai * 1000000000) seen.marker) ∥₁
+whole-known flow rec_number at seen cut open_run e none answer known =
+    ∥∥₁_map known (λ (packets, c).
+    (flow.media, c.stands.so_far, can_take flow packets rec_number at seen cut open_run c e none (answer packets c.stands.grouper)))
+
 -- a packet that is answered with a fault has the first one
 pub ends : (flow : Flow) (packets rest : List FlowPacket) (rec_number at : ℕ) (seen : Rtp) (fault : PacketFault) → CanGoOn flow packets at
     → Err fault ≡ answer_at (packets ++ read_packet rec_number at seen ∷ rest) flow.media.pt (length packets)

@@ -5,9 +5,9 @@ use Rattle.std.proofs.Props.{props}
 use Rattle.std.specs.Global.{Global}
 use Rattle.std.specs.declared.vec.Vec.{Vec}
 use Rattle.timing_base.specs.Media.{Media}
-use Rattle.fail_interval.specs.Groups.{CanGoOn as CanAdd}
-use Rattle.fail_interval.specs.Runs.{CanGoOn, FitsWhole}
-use Rattle.fail_interval.specs.SoFar.{AreStamps, Groups as GroupsSoFar, SoFar, in_first, in_groups, in_head}
+use Rattle.fail_interval.specs.Groups.{CanGoOn as CanAdd, IsWhole}
+use Rattle.fail_interval.specs.Runs.{CanGoOn, FitsWhole, StandsFor}
+use Rattle.fail_interval.specs.SoFar.{AreStamps, Groups as GroupsSoFar, SoFar, groups_next, in_first, in_groups, in_head, so_far_next}
 use Rattle.fail_interval.specs.declared.run.RunJudge.{RunJudge}
 use Rattle.fail_interval.specs.declared.run.RunJudge.TheVariants.{First, Groups, Head}
 use Rattle.fail_interval.specs.declared.run.WholeGroups.{WholeGroups}
@@ -28,6 +28,28 @@ pub groups-known : (m : Media) (judge : RunJudge) (groups : WholeGroups) (at : �
 groups-known m judge groups at marker e known =
     let at_groups : Known m (Groups groups) at marker = subst (λ j. Known m j at marker) e known in
     ∥∥₁_map at_groups (λ (so_far, c). groups-case m groups so_far at marker c)
+
+pub groups-known_of : (judge : RunJudge) (groups : WholeGroups) (at : ℕ) (marker : Bool) → judge ≡ Groups groups
+    → ∥ ((m : Media) × (so_far : SoFar) × CanGoOn m judge so_far at marker) ∥₁
+    → ∥ ((k : Media) × (so_far : GroupsSoFar) × CanAdd k groups so_far at marker) ∥₁
+groups-known_of judge groups at marker e known =
+    ∥∥₁_map known (λ (m, so_far, c). groups-case m groups so_far at marker (subst (λ j. CanGoOn m j so_far at marker) e c))
+
+groups-fed-case : (m : Media) (groups new : WholeGroups) (so_far : SoFar) (at : ℕ) (marker : Bool)
+    → ((k : Media) (s : GroupsSoFar) → CanAdd k groups s at marker → IsWhole k new (groups_next s at marker))
+    → CanGoOn m (Groups groups) so_far at marker
+    → StandsFor m (Groups new) (so_far_next so_far at marker)
+groups-fed-case m groups new (in_head head) at marker fed c = absurd c.stands
+groups-fed-case m groups new (in_first head stamps) at marker fed c = absurd c.stands
+groups-fed-case m groups new (in_groups so_far) at marker fed c = fed m so_far (record { is = c.stands; fits = c.fits })
+
+-- and it goes on with its groups
+pub groups-fed : (m : Media) (judge : RunJudge) (groups new : WholeGroups) (so_far : SoFar) (at : ℕ) (marker : Bool) → judge ≡ Groups groups
+    → ((k : Media) (s : GroupsSoFar) → CanAdd k groups s at marker → IsWhole k new (groups_next s at marker))
+    → CanGoOn m judge so_far at marker
+    → StandsFor m (Groups new) (so_far_next so_far at marker)
+groups-fed m judge groups new so_far at marker e fed c =
+    groups-fed-case m groups new so_far at marker fed (subst (λ j. CanGoOn m j so_far at marker) e c)
 
 first-most : (m : Media) (head : ℕ) (stamps : Vec ℕ Global) (so_far : SoFar) (at : ℕ) (marker : Bool) → marker ≡ true
     → CanGoOn m (First head stamps) so_far at marker

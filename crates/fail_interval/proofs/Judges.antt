@@ -66,6 +66,23 @@ takes_packet old new r d rtp is same target read feeds m file number tai items h
           (feeds m (key_of file number) tai (flow items m) h.judge);
     }
 
+-- a packet that the frame carries to the media is fed
+pub takes_carried : (old new : MediaJudge) (n stamp : ℕ) (p : Rtp) (bytes : List ℕ) → new.target ≡ old.target
+    → ((m : Media) (key : FlowKey) (tai : ℕ) (packets : List FlowPacket) → StandsFor m key tai old.judge packets
+    → StandsFor m key tai new.judge (packets ++ record { rec = n; at = stamp; rtp = Ok p } ∷ []))
+    → carries old.target p bytes ≡ true
+    → TakesRecord (record { number = n; stamp = stamp; bytes = bytes }) old new
+takes_carried old new n stamp p bytes target feeds plain = λ m file number tai items h.
+    let r : Record = record { number = n; stamp = stamp; bytes = bytes } in
+    let packet : FlowPacket = record { rec = n; at = stamp; rtp = Ok p } in
+    let kept : flow_packet m r ≡ Some packet =
+    packet-carried m p r (carried (target_of m) p bytes (subst (λ (t : Target). carries t p bytes ≡ true) h.target plain)) in
+    record {
+      target = target ∙ h.target;
+      judge = subst (StandsFor m (key_of file number) tai new.judge) (sym (flow-append_some m items r packet kept))
+          (feeds m (key_of file number) tai (flow items m) h.judge);
+    }
+
 -- a packet that the frame carries to the media is fed, where memory is there
 pub takes_carried_if : {T E : Type 0} (result : Result T E) (old new : MediaJudge) (n stamp : ℕ) (p : Rtp) → new.target ≡ old.target
     → ((m : Media) (key : FlowKey) (tai : ℕ) (packets : List FlowPacket) → StandsFor m key tai old.judge packets

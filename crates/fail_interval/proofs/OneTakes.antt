@@ -1,14 +1,11 @@
 -- A frame goes to the judge of one media at most: that one takes the record, and the others stay as they were.
-use Rattle.std.proofs.Common.{◌≡◌, ◌<◌, ◌+◌, ℕ, zero, suc, List, [], ◌∷◌, ◌++◌, length, map, get_or, set, Some, true, sym, ◌∙◌, subst, arith, refl, ap}
+use Rattle.std.proofs.Common.{◌≡◌, ◌<◌, ◌+◌, ℕ, zero, suc, List, [], ◌∷◌, ◌++◌, length, map, get_or, set, Some, true, sym, ◌∙◌, subst, arith, refl, ap, ◌≤◌, Option, None, length-set, take}
 use Rattle.std.proofs.lemmas.List.{length-map}
-use Rattle.std.specs.Prelude.{All, Result, Ok, Err, IfOk}
+use Rattle.std.specs.Prelude.{All, Result, Ok, Err, IfOk, is_some}
 use Rattle.std.proofs.Math.ListN.{get_or-map}
-use Rattle.std.proofs.Common.{◌≤◌, Option, None, length-set}
-use Rattle.std.proofs.Common.{take}
 use Rattle.std.proofs.Math.Seq.{map-set_same, take-append_seam}
 use Rattle.std.proofs.lemmas.List.Elements.{All-get_or, All-head, All-set, All-tail}
 use Rattle.std.specs.Option.{ForSome}
-use Rattle.std.specs.Prelude.{is_some}
 use Rattle.timing_base.specs.Captures.{Record}
 use Rattle.timing_base.specs.Media.{Media}
 use Rattle.timing_base.specs.Targets.{target_of}
@@ -23,7 +20,7 @@ use Rattle.fail_interval.specs.Orders.{AreApart, IsOrderOf, count, targets}
 use Rattle.fail_interval.specs.Stands.{count_fed}
 use Rattle.fail_interval.specs.declared.order.Order.{Order}
 use Rattle.fail_interval.proofs.Banks.{few-later}
-use Rattle.fail_interval.specs.Taken.{TakesRecord}
+use Rattle.fail_interval.specs.Taken.{TakesRecord, TakesCarried}
 use Rattle.fail_interval.specs.declared.media_judge.MediaJudge.{MediaJudge}
 use Rattle.fail_interval.proofs.Judges.{takes_none}
 use Rattle.fail_interval.proofs.Targets.{apart-cons, other-target}
@@ -68,7 +65,21 @@ takes-one r d (suc k) tai file number (m ∷ ms) (j ∷ js) items new x is withi
     )
 
 -- whatever the judges were fed, they were then fed the record whose frame carries the packet to one of them
-pub carried-feeds : {T E : Type 0} (result : Result T E) (r : Record) (p : Rtp) (js news : List MediaJudge) (k : ℕ) (old new : MediaJudge)
+pub carried-feeds : (r : Record) (js : List MediaJudge) (k : ℕ) (old new : MediaJudge)
+    → k < length js
+    → get_or js k old ≡ old
+    → AreApart (targets js)
+    → TakesCarried r.stamp r.bytes old new
+    → (media : List Media) (file tai : ℕ) (items : List Record) → AreJudgesOf tai file 0 media js items
+    → AreJudgesOf tai file 0 media (set js k new) (items ++ r ∷ [])
+carried-feeds r js k old new within at apart takes media file tai items h =
+    let d : Datagram = record { target = old.target; payload = payload_at r.bytes 34 } in
+    let datagram : datagram_of r.bytes ≡ Some d = datagram-carried old.target takes.packet r.bytes (carried old.target takes.packet r.bytes takes.carried) in
+    takes-one r d k tai file 0 media js items new old datagram within apart (ap (λ (j : MediaJudge). j.target) at)
+    (subst (λ (j : MediaJudge). TakesRecord r j new) (sym at) (takes.takes r.number)) h
+
+-- so where memory is there
+pub carried-feeds_if : {T E : Type 0} (result : Result T E) (r : Record) (p : Rtp) (js news : List MediaJudge) (k : ℕ) (old new : MediaJudge)
     → news ≡ set js k new
     → k < length js
     → get_or js k old ≡ old
@@ -78,8 +89,8 @@ pub carried-feeds : {T E : Type 0} (result : Result T E) (r : Record) (p : Rtp) 
     → TakesRecord (record { number = r.number; stamp = r.stamp; bytes = bytes }) old new)
     → IfOk result (λ _. (media : List Media) (file tai : ℕ) (items : List Record) → AreJudgesOf tai file 0 media js items
     → AreJudgesOf tai file 0 media news (items ++ r ∷ []))
-carried-feeds (Err e) r p js news k old new is within at apart plain takes = tt
-carried-feeds (Ok y) r p js news k old new is within at apart plain takes = λ media file tai items h.
+carried-feeds_if (Err e) r p js news k old new is within at apart plain takes = tt
+carried-feeds_if (Ok y) r p js news k old new is within at apart plain takes = λ media file tai items h.
     let d : Datagram = record { target = old.target; payload = payload_at r.bytes 34 } in
     let datagram : datagram_of r.bytes ≡ Some d = datagram-carried old.target p r.bytes (carried old.target p r.bytes plain) in
     subst (λ (l : List MediaJudge). AreJudgesOf tai file 0 media l (items ++ r ∷ [])) (sym is)

@@ -1,6 +1,6 @@
 -- What a `Flow` says of the packets that it was fed. Packets count from 0.
 use Rattle.std.specs.Prelude.{◌≡◌, ◌≤◌, ◌<◌, ◌+◌, ◌^◌, ℕ, List, [], ◌∷◌, ◌++◌, length, map, vec_len, vec_capacity, ⊤}
-use Rattle.std.specs.Prelude.{true, Option, Some, None, Ok}
+use Rattle.std.specs.Prelude.{Bool, true, false, Option, Some, None, Ok}
 use Rattle.frame_group.specs.Stands.{StandsFor as GrouperStandsFor}
 use Rattle.timing_base.specs.Captures.{IsStamp}
 use Rattle.timing_base.specs.Flows.{AreStamped, cuts, first_fault_below, is_cut, last_place, packet, rtp}
@@ -11,7 +11,7 @@ use Rattle.timing_base.specs.declared.packet.PacketFault.{PacketFault}
 use Rattle.timing_base.specs.declared.packet.Rtp.{Rtp}
 use Rattle.timing_base.specs.declared.row.Run.{Run}
 use Rattle.fail_interval.specs.Row.{run_of, run_verdict_of}
-use Rattle.fail_interval.specs.Runs.{StandsFor as RunStandsFor}
+use Rattle.fail_interval.specs.Runs.{StandsFor as RunStandsFor, has_groups}
 use Rattle.fail_interval.specs.SoFar.{SoFar, outcome_of, so_far_at}
 use Rattle.fail_interval.specs.declared.flow.Flow.{Flow}
 use Rattle.fail_interval.specs.declared.flow.OpenRun.{OpenRun}
@@ -90,3 +90,11 @@ Took old new next = (packets : List FlowPacket) → CanGoOn old packets next.at 
 abbrev pub EndsBy : Flow → FlowPacket → PacketFault → Type 0
 EndsBy flow next fault = (packets rest : List FlowPacket) → CanGoOn flow packets next.at
     → has_fault (packets ++ next ∷ rest) flow.media.pt (length packets) fault
+
+-- the open run has a whole group
+abbrev pub open_has_groups : Option OpenRun → Bool
+open_has_groups None = false
+open_has_groups (Some open_run) = has_groups open_run.judge
+
+abbrev pub flow_has_groups : Flow → Bool
+flow_has_groups flow = open_has_groups flow.open

@@ -1,5 +1,5 @@
 -- What a `RunJudge` says of the packets of its run.
-use Rattle.std.specs.Prelude.{◌≡◌, ◌≤◌, ℕ, ⊤, Bool, List, length}
+use Rattle.std.specs.Prelude.{◌≡◌, ◌≤◌, ℕ, ⊤, Bool, true, false, List, length}
 use Rattle.timing_base.specs.Media.{Media}
 use Rattle.fail_interval.specs.Groups.{IsWhole}
 use Rattle.fail_interval.specs.SoFar.{AreStamps, Fits, SoFar, in_first, in_groups, in_head, so_far_next}
@@ -12,6 +12,12 @@ StandsFor m (Head packets) (in_head head) = packets ≡ head
 StandsFor m (First head stamps) (in_first so_far so_far_stamps) = (head ≡ so_far) × (stamps.items ≡ so_far_stamps)
 StandsFor m (Groups judge) (in_groups so_far) = IsWhole m judge so_far
 StandsFor m _ _ = ⊥
+
+-- the run has a whole group
+abbrev pub has_groups : RunJudge → Bool
+has_groups (Head packets) = false
+has_groups (First head stamps) = false
+has_groups (Groups judge) = true
 
 -- and a packet at this instant may be the next one
 pub record CanGoOn (m : Media) (judge : RunJudge) (so_far : SoFar) (at : ℕ) (marker : Bool) : Type 0 where

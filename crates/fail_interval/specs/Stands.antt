@@ -1,5 +1,5 @@
 -- What a `FlowJudge` says of the packets that it was fed. Packets count from 0.
-use Rattle.std.specs.Prelude.{◌≡◌, ℕ, ◌+◌, List, [], ◌∷◌, ◌++◌, length, Result, IsErr, OnErr, OnOk}
+use Rattle.std.specs.Prelude.{◌≡◌, ℕ, ⊤, ◌+◌, List, [], ◌∷◌, ◌++◌, length, Result, Ok, IsErr, OnErr, OnOk}
 use Rattle.timing_base.specs.Flows.{AreStamped}
 use Rattle.timing_base.specs.Media.{Media}
 use Rattle.timing_base.specs.declared.key.FlowKey.{FlowKey}
@@ -33,3 +33,7 @@ pub record Takes {T E : Type 0} (old new : FlowJudge) (next : FlowPacket) (resul
       → OnOk result (StandsFor m key tai new (packets ++ next ∷ []))
   pub spends : OnErr result (IsSpent new)
   pub stays : IsSpent old → IsErr result
+
+-- a call that needs no memory took this packet
+abbrev pub TakesOn : (old new : FlowJudge) → FlowPacket → Type 0
+TakesOn old new next = Takes {T = ⊤} {E = ⊥} old new next (Ok tt)

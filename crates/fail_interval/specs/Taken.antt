@@ -1,9 +1,11 @@
 -- What the crate's own functions promise each other: what one record more does to a judge, and to all judges one after
 -- the other, and the rows that come of them.
-use Rattle.std.specs.Prelude.{◌≡◌, ℕ, zero, suc, List, [], ◌∷◌, ◌++◌}
+use Rattle.std.specs.Prelude.{◌≡◌, ℕ, zero, suc, true, List, [], ◌∷◌, ◌++◌}
 use Rattle.timing_base.specs.Captures.{Record}
 use Rattle.timing_base.specs.Media.{Media}
+use Rattle.timing_base.specs.declared.packet.Rtp.{Rtp}
 use Rattle.timing_base.specs.declared.row.Row.{Row}
+use Rattle.udp_rtp.specs.Carried.{carries}
 use Rattle.fail_interval.specs.Rows.{rows_from, rows_of}
 use Rattle.fail_interval.specs.BankStands.{AreJudgesOf, IsJudgeOf}
 use Rattle.fail_interval.specs.declared.media_judge.MediaJudge.{MediaJudge}
@@ -12,6 +14,12 @@ use Rattle.fail_interval.specs.declared.media_judge.MediaJudge.{MediaJudge}
 abbrev pub TakesRecord : Record → MediaJudge → MediaJudge → Type 0
 TakesRecord r old new = (m : Media) (file number tai : ℕ) (items : List Record) → IsJudgeOf m file number tai old items
     → IsJudgeOf m file number tai new (items ++ r ∷ [])
+
+-- the frame of a record carries a packet to the judge's media, and the judge took it; whatever the record's number
+pub record TakesCarried (at : ℕ) (bytes : List ℕ) (old new : MediaJudge) : Type 0 where
+  pub packet : Rtp
+  pub carried : carries old.target packet bytes ≡ true
+  pub takes : (number : ℕ) → TakesRecord (record { number = number; stamp = at; bytes = bytes }) old new
 
 -- so many judges have taken it, and the others are as they were
 abbrev pub TakesUpTo : Record → ℕ → (olds news : List MediaJudge) → Type 0

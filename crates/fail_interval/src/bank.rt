@@ -97,7 +97,29 @@ impl Bank {
         ensures stands { IfOk result (λ _. Feeds self.old self.new
             (record { number = number; stamp = at; bytes = frame.now } ∷ [])) }
     {
-        // Most frames carry the packet that goes on in the flow whose turn it is: these aren't read anew.
+        // Most frames carry the packet that goes on in the flow whose turn it is: these are compared alone.
+        if let Some(order) = &mut self.order {
+            let ahead = order.ahead();
+            if self.judges[ahead].take_judged(at, frame) {
+                self.records += 1;
+                order.pass(ahead);
+                return Ok(());
+            }
+        }
+        self.take_expected(number, at, frame)
+    }
+
+    /// Takes a record as [`Bank::take`] does, whatever its frame: one that carries the packet that goes on in a run whose
+    /// first group isn't whole isn't read anew either.
+    #[cold]
+    #[inline(never)]
+    fn take_expected(&mut self, number: u64, at: u64, frame: &[u8]) -> Result<(), OutOfMemory>
+        requires stamp { IsStamp at }
+        requires few { records self.old < 2 ^ 41 }
+        ensures count { records self.new ≤ records self.old + 1 }
+        ensures stands { IfOk result (λ _. Feeds self.old self.new
+            (record { number = number; stamp = at; bytes = frame.now } ∷ [])) }
+    {
         if let Some(order) = &mut self.order {
             let ahead = order.ahead();
             let judge = &mut self.judges[ahead];

@@ -75,7 +75,7 @@ pub struct Flow {
 
 impl Flow {
     ghost use Rattle.fail_interval.specs.Flowing.{CanGoOn, ComesNext, EndsBy, HasRoom, StandsFor, Took};
-    ghost use Rattle.fail_interval.specs.Flowing.{IsClosed, OpensAt, StartsAt};
+    ghost use Rattle.fail_interval.specs.Flowing.{IsClosed, OpensAt, StartsAt, flow_has_groups};
 
     /// Before the first packet.
     pub fn new(alloc: Global, media: &Media, tai: u64) -> Flow
@@ -153,6 +153,44 @@ impl Flow {
             → result ≡ expected_after packets self.now.media.pt }
     {
         self.grouper.expected()
+    }
+
+    /// Whether the open run has a whole group.
+    #[inline(always)]
+    pub fn has_groups(&self) -> bool
+        ensures { result ≡ flow_has_groups self.now }
+    {
+        match &self.open {
+            Some(open) => open.judge.has_groups(),
+            None => false,
+        }
+    }
+
+    /// Takes the next packet, which was read, where it goes on in a judged run with the timestamp of the packet before
+    /// and no marker, as most do, and answers whether it does. Else nothing changes.
+    #[inline(always)]
+    pub fn feed_judged(&mut self, at: u64, rtp: Rtp) -> bool
+        requires { ∥ ((packets : List FlowPacket) × CanGoOn self.old packets at) ∥₁ }
+        ensures media { self.new.media ≡ self.old.media }
+        ensures tai { self.new.tai ≡ self.old.tai }
+        ensures other { result ≡ false → self.new ≡ self.old }
+        ensures goes_on { result ≡ true
+            → (rec : ℕ) → Took self.old self.new (record { rec = rec; at = at; rtp = Ok rtp }) }
+    {
+        match &mut self.open {
+            Some(open) => {
+                if !open.judge.has_groups() {
+                    return false;
+                }
+                if !self.grouper.feed_on(at, rtp) {
+                    return false;
+                }
+                let came = at + self.tai * 1_000_000_000;
+                open.judge.feed_whole(came, rtp.marker);
+                true
+            }
+            None => false,
+        }
     }
 
     /// Takes the next packet, which was read, where it goes on in a run with the timestamp of the packet before and no

@@ -7,7 +7,7 @@ ghost use Rattle.timing_base.specs.declared.packet.FlowPacket.{FlowPacket};
 ghost use Rattle.timing_base.specs.declared.key.FlowKey.{FlowKey as KeyValue};
 ghost use Rattle.timing_base.specs.Media.{Media as MediaValue};
 ghost use Rattle.fail_interval.specs.Row.{row};
-ghost use Rattle.fail_interval.specs.States.{IsKnown, IsReading};
+ghost use Rattle.fail_interval.specs.States.{IsKnown, IsReading, state_has_groups};
 
 use crate::flow::Flow;
 use std::alloc::{AllocError as OutOfMemory, Global};
@@ -28,6 +28,22 @@ impl State {
     ghost use Rattle.fail_interval.specs.Goings.{GoesOn, Refuses};
     ghost use Rattle.fail_interval.specs.declared.flow.Flow.{Flow as FlowValue};
     ghost use Rattle.fail_interval.specs.declared.judge.State.TheVariants.{Going, Spent};
+
+    /// Takes the next packet, where it goes on in a judged run as most do, and answers whether it does. Else nothing
+    /// changes.
+    #[inline(always)]
+    fn feed_judged(&mut self, at: u64, rtp: Rtp) -> bool
+        requires { (flow : FlowValue) → self.old ≡ Going flow
+            → ∥ ((packets : List FlowPacket) × CanGoOn flow packets at) ∥₁ }
+        ensures other { result ≡ false → self.new ≡ self.old }
+        ensures goes_on { result ≡ true → GoesOn self.old self.new at rtp }
+        ensures spent { self.old ≡ Spent → result ≡ false }
+    {
+        match self {
+            State::Going(flow) => flow.feed_judged(at, rtp),
+            _ => false,
+        }
+    }
 
     /// Takes the next packet, where it goes on in its flow as most do, and answers whether it does. Else nothing
     /// changes. `Err` is want of memory.
@@ -82,7 +98,7 @@ pub struct FlowJudge {
 }
 
 impl FlowJudge {
-    ghost use Rattle.fail_interval.specs.Stands.{StandsFor, Takes, count_fed};
+    ghost use Rattle.fail_interval.specs.Stands.{StandsFor, Takes, TakesOn, count_fed};
 
     /// The judge of the flow with this key, of packets of this media. `tai` seconds are added to the stamps of its
     /// judged packets, but not to those that a fault tells.
@@ -109,6 +125,36 @@ impl FlowJudge {
             State::Going(flow) => flow.expected(),
             _ => None,
         }
+    }
+
+    /// Whether the open run has a whole group, and the flow no fault.
+    #[inline(always)]
+    pub(crate) fn has_groups(&self) -> bool
+        ensures { result ≡ state_has_groups self.now.state }
+    {
+        match &self.state {
+            State::Going(flow) => flow.has_groups(),
+            State::Refused { .. } | State::Spent => false,
+        }
+    }
+
+    /// Takes the next packet of the flow, which was read, where it goes on in a judged run as most do, and answers
+    /// whether it does. Else nothing changes.
+    #[inline(always)]
+    pub(crate) fn feed_judged(&mut self, at: u64, rtp: Rtp) -> bool
+        requires stamp { IsStamp at }
+        requires few { count_fed self.old < 2 ^ 41 }
+
+        ensures fed { count_fed self.new ≤ count_fed self.old + 1 }
+        ensures other { result ≡ false → self.new ≡ self.old }
+        ensures took { result ≡ true → (rec : ℕ)
+            → TakesOn self.old self.new (record { rec = rec; at = at; rtp = Ok rtp }) }
+    {
+        if !self.state.feed_judged(at, rtp) {
+            return false;
+        }
+        self.fed += 1;
+        true
     }
 
     /// Takes the next packet of the flow: the number of its record, when it was captured in nanoseconds, and what was

@@ -1,6 +1,6 @@
 //! A lull: the packets that change no peak and no verdict.
 
-ghost use Rattle.std.specs.Prelude.{◌≡◌, ◌↔◌, IsTrue};
+ghost use Rattle.std.specs.Prelude.{◌≡◌, ◌≤◌, ◌↔◌, IsTrue};
 
 use read_schedule::Between;
 
@@ -16,6 +16,7 @@ pub struct Lull {
     pub gapped: Between,
     /// The instants at which it holds, by the linear reads.
     pub linear: Between,
+    ghost some: { 1 ≤ left → 1 ≤ brim },
 }
 
 impl Lull {
@@ -39,6 +40,10 @@ impl Lull {
     pub fn holds(&self, count: u64, at: u64) -> bool
         ensures { IsTrue result ↔ Holds self.now count at }
     {
-        self.left > 0 && count <= self.brim && self.gapped.holds(at) && self.linear.holds(at)
+        // One packet is always within the brim.
+        self.left > 0
+            && (count == 1 || count <= self.brim)
+            && self.gapped.holds(at)
+            && self.linear.holds(at)
     }
 }

@@ -1,6 +1,6 @@
 //! The judge of one media.
 
-ghost use Rattle.std.specs.Prelude.{◌≡◌, ◌≤◌, ◌<◌, ◌+◌, ◌^◌, [], Some, ℕ, true, List, IfOk, IfSome};
+ghost use Rattle.std.specs.Prelude.{◌≡◌, ◌≤◌, ◌<◌, ◌+◌, ◌^◌, [], Some, ℕ, true, false, List, IfOk, IfSome};
 ghost use Rattle.timing_base.specs.Captures.{IsStamp, Record};
 ghost use Rattle.timing_base.specs.Media.{Media as MediaValue};
 ghost use Rattle.udp_rtp.specs.Carried.{carries};
@@ -24,7 +24,7 @@ pub struct MediaJudge {
 
 impl MediaJudge {
     ghost use Rattle.fail_interval.specs.BankStands.{IsJudgeOf};
-    ghost use Rattle.fail_interval.specs.Taken.{TakesRecord};
+    ghost use Rattle.fail_interval.specs.Taken.{TakesCarried, TakesRecord};
 
     /// The judge of this media, which has this number, in a file.
     pub fn new(alloc: Global, media: &Media, file: u32, number: u32, tai: u64) -> MediaJudge
@@ -52,6 +52,26 @@ impl MediaJudge {
             return None;
         }
         Some(expected)
+    }
+
+    /// Takes a record whose frame carries the packet that goes on in a judged run of this media, as most do, and
+    /// answers whether it does. Else nothing changes.
+    #[inline(always)]
+    pub fn take_judged(&mut self, at: u64, frame: &[u8]) -> bool
+        requires stamp { IsStamp at }
+        requires few { count_fed self.old.judge < 2 ^ 41 }
+        ensures target { self.new.target ≡ self.old.target }
+        ensures fed { count_fed self.new.judge ≤ count_fed self.old.judge + 1 }
+        ensures other { result ≡ false → self.new ≡ self.old }
+        ensures takes { result ≡ true → TakesCarried at frame.now self.old self.new }
+    {
+        if !self.judge.has_groups() {
+            return false;
+        }
+        let Some(expected) = self.expected_in(frame) else {
+            return false;
+        };
+        self.judge.feed_judged(at, expected)
     }
 
     /// Takes the packet that the frame of a record carries to this media.

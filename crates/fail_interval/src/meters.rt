@@ -15,9 +15,9 @@ use vrx_buffer::VrxFault;
 /// What the two models say of the judged packets of one run.
 #[derive(Clone, Copy)]
 pub struct RunMeters {
-    bucket: Bucket,
     gapped: Schedule,
     linear: Schedule,
+    bucket: Bucket,
     narrow: KindMeter,
     narrow_linear: KindMeter,
     wide: KindMeter,
@@ -90,6 +90,7 @@ impl RunMeters {
     }
 
     /// Takes the next judged packet, which went into the bucket, in no lull.
+    #[cold]
     #[inline(never)]
     fn tell(&mut self, params: &Params, at: u64)
         requires { IsWithin self.old.bucket at }
@@ -122,13 +123,18 @@ impl RunMeters {
             self.narrow.vrx.fault.is_some(),
         );
         let linear = calm(&self.linear, linear_read, seen, last, breaks);
+        let left = gapped.lasts.min(linear.lasts);
+        let brim = self
+            .narrow
+            .brim()
+            .min(self.narrow_linear.brim())
+            .min(self.wide.brim());
+        if brim == 0 {
+            return Lull::over();
+        }
         Lull {
-            left: gapped.lasts.min(linear.lasts),
-            brim: self
-                .narrow
-                .brim()
-                .min(self.narrow_linear.brim())
-                .min(self.wide.brim()),
+            left,
+            brim,
             gapped,
             linear,
         }

@@ -1,6 +1,6 @@
 //! One run between gaps, as far as it has come.
 
-ghost use Rattle.std.specs.Prelude.{◌≡◌, ◌≤◌, ◌<◌, ◌+◌, ◌^◌, ◌++◌, ◌∷◌, [], ◌-◌, ℕ, List, length, OnOk};
+ghost use Rattle.std.specs.Prelude.{◌≡◌, ◌≤◌, ◌<◌, ◌+◌, ◌^◌, ◌++◌, ◌∷◌, [], ◌-◌, ℕ, List, length, OnOk, true};
 ghost use Rattle.timing_base.specs.Media.{Media as MediaValue};
 ghost use Rattle.fail_interval.specs.SoFar.{AreStamps, Groups, SoFar, groups_first, groups_next};
 ghost use Rattle.fail_interval.specs.SoFar.{in_first, in_groups, in_head, outcome_of, so_far_next};
@@ -118,7 +118,7 @@ pub enum RunJudge {
 }
 
 impl RunJudge {
-    ghost use Rattle.fail_interval.specs.Runs.{CanGoOn as CanTake, IsWholeFirst, StandsFor};
+    ghost use Rattle.fail_interval.specs.Runs.{CanGoOn as CanTake, IsWholeFirst, StandsFor, has_groups};
     ghost use Rattle.fail_interval.specs.declared.run.RunJudge.TheVariants.{First, Groups as GroupsValue, Head};
     ghost use Rattle.fail_interval.specs.declared.run.WholeGroups.{WholeGroups as WholeGroupsValue};
 
@@ -127,6 +127,30 @@ impl RunJudge {
         ensures { (m : MediaValue) → StandsFor m result (in_head 0) }
     {
         RunJudge::Head { packets: 0 }
+    }
+
+    /// Whether the first group is whole.
+    #[inline(always)]
+    pub fn has_groups(&self) -> bool
+        ensures { result ≡ has_groups self.now }
+    {
+        match self {
+            RunJudge::Groups(_) => true,
+            RunJudge::First { .. } | RunJudge::Head { .. } => false,
+        }
+    }
+
+    /// Takes the next packet, where the first group is whole.
+    #[inline(always)]
+    pub fn feed_whole(&mut self, at: u64, marker: bool)
+        requires whole { has_groups self.old ≡ true }
+        requires next { ∥ ((m : MediaValue) × (so_far : SoFar) × CanTake m self.old so_far at marker) ∥₁ }
+        ensures { (m : MediaValue) (so_far : SoFar) → CanTake m self.old so_far at marker
+            → StandsFor m self.new (so_far_next so_far at marker) }
+    {
+        if let RunJudge::Groups(groups) = self {
+            groups.feed(at, marker);
+        }
     }
 
     /// Takes the next packet. `Err` is want of memory, for the stamps of the first group.

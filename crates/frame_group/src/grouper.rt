@@ -20,8 +20,9 @@ pub struct Grouper {
     before: Option<Before>,
     cuts: u64,
     group: Option<Group>,
-    /// The first fault of the flow: the other fields are then of no use.
+    /// The first fault of the flow: the other fields are then of no use, and no packet stands before.
     fault: Option<PacketFault>,
+    ghost sound: { ForSome before (λ _. fault ≡ None) },
     ghost few_cuts: { cuts ≤ fed },
     ghost few_groups: { ForSome group (λ g. g.frame < fed) },
 }
@@ -141,6 +142,7 @@ impl Grouper {
         requires few { self.old.fed < 2 ^ 41 }
         requires fits { ForSome group (λ g. g.place < g.most) }
         requires few_groups { ForSome group (λ g. g.frame < self.old.fed) }
+        requires sound { self.old.fault ≡ None }
         ensures keeps { (packets : List FlowPacket) (i : ℕ) → Keeps packets i self.old
             → IsRead packets i at rtp → cut ≡ cut_at packets i
             → IsIn (markers_before packets i) i group → Keeps packets (i + 1) self.new }
@@ -156,8 +158,8 @@ impl Grouper {
         self.group = Group::after_in(group, rtp.marker);
     }
 
-    /// Whether the next packet goes on after the packet before, with its timestamp and no marker, and has no
-    /// fault, as most do.
+    /// Whether the next packet goes on in a group after the packet before, with its timestamp and no marker, and
+    /// has no fault, as most do.
     #[inline(always)]
     fn goes_on(&self, at: u64, rtp: Rtp) -> bool
         ensures cut { result ≡ true → (packets : List FlowPacket) (i stamp : ℕ)
@@ -167,10 +169,14 @@ impl Grouper {
             → fault packets self.now.pt i ≡ None }
         ensures fits { result ≡ true → ForSome self.now.group (λ g. g.place < g.most) }
         ensures after { result ≡ true → GoesAfter self.now.before rtp }
+        ensures fault { result ≡ true → self.now.fault ≡ None }
     {
         let Some(before) = self.before else {
             return false;
         };
+        if self.group.is_none() {
+            return false;
+        }
         if before.marker || rtp.marker || rtp.timestamp != before.timestamp {
             return false;
         }
@@ -207,7 +213,7 @@ impl Grouper {
         let Some(before) = self.before else {
             return None;
         };
-        if before.marker || self.fault.is_some() {
+        if before.marker {
             return None;
         }
         Some(Rtp {
@@ -219,8 +225,8 @@ impl Grouper {
         })
     }
 
-    /// Takes the next packet as [`Grouper::feed`] does, and answers that it did, if it goes on after the
-    /// packet before it, with the same timestamp and no marker, and has no fault, as most packets do. Else
+    /// Takes the next packet as [`Grouper::feed`] does, and answers that it did, if it goes on in a group after
+    /// the packet before it, with the same timestamp and no marker, and has no fault, as most packets do. Else
     /// nothing changes: for callers that then go on with `feed`.
     #[inline(always)]
     pub fn feed_on(&mut self, at: u64, rtp: Rtp) -> bool
@@ -241,7 +247,7 @@ impl Grouper {
             → StandsFor pt self.old packets
             → StandsFor pt self.new (packets ++ record { rec = rec; at = at; rtp = Ok rtp } ∷ []) }
     {
-        if self.fault.is_some() || !self.goes_on(at, rtp) {
+        if !self.goes_on(at, rtp) {
             return false;
         }
         self.go_on(at, rtp);
@@ -279,6 +285,7 @@ impl Grouper {
         let group = self.group_at(cut);
         if let Some(fault) = self.fault_at(at, rtp, cut, group) {
             self.fed += 1;
+            self.before = None;
             self.fault = Some(fault);
             return Err(fault);
         }

@@ -4,7 +4,7 @@ ghost use Rattle.std.specs.Prelude.{◌≡◌, ◌≤◌, ◌<◌, ◌+◌, ◌*
 ghost use Rattle.pcap_reader.specs.Heads.{IsWhole};
 ghost use Rattle.pcap_reader.specs.Runs.{TakesRun};
 
-use crate::layout::{Layout, Order};
+use crate::layout::{Fraction, Layout, Order};
 use crate::stage::Head;
 use crate::taker::Taker;
 
@@ -82,21 +82,35 @@ pub fn take_run<T: Taker>(
     requires room { (count : ℕ) → 16 * count ≤ length bytes.now → T.room (before + number) count taker.old }
     ensures { TakesRun T.takes T.stops T.room layout bytes.now before number taker.old taker.new result }
 {
-    // The loop is compiled once for each order, so that no record asks for it.
-    match layout.order {
-        Order::Little => {
-            let little = Layout {
+    // The loop is compiled once for each layout, so that no record asks for it.
+    match (layout.order, layout.fraction) {
+        (Order::Little, Fraction::Micros) => {
+            let layout = Layout {
                 order: Order::Little,
-                fraction: layout.fraction,
+                fraction: Fraction::Micros,
             };
-            take_laid_out(little, bytes, before, number, taker)
+            take_laid_out(layout, bytes, before, number, taker)
         }
-        Order::Big => {
-            let big = Layout {
-                order: Order::Big,
-                fraction: layout.fraction,
+        (Order::Little, Fraction::Nanos) => {
+            let layout = Layout {
+                order: Order::Little,
+                fraction: Fraction::Nanos,
             };
-            take_laid_out(big, bytes, before, number, taker)
+            take_laid_out(layout, bytes, before, number, taker)
+        }
+        (Order::Big, Fraction::Micros) => {
+            let layout = Layout {
+                order: Order::Big,
+                fraction: Fraction::Micros,
+            };
+            take_laid_out(layout, bytes, before, number, taker)
+        }
+        (Order::Big, Fraction::Nanos) => {
+            let layout = Layout {
+                order: Order::Big,
+                fraction: Fraction::Nanos,
+            };
+            take_laid_out(layout, bytes, before, number, taker)
         }
     }
 }

@@ -18,6 +18,7 @@ pub struct Between {
     /// The packets for which it was made.
     pub lasts: u64,
     ghost from_small: { from < 2 ^ 63 },
+    ghost wide_small: { wide ≤ 2 ^ 63 },
     ghost step_small: { step ≤ 2 ^ 51 },
 }
 
@@ -41,6 +42,7 @@ impl Between {
     /// packets.
     pub(crate) fn of(from: u64, wide: u64, step: u64, lasts: u64) -> Between
         requires from { from < 2 ^ 63 }
+        requires wide { wide ≤ 2 ^ 63 }
         requires step { step ≤ 2 ^ 51 }
         ensures from { result.from ≡ from }
         ensures wide { result.wide ≡ wide }
@@ -56,11 +58,14 @@ impl Between {
     }
 
     /// Whether `at` is one of them.
+    ///
+    /// One comparison serves for both ends: for an instant before the first one the difference wraps, to
+    /// more than 2^63, and there are no more instants than that.
     #[inline(always)]
     pub fn holds(&self, at: u64) -> bool
         ensures { IsTrue result ↔ Holds self.now at }
     {
-        at >= self.from && at - self.from < self.wide
+        at.wrapping_sub(self.from) < self.wide
     }
 
     /// Goes on from both reads to the next ones, where it held the stamp of a packet.

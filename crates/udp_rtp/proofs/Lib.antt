@@ -1,2 +1,3 @@
 pub mod Flows
+mod Parts
 pub mod PlainFrames

@@ -1,10 +1,31 @@
 //! Frames that carry a packet that is known beforehand.
 
-ghost use Rattle.std.specs.Prelude.{◌≡◌, ◌≤◌, length};
+ghost use Rattle.std.specs.Prelude.{◌≡◌, ◌≤◌, ◌%◌, ◌^◌, ◌==◌, ◌&&◌, nat_le, length, slice_index};
 ghost use Rattle.udp_rtp.specs.Carried.{carries, goes_to, has_fields, is_plain_rtp, is_plain_udp, number};
+ghost use Rattle.udp_rtp.specs.Numbers.{number16, number32};
 
 use byteorder::{BigEndian, ByteOrder};
 use timing_base::{Rtp, Target};
+
+/// Flags and fragment offset of the IPv4 header, its time to live and its protocol, as one number.
+#[inline(always)]
+fn from_flags_to_protocol(frame: &[u8]) -> u32
+    requires { 56 ≤ length frame.now }
+    ensures { result ≡ number32 frame.now 20 }
+{
+    BigEndian::read_u32(&frame[20..])
+}
+
+/// Whether the IPv4 header is of a UDP datagram that is no fragment. What is compared is read as
+/// one number, so that one comparison serves for it.
+#[inline(always)]
+fn is_whole_udp(frame: &[u8]) -> bool
+    requires { 56 ≤ length frame.now }
+    ensures { result ≡ ((number16 frame.now 20 % 2 ^ 14 == 0) && (slice_index frame.now 23 == 17)) }
+{
+    let four = from_flags_to_protocol(frame);
+    four / 0x1_0000 % 0x4000 == 0 && four % 0x100 == 17
+}
 
 /// Whether a UDP datagram over IPv4 stands in the frame with no tag, options or fragments.
 #[inline(always)]
@@ -12,10 +33,7 @@ fn is_plain_udp(frame: &[u8]) -> bool
     requires { 56 ≤ length frame.now }
     ensures { result ≡ is_plain_udp frame.now }
 {
-    BigEndian::read_u16(&frame[12..]) == 0x0800
-        && frame[14] == 0x45
-        && BigEndian::read_u16(&frame[20..]) % 0x4000 == 0
-        && frame[23] == 17
+    BigEndian::read_u16(&frame[12..]) == 0x0800 && frame[14] == 0x45 && is_whole_udp(frame)
 }
 
 /// Whether the datagram of the frame goes to the target.
@@ -28,6 +46,15 @@ fn goes_to(frame: &[u8], target: Target) -> bool
         && BigEndian::read_u16(&frame[36..]) == target.port
 }
 
+/// Whether the UDP length counts 22 bytes at least: of most packets its high byte says so.
+#[inline(always)]
+fn is_long_udp(frame: &[u8]) -> bool
+    requires { 56 ≤ length frame.now }
+    ensures { result ≡ nat_le 22 (number16 frame.now 38) }
+{
+    frame[38] != 0 || frame[39] >= 22
+}
+
 /// Whether the payload is long enough, and RTP of version 2 with nothing before the extended sequence
 /// number but its fixed header.
 #[inline(always)]
@@ -35,7 +62,7 @@ fn is_plain_rtp(frame: &[u8]) -> bool
     requires { 56 ≤ length frame.now }
     ensures { result ≡ is_plain_rtp frame.now }
 {
-    BigEndian::read_u16(&frame[38..]) >= 22 && frame[42] == 0x80
+    is_long_udp(frame) && frame[42] == 0x80
 }
 
 /// The packet number in the frame.

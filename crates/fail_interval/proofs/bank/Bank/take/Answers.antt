@@ -6,20 +6,18 @@ pub invariant_of-self : goal.invariant_of-self
 invariant_of-self c =
     let order = c.args.self.now.ordered c.in-Some.order c.in-Some.is in
     let within : c.ahead-ahead.result < length c.args.self.now.judges.items = omega (arith, c.ahead-ahead.ensures.within, order.0) in
-    let at = sym c.index_mut-judge.ensures.value in
+    let at = sym c.index_mut.ensures.value in
     record {
-      few = few-one c.args.self.now.records c.ahead-ahead.result c.args.self.now.judges.items c.index_mut-judge.result.now c.take_carried-taken.new.self
-          within at c.args.self.now.few c.take_carried-taken.ensures.fed;
+      few = few-one c.args.self.now.records c.ahead-ahead.result c.args.self.now.judges.items c.index_mut.result.now c.take_judged.new.self
+          within at c.args.self.now.few c.take_judged.ensures.fed;
       ordered = λ x e.
-          order-one c.in-Some.order c.pass.new.self x c.ahead-ahead.result c.args.self.now.judges.items c.index_mut-judge.result.now
-          c.take_carried-taken.new.self
-          e c.pass.ensures.next at c.take_carried-taken.ensures.target order;
+          order-one c.in-Some.order c.pass.new.self x c.ahead-ahead.result c.args.self.now.judges.items c.index_mut.result.now c.take_judged.new.self
+          e c.pass.ensures.next at c.take_judged.ensures.target order;
     }
 
-pub returns-in-Some-expected_in-clause-stands : goal.returns-in-Some-expected_in-clause-stands
-returns-in-Some-expected_in-clause-stands c =
+pub returns-then-take_judged-clause-stands : goal.returns-then-take_judged-clause-stands
+returns-then-take_judged-clause-stands c =
     let order = c.args.self.now.ordered c.in-Some.order c.in-Some.is in
     let within : c.ahead-ahead.result < length c.args.self.now.judges.items = omega (arith, c.ahead-ahead.ensures.within, order.0) in
-    carried-feeds c.take_carried-taken.result record { number = c.args.number; stamp = c.args.at; bytes = c.args.frame.now } c.in-Some-expected_in.expected
-    c.args.self.now.judges.items _ c.ahead-ahead.result c.index_mut-judge.result.now c.take_carried-taken.new.self refl within
-    (sym c.index_mut-judge.ensures.value) order.1 c.in-Some-expected_in.ensures c.take_carried-taken.ensures.stands
+    carried-feeds record { number = c.args.number; stamp = c.args.at; bytes = c.args.frame.now } c.args.self.now.judges.items c.ahead-ahead.result
+    c.index_mut.result.now c.take_judged.new.self within (sym c.index_mut.ensures.value) order.1 (c.if-take_judged.ensures.takes refl)

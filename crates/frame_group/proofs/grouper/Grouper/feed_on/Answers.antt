@@ -3,7 +3,7 @@ use Rattle.timing_base.specs.declared.packet.FlowPacket.{FlowPacket}
 use Rattle.frame_group.specs.Stands.{Keeps}
 use Rattle.frame_group.specs.Cuts.{cut_at}
 use Rattle.frame_group.specs.Reads.{IsRead}
-use Rattle.frame_group.proofs.Steps.{GoesOn, answer-ok, no-fault, passes, read-seam, stands-next}
+use Rattle.frame_group.proofs.Steps.{GoesOn, answer-ok, passes, read-seam, stands-next}
 use Rattle.frame_group.proofs.grouper.Grouper.feed_on.Goals as goal
 
 pub returns-clause-answer : goal.returns-clause-answer
@@ -13,7 +13,7 @@ returns-clause-answer c = λ _ pt packets rest rec s.
     let i = length packets in
     let e = c.if-not-goes_on.ensures in
     let on : GoesOn c.args.self.now c.args.at c.args.rtp = record { cut = e.cut refl; sound = e.sound refl } in
-    let none : c.args.self.now.fault ≡ None = no-fault _ (sym c.if-is_some.ensures) in
+    let none : c.args.self.now.fault ≡ None = e.fault refl in
     let kept : Keeps all i c.args.self.now = (s.ahead (p ∷ rest)).kept none in
     let read : IsRead all i c.args.at c.args.rtp = read-seam packets rest rec c.args.at c.args.rtp in
     let cut : None ≡ cut_at all i = on.cut all i c.args.at kept read in
@@ -24,7 +24,7 @@ returns-clause-stands c = λ _ pt packets rec s.
     let p : FlowPacket = record { rec = rec; at = c.args.at; rtp = Ok c.args.rtp } in
     let e = c.if-not-goes_on.ensures in
     let on : GoesOn c.args.self.now c.args.at c.args.rtp = record { cut = e.cut refl; sound = e.sound refl } in
-    let none : c.args.self.now.fault ≡ None = no-fault _ (sym c.if-is_some.ensures) in
+    let none : c.args.self.now.fault ≡ None = e.fault refl in
     stands-next pt c.args.self.now c.go_on.new.self packets p s c.go_on.ensures.pt c.go_on.ensures.fed
     (λ rest before.
     let all : List FlowPacket = packets ++ p ∷ rest in

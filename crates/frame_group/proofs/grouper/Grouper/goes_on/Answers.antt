@@ -11,4 +11,4 @@ pub returns-clause-sound : goal.returns-clause-sound
 returns-clause-sound c = λ none packets i kept read.
     let cut : None ≡ cut_at packets i = sym (no-cut _ (sym c.if-is_some.ensures)) ∙ c.cut.ensures packets i c.args.at kept read in
     let here = c.fault_at.ensures.is packets i kept read cut (enters-run packets i c.args.self.now.group (sym cut) kept.group) in
-    sym here ∙ no-fault _ (c.is_none.ensures ∙ ap not none)
+    sym here ∙ no-fault _ (c.is_none-2.ensures ∙ ap not none)

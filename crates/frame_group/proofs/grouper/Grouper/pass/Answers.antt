@@ -14,3 +14,6 @@ returns-clause-keeps c = λ packets i kept read cut in_group. record {
   group = group-next packets i c.args.rtp.marker _ (ap (λ (r : Rtp). r.marker) (rtp-is packets i c.args.at c.args.rtp read))
       (c.after_in-self.ensures.last _ i in_group) (c.after_in-self.ensures.other _ i in_group);
 }
+
+pub invariant_of-self-clause-sound : goal.invariant_of-self-clause-sound
+invariant_of-self-clause-sound c = λ _ _. c.requires.sound
