@@ -1,7 +1,7 @@
 //! The second reading of a flow: it is judged again while the rows of its judged runs are made.
 
 ghost use Rattle.std.specs.Prelude.{◌≡◌, ◌≤◌, ◌<◌, ◌+◌, ◌^◌, ◌++◌, [], ℕ, List, IfErr, IfOk, true};
-ghost use Rattle.std.specs.Prelude.{false};
+ghost use Rattle.std.specs.Prelude.{false, length};
 ghost use Rattle.std.specs.Io.KnownBytes.{Appends};
 ghost use Rattle.timing_base.specs.Captures.{IsStamp};
 ghost use Rattle.timing_base.specs.declared.packet.FlowPacket.{FlowPacket as PacketValue};
@@ -181,6 +181,7 @@ impl SeriesMeter {
     #[inline(always)]
     pub fn pour<K: Sink>(&mut self, out: &mut K) -> Result<(), Failure>
         ensures flow { self.new.flow ≡ self.old.flow }
+        ensures few { IfOk result (λ _. length self.new.text.items < 65536) }
         ensures poured { IfOk result (λ _. (poured : List ℕ)
             × Appends (K.written out.old) (K.written out.new) poured
             × (self.old.text.items ≡ poured ++ self.new.text.items)) }
