@@ -1,7 +1,7 @@
-mod Planning
+pub mod Planning
 pub mod Plans
 mod Edging
-mod Meterings
+pub mod Meterings
 mod Eaches
 mod Banked
 mod Firsts
