@@ -17,7 +17,8 @@ use Rattle.flow_measure.specs.Occupancy.{IsOccupancy}
 use Rattle.flow_measure.specs.RunStands.{IsLatest}
 use Rattle.flow_measure.proofs.Followed.{front-is, last-is}
 use Rattle.flow_rows.specs.Packets.{stamps_of}
-use Rattle.flow_rows.specs.making.Levels.{Fills, HasStood}
+use Rattle.flow_rows.specs.making.Levels.{Fills, HasStood, StandsFor}
+use Rattle.flow_rows.specs.declared.levels.LevelMeter.{LevelMeter}
 use Rattle.flow_rows.specs.declared.levels.Levels.{Levels}
 
 -- the first stamp of some and one more
@@ -46,6 +47,12 @@ occupancy-next m n origin gapped stamps at seen due x first count is value =
     let due_new = subst (λ a. IsDueAt m n (anchor_of m a) gapped (slice_index new seen) due) (sym first) due_there in
     subst (λ k. IsOccupancy m n new gapped k x) count (value m n new gapped due_new)
 
+-- and so it is of a media and packets per group that are the same
+pub occupancy-same : (m k : Media) (n d : ℕ) (stamps : List ℕ) (gapped : Bool) (i : ℕ) (x : ℤ) → k ≡ m → d ≡ n
+    → IsOccupancy k d stamps gapped i x → IsOccupancy m n stamps gapped i x
+occupancy-same m k n d stamps gapped i x media size h =
+    subst (λ j. IsOccupancy m j stamps gapped i x) size (subst (λ (v : Media). IsOccupancy v d stamps gapped i x) media h)
+
 -- a schedule stands by the packet's stamp
 pub stood-next : (m : Media) (n : ℕ) (anchor : ℤ) (gapped : Bool) (old new : Schedule) (stamps : List ℕ) (at : ℕ)
     → HasStood m n anchor gapped old stamps
@@ -65,7 +72,7 @@ pub record Begun (params : Params) (levels : Levels) (stamps : List ℕ) (at : �
   pub next : IsNext origin stamps at
   pub first : origin ≡ slice_index (stamps ++ at ∷ []) 0
 
-pub begun : (params : Params) (levels : Levels) (stamps : List ℕ) (at : ℕ)
+begun : (params : Params) (levels : Levels) (stamps : List ℕ) (at : ℕ)
     → (length stamps ≡ 0 → Fills params at levels [])
     → (0 < length stamps → Fills params (slice_index stamps 0) levels stamps)
     → IsLatest stamps at
@@ -82,6 +89,18 @@ begun params levels (x ∷ xs) at fresh fed latest = record {
   next = record { first = λ none. absurd (omega (arith, none)); later = latest };
   first = refl;
 }
+
+-- so in a meter that began where none was fed
+pub begun-meter : (m : Media) (n : ℕ) (old mid : LevelMeter) (stamps : List ℕ) (at : ℕ) → mid.params ≡ old.params
+    → (0 < old.seen → mid.levels ≡ old.levels)
+    → (old.seen ≡ 0 → Fills old.params at mid.levels [])
+    → StandsFor m n old stamps → IsLatest stamps at
+    → Begun mid.params mid.levels stamps at
+begun-meter m n old mid stamps at params kept fresh h latest =
+    begun mid.params mid.levels stamps at
+    (λ none. subst (λ p. Fills p at mid.levels []) (sym params) (fresh (omega (arith, h.seen, none))))
+    (λ some. subst (λ l. Fills mid.params (slice_index stamps 0) l stamps) (sym (kept (omega (arith, h.seen, some))))
+    (subst (λ p. Fills p (slice_index stamps 0) old.levels stamps) (sym params) (h.fills some))) latest
 
 -- the stamps of packets and one more
 pub stamps-more : (tai : ℕ) (before : List FlowPacket) (p : FlowPacket) (at : ℕ) → stamp_of tai p ≡ at

@@ -12,7 +12,9 @@ use Rattle.std.proofs.lemmas.List.{get_or_append_left, length-map, map-append}
 use Rattle.std.proofs.lemmas.Nat.{div-add-mod'}
 use Rattle.std.specs.Int.{int_max, int_min}
 use Rattle.fraction128.specs.Fractions.{whole}
+use Rattle.drain_bucket.specs.Word.{bucket_of}
 use Rattle.sender_params.specs.Reads.{AreDue, anchor_of}
+use Rattle.sender_params.specs.Ticks.{NeverFall}
 use Rattle.timing_base.specs.Flows.{no_packet, read_or_zeros}
 use Rattle.timing_base.specs.Judged.{stamp_of}
 use Rattle.timing_base.specs.Media.{Media}
@@ -21,6 +23,7 @@ use Rattle.flow_measure.specs.Frames.{after_start, timestamp_latency, timestamp_
 use Rattle.flow_measure.specs.Groups.{firsts_of}
 use Rattle.flow_measure.specs.Occupancy.{AreOccupancies, IsOccupancy, buckets_of}
 use Rattle.flow_measure.specs.Run.{anchor_in}
+use Rattle.flow_measure.specs.RunStands.{IsLatest}
 use Rattle.flow_measure.specs.Summary.{IsGreatest, IsLeast}
 use Rattle.flow_measure.proofs.Bounds.{IsGreatest-more, IsGreatest-same, IsLeast-more, IsLeast-same}
 use Rattle.flow_measure.proofs.Breaks.{end-of-group, within-group}
@@ -30,12 +33,12 @@ use Rattle.measure_text.specs.declared.rows.GroupRow.{GroupRow}
 use Rattle.flow_rows.specs.Packets.{stamps_of}
 use Rattle.flow_rows.specs.Packets.{timestamps_of}
 use Rattle.flow_rows.specs.Rows.{IsGroupRow, IsOfGroup, IsRowOf, ends_group, step_before, step_from}
-use Rattle.flow_rows.specs.making.Groups.{Begins, BeginsRow, EndsRow, KeepsRest, Widens}
+use Rattle.flow_rows.specs.making.Groups.{Begins, BeginsRow, EndsRow, KeepsPlace, KeepsRest, Widens}
 use Rattle.flow_rows.specs.making.Levels.{StandsFor as LevelsStandFor}
 use Rattle.flow_rows.specs.making.Stands.{IsBegun, OfFront, StandsForGroups, last_of, records_in, ticks_in}
 use Rattle.flow_rows.specs.declared.groups.GroupRows.{GroupRows}
 use Rattle.flow_rows.specs.declared.levels.Level.{Level}
-use Rattle.flow_rows.proofs.Filling.{stamps-long, stamps-more}
+use Rattle.flow_rows.proofs.Filling.{latest-of, stamps-long, stamps-more}
 
 -- the numbers of so many packets, and those of one more
 pub record Extends {A : Type 0} (count : ℕ) (old new : ℕ → A) (x : A) : Type 0 where
@@ -115,21 +118,26 @@ occupancies-more m n stamps gapped at old x are here = λ i few.
           subst (λ k. IsOccupancy m n new gapped k (extended count old x k)) same (subst (IsOccupancy m n new gapped count) (sym more.last) here)
     ]
 
--- the extremes of the first packet of a group
+-- the first packet of a group is the only one that came of it
+one-alone : (numbers : ℕ → ℤ) (n k count i : ℕ) (x : ℤ) → k * n ≡ count → numbers count ≡ x → OfFront n k (count + 1) i → numbers i ≡ x
+one-alone numbers n k count i x whole is p =
+    let here : i ≡ count = omega (arith, whole, p.0, p.1) in ap numbers here ∙ is
+
+one-reached : (numbers : ℕ → ℤ) (n k count : ℕ) (x : ℤ) → k * n ≡ count → numbers count ≡ x
+    → (i : ℕ) × OfFront n k (count + 1) i × (numbers i ≡ x)
+one-reached numbers n k count x whole is = (count, (omega (arith, whole), omega arith), is)
+
+-- so its number is both extremes
 greatest-one : (numbers : ℕ → ℤ) (n k count : ℕ) (x : ℤ) → k * n ≡ count → numbers count ≡ x → IsGreatest numbers (OfFront n k (count + 1)) x
 greatest-one numbers n k count x whole is = record {
-  greatest = λ i p.
-      let here : i ≡ count = omega (arith, whole, p.0, p.1) in
-      omega (arith, ints, ap numbers here, is);
-  reached = (count, (omega (arith, whole), omega arith), is);
+  greatest = λ i p. omega (arith, ints, one-alone numbers n k count i x whole is p);
+  reached = one-reached numbers n k count x whole is;
 }
 
 least-one : (numbers : ℕ → ℤ) (n k count : ℕ) (x : ℤ) → k * n ≡ count → numbers count ≡ x → IsLeast numbers (OfFront n k (count + 1)) x
 least-one numbers n k count x whole is = record {
-  least = λ i p.
-      let here : i ≡ count = omega (arith, whole, p.0, p.1) in
-      omega (arith, ints, ap numbers here, is);
-  reached = (count, (omega (arith, whole), omega arith), is);
+  least = λ i p. omega (arith, ints, one-alone numbers n k count i x whole is p);
+  reached = one-reached numbers n k count x whole is;
 }
 
 -- and with another packet
@@ -269,7 +277,7 @@ pub record IsTaken (m : Media) (tai run n k : ℕ) (x : GroupRows) (packets : Li
       (ticks_in packets) (buckets_of m n (stamps_of tai packets)) gapped linear x.row
 
 -- what is held at a packet more, in words of the packets
-pub record IsHeldAt (m : Media) (tai n : ℕ) (before : List FlowPacket) (p : FlowPacket) (at : ℕ) (level : Level) : Type 0 where
+record IsHeldAt (m : Media) (tai n : ℕ) (before : List FlowPacket) (p : FlowPacket) (at : ℕ) (level : Level) : Type 0 where
   pub bucket : pos level.bucket ≡ buckets_of m n (stamps_of tai before ++ at ∷ []) (length (stamps_of tai before))
   pub gapped : IsOccupancy m n (stamps_of tai before ++ at ∷ []) true (length (stamps_of tai before)) level.gapped
   pub linear : IsOccupancy m n (stamps_of tai before ++ at ∷ []) false (length (stamps_of tai before)) level.linear
@@ -298,7 +306,7 @@ next-of m tai n before p rec at t level gapped linear same came ticks held =
     }
 
 -- so with a packet more
-pub taken : (m : Media) (tai run n : ℕ) (old mid new : GroupRows) (before : List FlowPacket) (p : FlowPacket) (rec at t : ℕ) (level : Level)
+taken : (m : Media) (tai run n : ℕ) (old mid new : GroupRows) (before : List FlowPacket) (p : FlowPacket) (rec at t : ℕ) (level : Level)
     → (mid.place ≡ 0 → Begins rec at t level mid new)
     → (0 < mid.place → KeepsRest mid new × Widens level mid.row new.row)
     → mid.row ≡ old.row → mid.n0 ≡ old.n0 → mid.place ≡ old.place → mid.before ≡ old.before → old.place < n
@@ -380,6 +388,59 @@ taken m tai run n old mid new before p rec at t level begins widens row_same n0_
           }
     ]
 
+-- so where a meter of levels was fed the packet, which says what is held
+pub taken-fed : (m : Media) (tai run n : ℕ) (old mid new : GroupRows) (before : List FlowPacket) (p : FlowPacket) (rec at t : ℕ) (level : Level)
+    → ((m : Media) (n : ℕ) (stamps : List ℕ) → LevelsStandFor m n old.levels stamps → IsLatest stamps at
+    → level.bucket ≡ bucket_of m n (stamps ++ at ∷ []) (length stamps))
+    → ((m : Media) (n : ℕ) (stamps : List ℕ) → LevelsStandFor m n old.levels stamps → IsLatest stamps at
+    → IsOccupancy m n (stamps ++ at ∷ []) true (length stamps) level.gapped)
+    → ((m : Media) (n : ℕ) (stamps : List ℕ) → LevelsStandFor m n old.levels stamps → IsLatest stamps at
+    → IsOccupancy m n (stamps ++ at ∷ []) false (length stamps) level.linear)
+    → ((m : Media) (n : ℕ) (stamps : List ℕ) → LevelsStandFor m n old.levels stamps → IsLatest stamps at
+    → LevelsStandFor m n mid.levels (stamps ++ at ∷ []))
+    → (mid.place ≡ 0 → Begins rec at t level mid new)
+    → (0 < mid.place → KeepsRest mid new × Widens level mid.row new.row)
+    → mid.row ≡ old.row → mid.n0 ≡ old.n0 → mid.place ≡ old.place → mid.before ≡ old.before → old.place < n → new.levels ≡ mid.levels
+    → p.rec ≡ rec → stamp_of tai p ≡ at → (read_or_zeros p.rtp).timestamp ≡ t
+    → NeverFall (stamps_of tai (before ++ p ∷ []))
+    → StandsForGroups m tai run n old before
+    → IsTaken m tai run n (length before / n) new (before ++ p ∷ [])
+taken-fed m tai run n old mid new before p rec at t level bucket gapped linear stands begins widens row n0 place earlier within levels same came ticks
+    rising h =
+    let past = stamps_of tai before in
+    let more = stamps-more tai before p at came in
+    let latest = latest-of past at (subst NeverFall more rising) in
+    let fed : LevelsStandFor m n mid.levels (stamps_of tai (before ++ p ∷ [])) =
+    subst (λ l. LevelsStandFor m n mid.levels l) (sym more) (stands m n past h.levels_are latest) in
+    let held : IsHeldAt m tai n before p at level = record {
+      bucket = ap (λ k. pos k) (bucket m n past h.levels_are latest);
+      gapped = gapped m n past h.levels_are latest;
+      linear = linear m n past h.levels_are latest;
+    } in
+    taken m tai run n old mid new before p rec at t level begins widens row n0 place earlier within fed levels same came ticks held h
+
+-- a row with another last packet, and other extremes, is of the same place
+pub place-kept : (row : GroupRow) (last : ℤ) (bucket : ℕ) (gapped_least gapped linear_least linear : ℤ)
+    → KeepsPlace row (record (row) {
+      last = last;
+      bucket = bucket;
+      gapped_least = gapped_least;
+      gapped = gapped;
+      linear_least = linear_least;
+      linear = linear;
+    })
+place-kept row last bucket gapped_least gapped linear_least linear = record {
+  run = refl;
+  group = refl;
+  rec_is = refl;
+  stamp = refl;
+  first = refl;
+  timestamp_is = refl;
+  step = refl;
+  offset = refl;
+  latency = refl;
+}
+
 -- the group goes on
 pub goes-on : (m : Media) (tai run n : ℕ) (x y : GroupRows) (before : List FlowPacket) (p : FlowPacket) (place : ℕ) → y.row ≡ x.row → y.levels ≡ x.levels
     → y.n0 ≡ x.n0 → y.before ≡ x.before → y.place ≡ place + 1 → place + 1 < n → place ≡ length before % n
@@ -412,26 +473,26 @@ goes-on m tai run n x y before p place row levels n0 earlier at within is t =
     }
 
 -- a group that came whole
+front-whole : (n k count i : ℕ) → count ≡ k * n + n → IsOfGroup n k i → OfFront n k count i
+front-whole n k count i whole p = (p.from, omega (arith, p.below, whole))
+
+reached-whole : (numbers : ℕ → ℤ) (n k count : ℕ) (x y : ℤ) → count ≡ k * n + n → y ≡ x → (i : ℕ) × OfFront n k count i × (numbers i ≡ x)
+    → (i : ℕ) × IsOfGroup n k i × (numbers i ≡ y)
+reached-whole numbers n k count x y whole same r =
+    (r.0, record { from = r.1.0; below = omega (arith, r.1.1, whole) }, r.2 ∙ sym same)
+
 least-whole : (numbers : ℕ → ℤ) (n k count : ℕ) (x y : ℤ) → count ≡ k * n + n → y ≡ x → IsLeast numbers (OfFront n k count) x
     → IsLeast numbers (IsOfGroup n k) y
 least-whole numbers n k count x y whole same h = record {
-  least = λ i p. omega (arith, ints, same, h.least i (p.from, omega (arith, p.below, whole)));
-  reached = (
-    h.reached.0,
-    record { from = h.reached.1.0; below = omega (arith, h.reached.1.1, whole) },
-    h.reached.2 ∙ sym same,
-  );
+  least = λ i p. omega (arith, ints, same, h.least i (front-whole n k count i whole p));
+  reached = reached-whole numbers n k count x y whole same h.reached;
 }
 
 greatest-whole : (numbers : ℕ → ℤ) (n k count : ℕ) (x y : ℤ) → count ≡ k * n + n → y ≡ x → IsGreatest numbers (OfFront n k count) x
     → IsGreatest numbers (IsOfGroup n k) y
 greatest-whole numbers n k count x y whole same h = record {
-  greatest = λ i p. omega (arith, ints, same, h.greatest i (p.from, omega (arith, p.below, whole)));
-  reached = (
-    h.reached.0,
-    record { from = h.reached.1.0; below = omega (arith, h.reached.1.1, whole) },
-    h.reached.2 ∙ sym same,
-  );
+  greatest = λ i p. omega (arith, ints, same, h.greatest i (front-whole n k count i whole p));
+  reached = reached-whole numbers n k count x y whole same h.reached;
 }
 
 -- the group is over, and its row is

@@ -3,13 +3,13 @@
 ghost use Rattle.std.specs.Prelude.{◌≡◌, ◌+◌, ◌*◌, [], true, false, None, Some};
 ghost use Rattle.timing_base.specs.Examples.{sent};
 ghost use Rattle.sender_params.specs.Worked.{hd_50};
+ghost use Rattle.measure_text.specs.Examples.{plain_packet};
 ghost use Rattle.flow_rows.specs.Rows.{IsPacketRow, ends_group, step_before, step_from};
-ghost use Rattle.flow_rows.specs.Worked.{first_packet};
 
 /// 1080p at 50 with 20 packets per frame, of which the first comes 764,000 ns after a frame's instant: the bucket holds 1
 /// packet, and no read is due, gapped or linear, so the buffer holds 1.
 pub fn first_of_a_run()
-    ensures row { IsPacketRow hd_50 0 1 20 [] (sent 2 1600000000000764000 1 1800 false) first_packet }
+    ensures row { IsPacketRow hd_50 0 1 20 [] (sent 2 1600000000000764000 1 1800 false) plain_packet }
 {}
 
 /// Of 20 packets in a group the one behind 19 ends it, and the one behind 18 doesn't. Timestamps that go on by 1800 from 1800

@@ -1,7 +1,7 @@
 pub mod Planning
 pub mod Plans
 pub mod Edging
-mod Meterings
+pub mod Meterings
 pub mod Eaches
 mod Banked
 mod Firsts

@@ -73,7 +73,7 @@ closes-lost stands measures m tai packets k from to (Some j) (Some x) o result d
     absurd (none-some result x.0 none x.1)
 
 -- one cut more ends the last run, and begins another
-between-push : (found : Verdict) (packets : List FlowPacket) (to k from cut : ℕ) (places : List ℕ)
+pub between-push : (found : Verdict) (packets : List FlowPacket) (to k from cut : ℕ) (places : List ℕ)
     → planned_between found packets to k from (places ++ cut ∷ [])
     ≡ planned_between found packets cut k from places ++ planned_part packets (k + length places + 1) cut to (planned_at found (k + length places + 1))
 between-push found packets to k from cut [] =

@@ -65,7 +65,7 @@ stamped-option : (o : Option FlowPacket) (packets : List FlowPacket) → ((p : F
 stamped-option None packets one h = h
 stamped-option (Some p) packets one h = All-cons (λ (p : FlowPacket). IsStamp p.at) p packets (one p refl) h
 
-flow-stamped : (m : Media) (items : List Record) → All (λ (r : Record). IsStamp r.stamp) items → AreStamped (flow items m)
+pub flow-stamped : (m : Media) (items : List Record) → All (λ (r : Record). IsStamp r.stamp) items → AreStamped (flow items m)
 flow-stamped m [] h = All-nil (λ (p : FlowPacket). IsStamp p.at)
 flow-stamped m (r ∷ items) h =
     stamped-option (flow_packet m r) (flow items m)

@@ -113,6 +113,11 @@ stopped-broken o new now old f taken rest items whole c front = record {
   feeds = c.feeds;
 }
 
+-- a frame is counted
+pub counted : (old new at : ℕ) (bytes : Bor (List ℕ)) (result : Result Step PcapFault) → result ≡ Ok (step.Frame at bytes) → Counts old new result
+    → new ≡ old + 1
+counted old new at bytes result is h = (subst (λ r. Counts old new r) is h).2
+
 -- a reader answered a frame, and its record was taken
 pub copying-more : {S : Type 0} (left : S → Option (List ℕ)) (name : S → List ℕ) (faults : S → ℕ) (o : Output) (first reader new : PcapReader S)
     (old f g : FlowOf SeriesMeter) (at : ℕ) (bytes : Bor (List ℕ)) (result : Result Step PcapFault)
@@ -131,6 +136,19 @@ copying-more left name faults o first reader new old f g at bytes result is step
         here.2,
       );
 }
+
+-- so of the record of the next number
+pub copying-taken : {S : Type 0} (left : S → Option (List ℕ)) (name : S → List ℕ) (faults : S → ℕ) (o : Output) (first reader new : PcapReader S)
+    (old f g : FlowOf SeriesMeter) (number at : ℕ) (bytes : Bor (List ℕ)) (result : Result Step PcapFault)
+    → result ≡ Ok (step.Frame at bytes) → Steps left name faults reader new result → number ≡ frame_count reader
+    → TakesFlow TakesOn f g (record { number = number + 1; stamp = at; bytes = bytes.now } ∷ [])
+    → IsCopying (WillGive left) o first reader old f
+    → IsCopying (WillGive left) o first new old g
+copying-taken left name faults o first reader new old f g number at bytes result is steps count takes c =
+    let next : number + 1 ≡ frame_count new =
+    omega (arith, counted (frame_count reader) (frame_count new) at bytes result is steps.counts, count) in
+    copying-more left name faults o first reader new old f g at bytes result is steps
+    (subst (λ k. TakesFlow TakesOn f g (record { number = k; stamp = at; bytes = bytes.now } ∷ [])) next takes) c
 
 -- rows were written meanwhile
 pub copying-poured : {R : Type 0} (gives : R → List Record → FileNote → Type 0) (o : Output) (new : Option (List ℕ)) (now : ℕ) (first reader : R)
@@ -183,11 +201,6 @@ copying-none gives o first old same = record {
   copies = copies-none o old same;
   told = λ items end told. (items, refl, told);
 }
-
--- a frame is counted
-pub counted : (old new at : ℕ) (bytes : Bor (List ℕ)) (result : Result Step PcapFault) → result ≡ Ok (step.Frame at bytes) → Counts old new result
-    → new ≡ old + 1
-counted old new at bytes result is h = (subst (λ r. Counts old new r) is h).2
 
 -- what holds whatever the failure is
 pub any-err : {T E : Type 0} (r : Result T E) (P : Type 0) → P → IfErr r (λ _. P)

@@ -31,7 +31,7 @@ use Rattle.timing_steps.specs.Ran.{Output}
 use Rattle.udp_rtp.specs.Flow.{flow, flow_packet}
 use Rattle.timing_series.specs.Finding.{FindsAgain, FindsElse, IsAnswerOf, IsFoundIn, IsNewFlow}
 use Rattle.timing_series.specs.Meters.{StandsFor}
-use Rattle.timing_series.specs.Reading.{Copies, CopiesIn, CopiesSome, FeedsOn, HasRoom, Stopped}
+use Rattle.timing_series.specs.Reading.{CopiesIn, CopiesSome, FeedsOn, HasRoom, Stopped}
 use Rattle.flow_rows.specs.Rows.{header_text}
 use Rattle.timing_series.specs.Rows.{BeginRowsOf}
 use Rattle.timing_series.specs.Series.{AnswersFlow, BeginsIn, HasSeries, series_status}

@@ -20,8 +20,8 @@ use Rattle.timing_series.specs.Meters.{IsAt, OpensAs, StandsFor}
 use Rattle.timing_series.specs.declared.meter.FlowRows.{FlowRows}
 use Rattle.timing_series.specs.declared.open.OpenRows.{OpenRows}
 use Rattle.timing_base.proofs.Places.{run_start-le}
-use Rattle.timing_series.proofs.Planning.{planned-behind, planned-more}
-use Rattle.timing_series.proofs.Plans.{parts-whole, planned-parts}
+use Rattle.timing_measure.proofs.Planning.{planned-behind, planned-more}
+use Rattle.timing_measure.proofs.Plans.{parts-whole, planned-parts}
 use Rattle.timing_series.proofs.Rowing.{closes, planned-none}
 
 -- where a flow ends, its rows are those of its judged runs

@@ -1,5 +1,3 @@
-mod Planning
-mod Plans
 mod Rowing
 mod Metering
 mod Copying

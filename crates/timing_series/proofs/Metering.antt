@@ -10,27 +10,14 @@ use Rattle.timing_base.specs.Verdicts.{Judged}
 use Rattle.timing_base.specs.declared.packet.FlowPacket.{FlowPacket}
 use Rattle.timing_base.specs.declared.row.Verdict.{Verdict}
 use Rattle.timing_base.proofs.Places.{cuts-here, cuts-other, last_place-push, run_start-le}
-use Rattle.timing_measure.specs.metering.Plan.{planned_at, planned_between, planned_part}
+use Rattle.timing_measure.specs.metering.Plan.{planned_at, planned_part}
 use Rattle.timing_measure.specs.metering.Walks.{IsWalk, begins_at}
 use Rattle.flow_rows.specs.Rows.{AreRows}
 use Rattle.timing_series.specs.Meters.{IsAt, IsFresh, IsGoing, IsOpen, OpensAs, PassesOn, PassesRun}
 use Rattle.timing_series.specs.declared.meter.FlowRows.{FlowRows}
 use Rattle.timing_series.specs.declared.open.OpenRows.{OpenRows}
+use Rattle.timing_measure.proofs.Meterings.{between-push}
 use Rattle.timing_series.proofs.Rowing.{closes, planned-none}
-
--- one cut more ends the last run, and begins another
-between-push : (found : Verdict) (packets : List FlowPacket) (to k from cut : ℕ) (places : List ℕ)
-    → planned_between found packets to k from (places ++ cut ∷ [])
-    ≡ planned_between found packets cut k from places ++ planned_part packets (k + length places + 1) cut to (planned_at found (k + length places + 1))
-between-push found packets to k from cut [] =
-    let e : k + 1 ≡ k + 0 + 1 = omega arith in
-    ap (λ i. planned_part packets k from cut (planned_at found k) ++ planned_part packets i cut to (planned_at found i)) e
-between-push found packets to k from cut (p ∷ places) =
-    let here = planned_part packets k from p (planned_at found k) in
-    let e : k + 1 + length places + 1 ≡ k + suc (length places) + 1 = omega arith in
-    ap (λ l. here ++ l) (between-push found packets to (k + 1) p cut places)
-    ∙ sym (append_assoc here _ _)
-    ∙ ap (λ i. planned_between found packets cut k from (p ∷ places) ++ planned_part packets i cut to (planned_at found i)) e
 
 -- the first run begins
 going-first : (frames : Bool) (m : Media) (tai : ℕ) (found : Verdict) (packets : List FlowPacket) (before after : Option OpenRows) (rows : List ℕ)

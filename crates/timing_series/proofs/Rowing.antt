@@ -18,7 +18,7 @@ use Rattle.timing_series.specs.Meters.{IsOpen, OpensAs, PassesRun}
 use Rattle.flow_rows.specs.making.Stands.{PutsRow, StandsFor, seen_of}
 use Rattle.flow_rows.specs.declared.rows.RunRows.{RunRows}
 use Rattle.timing_series.specs.declared.open.OpenRows.{OpenRows}
-use Rattle.timing_series.proofs.Planning.{planned-behind, planned-few, planned-more, stamps-before}
+use Rattle.timing_measure.proofs.Planning.{planned-behind, planned-few, planned-more, stamps-before}
 
 -- what is printed at one packet more
 pub rows-more : (frames : Bool) (m : Media) (tai number n : ℕ) (before packets : List FlowPacket) (p : FlowPacket) (text here : List ℕ)

@@ -1,11 +1,9 @@
 -- The texts of `series` have an answer.
 use Rattle.std.specs.Prelude.{All, ◌≤ℤ◌, slice_index}
-use Rattle.std.specs.List.{cons_option}
-use Rattle.std.proofs.Common.{◌≡◌, ◌<◌, ◌≤◌, ◌-◌, ◌+◌, ◌*◌, ◌/◌, ◌%◌, ◌^◌, ◌++◌, ◌∷◌, ℕ, ℤ, pos, Bool, true, false, List, [], length, Option, Some, None, refl, sym}
+use Rattle.std.proofs.Common.{◌≡◌, ◌<◌, ◌≤◌, ◌-◌, ◌+◌, ◌*◌, ◌/◌, ◌%◌, ◌^◌, ◌++◌, ◌∷◌, ℕ, ℤ, pos, Bool, true, false, List, [], length, refl, sym}
 use Rattle.std.proofs.Common.{subst, arith}
-use Rattle.std.proofs.lemmas.List.Elements.{All-cons, All-head, All-nil, All-tail}
+use Rattle.std.proofs.lemmas.List.Elements.{All-head, All-tail}
 use Rattle.timing_base.specs.Captures.{IsStamp, Record}
-use Rattle.timing_base.specs.Flows.{AreStamped}
 use Rattle.timing_base.specs.Judged.{judged, stamp_of}
 use Rattle.timing_base.specs.Media.{IsMedia, Media}
 use Rattle.timing_base.specs.declared.capture.FileNote.{FileNote}
@@ -27,13 +25,14 @@ use Rattle.flow_rows.specs.Rows.{Adds, AddsGroup, AreRows, IsHeld, IsOfGroup, Is
 use Rattle.pcap_reader.specs.Records.{Records}
 use Rattle.timing_measure.specs.Measured.{JudgedPart, judged_parts}
 use Rattle.timing_measure.specs.metering.Plan.{IsWhole, has_judged_run}
-use Rattle.timing_reach.proofs.Packets.{flow-few, packet-of}
+use Rattle.timing_reach.proofs.Packets.{flow-few}
 use Rattle.timing_reach.specs.Asked.{not_judged}
 use Rattle.timing_steps.specs.Answers.{Answer}
-use Rattle.udp_rtp.specs.Flow.{flow, flow_packet}
+use Rattle.udp_rtp.specs.Flow.{flow}
 use Rattle.timing_series.specs.Rows.{AreRowsOf}
 use Rattle.timing_series.specs.Series.{AnswersFlow, HasSeries, series_status}
-use Rattle.timing_series.proofs.Plans.{parts-whole}
+use Rattle.timing_measure.proofs.Plans.{parts-whole}
+use Rattle.timing_measure.proofs.Some.{flow-stamped}
 
 -- a packet has a row
 some-packet : (m : Media) (tai number n : ℕ) (before : List FlowPacket) (p : FlowPacket) → IsMedia m → 1 ≤ n
@@ -184,19 +183,6 @@ some-parts frames m tai (part ∷ parts) is whole =
     let here = some-rows frames m tai part.number part.values.n [] part.packets is (All-head (IsWhole tai) part parts whole).some in
     let rest = some-parts frames m tai parts is (All-tail (IsWhole tai) part parts whole) in
     (here.0 ++ rest.0, (here.0, rest.0, refl, here.1, rest.1))
-
--- the packets of a flow have the stamps of their records
-stamped-option : (o : Option FlowPacket) (packets : List FlowPacket) → ((p : FlowPacket) → o ≡ Some p → IsStamp p.at) → AreStamped packets
-    → AreStamped (cons_option o packets)
-stamped-option None packets one h = h
-stamped-option (Some p) packets one h = All-cons (λ (p : FlowPacket). IsStamp p.at) p packets (one p refl) h
-
-flow-stamped : (m : Media) (items : List Record) → All (λ (r : Record). IsStamp r.stamp) items → AreStamped (flow items m)
-flow-stamped m [] h = All-nil (λ (p : FlowPacket). IsStamp p.at)
-flow-stamped m (r ∷ items) h =
-    stamped-option (flow_packet m r) (flow items m)
-    (λ p e. omega (arith, (packet-of m r p e).at, All-head (λ (r : Record). IsStamp r.stamp) r items h))
-    (flow-stamped m items (All-tail (λ (r : Record). IsStamp r.stamp) r items h))
 
 -- there is an answer on a flow
 some-answers : (frames : Bool) (m : Media) (tai : ℕ) (note : FileNote) (items : List Record) (has : Bool) → IsMedia m

@@ -53,19 +53,19 @@ impl Course {
         }
     }
 
-    /// After a packet more, which came at this instant.
+    /// Passes a packet more, which came at this instant. Most packets change nothing.
     #[inline(always)]
-    fn after(self, at: u64, marker: bool) -> Course
+    fn pass(&mut self, at: u64, marker: bool)
         ensures { (packets : List PacketValue) (from i : ℕ) → from ≤ i → (packet_at packets i).at ≡ at
-            → has_marker packets i ≡ marker → IsCourse packets from i self
-            → IsCourse packets from (i + 1) result }
+            → has_marker packets i ≡ marker → IsCourse packets from i self.old
+            → IsCourse packets from (i + 1) self.new }
     {
         if marker {
-            return self.marked(at);
+            *self = self.marked(at);
+            return;
         }
-        match self {
-            Course::Opens => Course::First(at),
-            course => course,
+        if let Course::Opens = self {
+            *self = Course::First(at);
         }
     }
 }
@@ -140,7 +140,7 @@ impl EdgeMeter {
     {
         let begins = self.walk.pass(packet);
         self.turn(begins)?;
-        self.run = self.run.after(packet.at, is_last_of_group(packet));
+        self.run.pass(packet.at, is_last_of_group(packet));
         Ok(())
     }
 

@@ -1,10 +1,9 @@
-use Rattle.std.proofs.Common.{◌≡◌, ◌∙◌, ◌+◌, ◌^◌, ◌∷◌, [], Ok, ap, arith, refl, subst, sym}
-use Rattle.pcap_reader.specs.Readers.{WillGive, answer_note, frame_count}
+use Rattle.std.proofs.Common.{◌≡◌, ◌∙◌, ◌+◌, ◌^◌, Ok, ap, arith, refl, subst, sym}
+use Rattle.pcap_reader.specs.Readers.{WillGive, answer_note}
 use Rattle.pcap_reader.specs.declared.reader.Step.TheVariants.{Frame}
-use Rattle.timing_reach.specs.judged.Flows.{TakesFlow}
 use Rattle.timing_steps.specs.Ran.{output_of}
-use Rattle.timing_series.specs.Reading.{HasRoom, TakesOn, room_less}
-use Rattle.timing_series.proofs.Copying.{any-err, copying-broken, copying-more, copying-none, copying-poured, copying-stopped, counted}
+use Rattle.timing_series.specs.Reading.{HasRoom, room_less}
+use Rattle.timing_series.proofs.Copying.{any-err, copying-broken, copying-none, copying-poured, copying-stopped, copying-taken, counted}
 use Rattle.timing_series.proofs.Capturing.{front-more}
 use Rattle.timing_series.proofs.stream.copy_rows.Goals as goal
 
@@ -43,19 +42,16 @@ loop-at-preserved g c =
     let bytes = c.in-Ok-Frame.bytes in
     let is : c.next.result ≡ Ok (Frame at bytes) = c.in-Ok-Frame.is ∙ ap Ok c.in-Ok-Frame.field-0-is in
     let n = counted _ _ at bytes c.next.result is s.counts in
-    let number : c.loop-at.number + 1 ≡ frame_count new = omega (arith, n, inv.number_is) in
     let o = output_of g.K.Sink c.args.out.now c.loop-at.out in
-    let takes = subst (λ k. TakesFlow TakesOn c.loop-at.flow c.take.new.self (record { number = k; stamp = at; bytes = bytes.now } ∷ [])) number
-    c.in_ok-take-in-Ok-Frame.ensures.takes in
     let poured = c.in_ok-pour.ensures.poured in
     record {
       copying = copying-poured (WillGive g.S.Source.left) o (g.K.Sink.written c.pour.new.out) (g.K.Sink.faults c.pour.new.out) c.args.reader.now new
           c.args.flow.now c.take.new.self _ poured.0
-          (copying-more g.S.Source.left g.S.Source.name g.S.Source.faults o c.args.reader.now c.loop-at.reader new c.args.flow.now c.loop-at.flow
-          c.take.new.self at bytes c.next.result is s takes inv.copying)
+          (copying-taken g.S.Source.left g.S.Source.name g.S.Source.faults o c.args.reader.now c.loop-at.reader new c.args.flow.now c.loop-at.flow
+          c.take.new.self c.loop-at.number at bytes c.next.result is s inv.number_is c.in_ok-take-in-Ok-Frame.ensures.takes inv.copying)
           refl c.pour.ensures.flow poured.1 poured.2;
       fresh = s.tells ∙ ap answer_note is;
-      number_is = number;
+      number_is = omega (arith, n, inv.number_is);
       most = s.same_most ∙ inv.most;
       within = s.few;
       room = λ count few.
@@ -69,21 +65,15 @@ loop-at-preserved g c =
 pub returns-in_err-pour-clause-stopped : goal.returns-in_err-pour-clause-stopped
 returns-in_err-pour-clause-stopped g c =
     let inv = c.loop-at.invariant in
-    let s = c.next.follows.holds-at-none in
-    let new = c.next.follows.lender-at-none in
-    let at = c.in-Ok-Frame.at in
-    let bytes = c.in-Ok-Frame.bytes in
-    let is : c.next.result ≡ Ok (Frame at bytes) = c.in-Ok-Frame.is ∙ ap Ok c.in-Ok-Frame.field-0-is in
-    let n = counted _ _ at bytes c.next.result is s.counts in
-    let number : c.loop-at.number + 1 ≡ frame_count new = omega (arith, n, inv.number_is) in
+    let frame = c.in-Ok-Frame in
     let o = output_of g.K.Sink c.args.out.now c.loop-at.out in
-    let takes = subst (λ k. TakesFlow TakesOn c.loop-at.flow c.take.new.self (record { number = k; stamp = at; bytes = bytes.now } ∷ [])) number
-    c.in_ok-take-in-Ok-Frame.ensures.takes in
+    let follows = c.next.follows in
     any-err c.from_residual-in_err-pour.result _
-    (copying-broken (WillGive g.S.Source.left) o (g.K.Sink.written c.pour.new.out) (g.K.Sink.faults c.pour.new.out) c.args.reader.now new
-    c.args.flow.now c.take.new.self
-    (copying-more g.S.Source.left g.S.Source.name g.S.Source.faults o c.args.reader.now c.loop-at.reader new c.args.flow.now c.loop-at.flow
-    c.take.new.self at bytes c.next.result is s takes inv.copying)
+    (copying-broken (WillGive g.S.Source.left) o (g.K.Sink.written c.pour.new.out) (g.K.Sink.faults c.pour.new.out) c.args.reader.now
+    follows.lender-at-none c.args.flow.now c.take.new.self
+    (copying-taken g.S.Source.left g.S.Source.name g.S.Source.faults o c.args.reader.now c.loop-at.reader follows.lender-at-none c.args.flow.now
+    c.loop-at.flow c.take.new.self c.loop-at.number frame.at frame.bytes c.next.result (frame.is ∙ ap Ok frame.field-0-is) follows.holds-at-none
+    inv.number_is c.in_ok-take-in-Ok-Frame.ensures.takes inv.copying)
     c.in_err-pour.ensures.failed.2)
 
 pub returns-in_err-take-in-Ok-Frame-clause-front : goal.returns-in_err-take-in-Ok-Frame-clause-front

@@ -2,6 +2,7 @@ use Rattle.std.proofs.Common.{FitsSigned, ◌∙◌, ap, refl, rules}
 use Rattle.std.proofs.lemmas.Int.{to_z-of_z}
 use Rattle.std.specs.Int.{w128}
 use Rattle.flow_measure.specs.Frames.{after_start}
+use Rattle.flow_rows.proofs.Grouping.{place-kept}
 use Rattle.flow_rows.proofs.groups.GroupRows.end.Goals as goal
 
 pub returns-clause-row : goal.returns-clause-row
@@ -11,17 +12,7 @@ returns-clause-row c =
     let n0 = c.args.self.now.n0 in
     let n0_fits : FitsSigned w128 n0 = search rules in
     record {
-      place = record {
-        run = refl;
-        group = refl;
-        rec_is = refl;
-        stamp = refl;
-        first = refl;
-        timestamp_is = refl;
-        step = refl;
-        offset = refl;
-        latency = refl;
-      };
+      place = place-kept c.args.self.now.row _ _ _ _ _ _;
       last = to_z-of_z w128 x fits ∙ c.since_start.ensures.value
           ∙ ap (λ z. after_start c.args.self.now.levels.params.media z c.args.self.now.row.group c.args.at) (to_z-of_z w128 n0 n0_fits);
       bucket = refl;

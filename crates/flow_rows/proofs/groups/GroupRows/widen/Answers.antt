@@ -1,6 +1,7 @@
-use Rattle.std.proofs.Common.{FitsSigned, refl, rules, arith}
+use Rattle.std.proofs.Common.{FitsSigned, rules, arith}
 use Rattle.std.proofs.lemmas.Int.{clamps, ints, to_z-of_z}
 use Rattle.std.specs.Int.{w128}
+use Rattle.flow_rows.proofs.Grouping.{place-kept}
 use Rattle.flow_rows.proofs.groups.GroupRows.widen.Goals as goal
 
 pub returns-clause-row : goal.returns-clause-row
@@ -14,17 +15,7 @@ returns-clause-row c =
     let d_fits : FitsSigned w128 d = search rules in
     let e_fits : FitsSigned w128 e = search rules in
     record {
-      place = record {
-        run = refl;
-        group = refl;
-        rec_is = refl;
-        stamp = refl;
-        first = refl;
-        timestamp_is = refl;
-        step = refl;
-        offset = refl;
-        latency = refl;
-      };
+      place = place-kept c.args.self.now.row _ _ _ _ _ _;
       bucket = omega (arith, c.max-row.ensures);
       gapped_least = omega (arith, ints, clamps, to_z-of_z w128 a a_fits, c.min-row.ensures.value);
       gapped = omega (arith, ints, clamps, to_z-of_z w128 b b_fits, c.max-row-2.ensures.value);

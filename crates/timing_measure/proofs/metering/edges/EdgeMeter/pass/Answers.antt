@@ -11,14 +11,14 @@ pub returns-clause-stands : goal.returns-clause-stands
 returns-clause-stands c = λ packets h.
     let old = c.args.self.now in
     stands-on (λ l i. IsAt l i old)
-    (λ l i. IsAt l i (record { walk = c.turn.new.self.walk; done = c.turn.new.self.done; run = c.after-self.result })) c.args.packet.now
+    (λ l i. IsAt l i (record { walk = c.turn.new.self.walk; done = c.turn.new.self.done; run = c.pass.new.self })) c.args.packet.now
     (λ all i within at before.
     let turned = c.in_ok-turn.ensures.turns all i (c.pass-begins.ensures.begins all i before.walk at) before.edges in
     record {
       walk = subst (IsWalk all (i + 1)) (sym c.turn.ensures.walk) (c.pass-begins.ensures.walk all i before.walk at);
       edges = record {
         closed = turned.closed;
-        course = c.after-self.ensures all (run_start all i) i (run_start-le all i) (ap (λ (q : FlowPacket). q.at) at)
+        course = c.pass.ensures all (run_start all i) i (run_start-le all i) (ap (λ (q : FlowPacket). q.at) at)
             (ap (λ (q : FlowPacket). (read_or_zeros q.rtp).marker) at ∙ sym c.is_last_of_group.ensures) turned.course;
       };
     })
