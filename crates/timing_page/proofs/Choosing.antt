@@ -59,7 +59,13 @@ chosen-here found packets k from to later longest e h most =
     subst (λ o. IsChosen (planned_part packets k from to o ++ later) packets longest from to) (sym at)
     record {
       part = _;
-      longest_is = record { before = []; after = later; whole = refl; fewer = All-nil (λ (other : JudgedPart). other.values.packets < longest.judged.packets); no_more = most };
+      longest_is = record {
+        before = [];
+        after = later;
+        whole = refl;
+        fewer = All-nil (λ (other : JudgedPart). other.values.packets < longest.judged.packets);
+        no_more = most;
+      };
       others = All-nil (λ (other : JudgedPart). other.number < longest.run + 1);
       number_is = ap (λ x. x + 1) (sym e);
       values_is = refl;
@@ -95,7 +101,8 @@ pub chosen-between : (found : Verdict) (packets : List FlowPacket) (to k from : 
 chosen-between found packets to k from [] longest h low high =
     let e : longest.run ≡ k = omega (arith, low, high) in
     let none : longest.run - k ≡ 0 = omega (arith, e) in
-    subst (λ d. IsChosen (planned_part packets k from to (planned_at found k)) packets longest (slice_index_or (from ∷ []) d to) (slice_index_or [] d to)) (sym none)
+    subst (λ d. IsChosen (planned_part packets k from to (planned_at found k)) packets longest (slice_index_or (from ∷ []) d to) (slice_index_or [] d to))
+    (sym none)
     (subst (λ l. IsChosen l packets longest from to) (append-nil (planned_part packets k from to (planned_at found k)))
     (chosen-here found packets k from to [] longest e h (All-nil (NoMore longest))))
 chosen-between found packets to k from (cut ∷ rest) longest h low high =

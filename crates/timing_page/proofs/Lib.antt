@@ -3,5 +3,7 @@ mod Passing
 mod Choosing
 mod Showing
 mod Once
+mod Columns
+pub mod Some
 mod Finding
 mod Answering

@@ -38,8 +38,8 @@ loop-number-preserved c =
           (c.in_ok-before.ensures ∙ search rules) c.in_ok-meter.ensures.stands) c.in_ok-push.ensures.items;
       room = All-same (λ (f : FlowOf PageTaker). HaveRoom HasRoom (2 ^ 41) f.taker) c.push.new.self.items _ c.in_ok-push.ensures.items
           (All-push (λ (f : FlowOf PageTaker). HaveRoom HasRoom (2 ^ 41) f.taker) c.loop-number.flows.items c.new-flow.result c.loop-number.invariant.room
-          (new-room HasRoom c.in_ok-meter.meter c.new-taker.result c.new-flow.result c.new-flow.ensures.taker c.new-taker.ensures.meter c.new-taker.ensures.count
-          c.in_ok-meter.ensures.room));
+          (new-room HasRoom c.in_ok-meter.meter c.new-taker.result c.new-flow.result c.new-flow.ensures.taker c.new-taker.ensures.meter
+          c.new-taker.ensures.count c.in_ok-meter.ensures.room));
     }
 
 pub returns-clause-stands : goal.returns-clause-stands
