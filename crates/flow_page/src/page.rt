@@ -6,7 +6,7 @@ ghost use Rattle.timing_base.specs.Targets.{target_of};
 ghost use Rattle.timing_report.specs.Words.{group_name};
 ghost use Rattle.scan_text.specs.Contents.{contents_of};
 ghost use Rattle.flow_page.specs.Media.{AreOfMedia};
-ghost use Rattle.flow_page.specs.Page.{contents_part, contents_told, flow_heading, flow_part, flow_parts, page_of, part_if, run_grid, run_heading, run_part, run_tables, words_list};
+ghost use Rattle.flow_page.specs.Page.{contents_part, contents_told, flow_heading, flow_part, flow_parts, page_of, part_if, run_grid, run_heading, run_tables, words_list};
 ghost use Rattle.flow_page.specs.Words.{utc};
 
 use crate::around::add_around_figures;
@@ -140,28 +140,7 @@ fn add_types_told(
     add_words_list(text, types, group, tai)
 }
 
-/// Adds a run of a flow of this media.
-fn add_run_part(
-    text: &mut String,
-    alloc: Global,
-    tai: u32,
-    media: &Media,
-    flow: &MeasuredFlow,
-    shown: &ShownRun,
-    types: &[TypeShown],
-) -> Result<(), OutOfMemory>
-    ensures { IfOk result (λ _. string_bytes text.new
-        ≡ string_bytes text.old ++ run_part tai media.now flow.now shown.now types.now) }
-{
-    add_flow_title(text, media, flow)?;
-    add_run_title(text, tai, shown)?;
-    add_types_told(text, media, types, tai)?;
-    add_steps_line(text, media, shown.run.numbers.step)?;
-    add_run_grid(text, alloc, media, shown, types)?;
-    add_run_tables(text, shown, types, flow.runs.as_slice())
-}
-
-/// Adds the run of a flow that is shown.
+/// Adds the run of a flow of this media that is shown.
 fn add_shown(
     text: &mut String,
     alloc: Global,
@@ -174,7 +153,13 @@ fn add_shown(
         ≡ string_bytes text.old ++ part_if tai media.now flow.now (Some shown.now)) }
 {
     let types = types_shown(alloc, &shown.run.judged, &shown.run.numbers)?;
-    add_run_part(text, alloc, tai, media, flow, shown, types.as_slice())
+    let types = types.as_slice();
+    add_flow_title(text, media, flow)?;
+    add_run_title(text, tai, shown)?;
+    add_types_told(text, media, types, tai)?;
+    add_steps_line(text, media, shown.run.numbers.step)?;
+    add_run_grid(text, alloc, media, shown, types)?;
+    add_run_tables(text, shown, types, flow.runs.as_slice())
 }
 
 /// Adds a flow of this media, where a run is shown.
