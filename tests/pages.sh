@@ -20,9 +20,11 @@ not_run=(
     'gst-launch-1.0|a network to send into'
     './run check --sdp gst_1080.sdp|a capture of 1.4 MB that does not ship'
     'sbatch|a cluster'
+    './run series --sdp cam.sdp|a capture of your own'
+    'gnuplot -p|a screen, and a capture of your own'
 )
 # Tools that a machine may lack.
-tools='jq xargs column parallel tcpdump editcap mergecap reordercap capinfos tshark gzip'
+tools='jq xargs column parallel python3 tcpdump editcap mergecap reordercap capinfos tshark gzip'
 
 top=$(cd "$(dirname "$(readlink -f "$0")")/.." && pwd) || exit 2
 folder=$(mktemp -d) || exit 2

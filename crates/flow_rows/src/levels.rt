@@ -148,7 +148,20 @@ impl LevelMeter {
         ensures fresh { self.old.seen ≡ 0 → Fills self.old.params at self.new.levels [] }
     {
         if self.seen == 0 {
-            self.levels = Levels::new(&self.params, at);
+            self.restart(at);
         }
+    }
+
+    /// Begins at this packet, which is the first.
+    #[cold]
+    #[inline(never)]
+    fn restart(&mut self, at: u64)
+        requires in_time { at < 2 ^ 62 }
+        requires first { self.old.seen ≡ 0 }
+        ensures seen { self.new.seen ≡ self.old.seen }
+        ensures params { self.new.params ≡ self.old.params }
+        ensures fresh { Fills self.old.params at self.new.levels [] }
+    {
+        self.levels = Levels::new(&self.params, at);
     }
 }

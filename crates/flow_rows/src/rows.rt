@@ -72,14 +72,53 @@ impl RunRows {
         ensures puts { IfOk result (λ _. PutsRow self.old self.new rec at timestamp text.old.items text.new.items) }
     {
         match self {
-            RunRows::Packets(packets) => {
-                let made = packets.feed(rec, at);
-                text.extend_from_slice(row.of_packet(&made))
-            }
-            RunRows::Groups(groups) => match groups.feed(rec, at, timestamp) {
-                Some(made) => text.extend_from_slice(row.of_group(&made)),
-                None => Ok(()),
-            },
+            RunRows::Packets(packets) => put_packet(packets, rec, at, row, text),
+            RunRows::Groups(groups) => put_group(groups, rec, at, timestamp, row, text),
         }
+    }
+}
+
+ghost use Rattle.flow_rows.specs.making.Stands.{PutsRow};
+ghost use Rattle.flow_rows.specs.declared.rows.RunRows.TheVariants as run_rows;
+
+/// Takes the next judged packet, and puts its row behind `text`. It isn't in line, nor is
+/// `put_group`: so each clears the memory of its own row alone.
+#[inline(never)]
+fn put_packet(
+    packets: &mut PacketRows,
+    rec: u64,
+    at: u64,
+    row: &mut RowText,
+    text: &mut Vec<u8>,
+) -> Result<(), OutOfMemory>
+    requires in_time { at < 2 ^ 62 }
+    requires few { packets.old.levels.seen < 2 ^ 41 }
+    ensures seen { packets.new.levels.seen ≡ packets.old.levels.seen + 1 }
+    ensures puts { (timestamp : ℕ) → IfOk result (λ _. PutsRow (run_rows.Packets packets.old)
+        (run_rows.Packets packets.new) rec at timestamp text.old.items text.new.items) }
+{
+    let made = packets.feed(rec, at);
+    text.extend_from_slice(row.of_packet(&made))
+}
+
+/// Takes the next judged packet, and puts the row of its group behind `text` where it is the last of it.
+#[inline(never)]
+fn put_group(
+    groups: &mut GroupRows,
+    rec: u64,
+    at: u64,
+    timestamp: u32,
+    row: &mut RowText,
+    text: &mut Vec<u8>,
+) -> Result<(), OutOfMemory>
+    requires in_time { at < 2 ^ 62 }
+    requires few { groups.old.levels.seen < 2 ^ 41 }
+    ensures seen { groups.new.levels.seen ≡ groups.old.levels.seen + 1 }
+    ensures puts { IfOk result (λ _. PutsRow (run_rows.Groups groups.old) (run_rows.Groups groups.new)
+        rec at timestamp text.old.items text.new.items) }
+{
+    match groups.feed(rec, at, timestamp) {
+        Some(made) => text.extend_from_slice(row.of_group(&made)),
+        None => Ok(()),
     }
 }
