@@ -51,7 +51,7 @@ use Rattle.timing_measure.proofs.Eaches.{each-at, each-pairs}
 use Rattle.timing_measure.proofs.Plans.{planned-parts}
 
 -- where no run is judged, none has numbers
-or-none : (a b : Bool) → a || b ≡ false → (a ≡ false) × (b ≡ false)
+pub or-none : (a b : Bool) → a || b ≡ false → (a ≡ false) × (b ≡ false)
 or-none true b e = absurd (false≢true (sym e))
 or-none false b e = (refl, e)
 
@@ -71,12 +71,16 @@ none-between found packets to k from [] e = ap (planned_part packets k from to) 
 none-between found packets to k from (cut ∷ rest) e =
     ap₂ (λ a b. a ++ b) (ap (planned_part packets k from cut) (none-planned found k e)) (none-between found packets to (k + 1) cut rest e)
 
-none-measured : (m : Media) (number tai : ℕ) (packets : List FlowPacket) (f : MeasuredFlow) → has_judged_run f.verdict ≡ false
+pub none-parts : (m : Media) (number tai : ℕ) (packets : List FlowPacket) (f : MeasuredFlow) → has_judged_run f.verdict ≡ false
+    → IsFirst m number tai packets f → judged_parts m packets tai ≡ []
+none-parts m number tai packets f e h =
+    let found : has_judged_run (verdict_of m (judged packets m.pt tai)) ≡ false = subst (λ v. has_judged_run v ≡ false) h.verdict_is e in
+    sym (planned-parts m packets tai) ∙ none-between _ packets (length packets) 0 0 (cuts packets (length packets)) found
+
+pub none-measured : (m : Media) (number tai : ℕ) (packets : List FlowPacket) (f : MeasuredFlow) → has_judged_run f.verdict ≡ false
     → IsFirst m number tai packets f → IsMeasuredFlow HasNumbers m number tai packets f
 none-measured m number tai packets f e h =
-    let found : has_judged_run (verdict_of m (judged packets m.pt tai)) ≡ false = subst (λ v. has_judged_run v ≡ false) h.verdict_is e in
-    let parts : judged_parts m packets tai ≡ [] =
-    sym (planned-parts m packets tai) ∙ none-between _ packets (length packets) 0 0 (cuts packets (length packets)) found in
+    let parts = none-parts m number tai packets f e h in
     record {
       media = h.media;
       count = h.count;
@@ -151,7 +155,7 @@ new-room {M} room meter x f taker is count h = subst (BothHaveRoom room (2 ^ 41)
 })
 
 -- the media of new flows, which are those of a session, and their room
-each-media : (tai : ℕ) (items : List Record) {F : Type 0} (P : ℕ → Media → FlowOf F → Type 0) → ((n : ℕ) (m : Media) (f : FlowOf F) → P n m f → f.media ≡ m)
+pub each-media : (tai : ℕ) (items : List Record) {F : Type 0} (P : ℕ → Media → FlowOf F → Type 0) → ((n : ℕ) (m : Media) (f : FlowOf F) → P n m f → f.media ≡ m)
     → (number : ℕ) (media : List Media) (fs : List (FlowOf F)) → EachOf P number media fs → media_in fs ≡ media
 each-media tai items P is number [] [] h = refl
 each-media tai items P is number [] (f ∷ fs) h = absurd h
@@ -177,7 +181,7 @@ second-room room tai count media fs own h few = record {
 abbrev pub FirstTakes : Media → (old new : FirstTaker) → List Record → Type 0
 FirstTakes m old new items = TakesBoth FirstTakesOn m old new items
 
-first-fed : (tai : ℕ) (items : List Record) (n : ℕ) (m : Media) (f g : FlowOf FirstTaker) → IsFirstOf tai [] n m f → TakesFlow FirstTakes f g items
+pub first-fed : (tai : ℕ) (items : List Record) (n : ℕ) (m : Media) (f g : FlowOf FirstTaker) → IsFirstOf tai [] n m f → TakesFlow FirstTakes f g items
     → IsFirstOf tai items n m g
 first-fed tai items n m f g is k =
     let fed = subst (λ x. FirstTakes x f.taker g.taker items) is.media k.fed in
@@ -187,12 +191,12 @@ first-fed tai items n m f g is k =
       edges = fed.passed [] is.edges;
     }
 
-firsts-taken : (tai : ℕ) (media : List Media) (items : List Record) (fs gs : List (FlowOf FirstTaker)) → AreFirsts tai media [] fs
+pub firsts-taken : (tai : ℕ) (media : List Media) (items : List Record) (fs gs : List (FlowOf FirstTaker)) → AreFirsts tai media [] fs
     → TakesAll FirstTakes fs gs items → AreFirsts tai media items gs
 firsts-taken tai media items fs gs h taken =
     each-pairs (IsFirstOf tai []) (λ old new. TakesFlow FirstTakes old new items) (IsFirstOf tai items) (first-fed tai items) 0 media fs gs h taken
 
-firsts-end : (tai : ℕ) (media : List Media) (items : List Record) (gs : List (FlowOf FirstTaker)) (ends : List Seen) → AreFirsts tai media items gs
+pub firsts-end : (tai : ℕ) (media : List Media) (items : List Record) (gs : List (FlowOf FirstTaker)) (ends : List Seen) → AreFirsts tai media items gs
     → AllPairs FirstEnds gs ends → AreUnmeasured tai media items ends
 firsts-end tai media items gs ends h ended =
     each-pairs (IsFirstOf tai items) FirstEnds (λ n m f. IsSeen m n tai (flow items m) f)
@@ -316,7 +320,7 @@ same-again tai media text first old new read few known begun h t changed =
     changed.changed one.1 one.0 tai (flow t.items one.1) few (one.2).stands (one.2).edges
     (record { verdict = sym (one.3).verdict; edges_are = sym (one.3).edges })
 
-untold : (o : Option (List ℕ)) → ((text : List ℕ) → o ≡ Some text → ⊥) → o ≡ None
+pub untold : (o : Option (List ℕ)) → ((text : List ℕ) → o ≡ Some text → ⊥) → o ≡ None
 untold None never = refl
 untold (Some text) never = absurd (never text refl)
 

@@ -1,12 +1,12 @@
-mod Planning
+pub mod Planning
 pub mod Plans
-mod Edging
+pub mod Edging
 mod Meterings
-mod Eaches
+pub mod Eaches
 mod Banked
 mod Firsts
 mod Gauging
-mod Found
-mod Answering
+pub mod Found
+pub mod Answering
 pub mod Some
 pub mod Unique

@@ -26,7 +26,7 @@ slice-more packets from i order within =
     ap (λ n. take n rest) more ∙ take_more rest (i - from) no_packet (omega (arith, long, order, within))
     ∙ ap (λ x. take (i - from) rest ++ x ∷ []) (get_or-drop from packets (i - from) no_packet ∙ ap (packet packets) place)
 
-length-slice : (packets : List FlowPacket) (from i : ℕ) → from ≤ i → i ≤ length packets → length (slice_range packets from i) ≡ i - from
+pub length-slice : (packets : List FlowPacket) (from i : ℕ) → from ≤ i → i ≤ length packets → length (slice_range packets from i) ≡ i - from
 length-slice packets from i order within =
     let part : length (slice_range packets from i) ≡ min (i - from) (length (drop from packets)) = length-take (i - from) (drop from packets) in
     let rest : length (drop from packets) ≡ length packets - from = length-drop from packets in
@@ -49,7 +49,7 @@ part-behind head count xs p h all =
     ap (take count) (drop-append-le head xs (p ∷ []) h) ∙ take-append-le count rest (p ∷ []) (omega (arith, long, all))
 
 -- a judged packet, and one behind them
-planned-more : (judged : Judged) (packets : List FlowPacket) (from i : ℕ) → from ≤ i → i < length packets → judged.head ≤ i - from
+pub planned-more : (judged : Judged) (packets : List FlowPacket) (from i : ℕ) → from ≤ i → i < length packets → judged.head ≤ i - from
     → i - from - judged.head < judged.packets
     → planned_packets judged packets from (i + 1) ≡ planned_packets judged packets from i ++ packet packets i ∷ []
 planned-more judged packets from i order within head few =
@@ -57,7 +57,7 @@ planned-more judged packets from i order within head few =
     ap (λ l. take judged.packets (drop judged.head l)) (slice-more packets from i order within)
     ∙ part-more judged.head judged.packets (slice_range packets from i) (packet packets i) (omega (arith, long, head)) (omega (arith, long, few))
 
-planned-behind : (judged : Judged) (packets : List FlowPacket) (from i : ℕ) → from ≤ i → i < length packets → judged.head ≤ i - from
+pub planned-behind : (judged : Judged) (packets : List FlowPacket) (from i : ℕ) → from ≤ i → i < length packets → judged.head ≤ i - from
     → judged.packets ≤ i - from - judged.head
     → planned_packets judged packets from (i + 1) ≡ planned_packets judged packets from i
 planned-behind judged packets from i order within head all =
@@ -82,7 +82,7 @@ never-before xs x h = λ j i order low.
     let left = get_or_append_left xs (x ∷ []) 0 j (omega (arith, order, low)) in
     omega (arith, h j i order (omega (arith, low, long)), left, get_or_append_left xs (x ∷ []) 0 i low)
 
-stamps-before : (tai : ℕ) (packets : List FlowPacket) (p : FlowPacket) → NeverFall (stamps_of tai (packets ++ p ∷ [])) → NeverFall (stamps_of tai packets)
+pub stamps-before : (tai : ℕ) (packets : List FlowPacket) (p : FlowPacket) → NeverFall (stamps_of tai (packets ++ p ∷ [])) → NeverFall (stamps_of tai packets)
 stamps-before tai packets p h =
     never-before (stamps_of tai packets) (stamp_of tai p) (subst NeverFall (map-append (stamp_of tai) packets (p ∷ [])) h)
 

@@ -117,7 +117,7 @@ refused-of : (packets : List FlowPacket) (tai : ℕ) (first : Option FirstFault)
 refused-of packets tai (Some first) verdict h = refusal-of packets tai _ first.fault
 refused-of packets tai None verdict h = h
 
-judged-of-runs : (packets : List FlowPacket) (pt tai : ℕ) → IsOf packets tai (judged packets pt tai)
+pub judged-of-runs : (packets : List FlowPacket) (pt tai : ℕ) → IsOf packets tai (judged packets pt tai)
 judged-of-runs packets pt tai =
     let n = length packets in
     cond_both (n == 0) absent (refused_or packets (first_fault packets pt) (judged_runs packets tai)) (IsOf packets tai)

@@ -6,10 +6,10 @@
 #![tactic(auto)]
 
 mod answer;
-mod bank;
+pub mod bank;
 pub mod laws;
 mod measure;
 pub mod metering;
-mod readings;
+pub mod readings;
 
 pub use measure::measure_one;

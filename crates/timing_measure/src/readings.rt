@@ -55,7 +55,7 @@ type FirstTaker = Edged<FirstMeter>;
 type SecondTaker = Edged<SecondMeter<RunMeter>>;
 
 /// The flows of these media before the first record of a first reading. `Err` is want of memory.
-fn begin_first(
+pub fn begin_first(
     alloc: Global,
     media: &[Media],
     tai: u64,
@@ -77,7 +77,7 @@ fn begin_first(
 }
 
 /// What the flows came to in a first reading that ends here. `Err` is want of memory.
-fn end_first(alloc: Global, flows: Vec<FlowOf<FirstTaker>>) -> Result<Vec<Seen>, OutOfMemory>
+pub fn end_first(alloc: Global, flows: Vec<FlowOf<FirstTaker>>) -> Result<Vec<Seen>, OutOfMemory>
     ensures { IfOk result (λ ends. AllPairs FirstEnds flows.items ends.items) }
 {
     let mut ends = Vec::new(alloc);
@@ -119,7 +119,7 @@ fn read_first<H: Shelf>(
 }
 
 /// An equal list. `Err` is want of memory.
-fn copy_edges(alloc: Global, edges: &[Edge]) -> Result<Items<Edge>, OutOfMemory>
+pub fn copy_edges(alloc: Global, edges: &[Edge]) -> Result<Items<Edge>, OutOfMemory>
     ensures { IfOk result (λ copy. copy ≡ edges.now) }
 {
     Ok(Items::from_vec(Vec::from_slice(alloc, edges)?))
@@ -243,7 +243,7 @@ fn is_judged(seen: &Seen) -> bool
 }
 
 /// Whether a first reading found a judged run of one of the flows.
-fn is_one_found_judged(flows: &[Seen]) -> bool
+pub fn is_one_found_judged(flows: &[Seen]) -> bool
     ensures { result ≡ list_any (λ f. has_judged_run f.flow.verdict) flows.now }
 {
     flows.iter().any(is_judged)

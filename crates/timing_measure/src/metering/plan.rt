@@ -22,7 +22,7 @@ pub fn planned_at(found: &Verdict, run: u64) -> Option<Judged>
 }
 
 /// What is judged of a run with this verdict, where it comes to whole groups.
-fn values_of(found: &RunVerdict) -> Option<Judged>
+pub fn values_of(found: &RunVerdict) -> Option<Judged>
     ensures { result ≡ values_of found.now }
 {
     match found {

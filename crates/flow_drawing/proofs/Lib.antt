@@ -1,0 +1,5 @@
+mod Feeding
+mod Grouping
+mod Around
+mod Finishing
+mod ByHand

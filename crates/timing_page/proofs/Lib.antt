@@ -1,0 +1,7 @@
+mod Most
+mod Passing
+mod Choosing
+mod Showing
+mod Once
+mod Finding
+mod Answering
