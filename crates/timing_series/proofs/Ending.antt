@@ -1,5 +1,5 @@
 -- What was written of a flow, and what isn't written yet.
-use Rattle.std.proofs.Common.{◌≡◌, ◌≤◌, ◌<◌, ◌^◌, ◌++◌, [], ℕ, Bool, true, false, append-nil, List, length, take, Option, Some, None, inl, inr, refl, ap, ◌∙◌, sym, subst}
+use Rattle.std.proofs.Common.{◌≡◌, ◌≤◌, ◌<◌, ◌^◌, ◌++◌, [], ℕ, Bool, true, false, append-nil, List, length, take, Option, Some, None, inl, inr, arith, refl, ap, ◌∙◌, sym, subst}
 use Rattle.std.specs.Prelude.{◌⊎◌, if◌then◌else◌}
 use Rattle.std.specs.Option.{option_map}
 use Rattle.std.specs.Io.KnownBytes.{Appends}
@@ -19,6 +19,7 @@ use Rattle.pcapng_reader.specs.Classic.{classic}
 use Rattle.timing_measure.specs.Measured.{judged_parts}
 use Rattle.timing_measure.specs.metering.Edges.{edges_of}
 use Rattle.timing_measure.specs.metering.Plan.{has_judged_run}
+use Rattle.timing_measure.specs.declared.metering.edges.Edge.{Edge}
 use Rattle.timing_reach.specs.Asked.{not_judged}
 use Rattle.timing_reach.specs.declared.judged.flows.FlowOf.{FlowOf}
 use Rattle.timing_report.specs.Outcomes.{is_refused}
@@ -28,9 +29,9 @@ use Rattle.timing_steps.specs.Ends.{look_ends}
 use Rattle.timing_steps.specs.Answers.{Answer}
 use Rattle.timing_steps.specs.Ran.{Output}
 use Rattle.udp_rtp.specs.Flow.{flow, flow_packet}
-use Rattle.timing_series.specs.Finding.{FindsElse, IsFoundIn, IsNewFlow}
+use Rattle.timing_series.specs.Finding.{FindsAgain, FindsElse, IsAnswerOf, IsFoundIn, IsNewFlow}
 use Rattle.timing_series.specs.Meters.{StandsFor}
-use Rattle.timing_series.specs.Reading.{CopiesIn, FeedsOn, Stopped}
+use Rattle.timing_series.specs.Reading.{Copies, CopiesIn, CopiesSome, FeedsOn, HasRoom, Stopped}
 use Rattle.flow_rows.specs.Rows.{header_text}
 use Rattle.timing_series.specs.Rows.{BeginRowsOf}
 use Rattle.timing_series.specs.Series.{AnswersFlow, BeginsIn, HasSeries, series_status}
@@ -83,6 +84,39 @@ series-in frames m number tai text found o f g note status seconds has k fresh c
                 (subst (λ l. length (flow l m) < 2 ^ 41) (sym same) k.few) seconds (subst (λ l. AreStamped (flow l m)) (sym same) k.stamped) verdict
                 (feeds frames number tai found.verdict [] [] fresh.stands);
             text_is = sym c.copies.text_is ∙ ap (λ l. l ++ c.copies.here) fresh.text_is;
+          },
+          ends,
+        );
+      },
+    )
+
+-- whatever the shelf tells: the rows of what the second reading read, where it found what the first did
+pub series-of : (frames : Bool) (m : Media) (number tai : ℕ) (found : Verdict) (before : List Edge) (o : Output) (f g : FlowOf SeriesMeter)
+    (note : FileNote) (status : Status) → tai ≤ 1000 → has_judged_run found ≡ true → IsNewFlow frames m number tai found f → CopiesSome o f g
+    → HasRoom 1 g.taker.flow → FindsAgain before g.taker.flow → status ≡ series_status note
+    → HasRest o (IsAnswerOf frames m tai) (record { text = g.taker.text.items; status = status })
+series-of frames m number tai found before o f g note status seconds has fresh c room finds ends =
+    let items = c.0 in
+    let copies = c.1 in
+    let feeds : FeedsOn m f.taker.flow g.taker.flow copies.here items =
+    subst (λ (x : Media). FeedsOn x f.taker.flow g.taker.flow copies.here items) fresh.media_is copies.feeds in
+    let stands = feeds frames number tai found [] [] fresh.stands in
+    let again : verdict_of m (judged (flow items m) m.pt tai) ≡ found =
+    (finds frames m number tai found copies.here (flow items m) stands).verdict in (
+      copies.written,
+      copies.appended,
+      record {
+        items = items;
+        note = note;
+        answers = subst (λ b. AnswersFlow frames m tai note items b (record {
+          text = copies.written ++ g.taker.text.items;
+          status = status;
+        })) (sym (ap has_judged_run again ∙ has)) (
+          record {
+            rows = copies.here;
+            are = rows-all frames m number tai found (flow items m) g.taker.flow copies.here
+                (omega (arith, stands.judge_is.fed, room.judge_few)) seconds stands.judge_is.stamped (sym again) stands;
+            text_is = sym copies.text_is ∙ ap (λ l. l ++ copies.here) fresh.text_is;
           },
           ends,
         );

@@ -12,9 +12,11 @@ ghost use Rattle.timing_series.specs.Series.{HasSeries};
 /// The texts of `series` have an answer, where the media is within the limits of a media and the
 /// records have stamps that a capture can hold.
 pub fn some_series_answer()
-    ensures { (frames : Bool) (tai : ℕ) (m : Media) (text : List ℕ) (items : List Record) (note : FileNote)
+    ensures { (frames : Bool) (tai : ℕ) (m : Media) (text : List ℕ) (items : List Record)
+        (note : FileNote)
         → IsMedia m → tai ≤ 1000 → Records text (2 ^ 40) items note → length items < 2 ^ 41
-        → All (λ r. IsStamp r.stamp) items → (answer : Answer) × HasSeries frames tai m text answer }
+        → All (λ r. IsStamp r.stamp) items → (answer : Answer)
+        × HasSeries frames tai m text answer }
 {}
 
 /// The texts of `series` have no two answers.

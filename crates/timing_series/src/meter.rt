@@ -1,6 +1,7 @@
 //! The second reading of a flow: it is judged again while the rows of its judged runs are made.
 
-ghost use Rattle.std.specs.Prelude.{◌≡◌, ◌≤◌, ◌<◌, ◌+◌, ◌^◌, ◌++◌, [], ℕ, List, IfErr, IfOk, true, false};
+ghost use Rattle.std.specs.Prelude.{◌≡◌, ◌≤◌, ◌<◌, ◌+◌, ◌^◌, ◌++◌, [], ℕ, List, IfErr, IfOk, true};
+ghost use Rattle.std.specs.Prelude.{false, length};
 ghost use Rattle.std.specs.Io.KnownBytes.{Appends};
 ghost use Rattle.timing_base.specs.Captures.{IsStamp};
 ghost use Rattle.timing_base.specs.declared.packet.FlowPacket.{FlowPacket as PacketValue};
@@ -79,8 +80,8 @@ impl FlowRows {
         }
     }
 
-    /// Takes the next packet of the flow, and puts the row that is made of it behind `text`. `Err` is want of memory: what
-    /// was made isn't known from then on.
+    /// Takes the next packet of the flow, and puts the row that is made of it behind `text`. `Err`
+    /// is want of memory: what was made isn't known from then on.
     #[inline]
     fn feed(
         &mut self,
@@ -91,8 +92,10 @@ impl FlowRows {
         requires stamp { IsStamp packet.now.at }
         requires reading { IsReading packet.now.rtp }
         requires room { HasRoom 1 self.old }
-        ensures room { (more : ℕ) → IfOk result (λ _. HasRoom (more + 1) self.old → HasRoom more self.new) }
-        ensures goes { IfOk result (λ _. Goes self.old self.new packet.now text.old.items text.new.items) }
+        ensures room { (more : ℕ) → IfOk result (λ _. HasRoom (more + 1) self.old
+            → HasRoom more self.new) }
+        ensures goes { IfOk result (λ _. Goes self.old self.new
+            packet.now text.old.items text.new.items) }
     {
         self.judge.feed(packet.rec, packet.at, packet.rtp)?;
         self.edges.pass(packet)?;
@@ -128,8 +131,8 @@ fn begin(media: &Media, found: &Verdict, run: u64, frames: bool) -> Option<OpenR
     Some(OpenRows::begin(media, run as u32 + 1, &judged, frames))
 }
 
-/// Passes the next packet to the run that is open, where one is, and puts the row that is made of it behind `text`. `tai` is
-/// in seconds.
+/// Passes the next packet to the run that is open, where one is, and puts the row that is made of
+/// it behind `text`. `tai` is in seconds.
 #[inline(always)]
 fn pass_open(
     last: &mut Option<OpenRows>,
@@ -140,7 +143,8 @@ fn pass_open(
 ) -> Result<(), OutOfMemory>
     requires stamp { IsStamp packet.now.at }
     requires tai { tai ≤ 1000 }
-    ensures { IfOk result (λ _. PassesOn last.old last.new packet.now tai text.old.items text.new.items) }
+    ensures { IfOk result (λ _. PassesOn last.old last.new
+        packet.now tai text.old.items text.new.items) }
 {
     match last {
         Some(rows) => rows.pass(packet, tai, row, text),
@@ -172,14 +176,17 @@ impl SeriesMeter {
         })
     }
 
-    /// Writes the rows where many aren't written yet. `Err` is a write that failed: then a front of them was written.
+    /// Writes the rows where many aren't written yet. `Err` is a write that failed: then a front of
+    /// them was written.
     #[inline(always)]
     pub fn pour<K: Sink>(&mut self, out: &mut K) -> Result<(), Failure>
         ensures flow { self.new.flow ≡ self.old.flow }
+        ensures few { IfOk result (λ _. length self.new.text.items < 65536) }
         ensures poured { IfOk result (λ _. (poured : List ℕ)
             × Appends (K.written out.old) (K.written out.new) poured
             × (self.old.text.items ≡ poured ++ self.new.text.items)) }
-        ensures failed { IfErr result (λ e. (e ≡ failure.WriteFault) × Rose (K.faults out.old) (K.faults out.new)
+        ensures failed { IfErr result (λ e. (e ≡ failure.WriteFault)
+            × Rose (K.faults out.old) (K.faults out.new)
             × AppendsFront (K.written out.old) (K.written out.new) self.old.text.items) }
         ensures later { K.faults out.old ≤ K.faults out.new }
     {
@@ -189,14 +196,17 @@ impl SeriesMeter {
         self.pour_all(out)
     }
 
-    /// Writes the rows that aren't written yet. `Err` is a write that failed: then a front of them was written.
+    /// Writes the rows that aren't written yet. `Err` is a write that failed: then a front of them
+    /// was written.
     #[cold]
     #[inline(never)]
     fn pour_all<K: Sink>(&mut self, out: &mut K) -> Result<(), Failure>
         ensures flow { self.new.flow ≡ self.old.flow }
-        ensures poured { IfOk result (λ _. Appends (K.written out.old) (K.written out.new) self.old.text.items
+        ensures poured { IfOk result
+            (λ _. Appends (K.written out.old) (K.written out.new) self.old.text.items
             × (self.new.text.items ≡ [])) }
-        ensures failed { IfErr result (λ e. (e ≡ failure.WriteFault) × Rose (K.faults out.old) (K.faults out.new)
+        ensures failed { IfErr result (λ e. (e ≡ failure.WriteFault)
+            × Rose (K.faults out.old) (K.faults out.new)
             × AppendsFront (K.written out.old) (K.written out.new) self.old.text.items) }
         ensures later { K.faults out.old ≤ K.faults out.new }
     {
@@ -211,7 +221,8 @@ impl SeriesMeter {
 }
 
 impl FlowTaker for SeriesMeter {
-    ghost use Rattle.timing_series.specs.Reading.{HasRoom, TakesOn, room_less, takes_more, takes_none, takes_other};
+    ghost use Rattle.timing_series.specs.Reading.{HasRoom, TakesOn, room_less, takes_more};
+    ghost use Rattle.timing_series.specs.Reading.{takes_none, takes_other};
 
     ghost takes = { TakesOn };
 

@@ -38,7 +38,8 @@ impl OpenRows {
         }
     }
 
-    /// Passes its next packet, and puts the row that is made of it behind `text`. `tai` is in seconds.
+    /// Passes its next packet, and puts the row that is made of it behind `text`. `tai` is in
+    /// seconds.
     #[inline(always)]
     pub fn pass(
         &mut self,
@@ -49,7 +50,8 @@ impl OpenRows {
     ) -> Result<(), OutOfMemory>
         requires stamp { IsStamp packet.now.at }
         requires tai { tai ≤ 1000 }
-        ensures { IfOk result (λ _. PassesRun self.old self.new packet.now tai text.old.items text.new.items) }
+        ensures { IfOk result (λ _. PassesRun self.old self.new
+            packet.now tai text.old.items text.new.items) }
     {
         if self.ahead > 0 {
             self.ahead -= 1;

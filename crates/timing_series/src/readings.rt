@@ -1,8 +1,9 @@
-//! The two readings of the capture of a job: the first judges the flow, and where a run is judged, the second prints the
-//! rows of its judged runs.
+//! The two readings of the capture of a job: the first judges the flow, and where a run is judged,
+//! the second prints the rows of its judged runs.
 
-ghost use Rattle.std.specs.Prelude.{◌≡◌, ◌≢◌, ◌≤◌, ◌⊎◌, ◌^◌, [], ℕ, List, Some, true, false, IfErr, IfOk};
-ghost use Rattle.std.specs.Prelude.{Ok};
+ghost use Rattle.std.specs.Prelude.{◌≡◌, ◌≢◌, ◌≤◌, ◌⊎◌, ◌^◌, [], ℕ, List, Some, true, false, IfErr};
+ghost use Rattle.std.specs.Prelude.{IfOk};
+ghost use Rattle.std.specs.Prelude.{◌+◌, Ok};
 ghost use Rattle.timing_outside.specs.Causes.{Rose};
 ghost use Rattle.timing_outside.specs.Shelves.{StaysAs};
 ghost use Rattle.pcapng_reader.specs.Classic.{classic_texts};
@@ -14,7 +15,8 @@ ghost use Rattle.timing_base.specs.declared.capture.PcapFault.TheVariants as fau
 ghost use Rattle.timing_measure.specs.metering.Plan.{has_judged_run};
 ghost use Rattle.timing_base.specs.Captures.{Record};
 ghost use Rattle.pcap_reader.specs.Records.{Records};
-ghost use Rattle.timing_series.specs.Finding.{FindsAgain, FindsElse, IsFoundIn, IsFoundOf, IsNewFlow};
+ghost use Rattle.timing_series.specs.Finding.{FindsAgain, FindsElse, IsAnswerOf, IsFoundIn};
+ghost use Rattle.timing_series.specs.Finding.{IsFoundOf, IsNewFlow};
 ghost use Rattle.timing_series.specs.Reading.{CopiesIn, CopiesSome, HasRoom, Stopped};
 ghost use Rattle.timing_series.specs.Series.{AnswersFlow, BeginsIn, HasSeries, series_status};
 ghost use Rattle.timing_series.specs.Streams.{HasBegun, HasRest, HasRestStatus, OnFailure};
@@ -54,7 +56,8 @@ pub fn find_flow<H: Shelf>(
         → IsFoundIn media.now job.now.flow.tai text found) }
     ensures some { IfOk result (IsFoundOf media.now job.now.flow.tai) }
     ensures cause { IfErr result (λ e. OnReadFault e (λ i. (i ≡ Input.Capture 0)
-        × Rose (H.faults shelf.old job.now.flow.capture) (H.faults shelf.new job.now.flow.capture))) }
+        × Rose (H.faults shelf.old job.now.flow.capture)
+        (H.faults shelf.new job.now.flow.capture))) }
     ensures there { IfOk result (λ _. ¬ H.lacks shelf.old job.now.flow.capture) }
     ensures stays { StaysAs H.text H.lacks H.faults shelf.old shelf.new }
 {
@@ -87,7 +90,8 @@ fn status_of(note: FileNote) -> Status
 
 /// How the records of a capture end, unless a read failed.
 fn whole_note(note: FileNote) -> Result<FileNote, Failure>
-    ensures kept { IfOk result (λ kept. (kept ≡ note) × (note ≢ file_note.Refused fault.ReadFault)) }
+    ensures kept { IfOk result (λ kept. (kept ≡ note)
+        × (note ≢ file_note.Refused fault.ReadFault)) }
     ensures failed { IfErr result (λ e. (e ≡ failure.ReadFault (Input.Capture 0))
         × (note ≡ file_note.Refused fault.ReadFault)) }
 {
@@ -97,15 +101,16 @@ fn whole_note(note: FileNote) -> Result<FileNote, Failure>
     }
 }
 
-/// What takes the flow of a job in its second reading, before the first record, where the first reading found this. `Err` is
-/// want of memory.
+/// What takes the flow of a job in its second reading, before the first record, where the first
+/// reading found this. `Err` is want of memory.
 fn begin_again(
     alloc: Global,
     job: &SeriesJob,
     media: &Media,
     found: Verdict,
 ) -> Result<FlowOf<SeriesMeter>, OutOfMemory>
-    ensures new { IfOk result (IsNewFlow job.now.frames media.now job.now.flow.media job.now.flow.tai found) }
+    ensures new { IfOk result (IsNewFlow job.now.frames
+        media.now job.now.flow.media job.now.flow.tai found) }
     ensures room { IfOk result (λ flow. HasRoom (2 ^ 41) flow.taker.flow) }
 {
     let rows = FlowRows::new(
@@ -121,8 +126,8 @@ fn begin_again(
     Ok(flow)
 }
 
-/// Reads a capture and writes the rows that are made of it but for the last ones: it is fetched for that, and goes back to
-/// the shelf.
+/// Reads a capture and writes the rows that are made of it but for the last ones: it is fetched for
+/// that, and goes back to the shelf.
 fn copy_capture<H: Shelf, K: Sink>(
     alloc: Global,
     shelf: &mut H,
@@ -130,14 +135,18 @@ fn copy_capture<H: Shelf, K: Sink>(
     flow: &mut FlowOf<SeriesMeter>,
     out: &mut K,
 ) -> Result<FileNote, Failure>
-    requires room { HasRoom (2 ^ 36) flow.old.taker.flow }
-    ensures told { IfOk result (λ note. (text : List ℕ) → classic_texts (H.text shelf.old) name.now ≡ Some text
+    requires room { HasRoom (2 ^ 36 + 1) flow.old.taker.flow }
+    ensures told { IfOk result (λ note. (text : List ℕ)
+        → classic_texts (H.text shelf.old) name.now ≡ Some text
         → CopiesIn (output_of K.Sink out.old out.new) flow.old flow.new text note) }
-    ensures some { IfOk result (λ _. CopiesSome (output_of K.Sink out.old out.new) flow.old flow.new) }
+    ensures some { IfOk result (λ _. CopiesSome (output_of K.Sink out.old out.new)
+        flow.old flow.new) }
+    ensures room { IfOk result (λ _. HasRoom 1 flow.new.taker.flow) }
     ensures stopped { IfErr result (λ _. (text : List ℕ) (items : List Record) (end : _)
         → classic_texts (H.text shelf.old) name.now ≡ Some text → Records text (2 ^ 40) items end
         → Stopped (output_of K.Sink out.old out.new) flow.old items) }
-    ensures front { IfErr result (λ _. (front : List ℕ) × Appended (output_of K.Sink out.old out.new) front) }
+    ensures front { IfErr result (λ _. (front : List ℕ)
+        × Appended (output_of K.Sink out.old out.new) front) }
     ensures cause { IfErr result (λ e. OnFailure (output_of K.Sink out.old out.new) e (λ i.
         (i ≡ Input.Capture 0) × Rose (H.faults shelf.old name.now) (H.faults shelf.new name.now))) }
     ensures later { K.faults out.old ≤ K.faults out.new }
@@ -163,7 +172,8 @@ fn copy_capture<H: Shelf, K: Sink>(
     }
 }
 
-/// Whether a second reading found what the first found, of which these are the edges. `Err` is want of memory.
+/// Whether a second reading found what the first found, of which these are the edges. `Err` is want
+/// of memory.
 fn is_found_again(rows: FlowRows, before: &[Edge]) -> Result<bool, OutOfMemory>
     ensures same { result ≡ Ok true → FindsAgain before.now rows }
     ensures changed { result ≡ Ok false → FindsElse before.now rows }
@@ -179,9 +189,11 @@ fn is_found_again(rows: FlowRows, before: &[Edge]) -> Result<bool, OutOfMemory>
     Ok(is_again(&found, before, &second, edges.as_slice()))
 }
 
-/// Reads the flow of a job for the second time, of which the first reading found this, and writes the rows of its judged
-/// runs but for the last ones, which are the answer. Where the flow isn't what the first reading found, the capture is
-/// another one now: that is a read fault, which the shelf counts.
+/// Reads the flow of a job for the second time, of which the first reading found this, and writes
+/// the rows of its judged runs but for the last ones, which are the answer. Where the flow isn't
+/// what the first reading found, the capture is another one now: that is a read fault, which the
+/// shelf counts. So the rows are those of what the second reading read, also where the shelf
+/// doesn't tell its text.
 pub fn write_rows<H: Shelf, K: Sink>(
     alloc: Global,
     job: &SeriesJob,
@@ -191,19 +203,23 @@ pub fn write_rows<H: Shelf, K: Sink>(
     out: &mut K,
 ) -> Result<Answer, Failure>
     requires judged { has_judged_run found.verdict ≡ true }
-    requires known { (text : List ℕ) → classic_texts (H.text shelf.old) job.now.flow.capture ≡ Some text
-        → IsFoundIn media.now job.now.flow.tai text found }
+    requires known { (text : List ℕ) → classic_texts (H.text shelf.old) job.now.flow.capture
+        ≡ Some text → IsFoundIn media.now job.now.flow.tai text found }
     ensures told { IfOk result (λ rest. (text : List ℕ)
         → classic_texts (H.text shelf.old) job.now.flow.capture ≡ Some text
         → HasRest (output_of K.Sink out.old out.new)
         (HasSeries job.now.frames job.now.flow.tai media.now text) rest) }
-    ensures written { IfOk result (λ _. (written : List ℕ) × Appended (output_of K.Sink out.old out.new) written) }
+    ensures some { IfOk result (HasRest (output_of K.Sink out.old out.new)
+        (IsAnswerOf job.now.frames media.now job.now.flow.tai)) }
+    ensures written { IfOk result (λ _. (written : List ℕ)
+        × Appended (output_of K.Sink out.old out.new) written) }
     ensures ends { IfOk result (HasRestStatus (output_of K.Sink out.old out.new)) }
     ensures stopped { IfErr result (λ _. (text : List ℕ)
         → classic_texts (H.text shelf.old) job.now.flow.capture ≡ Some text
         → HasBegun (output_of K.Sink out.old out.new) (λ front. (front ≡ [])
         ⊎ BeginsIn job.now.frames job.now.flow.tai media.now text front)) }
-    ensures front { IfErr result (λ _. (front : List ℕ) × Appended (output_of K.Sink out.old out.new) front) }
+    ensures front { IfErr result (λ _. (front : List ℕ)
+        × Appended (output_of K.Sink out.old out.new) front) }
     ensures cause { IfErr result (λ e. OnFailure (output_of K.Sink out.old out.new) e (λ i.
         (i ≡ Input.Capture 0) × Rose (H.faults shelf.old job.now.flow.capture)
         (H.faults shelf.new job.now.flow.capture))) }

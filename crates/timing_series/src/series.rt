@@ -34,8 +34,9 @@ fn answer_flow<H: Shelf, K: Sink>(
     ensures rests { Rests (output_of K.Sink out.old out.new) (λ outcome. Yields outcome
         (ReadsCapture (seen_of H.Shelf shelf.old shelf.new) outcome job.now.flow.capture (λ text.
         Gives outcome (HasSeries job.now.frames job.now.flow.tai media.now text))))
-        (λ front. (text : List ℕ) → classic_texts (H.text shelf.old) job.now.flow.capture ≡ Some text
-        → (front ≡ []) ⊎ BeginsIn job.now.frames job.now.flow.tai media.now text front) result }
+        (λ front. (text : List ℕ) → classic_texts (H.text shelf.old) job.now.flow.capture
+        ≡ Some text → (front ≡ [])
+        ⊎ BeginsIn job.now.frames job.now.flow.tai media.now text front) result }
     ensures answers { IfOk result (HasRestStatus (output_of K.Sink out.old out.new)) }
     ensures cause { IfErr result (λ e. OnFailure (output_of K.Sink out.old out.new) e (λ i.
         (i ≡ Input.Capture 0) × Rose (H.faults shelf.old job.now.flow.capture)
@@ -74,8 +75,9 @@ fn answer_series<H: Shelf, K: Sink>(
     }
 }
 
-/// Prints on `out` the rows of the judged runs of the flow of a job, while they are made. On `err` it tells why there are
-/// none, or not all. Where no run is judged the capture is read once, and else twice.
+/// Prints on `out` the rows of the judged runs of the flow of a job, while they are made. On `err`
+/// it tells why there are none, or not all. Where no run is judged the capture is read once, and
+/// else twice.
 pub fn series_one<H: Shelf, K: Sink>(
     alloc: Global,
     job: &SeriesJob,

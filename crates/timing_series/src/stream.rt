@@ -16,8 +16,9 @@ use timing_outside::{Sink, Source};
 use timing_reach::judged::flows::FlowOf;
 use timing_steps::Failure;
 
-/// Takes the records of a reader that has answered none, and writes the rows that are made of them but for the last ones.
-/// The records end, or a read of the source fails, which the note says; or memory runs out, or a write fails.
+/// Takes the records of a reader that has answered none, and writes the rows that are made of them
+/// but for the last ones. The records end, or a read of the source fails, which the note says; or
+/// memory runs out, or a write fails.
 pub fn copy_rows<S: Source, K: Sink>(
     reader: &mut PcapReader<S>,
     flow: &mut FlowOf<SeriesMeter>,
@@ -26,13 +27,18 @@ pub fn copy_rows<S: Source, K: Sink>(
     requires fresh { end_note reader.old ≡ None }
     requires first { frame_count reader.old ≡ 0 }
     requires most { most_of reader.old ≤ 2 ^ 40 }
-    requires room { HasRoom (2 ^ 36) flow.old.taker.flow }
-    ensures told { IfOk result (λ note. (items : List Record) (end : _) → WillGive S.left reader.old items end
+    requires room { HasRoom (2 ^ 36 + 1) flow.old.taker.flow }
+    ensures told { IfOk result (λ note. (items : List Record) (end : _)
+        → WillGive S.left reader.old items end
         → Copied (output_of K.Sink out.old out.new) flow.old flow.new note items end) }
-    ensures some { IfOk result (λ _. CopiesSome (output_of K.Sink out.old out.new) flow.old flow.new) }
-    ensures stopped { IfErr result (λ e. (items : List Record) (end : _) → WillGive S.left reader.old items end
+    ensures some { IfOk result (λ _. CopiesSome (output_of K.Sink out.old out.new)
+        flow.old flow.new) }
+    ensures room { IfOk result (λ _. HasRoom 1 flow.new.taker.flow) }
+    ensures stopped { IfErr result (λ e. (items : List Record) (end : _)
+        → WillGive S.left reader.old items end
         → Stopped (output_of K.Sink out.old out.new) flow.old items) }
-    ensures front { IfErr result (λ _. (front : List ℕ) × Appended (output_of K.Sink out.old out.new) front) }
+    ensures front { IfErr result (λ _. (front : List ℕ)
+        × Appended (output_of K.Sink out.old out.new) front) }
     ensures cause { IfErr result (λ e. StopsAt (output_of K.Sink out.old out.new) e) }
     ensures later { K.faults out.old ≤ K.faults out.new }
     ensures name { S.name (under reader.new) ≡ S.name (under reader.old) }

@@ -5,7 +5,7 @@ use Rattle.timing_steps.proofs.Seeing.{rose-within}
 use Rattle.timing_measure.specs.declared.metering.edges.Edge.{Edge}
 use Rattle.timing_series.specs.Finding.{FindsElse}
 use Rattle.timing_series.proofs.Copying.{any-err}
-use Rattle.timing_series.proofs.Ending.{else-untold, front-copied, front-in, series-in}
+use Rattle.timing_series.proofs.Ending.{else-untold, front-copied, front-in, series-in, series-of}
 use Rattle.timing_series.proofs.readings.write_rows.Goals as goal
 
 pub returns-in_err-note-clause-stopped : goal.returns-in_err-note-clause-stopped
@@ -54,3 +54,9 @@ returns-clause-told g c = λ text whole.
     (output_of g.K.Sink c.args.out.now c.copy_capture.new.out) c.in_ok-flow.flow
     c.copy_capture.new.flow c.in_ok-note.note _ (search rules) c.requires.judged (c.requires.known text whole) c.in_ok-flow.ensures.new
     (c.in_ok-note.ensures.told text (search rules)) (search rules)
+
+pub returns-clause-some : goal.returns-clause-some
+returns-clause-some g c =
+    series-of c.args.job.now.frames c.args.media.now c.args.job.now.flow.media c.args.job.now.flow.tai c.args.found.verdict c.as_slice.result.now
+    (output_of g.K.Sink c.args.out.now c.copy_capture.new.out) c.in_ok-flow.flow c.copy_capture.new.flow c.in_ok-note.note _ (search rules)
+    c.requires.judged c.in_ok-flow.ensures.new c.in_ok-note.ensures.some c.in_ok-note.ensures.room (c.is_found_again.ensures.same (search rules)) (search rules)

@@ -15,7 +15,7 @@ loop-at-init g c = record {
   number_is = sym c.requires.first;
   most = refl;
   within = omega (arith, c.requires.first);
-  room = λ count few. room_less count (2 ^ 36) c.args.flow.now.taker.flow (omega (arith, few)) c.requires.room;
+  room = λ count few. room_less count (2 ^ 36 + 1) c.args.flow.now.taker.flow (omega (arith, few)) c.requires.room;
   later_out = omega arith;
   name = refl;
   later = omega arith;
@@ -96,3 +96,15 @@ returns-in_err-pour-clause-front g c =
     any-err c.from_residual-in_err-pour.result _
     (front-more (g.K.Sink.written c.args.out.now) (g.K.Sink.written c.loop-at.out) (g.K.Sink.written c.pour.new.out) copies.written _ copies.appended
     c.in_err-pour.ensures.failed.2)
+
+pub returns-in-Ok-End-clause-room : goal.returns-in-Ok-End-clause-room
+returns-in-Ok-End-clause-room g c =
+    let inv = c.loop-at.invariant in inv.room 1 (omega (arith, inv.within, inv.most, c.requires.most))
+
+pub returns-in-Ok-Cut-clause-room : goal.returns-in-Ok-Cut-clause-room
+returns-in-Ok-Cut-clause-room g c =
+    let inv = c.loop-at.invariant in inv.room 1 (omega (arith, inv.within, inv.most, c.requires.most))
+
+pub returns-in-Err-clause-room : goal.returns-in-Err-clause-room
+returns-in-Err-clause-room g c =
+    let inv = c.loop-at.invariant in inv.room 1 (omega (arith, inv.within, inv.most, c.requires.most))
