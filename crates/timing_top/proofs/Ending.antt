@@ -1,30 +1,38 @@
 -- How a run of a request ends, whatever its texts are.
 use Rattle.std.proofs.Common.{◌≡◌, ℕ, true, Some, None, Option, Ok, Err, refl, ap, ◌∙◌, sym, subst, inl, inr}
-use Rattle.std.specs.Prelude.{◌||◌, Bool, Result}
+use Rattle.std.specs.Prelude.{◌||◌, if◌then◌else◌, Bool, Result}
 use Rattle.std.proofs.lemmas.Bool.{false≢true}
-use Rattle.timing_base.specs.Jobs.{CaptureJob, CheckJob, FlowJob, ReportJob, ScanJob, SelfTestJob, ShapeJob, SkewJob, VerifyJob}
+use Rattle.timing_base.specs.Jobs.{CaptureJob, CheckJob, FlowJob, ReportJob, ScanJob, SelfTestJob, SeriesJob, ShapeJob, SkewJob}
+use Rattle.timing_base.specs.Jobs.{VerifyJob}
 use Rattle.timing_words.specs.declared.command.Command.{Command}
 use Rattle.timing_words.specs.declared.request.Request.{Request}
 use Rattle.timing_words.specs.declared.request.Request.TheVariants as request
 use Rattle.timing_report.specs.declared.status.Status.{Status}
 use Rattle.timing_report.specs.declared.status.Status.TheVariants as status
 use Rattle.timing_steps.specs.Answers.{Answer, silent}
-use Rattle.timing_steps.specs.Ends.{EndsWith, check_ends, is_failure, look_ends, report_ends}
+use Rattle.timing_steps.specs.Ends.{EndsWith, check_ends, is_failure, is_silent, look_ends, report_ends}
 use Rattle.timing_steps.specs.Ran.{Appended, Broke, HasCause, Leaves, Output, Ran}
 use Rattle.timing_steps.specs.declared.failure.Failure.{Failure}
 use Rattle.timing_steps.specs.declared.failure.Failure.TheVariants as failure
 use Rattle.timing_measure.specs.Measures.{measure_ends}
+use Rattle.timing_page.specs.Pages.{page_ends}
 use Rattle.timing_reach.specs.Scanned.{scan_ends}
 use Rattle.timing_top.specs.Asked.{FollowsHelp, FollowsSelfTest}
 use Rattle.timing_top.specs.Ends.{Ends, may_end, reads_inputs, reads_sdp}
+use Rattle.timing_top.specs.Runs.{prints_whole}
+use Rattle.timing_series.specs.Streams.{StreamEnds, is_silent_stream}
 use Rattle.timing_steps.proofs.Endings.{kept-none}
 use Rattle.timing_top.proofs.Answering.{ok-not-err, same-ok}
 use Rattle.timing_top.proofs.Headlines.{none-broke}
 
 -- the statuses of a command are those of its request
 ends-as : (may : Status → Bool) (asked : Request) (o : Output) (ends : Status)
-    → ((s : Status) → may s || is_failure s ≡ true → may_end (Some asked) s ≡ true) → EndsWith may o ends → Ends (Some asked) o ends
-ends-as may asked o ends all h = record { status_is = all ends h.status_is; silent = h.silent }
+    → prints_whole (Some asked) ≡ true → ((s : Status) → may s || is_failure s ≡ true → may_end (Some asked) s ≡ true) → EndsWith may o ends
+    → Ends (Some asked) o ends
+ends-as may asked o ends whole all h = record {
+  status_is = all ends h.status_is;
+  silent = λ e. h.silent (sym (ap (λ b. if b then is_silent ends else is_silent_stream ends) whole) ∙ e);
+}
 
 check-all : (job : CheckJob) (s : Status) → check_ends s || is_failure s ≡ true → may_end (Some (request.Check job)) s ≡ true
 check-all job status.Pass h = refl
@@ -59,7 +67,7 @@ report-all job status.WriteFault h = refl
 report-all job status.OutOfMemory h = refl
 report-all job status.ReportRefused h = refl
 
--- of a command that reads a description and looks into captures: `window`, `shape`, `skew` and `measure`
+-- of a command that reads a description and looks into captures: `window`, `shape`, `skew`, `measure`, `series` and `page`
 look-all : (asked : Request) → reads_inputs (Some asked) ≡ true → reads_sdp (Some asked) ≡ true → (s : Status)
     → look_ends s || is_failure s ≡ true → may_end (Some asked) s ≡ true
 look-all asked inputs sdp status.Pass h = refl
@@ -89,36 +97,48 @@ EndsFor o ends asked = Ends (Some asked) o ends
 
 pub ends-check : (asked : Request) (job : CheckJob) (o : Output) (ends : Status) → asked ≡ request.Check job → EndsWith check_ends o ends
     → Ends (Some asked) o ends
-ends-check asked job o ends is h = subst (EndsFor o ends) (sym is) (ends-as check_ends (request.Check job) o ends (check-all job) h)
+ends-check asked job o ends is h = subst (EndsFor o ends) (sym is) (ends-as check_ends (request.Check job) o ends refl (check-all job) h)
 
 pub ends-verify : (asked : Request) (job : VerifyJob) (o : Output) (ends : Status) → asked ≡ request.Verify job → EndsWith check_ends o ends
     → Ends (Some asked) o ends
-ends-verify asked job o ends is h = subst (EndsFor o ends) (sym is) (ends-as check_ends (request.Verify job) o ends (verify-all job) h)
+ends-verify asked job o ends is h = subst (EndsFor o ends) (sym is) (ends-as check_ends (request.Verify job) o ends refl (verify-all job) h)
 
 pub ends-report : (asked : Request) (job : ReportJob) (o : Output) (ends : Status) → asked ≡ request.VerifyReport job → EndsWith report_ends o ends
     → Ends (Some asked) o ends
-ends-report asked job o ends is h = subst (EndsFor o ends) (sym is) (ends-as report_ends (request.VerifyReport job) o ends (report-all job) h)
+ends-report asked job o ends is h = subst (EndsFor o ends) (sym is) (ends-as report_ends (request.VerifyReport job) o ends refl (report-all job) h)
 
 pub ends-window : (asked : Request) (job : FlowJob) (o : Output) (ends : Status) → asked ≡ request.Window job → EndsWith look_ends o ends
     → Ends (Some asked) o ends
-ends-window asked job o ends is h = subst (EndsFor o ends) (sym is) (ends-as look_ends (request.Window job) o ends (look-all (request.Window job) refl refl) h)
+ends-window asked job o ends is h =
+    subst (EndsFor o ends) (sym is) (ends-as look_ends (request.Window job) o ends refl (look-all (request.Window job) refl refl) h)
 
 pub ends-shape : (asked : Request) (job : ShapeJob) (o : Output) (ends : Status) → asked ≡ request.Shape job → EndsWith look_ends o ends
     → Ends (Some asked) o ends
-ends-shape asked job o ends is h = subst (EndsFor o ends) (sym is) (ends-as look_ends (request.Shape job) o ends (look-all (request.Shape job) refl refl) h)
+ends-shape asked job o ends is h =
+    subst (EndsFor o ends) (sym is) (ends-as look_ends (request.Shape job) o ends refl (look-all (request.Shape job) refl refl) h)
 
 pub ends-skew : (asked : Request) (job : SkewJob) (o : Output) (ends : Status) → asked ≡ request.Skew job → EndsWith look_ends o ends
     → Ends (Some asked) o ends
-ends-skew asked job o ends is h = subst (EndsFor o ends) (sym is) (ends-as look_ends (request.Skew job) o ends (look-all (request.Skew job) refl refl) h)
+ends-skew asked job o ends is h =
+    subst (EndsFor o ends) (sym is) (ends-as look_ends (request.Skew job) o ends refl (look-all (request.Skew job) refl refl) h)
 
 pub ends-scan : (asked : Request) (job : ScanJob) (o : Output) (ends : Status) → asked ≡ request.Scan job → EndsWith scan_ends o ends
     → Ends (Some asked) o ends
-ends-scan asked job o ends is h = subst (EndsFor o ends) (sym is) (ends-as scan_ends (request.Scan job) o ends (scan-all job) h)
+ends-scan asked job o ends is h = subst (EndsFor o ends) (sym is) (ends-as scan_ends (request.Scan job) o ends refl (scan-all job) h)
 
 pub ends-measure : (asked : Request) (job : CaptureJob) (o : Output) (ends : Status) → asked ≡ request.Measure job → EndsWith measure_ends o ends
     → Ends (Some asked) o ends
 ends-measure asked job o ends is h =
-    subst (EndsFor o ends) (sym is) (ends-as measure_ends (request.Measure job) o ends (look-all (request.Measure job) refl refl) h)
+    subst (EndsFor o ends) (sym is) (ends-as measure_ends (request.Measure job) o ends refl (look-all (request.Measure job) refl refl) h)
+
+pub ends-page : (asked : Request) (job : CaptureJob) (o : Output) (ends : Status) → asked ≡ request.Page job → EndsWith page_ends o ends
+    → Ends (Some asked) o ends
+ends-page asked job o ends is h =
+    subst (EndsFor o ends) (sym is) (ends-as page_ends (request.Page job) o ends refl (look-all (request.Page job) refl refl) h)
+
+pub ends-series : (asked : Request) (job : SeriesJob) (o : Output) (ends : Status) → asked ≡ request.Series job → StreamEnds o ends → Ends (Some asked) o ends
+ends-series asked job o ends is h =
+    subst (EndsFor o ends) (sym is) (record { status_is = look-all (request.Series job) refl refl ends h.status_is; silent = h.silent })
 
 -- want of memory, whatever was asked
 pub ends-memory : (asked : Option Request) (o : Output) (ends : Status) → Leaves o (Err failure.OutOfMemory) ends → Ends asked o ends

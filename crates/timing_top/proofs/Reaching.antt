@@ -4,7 +4,9 @@ use Rattle.std.specs.Prelude.{All, Result, Ok, Err, map, slice_get}
 use Rattle.std.proofs.lemmas.List.Elements.{All-head, All-tail}
 use Rattle.timing_base.specs.Jobs.{FlowJob, ScanJob, SkewJob}
 use Rattle.timing_base.specs.Media.{IsMedia, Media}
+use Rattle.pcapng_reader.specs.Bytes.{AreBytes}
 use Rattle.pcapng_reader.specs.Classic.{classic}
+use Rattle.pcapng_reader.proofs.Bytes.{classic-bytes}
 use Rattle.sdp_reader.proofs.Within.{session-within}
 use Rattle.timing_report.specs.declared.status.Input.{Input}
 use Rattle.timing_report.specs.declared.status.Input.TheVariants as input
@@ -80,6 +82,17 @@ all-there P (y ∷ ys) zero x h e = subst P (same-media y x e) (All-head P y ys 
     same-media y x e = let o : Some y ≡ Some x = e in cc
 all-there P (y ∷ ys) (suc n) x h e = all-there P ys n x (All-tail P y ys h) e
 
+some-told : (job : FlowJob) (i : Inputs) (sdp text : List ℕ) (Defined : Media → List ℕ → Answer → Type 0) → AreThere i.lacks (job.sdp ∷ job.capture ∷ [])
+    → i.texts job.sdp ≡ Some sdp → i.texts job.capture ≡ Some text
+    → ((media : Media) → IsMedia media → (answer : Answer) × Defined media (classic text) answer) → (answer : Answer) × FollowsFlow job Defined i (Ok answer)
+some-told job i sdp text Defined there described told h =
+    some-yielded (λ answer. ReadsSession i (Ok answer) job.sdp (λ media. ReadsFlow i (Ok answer) job Defined (slice_get media job.media)))
+    (some-described i job.sdp sdp (λ answer media. ReadsFlow i (Ok answer) job Defined (slice_get media job.media))
+    (All-head (λ n. ¬ i.lacks n) job.sdp (job.capture ∷ []) there) described
+    (λ media e. some-flow job i text Defined (slice_get media job.media)
+    (All-head (λ n. ¬ i.lacks n) job.capture [] (All-tail (λ n. ¬ i.lacks n) job.sdp (job.capture ∷ []) there)) told
+    (λ m at. all-there IsMedia media job.media m (session-within sdp media e) at) h))
+
 pub some-reach : (job : FlowJob) (i : Inputs) (texts : List (List ℕ)) (Defined : Media → List ℕ → Answer → Type 0)
     → AreThere i.lacks (job.sdp ∷ job.capture ∷ []) → AreTold i.texts (job.sdp ∷ job.capture ∷ []) texts
     → ((media : Media) → IsMedia media → (text : List ℕ) → (answer : Answer) × Defined media text answer) → (answer : Answer)
@@ -87,12 +100,18 @@ pub some-reach : (job : FlowJob) (i : Inputs) (texts : List (List ℕ)) (Defined
 some-reach job i [] Defined there told h = absurd told
 some-reach job i (sdp ∷ []) Defined there told h = absurd told.1
 some-reach job i (sdp ∷ text ∷ texts) Defined there told h =
-    some-yielded (λ answer. ReadsSession i (Ok answer) job.sdp (λ media. ReadsFlow i (Ok answer) job Defined (slice_get media job.media)))
-    (some-described i job.sdp sdp (λ answer media. ReadsFlow i (Ok answer) job Defined (slice_get media job.media))
-    (All-head (λ n. ¬ i.lacks n) job.sdp (job.capture ∷ []) there) told.0
-    (λ media e. some-flow job i text Defined (slice_get media job.media)
-    (All-head (λ n. ¬ i.lacks n) job.capture [] (All-tail (λ n. ¬ i.lacks n) job.sdp (job.capture ∷ []) there)) told.1.0
-    (λ m at. all-there IsMedia media job.media m (session-within sdp media e) at) (λ m is. h m is (classic text))))
+    some-told job i sdp text Defined there told.0 told.1.0 (λ media is. h media is (classic text))
+
+-- the same where an answer is known of texts of bytes
+pub some-reach-bytes : (job : FlowJob) (i : Inputs) (texts : List (List ℕ)) (Defined : Media → List ℕ → Answer → Type 0)
+    → AreThere i.lacks (job.sdp ∷ job.capture ∷ []) → AreTold i.texts (job.sdp ∷ job.capture ∷ []) texts → All AreBytes texts
+    → ((media : Media) → IsMedia media → (text : List ℕ) → AreBytes text → (answer : Answer) × Defined media text answer) → (answer : Answer)
+    × FollowsFlow job Defined i (Ok answer)
+some-reach-bytes job i [] Defined there told bytes h = absurd told
+some-reach-bytes job i (sdp ∷ []) Defined there told bytes h = absurd told.1
+some-reach-bytes job i (sdp ∷ text ∷ texts) Defined there told bytes h =
+    some-told job i sdp text Defined there told.0 told.1.0
+    (λ media is. h media is (classic text) (classic-bytes text (All-head AreBytes text texts (All-tail AreBytes sdp (text ∷ texts) bytes))))
 
 pub only-reach : (job : FlowJob) (i : Inputs) (texts : List (List ℕ)) (Defined : Media → List ℕ → Answer → Type 0) (a b : Answer)
     → AreTold i.texts (job.sdp ∷ job.capture ∷ []) texts

@@ -1,6 +1,6 @@
 -- What each request and its texts define, in the order in which its inputs are read.
-use Rattle.std.specs.Prelude.{◌≡◌, ⊤, Bool, IsTrue, ℕ, List, [], ◌∷◌, All, Option, Some, None, Result}
-use Rattle.timing_base.specs.Jobs.{IsCaptureJob}
+use Rattle.std.specs.Prelude.{◌≡◌, ⊤, Bool, IsTrue, true, false, ℕ, List, [], ◌∷◌, All, Option, Some, None, Result}
+use Rattle.timing_base.specs.Jobs.{IsCaptureJob, IsFlowJob}
 use Rattle.pcapng_reader.specs.Bytes.{AreBytes}
 use Rattle.timing_words.specs.Help.{help_text}
 use Rattle.timing_words.specs.declared.command.Command.{Command}
@@ -13,10 +13,12 @@ use Rattle.timing_steps.specs.Answers.{Answer, Gives, Inputs, Yields, silent}
 use Rattle.timing_steps.specs.declared.failure.Failure.{Failure}
 use Rattle.timing_top.specs.Check.{CheckInputRose, FollowsCheck}
 use Rattle.timing_measure.specs.Measures.{FollowsMeasure, MeasureInputRose}
+use Rattle.timing_page.specs.Pages.{FollowsPage, PageInputRose}
 use Rattle.timing_reach.specs.Asked.{FlowInputRose, FollowsWindow}
 use Rattle.timing_reach.specs.Scanned.{FollowsScan, ScanInputRose}
 use Rattle.timing_reach.specs.Shaped.{FollowsShape}
 use Rattle.timing_reach.specs.Skewed.{FollowsSkew, SkewInputRose}
+use Rattle.timing_series.specs.Series.{FollowsSeries}
 use Rattle.timing_verify.specs.Asked.{FollowsReport, FollowsVerify, ReportInputRose, VerifyInputRose}
 use Rattle.timing_top.specs.SelfTest.{HasSelfTest}
 
@@ -48,6 +50,8 @@ Follows (Some (request.Shape job)) i outcome = FollowsShape job i outcome
 Follows (Some (request.Skew job)) i outcome = FollowsSkew job i outcome
 Follows (Some (request.Scan job)) i outcome = FollowsScan job i outcome
 Follows (Some (request.Measure job)) i outcome = FollowsMeasure job i outcome
+Follows (Some (request.Series job)) i outcome = FollowsSeries job i outcome
+Follows (Some (request.Page job)) i outcome = FollowsPage job i outcome
 Follows (Some (request.Help named)) i outcome = FollowsHelp named outcome
 
 -- the count of the name of this input of the request rose; what reads nothing has none
@@ -60,6 +64,8 @@ InputRose (Some (request.Shape job)) i input = FlowInputRose job.flow i input
 InputRose (Some (request.Skew job)) i input = SkewInputRose job i input
 InputRose (Some (request.Scan job)) i input = ScanInputRose job i input
 InputRose (Some (request.Measure job)) i input = MeasureInputRose job i input
+InputRose (Some (request.Series job)) i input = FlowInputRose job.flow i input
+InputRose (Some (request.Page job)) i input = PageInputRose job i input
 InputRose other i input = ⊥
 
 -- the names of a request's inputs, where it reads any
@@ -72,13 +78,22 @@ names_of (Some (request.Shape job)) = job.flow.sdp ∷ job.flow.capture ∷ []
 names_of (Some (request.Skew job)) = job.sdp ∷ job.captures
 names_of (Some (request.Scan job)) = job.capture ∷ []
 names_of (Some (request.Measure job)) = job.sdp ∷ job.capture ∷ []
+names_of (Some (request.Series job)) = job.flow.sdp ∷ job.flow.capture ∷ []
+names_of (Some (request.Page job)) = job.sdp ∷ job.capture ∷ []
 names_of other = []
 
--- where `measure` is asked for: its job is within its limits, as that of all words is, and these texts are of bytes, as
--- those of all files are
+-- where `measure` or `series` is asked for: its job is within its limits, as that of all words is, and these
+-- texts are of bytes, as those of all files are
 abbrev pub MeasuresBytes : Option Request → List (List ℕ) → Type 0
 MeasuresBytes (Some (request.Measure job)) told = IsCaptureJob job × All AreBytes told
+MeasuresBytes (Some (request.Series job)) told = IsFlowJob job.flow × All AreBytes told
 MeasuresBytes other told = ⊤
+
+-- of which it is said that there is one answer and not two: all requests but `page`. What its texts define is in
+-- `FollowsPage`; that this is one page isn't proved
+abbrev pub has_one : Option Request → Bool
+has_one (Some (request.Page job)) = false
+has_one asked = true
 
 -- what was seen of a shelf that tells by a test which names it lacks; the laws speak of such shelves
 abbrev pub seen : (texts : List ℕ → Option (List ℕ)) → (lacking : List ℕ → Bool) → (before now : List ℕ → ℕ) → Inputs

@@ -1,11 +1,13 @@
 -- With which statuses a run of a request may end, whatever the texts are that it reads, and when nothing is printed.
-use Rattle.std.specs.Prelude.{◌≡◌, Bool, true, false, not, Option, Some, None, []}
+use Rattle.std.specs.Prelude.{◌≡◌, Bool, true, false, not, if◌then◌else◌, Option, Some, None, []}
 use Rattle.timing_words.specs.declared.request.Request.{Request}
 use Rattle.timing_words.specs.declared.request.Request.TheVariants as request
 use Rattle.timing_report.specs.declared.status.Status.{Status}
 use Rattle.timing_report.specs.declared.status.Status.TheVariants as status
 use Rattle.timing_steps.specs.Ends.{is_silent}
 use Rattle.timing_steps.specs.Ran.{Appended, Output}
+use Rattle.timing_series.specs.Streams.{is_silent_stream}
+use Rattle.timing_top.specs.Runs.{prints_whole}
 
 -- the words are a request
 abbrev pub is_request : Option Request → Bool
@@ -47,8 +49,13 @@ may_end asked status.WriteFault = is_request asked
 may_end asked status.OutOfMemory = true
 may_end asked status.ReportRefused = reads_report asked
 
+-- beside this status nothing is printed on standard output. `series` prints while it reads: where its capture couldn't
+-- be read, or memory ran out, a front of its text may stand
+abbrev pub is_silent_for : Option Request → Status → Bool
+is_silent_for asked ends = if prints_whole asked then is_silent ends else is_silent_stream ends
+
 -- a run of a request, by its status and its output: it has one of the statuses that it may end with, and where that is
 -- silent nothing was printed
 pub record Ends (asked : Option Request) (o : Output) (ends : Status) : Type 0 where
   pub status_is : may_end asked ends ≡ true
-  pub silent : is_silent ends ≡ true → Appended o []
+  pub silent : is_silent_for asked ends ≡ true → Appended o []

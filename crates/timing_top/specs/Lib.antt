@@ -3,6 +3,7 @@ pub mod Asked
 pub mod Check
 pub mod Ends
 pub mod Report
+pub mod Runs
 pub mod SelfTest
 -- what the laws say of reports
 pub mod Headline

@@ -12,7 +12,7 @@ ghost use Rattle.timing_steps.specs.Answers.{Answer, AreTold, seen_of};
 ghost use Rattle.timing_steps.specs.Ran.{Output, Ran};
 ghost use Rattle.timing_steps.specs.declared.failure.Failure.{Failure};
 ghost use Rattle.timing_steps.specs.declared.failure.Failure.TheVariants as failure;
-ghost use Rattle.timing_top.specs.Asked.{Follows, InputRose, MeasuresBytes, names_of, seen};
+ghost use Rattle.timing_top.specs.Asked.{Follows, InputRose, MeasuresBytes, has_one, names_of, seen};
 ghost use Rattle.timing_top.specs.Check.{FollowsCheck};
 ghost use Rattle.timing_top.specs.Headline.{Headline, NoRequest, with_workers};
 ghost use Rattle.timing_top.specs.SelfTest.{HasSelfTest};
@@ -20,6 +20,7 @@ ghost use Rattle.timing_words.specs.Request.{request};
 ghost use Rattle.timing_base.specs.Jobs.{CheckJob, IsCheckJob};
 ghost use Rattle.timing_base.specs.Media.{Media, IsMedia};
 ghost use Rattle.timing_top.specs.Report.{HasReport, rows};
+ghost use Rattle.timing_top.specs.Runs.{RanAs, prints_whole};
 ghost use Rattle.timing_base.specs.Captures.{Record};
 ghost use Rattle.timing_base.specs.declared.capture.FileNote.{FileNote};
 ghost use Rattle.pcap_reader.specs.Records.{AreRecords};
@@ -49,20 +50,20 @@ pub fn plain_media_by_hand()
     ensures { session sdp_text ≡ Ok (plain_media ∷ []) }
 {}
 
-/// The texts of a request define one answer, whatever is asked. Where the texts of all inputs that it names are
-/// told and none is lacking, there is one answer and there are not two, and what has none ran out of memory or
-/// names an input whose count rose. Of `verify-report` that speaks of all its captures, though it reads only
-/// those that the fails of its report need; that `measure` has an answer is said of texts of bytes, which those of
-/// all files are.
+/// The texts of a request define one answer, whatever is asked but `page`. Where the texts of all inputs that it names
+/// are told and none is lacking, there is one answer and there are not two; and what has none, of `page` too, ran out of
+/// memory or names an input whose count rose. Of `verify-report` that speaks of all its captures, though it reads only
+/// those that the fails of its report need; that `measure` and `series` have an answer is said of texts of bytes,
+/// which those of all files are.
 pub fn one_answer()
     ensures some { (asked : Option Request) (texts : List ℕ → Option (List ℕ))
         (lacking : List ℕ → Bool) (before now : List ℕ → ℕ) (told : List (List ℕ))
         → All (λ name. lacking name ≡ false) (names_of asked)
-        → AreTold texts (names_of asked) told → MeasuresBytes asked told
+        → AreTold texts (names_of asked) told → MeasuresBytes asked told → has_one asked ≡ true
         → (answer : Answer) × Follows asked (seen texts lacking before now) (Ok answer) }
     ensures once { (asked : Option Request) (texts : List ℕ → Option (List ℕ))
         (lacking : List ℕ → Bool) (before now : List ℕ → ℕ) (told : List (List ℕ)) (a b : Answer)
-        → AreTold texts (names_of asked) told
+        → AreTold texts (names_of asked) told → has_one asked ≡ true
         → Follows asked (seen texts lacking before now) (Ok a)
         → Follows asked (seen texts lacking before now) (Ok b) → a ≡ b }
     ensures failed { (asked : Option Request) (texts : List ℕ → Option (List ℕ))
@@ -158,10 +159,18 @@ pub fn same_for_all_workers<H: Shelf>()
         → FollowsCheck (with_workers workers job) (seen_of H.Shelf old new) outcome }
 {}
 
+/// Of every request but `series`, and of words that are none, the clause `ran` of `crate::run` says that the answer
+/// was printed whole, or nothing was, but where a write failed.
+pub fn whole_or_nothing<H: Shelf>()
+    ensures { (asked : Option Request) (old new : H) (out err : Output) (ends : Status) → prints_whole asked ≡ true
+        → RanAs asked (seen_of H.Shelf old new) out err ends
+        → Ran (Follows asked (seen_of H.Shelf old new)) (InputRose asked (seen_of H.Shelf old new)) out err ends }
+{}
+
 /// What a run of `check` leaves and how it ends, whatever its words, the description and the bytes of the
 /// captures are, over any shelf, with every number of workers, and however their threads take turns; and what
-/// it leaves on words that are no request. The run is one of which the clause `ran` of `crate::run` holds: that
-/// clause is the last premise, word for word.
+/// it leaves on words that are no request. The run is one of which the clause `ran` of `crate::run` holds: the last
+/// premise is what that clause says of all words but those of `series` (`whole_or_nothing`).
 pub fn headline<H: Shelf>()
     ensures check { (words : List (List ℕ)) (job : CheckJob) (sdp : List ℕ) (captures : List (List ℕ))
         (old new : H) (out err : Output) (ends : Status)

@@ -1,6 +1,7 @@
-use Rattle.timing_top.proofs.Ending.{ends-check, ends-help, ends-measure, ends-report, ends-scan, ends-self-test, ends-shape, ends-skew}
-use Rattle.timing_top.proofs.Ending.{ends-verify, ends-window}
-use Rattle.timing_top.proofs.Serving.{serves-check, serves-measure, serves-report, serves-scan, serves-shape, serves-skew, serves-verify, serves-window}
+use Rattle.timing_top.proofs.Ending.{ends-check, ends-help, ends-measure, ends-page, ends-report, ends-scan, ends-self-test, ends-series}
+use Rattle.timing_top.proofs.Ending.{ends-shape, ends-skew, ends-verify, ends-window}
+use Rattle.timing_top.proofs.Serving.{serves-check, serves-measure, serves-page, serves-report, serves-scan, serves-series, serves-shape}
+use Rattle.timing_top.proofs.Serving.{serves-skew, serves-verify, serves-window}
 use Rattle.timing_top.proofs.commands.serve.Goals as goal
 
 pub returns-then-job-eq0-clause-ran : goal.returns-then-job-eq0-clause-ran
@@ -30,6 +31,12 @@ returns-in-Skew-clause-ran g c = serves-skew _ _ _ _ _ _ c.in-Skew.is c.skew_one
 pub returns-in-Measure-clause-ran : goal.returns-in-Measure-clause-ran
 returns-in-Measure-clause-ran g c = serves-measure _ _ _ _ _ _ c.in-Measure.is c.measure_one.ensures.ran
 
+pub returns-in-Series-clause-ran : goal.returns-in-Series-clause-ran
+returns-in-Series-clause-ran g c = serves-series _ _ _ _ _ _ c.in-Series.is c.series_one.ensures.ran
+
+pub returns-in-Page-clause-ran : goal.returns-in-Page-clause-ran
+returns-in-Page-clause-ran g c = serves-page _ _ _ _ _ _ c.in-Page.is c.page_one.ensures.ran
+
 pub returns-then-job-eq0-clause-ends : goal.returns-then-job-eq0-clause-ends
 returns-then-job-eq0-clause-ends g c = ends-check _ _ _ _ c.in-Check.is c.check_one.ensures.ends
 
@@ -56,6 +63,12 @@ returns-in-Skew-clause-ends g c = ends-skew _ _ _ _ c.in-Skew.is c.skew_one.ensu
 
 pub returns-in-Measure-clause-ends : goal.returns-in-Measure-clause-ends
 returns-in-Measure-clause-ends g c = ends-measure _ _ _ _ c.in-Measure.is c.measure_one.ensures.ends
+
+pub returns-in-Series-clause-ends : goal.returns-in-Series-clause-ends
+returns-in-Series-clause-ends g c = ends-series _ _ _ _ c.in-Series.is c.series_one.ensures.ends
+
+pub returns-in-Page-clause-ends : goal.returns-in-Page-clause-ends
+returns-in-Page-clause-ends g c = ends-page _ _ _ _ c.in-Page.is c.page_one.ensures.ends
 
 pub returns-in-SelfTest-clause-ends : goal.returns-in-SelfTest-clause-ends
 returns-in-SelfTest-clause-ends g c = ends-self-test _ _ _ _ _ c.in-SelfTest.is c.self_test.ensures.ran
