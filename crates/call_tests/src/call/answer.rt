@@ -51,20 +51,34 @@ fn told(bytes: &[u8]) -> &str {
 }
 
 impl Outcome {
-    /// Fails where the answer isn't what was wanted of these words.
-    pub fn is(&self, line: &str, wanted: (Status, &[u8], &str)) -> Result<(), Fail> {
-        let (status, out, err) = (self.status, self.out.bytes(), self.err.bytes());
+    /// Fails where the call of these words didn't end so, or something else stands on standard error.
+    pub fn ended(&self, line: &str, wanted: (Status, &str)) -> Result<(), Fail> {
+        let (status, err) = (self.status, self.err.bytes());
         holds(
             status == wanted.0,
             format_args!("{line}: ended with {status:?}"),
         )?;
         holds(
+            err == wanted.1.as_bytes(),
+            format_args!("{line}: on standard error: {}", told(err)),
+        )
+    }
+
+    /// Fails where a piece stands on standard output and wasn't wanted there, or was and doesn't.
+    pub fn shows(&self, line: &str, piece: &str, wanted: bool) -> Result<(), Fail> {
+        holds(
+            told(self.out.bytes()).contains(piece) == wanted,
+            format_args!("{line}: the piece {piece} isn't as wanted"),
+        )
+    }
+
+    /// Fails where the answer isn't what was wanted of these words.
+    pub fn is(&self, line: &str, wanted: (Status, &[u8], &str)) -> Result<(), Fail> {
+        self.ended(line, (wanted.0, wanted.2))?;
+        let out = self.out.bytes();
+        holds(
             out == wanted.1,
             format_args!("{line}: on standard output: {}", told(out)),
-        )?;
-        holds(
-            err == wanted.2.as_bytes(),
-            format_args!("{line}: on standard error: {}", told(err)),
         )
     }
 }

@@ -6,8 +6,8 @@ ghost use Rattle.timing_outside.specs.MemorySources.{faults_of, name_of};
 
 use super::measures::{self, REFUSED};
 use super::shapes::{LIST, NONE_LINES, WRITE};
-use super::windows;
-use crate::call::{PASS, PLAIN, Row, SINKS, Step, UntoldSource, WHOLE, Watch, answered, shelve};
+use super::{pages, series, windows};
+use crate::call::{Outcome, PASS, PLAIN, Row, Step, UntoldSource, WHOLE, Watch, answered, shelve};
 use std::process::Abort;
 use std::sync::Wait;
 use std::test::Fail;
@@ -98,11 +98,13 @@ struct Changing {
 }
 
 impl Changing {
-    // Runs the row, and compares the answer and how often the capture is fetched and noted.
-    fn holds<R: Abort + AllocGlobal + Wait + Threads + Sync>(&self, rt: &R) -> Result<(), Fail> {
+    // Runs the row, and compares how it ends and how often the capture is fetched and noted.
+    fn ended<R: Abort + AllocGlobal + Wait + Threads + Sync>(
+        &self,
+        rt: &R,
+    ) -> Result<Outcome, Fail> {
         let alloc = rt.alloc();
         let (row, line) = (&self.row, self.row.line);
-        let wanted = row.wanted(alloc)?;
         let mut shelf = ChangingShelf {
             inner: row.shelf(alloc)?,
             later: MemoryShelf::new(alloc),
@@ -110,11 +112,18 @@ impl Changing {
             noted: 0,
         };
         shelve(alloc, &mut shelf.later, "a.pcap", self.later, WHOLE)?;
-        let found = answered(rt, line, SINKS, &mut shelf, &NoGate)?;
-        found.is(line, (row.status, &wanted, row.err))?;
+        let found = answered(rt, line, row.sinks, &mut shelf, &NoGate)?;
+        found.ended(line, (row.status, row.err))?;
         assert_eq!(rt; shelf.fetched, self.fetched, "{line}");
         assert_eq!(rt; shelf.noted, self.noted, "{line}");
-        Ok(())
+        Ok(found)
+    }
+
+    // Compares what is printed, too.
+    fn holds<R: Abort + AllocGlobal + Wait + Threads + Sync>(&self, rt: &R) -> Result<(), Fail> {
+        let found = self.ended(rt)?;
+        let wanted = self.row.wanted(rt.alloc())?;
+        found.is(self.row.line, (self.row.status, &wanted, self.row.err))
     }
 }
 
@@ -160,15 +169,36 @@ const MEASURED: Changing = Changing {
     ..LISTED
 };
 
-static THE_SAME_AGAIN: [Changing; 3] = [LISTED, WRITTEN, MEASURED];
+const IN_ROWS: Changing = Changing {
+    row: Row {
+        line: series::LINE,
+        out: &[series::PACKETS],
+        ..PASS
+    },
+    ..LISTED
+};
+
+const IN_FRAMES: Changing = Changing {
+    row: Row {
+        line: series::FRAMES_LINE,
+        out: series::FRAMES,
+        ..PASS
+    },
+    ..LISTED
+};
+
+static THE_SAME_AGAIN: [Changing; 5] = [LISTED, WRITTEN, MEASURED, IN_ROWS, IN_FRAMES];
 
 #[test]
 fn the_same_again(rt: HostRuntime) -> Result<(), Fail> {
     hold_changing(&rt, &THE_SAME_AGAIN)
 }
 
-// The commands that read a capture twice.
-const TWICE: [&str; 3] = [LIST, WRITE, measures::LINE];
+// The commands that read a capture twice, and print once all is read.
+const TWICE: &[&str] = &[LIST, WRITE, measures::LINE, pages::LINE];
+
+// And those that read it twice and print meanwhile: what stands on standard output isn't compared.
+const MEANWHILE: &[&str] = &[series::LINE, series::FRAMES_LINE];
 
 // Where the later text isn't the first, nothing is printed.
 const CHANGED: Changing = Changing {
@@ -193,22 +223,28 @@ const WINDOW: Changing = Changing {
     ..LISTED
 };
 
-// The later text is read by one of these commands, and by `window`.
+// The row of a capture that differs from its later text, with these words.
+fn changed(line: &'static str, later: &'static [Step]) -> Changing {
+    Changing {
+        row: Row {
+            line,
+            ..CHANGED.row
+        },
+        later,
+        ..CHANGED
+    }
+}
+
+// The later text is read by the commands that read a capture twice, and by `window`.
 fn differs<R: Abort + AllocGlobal + Wait + Threads + Sync>(
     rt: &R,
-    lines: &[&'static str],
     later: &'static [Step],
 ) -> Result<(), Fail> {
-    for line in lines {
-        let changed = Changing {
-            row: Row {
-                line: *line,
-                ..CHANGED.row
-            },
-            later,
-            ..CHANGED
-        };
-        changed.holds(rt)?;
+    for line in TWICE {
+        changed(*line, later).holds(rt)?;
+    }
+    for line in MEANWHILE {
+        changed(*line, later).ended(rt)?;
     }
     let window = Changing { later, ..WINDOW };
     window.holds(rt)
@@ -217,9 +253,9 @@ fn differs<R: Abort + AllocGlobal + Wait + Threads + Sync>(
 // Nothing more, as from a pipe; without the last packet; and with a frame more.
 #[test]
 fn shorter_and_longer(rt: HostRuntime) -> Result<(), Fail> {
-    differs(&rt, &TWICE, &[])?;
-    differs(&rt, &TWICE, &[PLAIN, Step::Part(0, 2904)])?;
-    differs(&rt, &TWICE, &[Step::Frames(3)])
+    differs(&rt, &[])?;
+    differs(&rt, &[PLAIN, Step::Part(0, 2904)])?;
+    differs(&rt, &[Step::Frames(3)])
 }
 
 // A record has another stamp at the second reading: the first judged packet comes a nanosecond later, at 764,001 ns of
@@ -233,25 +269,49 @@ const LAST_EARLY: &[Step] = &[
 
 #[test]
 fn other_stamps(rt: HostRuntime) -> Result<(), Fail> {
-    differs(&rt, &TWICE, FIRST_LATE)?;
-    differs(&rt, &TWICE, LAST_EARLY)
+    differs(&rt, FIRST_LATE)?;
+    differs(&rt, LAST_EARLY)
 }
 
 // Where no flow is judged there is nothing to measure, and the capture is read once.
-static NOTHING_TO_MEASURE: Changing = Changing {
-    row: Row {
-        line: measures::LINE,
-        capture: &[Step::Made(0, 4)],
-        status: Status::NotAllJudged,
-        out: &[REFUSED],
-        ..PASS
-    },
+const UNJUDGED: Row = Row {
+    line: measures::LINE,
+    capture: &[Step::Made(0, 4)],
+    status: Status::NotAllJudged,
+    out: &[REFUSED],
+    ..PASS
+};
+
+const NOTHING_TO_MEASURE: Changing = Changing {
+    row: UNJUDGED,
     later: &[],
     fetched: 1,
     noted: 0,
 };
 
+const NOTHING_TO_LIST: Changing = Changing {
+    row: Row {
+        line: series::LINE,
+        out: &["not judged: refused at record 40: FrameSize want 20 got 19\n"],
+        ..UNJUDGED
+    },
+    ..NOTHING_TO_MEASURE
+};
+
+static NOTHING_JUDGED: [Changing; 2] = [NOTHING_TO_MEASURE, NOTHING_TO_LIST];
+
+// A page is printed all the same.
+static NOTHING_TO_DRAW: Changing = Changing {
+    row: Row {
+        line: pages::LINE,
+        ..UNJUDGED
+    },
+    ..NOTHING_TO_MEASURE
+};
+
 #[test]
 fn nothing_to_measure(rt: HostRuntime) -> Result<(), Fail> {
-    NOTHING_TO_MEASURE.holds(&rt)
+    hold_changing(&rt, &NOTHING_JUDGED)?;
+    NOTHING_TO_DRAW.ended(&rt)?;
+    Ok(())
 }
