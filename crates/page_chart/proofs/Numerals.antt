@@ -16,5 +16,10 @@ numerals = tt
 
 -- where marks stand
 unfoldable pub places : ⊤
-unfolding above free_of bar_x has_name label_step behind_unit shade_left shade_named shade_right share_of base_of below beside bottom_of edge mark name_x place right_of x_of y_of
+unfolding above free_of bar_x label_step share_of base_of below beside bottom_of edge mark name_x place right_of x_of y_of
 places = tt
+
+-- where names of bars and of what is shaded stand
+unfoldable pub names : ⊤
+unfolding has_name behind_unit shade_left shade_named shade_right
+names = tt

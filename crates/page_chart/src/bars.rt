@@ -154,8 +154,8 @@ fn write_label(
     )
 }
 
-/// Whether a bar has its name below it: the first and the last one do, and each of so many that isn't nearer than that to
-/// the last one.
+/// Whether a bar has its name below it: the first and the last one do, and each of so many that isn't nearer than
+/// that to the last one.
 #[tactic(auto, unfolding(crate::specs::Bars::has_name))]
 fn has_name(plot: Plot, k: usize) -> bool
     ensures { result ≡ has_name plot k }

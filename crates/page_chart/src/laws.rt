@@ -107,7 +107,7 @@ pub fn names_by_hand()
 
 /// The bars of how often its bucket holds each number: nothing is drawn of 0, the limit stands before what is above it,
 /// and the first and the last bar have their names, with no room between for a third one's.
-#[tactic(auto, unfolding(crate::proofs::Numerals::numerals, crate::proofs::Numerals::places))]
+#[tactic(auto, unfolding(crate::proofs::Numerals::numerals, crate::proofs::Numerals::places, crate::proofs::Numerals::names))]
 pub fn bars_by_hand()
     ensures { bars_text bars_plot 40 0 burst_bars
         ≡ codes "<text x=\"40\" y=\"136\" text-anchor=\"middle\">0</text>"
@@ -121,9 +121,9 @@ pub fn bars_by_hand()
         ++ codes "<text class=\"lim\" x=\"126\" y=\"30\" text-anchor=\"end\">limit 4</text>"))))))) }
 {}
 
-/// Of eight bars twenty units apart the first and the last one have their names, and each third one that isn't nearer than
-/// sixty units to the last.
-#[tactic(auto, unfolding(crate::proofs::Numerals::numerals, crate::proofs::Numerals::places))]
+/// Of eight bars twenty units apart the first and the last one have their names, and each third one that isn't
+/// nearer than sixty units to the last.
+#[tactic(auto, unfolding(crate::proofs::Numerals::numerals, crate::proofs::Numerals::places, crate::proofs::Numerals::names))]
 pub fn bar_names_by_hand()
     ensures first { has_name eight_plot 0 ≡ true }
     ensures second { has_name eight_plot 1 ≡ false }
@@ -132,9 +132,9 @@ pub fn bar_names_by_hand()
     ensures last { has_name eight_plot 7 ≡ true }
 {}
 
-/// The name of what is shaded: at the left end it begins behind the unit of the axis, in the left half where that begins,
-/// and in the right half it ends where that ends.
-#[tactic(auto, unfolding(crate::proofs::Numerals::numerals, crate::proofs::Numerals::places))]
+/// The name of what is shaded: at the left end it begins behind the unit of the axis, in the left half where that
+/// begins, and in the right half it ends where that ends.
+#[tactic(auto, unfolding(crate::proofs::Numerals::numerals, crate::proofs::Numerals::places, crate::proofs::Numerals::names))]
 pub fn shade_names_by_hand()
     ensures left { shade_named burst_plot Packets (record { from = 0; to = 0 })
         ≡ codes "<text class=\"lim\" x=\"60.6\" y=\"16\" text-anchor=\"start\">from 0 to 0</text>" }
