@@ -4,10 +4,8 @@ use Rattle.std.proofs.lemmas.Bool.{cases_lt}
 use Rattle.std.proofs.lemmas.Nat.{div-add-mod'}
 use Rattle.std.proofs.Math.Nat.{mul-div_cancel_left, mul_comm}
 use Rattle.timing_base.specs.Media.{Media}
-use Rattle.flow_measure.specs.Fed.{MeasuresFirsts}
-use Rattle.flow_measure.specs.Groups.{firsts_of}
-use Rattle.flow_measure.specs.declared.firsts.FirstMeter.{FirstMeter}
-use Rattle.flow_measure.specs.declared.group_meter.GroupMeter.{GroupMeter}
+use Rattle.flow_measure.specs.Frames.{after_start, timestamp_latency, timestamp_offset}
+use Rattle.flow_measure.specs.Groups.{firsts_of, latency_at, offset_at, since_at}
 
 -- of packets in groups of d, which is n
 pub first-is : (seen n d k : ℕ) → d ≡ n → seen % d ≡ 0 → k ≡ seen / d → k * n ≡ seen
@@ -25,39 +23,6 @@ pub groups-are : (seen n d groups : ℕ) → 0 < d → d ≡ n → seen ≡ n * 
 groups-are seen n d groups some same whole =
     ap (λ x. x / d) (whole ∙ ap (λ x. x * groups) (sym same)) ∙ mul-div_cancel_left groups some
 
--- the groups that have begun once a packet at this place came, where so many are whole
-pub ahead-is : (old new : FirstMeter) (place whole : ℕ)
-    → (0 < place → new ≡ old)
-    → (place ≡ 0 → new.seen ≡ old.seen + 1)
-    → (place ≡ 0 → old.seen ≡ whole)
-    → (0 < place → old.seen ≡ whole + 1)
-    → new.seen ≡ whole + 1
-ahead-is old new place whole kept begun are ahead = elim (cases_lt 0 place) as (λ _. new.seen ≡ whole + 1) [
-  | inl more ↦ ap (λ (f : FirstMeter). f.seen) (kept more) ∙ ahead more
-  | inr none ↦ let zero : place ≡ 0 = omega (arith, none) in omega (arith, begun zero, are zero)
-]
-
--- so in a meter of groups, which are no more than its packets
-pub groups-begun : (s : GroupMeter) (new : FirstMeter)
-    → (0 < s.place → new ≡ s.firsts)
-    → (s.place ≡ 0 → new.seen ≡ s.firsts.seen + 1)
-    → (new.seen ≡ s.last.seen + 1) × (new.seen ≤ s.seen + 1)
-groups-begun s new kept begun =
-    let ahead = ahead-is s.firsts new s.place s.last.seen kept begun s.firsts_are s.firsts_ahead in
-    (ahead, omega (arith, ahead, s.last_few))
-
--- what was fed to the meter of the groups that have begun
-pub firsts-more : (m : Media) (anchor : ℤ) (old new : FirstMeter) (place : ℕ) (stamp timestamp : ℕ → ℕ)
-    → (0 < place → new ≡ old)
-    → (place ≡ 0 → MeasuresFirsts m anchor new stamp timestamp)
-    → MeasuresFirsts m anchor old stamp timestamp
-    → MeasuresFirsts m anchor new stamp timestamp
-firsts-more m anchor old new place stamp timestamp kept begun h =
-    elim (cases_lt 0 place) as (λ _. MeasuresFirsts m anchor new stamp timestamp) [
-      | inl more ↦ subst (λ f. MeasuresFirsts m anchor f stamp timestamp) (sym (kept more)) h
-      | inr none ↦ begun (omega (arith, none))
-    ]
-
 -- and none is left over
 pub none-left : (seen n d groups : ℕ) → 0 < d → d ≡ n → seen ≡ n * groups → seen % d ≡ 0
 none-left seen n d groups some same whole =
@@ -65,23 +30,75 @@ none-left seen n d groups some same whole =
     let product : seen ≡ groups * d = whole ∙ ap (λ x. x * groups) (sym same) ∙ mul_comm d groups in
     omega (arith, all, product, div-add-mod' seen d)
 
--- so with one packet more, at this place in a group of d, which is n
-pub firsts-next : (m : Media) (n d seen place : ℕ) (n0 anchor : ℤ) (old new : FirstMeter) (stamp timestamp : ℕ → ℕ) (at ticks : ℕ)
+-- the groups that have begun once a packet at this place came, where so many are whole
+ahead-is : (old new place whole : ℕ)
+    → (place ≡ 0 → new ≡ old + 1)
+    → (0 < place → new ≡ old)
+    → (place ≡ 0 → old ≡ whole)
+    → (0 < place → old ≡ whole + 1)
+    → new ≡ whole + 1
+ahead-is old new place whole begun kept are ahead = elim (cases_lt 0 place) as (λ _. new ≡ whole + 1) [
+  | inl more ↦ kept more ∙ ahead more
+  | inr none ↦ let zero : place ≡ 0 = omega (arith, none) in omega (arith, begun zero, are zero)
+]
+
+-- they are no more than the packets
+pub groups-begun : (seen place whole old new : ℕ)
+    → (place ≡ 0 → new ≡ old + 1)
+    → (0 < place → new ≡ old)
+    → (place ≡ 0 → old ≡ whole)
+    → (0 < place → old ≡ whole + 1)
+    → whole ≤ seen
+    → (new ≡ whole + 1) × (new ≤ seen + 1)
+groups-begun seen place whole old new begun kept are ahead few =
+    let now = ahead-is old new place whole begun kept are ahead in (now, omega (arith, now, few))
+
+-- what was fed to the meter of the groups that have begun
+firsts-more : {F : Type 0} (fed : F → Type 0) (old new : F) (place : ℕ)
+    → (0 < place → new ≡ old)
+    → (place ≡ 0 → fed new)
+    → fed old
+    → fed new
+firsts-more fed old new place kept begun h = elim (cases_lt 0 place) as (λ _. fed new) [
+  | inl more ↦ subst fed (sym (kept more)) h
+  | inr none ↦ begun (omega (arith, none))
+]
+
+-- so with one packet more, at this place in a group of d, which is n, where so many groups have begun
+pub firsts-next : {F : Type 0} (fed : (anchor : ℤ) → F → (stamp timestamp : ℕ → ℕ) → Type 0) (n d seen place begun : ℕ) (n0 anchor : ℤ) (old new : F)
+    (stamp timestamp : ℕ → ℕ) (at ticks : ℕ)
     → n0 ≡ anchor
     → d ≡ n
     → seen % d ≡ place
-    → (place ≡ 0 → old.seen ≡ seen / d)
+    → (place ≡ 0 → begun ≡ seen / d)
     → (0 < place → new ≡ old)
-    → ((s t : ℕ → ℕ) → place ≡ 0 → MeasuresFirsts m n0 old s t → s old.seen ≡ at → t old.seen ≡ ticks → MeasuresFirsts m n0 new s t)
+    → ((s t : ℕ → ℕ) → place ≡ 0 → fed n0 old s t → s begun ≡ at → t begun ≡ ticks → fed n0 new s t)
     → stamp seen ≡ at
     → timestamp seen ≡ ticks
-    → MeasuresFirsts m anchor old (firsts_of n stamp) (firsts_of n timestamp)
-    → MeasuresFirsts m anchor new (firsts_of n stamp) (firsts_of n timestamp)
-firsts-next m n d seen place n0 anchor old new stamp timestamp at ticks same whole place_is begun_is kept begins at_is ticks_is h =
+    → fed anchor old (firsts_of n stamp) (firsts_of n timestamp)
+    → fed anchor new (firsts_of n stamp) (firsts_of n timestamp)
+firsts-next fed n d seen place begun n0 anchor old new stamp timestamp at ticks same whole place_is begun_is kept begins at_is ticks_is h =
     let first = firsts_of n stamp in
     let ticks_first = firsts_of n timestamp in
-    let lifted = subst (λ a. MeasuresFirsts m a old first ticks_first) (sym same) h in
-    let here : place ≡ 0 → old.seen * n ≡ seen = λ none. first-is seen n d old.seen whole (place_is ∙ none) (begun_is none) in
-    subst (λ a. MeasuresFirsts m a new first ticks_first) same
-    (firsts-more m n0 old new place first ticks_first kept
+    let lifted = subst (λ a. fed a old first ticks_first) (sym same) h in
+    let here : place ≡ 0 → begun * n ≡ seen = λ none. first-is seen n d begun whole (place_is ∙ none) (begun_is none) in
+    subst (λ a. fed a new first ticks_first) same
+    (firsts-more (λ f. fed n0 f first ticks_first) old new place kept
     (λ none. begins first ticks_first none lifted (ap stamp (here none) ∙ at_is) (ap timestamp (here none) ∙ ticks_is)) lifted)
+
+-- the numbers of the first packet of a group, by its stamp and timestamp
+pub since-first : (m : Media) (n0 there : ℤ) (stamp : ℕ → ℕ) (k seen at : ℕ) (x y : ℤ) → k ≡ seen → stamp seen ≡ at → there ≡ n0
+    → x ≡ after_start m there seen at → y ≡ x → since_at m n0 stamp k ≡ y
+since-first m n0 there stamp k seen at x y count at_is anchor value same =
+    ap (since_at m n0 stamp) count ∙ ap (after_start m n0 seen) at_is ∙ ap (λ a. after_start m a seen at) (sym anchor) ∙ sym (same ∙ value)
+
+pub offset-first : (m : Media) (n0 there : ℤ) (timestamp : ℕ → ℕ) (k seen ticks : ℕ) (x y : ℤ) → k ≡ seen → timestamp seen ≡ ticks → there ≡ n0
+    → x ≡ timestamp_offset m there seen ticks → y ≡ x → offset_at m n0 timestamp k ≡ y
+offset-first m n0 there timestamp k seen ticks x y count ticks_is anchor value same =
+    ap (offset_at m n0 timestamp) count ∙ ap (timestamp_offset m n0 seen) ticks_is ∙ ap (λ a. timestamp_offset m a seen ticks) (sym anchor)
+    ∙ sym (same ∙ value)
+
+pub latency-first : (stamp timestamp : ℕ → ℕ) (k seen at ticks : ℕ) (x y : ℤ) → k ≡ seen → stamp seen ≡ at → timestamp seen ≡ ticks
+    → x ≡ timestamp_latency at ticks → y ≡ x → latency_at stamp timestamp k ≡ y
+latency-first stamp timestamp k seen at ticks x y count at_is ticks_is value same =
+    ap (latency_at stamp timestamp) count ∙ ap (λ t. timestamp_latency t (timestamp seen)) at_is ∙ ap (timestamp_latency at) ticks_is ∙ sym (same ∙ value)

@@ -119,26 +119,26 @@ blocks-head s h r o m e =
     ∙ ap (λ n. go_on (λ next. blocks next (drop n a)) (sized_block o (kind_of o a) n s a)) total
     ∙ ap (λ k. go_on (λ next. blocks next (drop (number o 4 4 h) a)) (sized_block o k (number o 4 4 h) s a)) (kind_of-front o h r (omega arith))
 
+-- what a block gives, by whether its kind may have that length
+abbrev by_length : Order → Kind → (total : ℕ) → Section → List ℕ → Bool → Given
+by_length o k total s a b =
+    if not b then broken
+    else if nat_lt (length a) total then cut
+    else if not (number o 4 (total - 4) a == total) then broken
+    else content k o s (take total a)
+
 -- a length that no block of its kind has
 pub head-broken : (o : Order) (k : Kind) (total : ℕ) (s : Section) (a : List ℕ) → is_length k total ≡ false → head_text o k total s a ≡ bare_head 0 (2 ^ 32 - 1)
 unfolding head_text
 head-broken o k total s a e =
-    ap (λ b. go_on (λ next. blocks next (drop total a))
-    (if not b then broken
-    else if nat_lt (length a) total then cut
-    else if not (number o 4 (total - 4) a == total) then broken
-    else content k o s (take total a))) e
+    ap (λ b. go_on (λ next. blocks next (drop total a)) (by_length o k total s a b)) e
 
 -- a block that is cut
 pub head-short : (o : Order) (k : Kind) (total : ℕ) (s : Section) (a : List ℕ) → is_length k total ≡ true → length a < total → head_text o k total s a ≡ 0 ∷ []
 unfolding head_text
 head-short o k total s a e h =
     let short : nat_lt (length a) total ≡ true = grind (arith, nat_tests) in
-    ap (λ b. go_on (λ next. blocks next (drop total a))
-    (if not b then broken
-    else if nat_lt (length a) total then cut
-    else if not (number o 4 (total - 4) a == total) then broken
-    else content k o s (take total a))) e
+    ap (λ b. go_on (λ next. blocks next (drop total a)) (by_length o k total s a b)) e
     ∙ ap (λ b. go_on (λ next. blocks next (drop total a))
     (if b then cut
     else if not (number o 4 (total - 4) a == total) then broken
@@ -168,11 +168,7 @@ pub head-whole : (o : Order) (k : Kind) (total : ℕ) (s : Section) (a : List �
 unfolding head_text
 head-whole o k total s a x e l n h =
     let long : nat_lt (length a) total ≡ false = grind (arith, nat_tests) in
-    ap (λ b. go_on (λ next. blocks next (drop total a))
-    (if not b then broken
-    else if nat_lt (length a) total then cut
-    else if not (number o 4 (total - 4) a == total) then broken
-    else content k o s (take total a))) e
+    ap (λ b. go_on (λ next. blocks next (drop total a)) (by_length o k total s a b)) e
     ∙ ap (λ b. go_on (λ next. blocks next (drop total a))
     (if b then cut else if not (number o 4 (total - 4) a == total) then broken else content k o s (take total a))) long
     ∙ ap (λ b. go_on (λ next. blocks next (drop total a)) (if not b then broken else content k o s (take total a)))
@@ -192,11 +188,7 @@ head-passes o k total n s a x e m l h =
     let short : nat_lt (length a) total ≡ nat_lt (length rest) (left + 4) = short_by n (left + 4) a total sum l in
     let number_is : number o 4 (total - 4) a ≡ number o 4 left rest = ap (λ p. number o 4 p a) (sym place) ∙ sym (number-drop o 4 left n a) in
     let tail : drop total a ≡ drop (left + 4) rest = ap (λ p. drop p a) (sym sum) ∙ sym (drop-drop (left + 4) n a) in
-    ap (λ b. go_on (λ next. blocks next (drop total a))
-    (if not b then broken
-    else if nat_lt (length a) total then cut
-    else if not (number o 4 (total - 4) a == total) then broken
-    else content k o s (take total a))) e
+    ap (λ b. go_on (λ next. blocks next (drop total a)) (by_length o k total s a b)) e
     ∙ ap (go_on (λ next. blocks next (drop total a)))
     (same_ends (not (number o 4 (total - 4) a == total)) (nat_lt (length a) total) (content k o s (take total a)) x (λ f. h (long_by a total f)))
     ∙ ap (λ b. go_on (λ next. blocks next (drop total a)) (if b then cut else if not (number o 4 (total - 4) a == total) then broken else x)) short

@@ -1,8 +1,8 @@
-use Rattle.std.proofs.Common.{◌≡◌, FitsSigned, ap, ◌∙◌, sym, rules, arith}
+use Rattle.std.proofs.Common.{FitsSigned, ap, ◌∙◌, rules, arith}
 use Rattle.std.proofs.lemmas.Int.{ints, to_z-of_z}
 use Rattle.std.specs.Int.{w128}
-use Rattle.flow_measure.specs.Frames.{after_start, timestamp_latency, timestamp_offset}
 use Rattle.flow_measure.specs.Groups.{latency_at, offset_at, since_at}
+use Rattle.flow_measure.proofs.Grouped.{latency-first, offset-first, since-first}
 use Rattle.flow_measure.proofs.firsts.FirstMeter.feed.Goals as goal
 
 pub feed-requires-2-clause-low : goal.feed-requires-2-clause-low
@@ -19,26 +19,16 @@ pub returns-clause-stands : goal.returns-clause-stands
 returns-clause-stands c = λ stamp timestamp h at_is ticks_is.
     let s = c.args.self.now in
     let m = c.args.params.now.media in
-    let n0 = c.args.n0 in
-    let n0_fits : FitsSigned w128 n0 = search rules in
-    let since_fits : FitsSigned w128 c.since_start.result = search rules in
-    let offset_fits : FitsSigned w128 c.offset_of.result = search rules in
-    let latency_fits : FitsSigned w128 c.latency_of.result = search rules in
-    let since : since_at m n0 stamp s.first.seen ≡ c.since_start.result =
-    ap (since_at m n0 stamp) s.first_is ∙ ap (after_start m n0 s.seen) at_is ∙ sym (simp to_z-of_z at c.since_start.ensures.value) in
-    let offset : offset_at m n0 timestamp s.offset.seen ≡ c.offset_of.result =
-    ap (offset_at m n0 timestamp) s.offset_is
-    ∙ ap (timestamp_offset m n0 s.seen) ticks_is
-    ∙ sym (simp to_z-of_z at c.offset_of.ensures.value) in
-    let latency : latency_at stamp timestamp s.latency.seen ≡ c.latency_of.result =
-    ap (latency_at stamp timestamp) s.latency_is
-    ∙ ap (λ t. timestamp_latency t (timestamp s.seen)) at_is
-    ∙ ap (timestamp_latency c.args.at) ticks_is
-    ∙ sym c.latency_of.ensures.value in
+    let anchor = to_z-of_z w128 c.args.n0 (search rules) in
     record {
-      first = c.feed.ensures.stands (since_at m n0 stamp) h.first (since ∙ sym (to_z-of_z w128 c.since_start.result since_fits));
-      offset = c.feed-2.ensures.stands (offset_at m n0 timestamp) h.offset (offset ∙ sym (to_z-of_z w128 c.offset_of.result offset_fits));
+      first = c.feed.ensures.stands (since_at m c.args.n0 stamp) h.first
+          (since-first m c.args.n0 _ stamp s.first.seen s.seen c.args.at c.since_start.result _ s.first_is at_is anchor c.since_start.ensures.value
+          (to_z-of_z w128 c.since_start.result (search rules)));
+      offset = c.feed-2.ensures.stands (offset_at m c.args.n0 timestamp) h.offset
+          (offset-first m c.args.n0 _ timestamp s.offset.seen s.seen c.args.ticks c.offset_of.result _ s.offset_is ticks_is anchor
+          c.offset_of.ensures.value (to_z-of_z w128 c.offset_of.result (search rules)));
       latency = c.feed-3.ensures.stands (latency_at stamp timestamp) h.latency
-          (latency ∙ sym (to_z-of_z w128 c.latency_of.result latency_fits));
+          (latency-first stamp timestamp s.latency.seen s.seen c.args.at c.args.ticks c.latency_of.result _ s.latency_is at_is ticks_is
+          c.latency_of.ensures.value (to_z-of_z w128 c.latency_of.result (search rules)));
       step = c.feed-4.ensures.stands timestamp h.step (ap timestamp s.step_is ∙ ticks_is);
     }

@@ -2,8 +2,10 @@ use Rattle.std.proofs.Common.{◌≡◌, ◌<◌, ◌+◌, ◌%◌, FitsSigned, 
 use Rattle.std.proofs.lemmas.Int.{to_z-of_z}
 use Rattle.std.specs.Int.{w128}
 use Rattle.sender_params.proofs.Turns.{next_group, same_group}
+use Rattle.flow_measure.specs.Fed.{MeasuresFirsts}
 use Rattle.flow_measure.specs.Frames.{after_start}
 use Rattle.flow_measure.specs.Groups.{lasts_of, since_at}
+use Rattle.flow_measure.specs.declared.firsts.FirstMeter.{FirstMeter}
 use Rattle.flow_measure.proofs.Grouped.{firsts-next, groups-begun, last-is}
 use Rattle.flow_measure.proofs.group_meter.GroupMeter.feed.Goals as goal
 
@@ -12,7 +14,9 @@ invariant_of-self c =
     let s = c.args.self.now in
     let inside : s.seen % s.n + 1 < s.n = omega (arith, s.place_is, c.if-self.true) in
     let same = same_group s.seen s.n inside in
-    let begun = groups-begun s c.feed_at.new.self c.feed_at.ensures.kept c.feed_at.ensures.seen in
+    let f = c.feed_at.ensures in
+    let begun = groups-begun s.seen s.place s.last.seen s.firsts.seen c.feed_at.new.self.seen f.seen (λ more. ap (λ (x : FirstMeter). x.seen) (f.kept more))
+    s.firsts_are s.firsts_ahead s.last_few in
     record {
       n0_low = s.n0_low;
       n0_high = s.n0_high;
@@ -31,7 +35,9 @@ invariant_of-self-2 c =
     let s = c.args.self.now in
     let outside : s.seen % s.n + 1 ≡ s.n = omega (arith, s.place_is, s.place_within, c.if-self.false) in
     let next = next_group s.seen s.n outside in
-    let begun = groups-begun s c.feed_at.new.self c.feed_at.ensures.kept c.feed_at.ensures.seen in
+    let f = c.feed_at.ensures in
+    let begun = groups-begun s.seen s.place s.last.seen s.firsts.seen c.feed_at.new.self.seen f.seen (λ more. ap (λ (x : FirstMeter). x.seen) (f.kept more))
+    s.firsts_are s.firsts_ahead s.last_few in
     record {
       n0_low = s.n0_low;
       n0_high = s.n0_high;
@@ -53,7 +59,8 @@ returns-then-self-clause-stands c =
     λ n anchor stamp timestamp h at_is ticks_is. record {
       n_is = h.n_is;
       anchor_is = h.anchor_is;
-      firsts = firsts-next c.args.params.now.media n s.n s.seen s.place s.n0 anchor s.firsts c.feed_at.new.self stamp timestamp c.args.at c.args.ticks
+      firsts = firsts-next (MeasuresFirsts c.args.params.now.media) n s.n s.seen s.place s.firsts.seen s.n0 anchor s.firsts c.feed_at.new.self stamp
+          timestamp c.args.at c.args.ticks
           h.anchor_is h.n_is s.place_is (λ none. s.firsts_are none ∙ s.last_is) c.feed_at.ensures.kept begins at_is ticks_is h.firsts;
       last = h.last;
     }
@@ -75,7 +82,8 @@ returns-clause-stands c =
     record {
       n_is = h.n_is;
       anchor_is = h.anchor_is;
-      firsts = firsts-next c.args.params.now.media n s.n s.seen s.place s.n0 anchor s.firsts c.feed_at.new.self stamp timestamp c.args.at c.args.ticks
+      firsts = firsts-next (MeasuresFirsts c.args.params.now.media) n s.n s.seen s.place s.firsts.seen s.n0 anchor s.firsts c.feed_at.new.self stamp
+          timestamp c.args.at c.args.ticks
           h.anchor_is h.n_is s.place_is (λ none. s.firsts_are none ∙ s.last_is) c.feed_at.ensures.kept begins at_is ticks_is h.firsts;
       last = c.feed.ensures.stands (since_at c.args.params.now.media anchor (lasts_of n stamp)) h.last
           (since ∙ sym (to_z-of_z w128 c.since_start-since.result since_fits));
