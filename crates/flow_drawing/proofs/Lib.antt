@@ -1,5 +1,4 @@
 mod Feeding
-mod Grouping
 mod Around
 mod Finishing
 mod ByHand
