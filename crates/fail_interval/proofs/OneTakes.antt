@@ -1,5 +1,6 @@
 -- A frame goes to the judge of one media at most: that one takes the record, and the others stay as they were.
-use Rattle.std.proofs.Common.{◌≡◌, ◌<◌, ◌+◌, ℕ, zero, suc, List, [], ◌∷◌, ◌++◌, length, map, get_or, set, Some, true, sym, ◌∙◌, subst, arith, refl, ap, ◌≤◌, Option, None, length-set, take}
+use Rattle.std.proofs.Common.{◌≡◌, ◌<◌, ◌+◌, ℕ, zero, suc, List, [], ◌∷◌, ◌++◌, length, map, get_or, set, Some, true, sym, ◌∙◌, subst, arith, refl, ap, ◌≤◌}
+use Rattle.std.proofs.Common.{Option, None, length-set, take}
 use Rattle.std.proofs.lemmas.List.{length-map}
 use Rattle.std.specs.Prelude.{All, Result, Ok, Err, IfOk, is_some}
 use Rattle.std.proofs.Math.ListN.{get_or-map}

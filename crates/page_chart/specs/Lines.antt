@@ -1,6 +1,7 @@
 -- The lines of limits, each with its name at its right end, beside the panel, where no curve runs. A name that isn't
 -- clear of those before it stands above all of them.
-use Rattle.std.specs.Prelude.{ℕ, ℤ, ◌-◌, ◌||◌, min, max, nat_le, if◌then◌else◌, List, [], ◌∷◌, ◌++◌, codes, Option, Some}
+use Rattle.std.specs.Prelude.{ℕ, ℤ, ◌-◌, ◌||◌, min, max, nat_le, if◌then◌else◌, List, [], ◌∷◌, ◌++◌, codes, Option}
+use Rattle.std.specs.Prelude.{Some}
 use Rattle.std.specs.Prelude.{None}
 use Rattle.std.specs.Fmt.{signed_decimal}
 use Rattle.page_chart.specs.Marks.{base_of, name_x, right_of, tenths_text, y_of}
@@ -49,8 +50,8 @@ line_text p base line =
     stroke_piece (style_of line.name) p.panel.left (y_of p line.at) (right_of p.panel)
     ++ name_piece (style_of line.name) (name_x p.panel) base (label_text line.name line.at)
 
--- the height of a name: that of its line where this is fourteen units or more above all names that stand there, or below
--- all of them; else fourteen units above all
+-- the height of a name: that of its line where this is fourteen units or more above all names that stand there, or
+-- below all of them; else fourteen units above all
 unfoldable pub free_of : (own : ℕ) → Names → ℕ
 free_of own n = if nat_le 140 (n.top - own) || nat_le 140 (own - n.lowest) then own else n.top - 140
 

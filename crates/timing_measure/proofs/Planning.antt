@@ -66,7 +66,8 @@ planned-behind judged packets from i order within head all =
     ∙ part-behind judged.head judged.packets (slice_range packets from i) (packet packets i) (omega (arith, long, head)) (omega (arith, long, all))
 
 -- no more packets are judged than there are
-pub planned-few : (judged : Judged) (packets : List FlowPacket) (from i : ℕ) → from ≤ i → i ≤ length packets → length (planned_packets judged packets from i) ≤ i
+pub planned-few : (judged : Judged) (packets : List FlowPacket) (from i : ℕ) → from ≤ i → i ≤ length packets → length (planned_packets judged packets from i)
+    ≤ i
 planned-few judged packets from i order within =
     let slice = slice_range packets from i in
     let part : length (take judged.packets (drop judged.head slice)) ≡ min judged.packets (length (drop judged.head slice)) =

@@ -64,7 +64,8 @@ planned-step j packets from i order within =
         planned-none j packets from (i + 1) (omega (arith, head, order)) ∙ sym (planned-none j packets from i (omega (arith, head)))
             ∙ sym (append-nil here),
       )
-      | inr past ↦ elim (cases_lt (i - from - j.head) j.packets) as (λ _. (later : List FlowPacket) × (planned_packets j packets from (i + 1) ≡ here ++ later)) [
+      | inr past ↦ elim (cases_lt (i - from - j.head) j.packets) as (λ _. (later : List FlowPacket) × (planned_packets j packets from (i + 1) ≡ here
+          ++ later)) [
         | inl few ↦ (packet packets i ∷ [], planned-more j packets from i order within (omega (arith, past)) few)
         | inr all ↦ ([], planned-behind j packets from i order within (omega (arith, past)) (omega (arith, all)) ∙ sym (append-nil here))
       ]

@@ -61,4 +61,5 @@ pub record IsNewFlow (frames : Bool) (m : Media) (number tai : ℕ) (found : Ver
 pub record IsAnswerOf (frames : Bool) (m : Media) (tai : ℕ) (answer : Answer) : Type 0 where
   pub items : List Record
   pub note : FileNote
-  pub answers : AnswersFlow frames m tai note items (has_judged_run (verdict_of m (judged (flow items m) m.pt tai))) answer
+  pub answers : AnswersFlow frames m tai note items (has_judged_run (verdict_of m (judged (flow items m) m.pt tai)))
+      answer

@@ -1,6 +1,7 @@
--- What `FlowRows` say of the packets of a flow, as far as it has come. Packets and places count from 0, and runs too, but
--- for the number of an open run.
-use Rattle.std.specs.Prelude.{◌≡◌, ◌<◌, ◌≤◌, ◌+◌, ◌-◌, ◌^◌, ℕ, All, Bool, List, [], ◌∷◌, ◌++◌, length, Option, Some, None}
+-- What `FlowRows` say of the packets of a flow, as far as it has come. Packets and places count from 0, and runs too,
+-- but for the number of an open run.
+use Rattle.std.specs.Prelude.{◌≡◌, ◌<◌, ◌≤◌, ◌+◌, ◌-◌, ◌^◌, ℕ, All, Bool, List, [], ◌∷◌, ◌++◌, length, Option, Some}
+use Rattle.std.specs.Prelude.{None}
 use Rattle.sender_params.specs.Ticks.{NeverFall}
 use Rattle.timing_base.specs.Flows.{cuts, last_place, packet}
 use Rattle.timing_base.specs.Keys.{key_of}
@@ -29,7 +30,8 @@ pub record IsOpen (frames : Bool) (m : Media) (tai : ℕ) (packets : List FlowPa
       → RowsStandFor frames m tai run judged.n o.rows (planned_packets judged packets from i)
 
 -- the rows of its judged packets below place i, where their stamps never fall
-abbrev pub AreBegun : (frames : Bool) → Media → (tai : ℕ) → List FlowPacket → (run from i : ℕ) → Judged → List ℕ → Type 0
+abbrev pub AreBegun : (frames : Bool) → Media → (tai : ℕ) → List FlowPacket → (run from i : ℕ) → Judged → List ℕ
+    → Type 0
 AreBegun frames m tai packets run from i judged text =
     NeverFall (stamps_of tai (planned_packets judged packets from i))
     → AreRows frames m tai run judged.n [] (planned_packets judged packets from i) text
@@ -116,6 +118,7 @@ pub record Keeps (old new : FlowRows) : Type 0 where
 pub record Goes (old new : FlowRows) (p : FlowPacket) (before after : List ℕ) : Type 0 where
   pub here : List ℕ
   pub text_is : after ≡ before ++ here
-  pub stands : (frames : Bool) (m : Media) (number tai : ℕ) (found : Verdict) (rows : List ℕ) (packets : List FlowPacket)
+  pub stands : (frames : Bool) (m : Media) (number tai : ℕ) (found : Verdict) (rows : List ℕ)
+      (packets : List FlowPacket)
       → StandsFor frames m number tai found old rows packets
       → StandsFor frames m number tai found new (rows ++ here) (packets ++ p ∷ [])

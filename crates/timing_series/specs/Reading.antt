@@ -60,7 +60,8 @@ pub feeds_more : (m : Media) (x y z : FlowRows) (here more : List ℕ) (a b : Li
 feeds_more m x y z here more a b first second frames number tai found rows packets h =
     subst (λ l. StandsFor frames m number tai found z l (packets ++ flow (a ++ b) m)) (append_assoc rows here more)
     (fed_more (StandsFor frames m number tai found z ((rows ++ here) ++ more)) m packets a b
-    (second frames number tai found (rows ++ here) (packets ++ flow a m) (first frames number tai found rows packets h)))
+    (second frames number tai found (rows ++ here) (packets ++ flow a m) (first frames number tai found rows packets
+        h)))
 
 -- the flow of these records was fed, and what is printed at its packets stands behind what isn't written yet
 pub record TakesOn (m : Media) (old new : SeriesMeter) (items : List Record) : Type 0 where
@@ -84,8 +85,8 @@ takes_more m x y z a b first second = record {
   feeds = feeds_more m x.flow y.flow z.flow first.here second.here a b first.feeds second.feeds;
 }
 
--- the flow in these records was fed; what is printed at its packets was written behind what wasn't written yet, or isn't
--- written yet
+-- the flow in these records was fed; what is printed at its packets was written behind what wasn't written yet, or
+-- isn't written yet
 pub record Copies (o : Output) (old new : FlowOf SeriesMeter) (items : List Record) : Type 0 where
   pub media_is : new.media ≡ old.media
   pub here : List ℕ

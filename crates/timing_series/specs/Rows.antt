@@ -1,5 +1,5 @@
--- The rows of the judged runs of a flow, one run after the other. m is the video, `tai` is in seconds. Which runs are listed
--- is this project's own.
+-- The rows of the judged runs of a flow, one run after the other. m is the video, `tai` is in seconds. Which runs are
+-- listed is this project's own.
 use Rattle.std.specs.Prelude.{◌≡◌, ℕ, Bool, List, [], ◌∷◌, ◌++◌, take}
 use Rattle.timing_base.specs.Media.{Media}
 use Rattle.timing_base.specs.declared.packet.FlowPacket.{FlowPacket}
@@ -45,7 +45,8 @@ pub record IsSeries (frames : Bool) (m : Media) (tai : ℕ) (packets : List Flow
   pub text_is : text ≡ header_text frames ++ rows
 
 -- a front of it
-pub record IsSeriesFront (frames : Bool) (m : Media) (tai : ℕ) (packets : List FlowPacket) (text : List ℕ) : Type 0 where
+pub record IsSeriesFront (frames : Bool) (m : Media) (tai : ℕ) (packets : List FlowPacket) (text : List ℕ) : Type 0
+    where
   pub rows : List ℕ
   pub begin : BeginRowsOf frames m tai (judged_parts m packets tai) rows
   pub count : ℕ

@@ -1,5 +1,6 @@
 -- What the texts of `series` define: the rows of the judged runs of the flow of one media, in one capture, as
--- comma-separated values (RFC 4180). The session description is read first, and then the capture. This project's profile.
+-- comma-separated values (RFC 4180). The session description is read first, and then the capture. This project's
+-- profile.
 use Rattle.std.specs.Prelude.{◌≡◌, ◌⊎◌, ◌^◌, if◌then◌else◌, ℕ, Bool, true, false, List, [], slice_get, Some}
 use Rattle.std.specs.Prelude.{Result, Ok}
 use Rattle.timing_base.specs.Captures.{Record}
@@ -26,7 +27,8 @@ abbrev pub series_status : FileNote → Status
 series_status note = if is_refused note then status.NotAllJudged else status.Pass
 
 -- the answer on the flow of this media, of these records: its rows where a run is judged, else its verdict
-abbrev pub AnswersFlow : (frames : Bool) → Media → (tai : ℕ) → FileNote → List Record → (has_run : Bool) → Answer → Type 0
+abbrev pub AnswersFlow : (frames : Bool) → Media → (tai : ℕ) → FileNote → List Record → (has_run : Bool) → Answer
+    → Type 0
 AnswersFlow frames m tai note items true answer =
     IsSeries frames m tai (flow items m) answer.text × (answer.status ≡ series_status note)
 AnswersFlow frames m tai note items false answer = answer ≡ not_judged m (verdict_of m (judged (flow items m) m.pt tai))
@@ -36,7 +38,8 @@ pub record HasSeries (frames : Bool) (tai : ℕ) (m : Media) (text : List ℕ) (
   pub items : List Record
   pub note : FileNote
   pub records : Records text (2 ^ 40) items note
-  pub answers : AnswersFlow frames m tai note items (has_judged_run (verdict_of m (judged (flow items m) m.pt tai))) answer
+  pub answers : AnswersFlow frames m tai note items (has_judged_run (verdict_of m (judged (flow items m) m.pt tai)))
+      answer
 
 -- `series`: the description, then the capture
 abbrev pub FollowsSeries : SeriesJob → Inputs → Result Answer Failure → Type 0

@@ -1,5 +1,5 @@
--- How a run ends that prints while it reads: where it has no answer, or not the whole, a front of one may stand on standard
--- output.
+-- How a run ends that prints while it reads: where it has no answer, or not the whole, a front of one may stand on
+-- standard output.
 use Rattle.std.specs.Prelude.{◌≡◌, ◌≤◌, ◌⊎◌, ◌||◌, ℕ, ⊤, Bool, true, false, List, [], ◌++◌, Result, Ok, Err}
 use Rattle.timing_outside.specs.Causes.{Rose}
 use Rattle.timing_report.specs.declared.status.Input.{Input}
@@ -17,9 +17,11 @@ use Rattle.timing_steps.specs.declared.failure.Failure.TheVariants as failure
 abbrev pub StreamLeaves : Output → (Begins : List ℕ → Type 0) → Result Answer Failure → Status → Type 0
 StreamLeaves o Begins (Ok answer) ends =
     ((ends ≡ answer.status) × Appended o answer.text) ⊎ ((ends ≡ status.WriteFault) × Broke o answer.text)
-StreamLeaves o Begins (Err failure) ends = (ends ≡ status_of failure) × (front : List ℕ) × Appended o front × Begins front
+StreamLeaves o Begins (Err failure) ends = (ends ≡ status_of failure) × (front : List ℕ) × Appended o front
+    × Begins front
 
--- why there is no answer, or not the whole: memory ran out, an input couldn't be read of which this holds, or a write failed
+-- why there is no answer, or not the whole: memory ran out, an input couldn't be read of which this holds, or a write
+-- failed
 abbrev pub OnFailure : Output → Failure → (Input → Type 0) → Type 0
 OnFailure o (failure.ReadFault input) InputRose = InputRose input
 OnFailure o failure.WriteFault InputRose = Rose o.before o.now
@@ -30,9 +32,9 @@ abbrev pub HasStreamCause : Output → Result Answer Failure → (Input → Type
 HasStreamCause o (Ok answer) InputRose = IsAnswered answer.status
 HasStreamCause o (Err failure) InputRose = OnFailure o failure InputRose
 
--- a run: an answer, or why there is none or not the whole, what follows for it, its cause, and how it ends. `Follows` says
--- which answers the request and its texts define, `Begins` which fronts of one, and `InputRose` of which inputs the count
--- rose.
+-- a run: an answer, or why there is none or not the whole, what follows for it, its cause, and how it ends. `Follows`
+-- says which answers the request and its texts define, `Begins` which fronts of one, and `InputRose` of which inputs
+-- the count rose.
 pub record Streams (Follows : Result Answer Failure → Type 0) (Begins : List ℕ → Type 0) (InputRose : Input → Type 0)
     (o e : Output) (ends : Status) : Type 0 where
   pub outcome : Result Answer Failure
@@ -63,8 +65,8 @@ HasRest o Answers rest = (written : List ℕ) × Appended o written
 abbrev pub HasBegun : Output → (Begins : List ℕ → Type 0) → Type 0
 HasBegun o Begins = (front : List ℕ) × Appended o front × Begins front
 
--- so far of a run: what was printed and then this rest is an answer; or there is none, or not the whole, and a front of one
--- was printed
+-- so far of a run: what was printed and then this rest is an answer; or there is none, or not the whole, and a front
+-- of one was printed
 abbrev pub Rests : Output → (Follows : Result Answer Failure → Type 0) → (Begins : List ℕ → Type 0)
     → Result Answer Failure → Type 0
 Rests o Follows Begins (Ok rest) = HasRest o (λ answer. Follows (Ok answer)) rest
