@@ -2,9 +2,9 @@
 use Rattle.std.specs.Fmt.{digits}
 use Rattle.std.specs.Prelude.{⊤}
 use Rattle.flow_page.specs.Timings.{drift_of}
-use Rattle.flow_page.specs.Words.{broken_text, over_text, worst_text}
+use Rattle.flow_page.specs.Words.{broken_text, counted, over_text, worst_text}
 
--- decimal numerals, drifts, and words of a fail
+-- decimal numerals, drifts, counted things, and words of a fail
 unfoldable pub numerals : ⊤
-unfolding digits drift_of broken_text over_text worst_text
+unfolding digits drift_of counted broken_text over_text worst_text
 numerals = tt

@@ -20,22 +20,30 @@ use Rattle.page_chart.specs.declared.lines.Limit.{Limit}
 use Rattle.page_chart.specs.declared.lines.LineName.{LineName}
 use Rattle.page_chart.specs.declared.lines.LineName.TheVariants.{Empty, Narrow, NarrowLinear, Wide}
 use Rattle.page_chart.specs.declared.plot.Across.{Across}
+use Rattle.flow_page.specs.Words.{counted}
 use Rattle.flow_page.specs.declared.levels.Level.{Level}
 use Rattle.flow_page.specs.declared.levels.Level.TheVariants.{Bucket, Gapped, Linear}
 use Rattle.flow_page.specs.declared.levels.LimitOn.{LimitOn}
+use Rattle.flow_page.specs.declared.levels.View.{View}
+use Rattle.flow_page.specs.declared.levels.View.TheVariants.{Eye, WholeRun}
 use Rattle.flow_page.specs.declared.shown.Curves.{Curves}
+use Rattle.flow_page.specs.declared.shown.ShownRun.{ShownRun}
 use Rattle.flow_page.specs.declared.shown.TypeShown.{TypeShown}
 
 -- the titles
-abbrev pub level_title : Level → List ℕ
-level_title Bucket = codes "Bucket over the capture"
-level_title Gapped = codes "Receiver buffer over the capture, gapped reads (N)"
-level_title Linear = codes "Receiver buffer over the capture, linear reads (NL, W)"
+abbrev pub run_title : Level → List ℕ
+run_title Bucket = codes "Bucket over the capture"
+run_title Gapped = codes "Receiver buffer over the capture, gapped reads (N)"
+run_title Linear = codes "Receiver buffer over the capture, linear reads (NL, W)"
 
 abbrev pub eye_title : Level → List ℕ
 eye_title Bucket = codes "One frame, all over each other: bucket"
 eye_title Gapped = codes "One frame, all over each other: buffer, gapped reads (N)"
 eye_title Linear = codes "One frame, all over each other: buffer, linear reads (NL, W)"
+
+abbrev pub level_title : View → Level → List ℕ
+level_title WholeRun level = run_title level
+level_title Eye level = eye_title level
 
 -- their numbers
 abbrev pub level_summary : RunNumbers → Level → Summary
@@ -43,15 +51,19 @@ level_summary n Bucket = n.bucket
 level_summary n Gapped = n.gapped.occupancy
 level_summary n Linear = n.linear.occupancy
 
-abbrev pub level_columns : Curves → Level → List Extremes
-level_columns c Bucket = c.bucket
-level_columns c Gapped = c.gapped
-level_columns c Linear = c.linear
+abbrev pub run_columns : Curves → Level → List Extremes
+run_columns c Bucket = c.bucket
+run_columns c Gapped = c.gapped
+run_columns c Linear = c.linear
 
 abbrev pub eye_columns : Curves → Level → List Extremes
 eye_columns c Bucket = c.bucket_eye
 eye_columns c Gapped = c.gapped_eye
 eye_columns c Linear = c.linear_eye
+
+abbrev pub level_columns : Curves → View → Level → List Extremes
+level_columns c WholeRun level = run_columns c level
+level_columns c Eye level = eye_columns c level
 
 -- the limit of a type, and the first packet that is above it
 abbrev pub bucket_limit : TypeShown → LimitOn
@@ -129,8 +141,8 @@ limit_words level t = limit_told t.kind (limit_on level t)
 -- the least and the most, and the packets or places of a mark
 abbrev pub level_words : Summary → (each : ℕ) → List ℕ
 level_words s each =
-    codes "least " ++ (signed_decimal s.least ++ (codes ", most " ++ (signed_decimal s.greatest
-    ++ (codes " packets; " ++ (decimal each ++ codes " to a mark")))))
+    codes "least " ++ (signed_decimal s.least ++ (codes ", most " ++ (counted s.greatest (codes "packet")
+    ++ (codes "; " ++ (decimal each ++ codes " to a mark")))))
 
 -- what is told beside a picture
 abbrev pub level_detail : Level → Summary → (each : ℕ) → List TypeShown → List ℕ
@@ -140,9 +152,9 @@ level_detail level s each types = level_words s each ++ flat_map (limit_words le
 abbrev pub across_of : (count most : ℕ) → Across
 across_of count most = record { start = 0; count = min count (2 ^ 60); each = div_ceil count most }
 
--- the picture over the whole run
-abbrev pub level_scene : Judged → Scene
-level_scene judged = record {
+-- what stands side by side: the packets of the whole run with the ends of its groups, or the places of one group
+abbrev pub run_scene : Judged → Scene
+run_scene judged = record {
   wide = true;
   unit = Packets;
   along = Packet;
@@ -151,13 +163,6 @@ level_scene judged = record {
   shade = None;
 }
 
-abbrev pub level_figure : Judged → RunNumbers → Curves → List TypeShown → Level → List ℕ
-level_figure judged n curves types level =
-    curve_figure (level_title level)
-    (level_detail level (level_summary n level) (div_ceil judged.packets 1000) types)
-    (level_scene judged) (level_lines level types) (level_columns curves level)
-
--- the picture of all groups laid over each other
 abbrev pub eye_scene : Judged → Scene
 eye_scene judged = record {
   wide = false;
@@ -168,18 +173,18 @@ eye_scene judged = record {
   shade = None;
 }
 
-abbrev pub eye_figure : Judged → RunNumbers → Curves → List TypeShown → Level → List ℕ
-eye_figure judged n curves types level =
-    curve_figure (eye_title level) (level_detail level (level_summary n level) (div_ceil judged.n 500) types)
-    (eye_scene judged) (level_lines level types) (eye_columns curves level)
+abbrev pub level_scene : Judged → View → Scene
+level_scene judged WholeRun = run_scene judged
+level_scene judged Eye = eye_scene judged
+
+-- a picture
+abbrev pub level_figure : ShownRun → List TypeShown → View → Level → List ℕ
+level_figure s types view level =
+    curve_figure (level_title view level)
+    (level_detail level (level_summary s.run.numbers level) (level_scene s.run.judged view).across.each types)
+    (level_scene s.run.judged view) (level_lines level types) (level_columns s.curves view level)
 
 -- all of them
-abbrev pub level_figures : Judged → RunNumbers → Curves → List TypeShown → List ℕ
-level_figures judged n curves types =
-    level_figure judged n curves types Bucket
-    ++ (level_figure judged n curves types Gapped ++ level_figure judged n curves types Linear)
-
-abbrev pub eye_figures : Judged → RunNumbers → Curves → List TypeShown → List ℕ
-eye_figures judged n curves types =
-    eye_figure judged n curves types Bucket
-    ++ (eye_figure judged n curves types Gapped ++ eye_figure judged n curves types Linear)
+abbrev pub level_figures : ShownRun → List TypeShown → View → List ℕ
+level_figures s types view =
+    level_figure s types view Bucket ++ (level_figure s types view Gapped ++ level_figure s types view Linear)

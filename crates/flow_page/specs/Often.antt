@@ -1,6 +1,6 @@
 -- The pictures of how often bucket and buffer hold so many packets, for each type, and how often so much time is
 -- between two packets. This project's own.
-use Rattle.std.specs.Prelude.{ℕ, ◌+◌, ◌*◌, ◌^◌, ◌==◌, nat_lt, if◌then◌else◌, Bool, true, false}
+use Rattle.std.specs.Prelude.{ℕ, pos, ◌+◌, ◌*◌, ◌^◌, ◌==◌, nat_lt, if◌then◌else◌, Bool, true, false}
 use Rattle.std.specs.Prelude.{List, [], ◌∷◌, ◌++◌, codes, Option, Some, None}
 use Rattle.std.specs.Fmt.{decimal, signed_decimal}
 use Rattle.timing_base.specs.declared.media.Kind.{Kind}
@@ -16,6 +16,7 @@ use Rattle.page_chart.specs.declared.bars.BarName.TheVariants.{Below, From, Abov
 use Rattle.page_chart.specs.declared.grid.UnitAcross.{UnitAcross}
 use Rattle.page_chart.specs.declared.grid.UnitAcross.TheVariants as across
 use Rattle.flow_page.specs.Shown.{kind_at}
+use Rattle.flow_page.specs.Words.{counted}
 
 -- bars of bins, from one on
 abbrev pub width_bars : (width k : ℕ) → List ℕ → List Bar
@@ -48,11 +49,16 @@ class_bars first (count ∷ counts) =
 abbrev pub often_title : (what : List ℕ) → Kind → List ℕ
 often_title what kind = codes "How often: " ++ (what ++ (codes ", " ++ kind_name kind))
 
+-- how many packets of all are above the limit
+unfoldable pub above_of : (above seen : ℕ) → List ℕ
+above_of above seen =
+    decimal above ++ (codes " of " ++ (counted (pos seen) (codes "packet") ++ codes " above"))
+
 -- what is told beside it
 abbrev pub often_detail : Bins → List ℕ
 often_detail b =
-    codes "limit " ++ (decimal b.limit ++ (codes "; " ++ (decimal b.above ++ (codes " of " ++ (decimal b.seen
-    ++ (codes " packets above, " ++ (decimal b.below ++ codes " below 0")))))))
+    codes "limit " ++ (decimal b.limit ++ (codes "; " ++ (above_of b.above b.seen ++ (codes ", "
+    ++ (decimal b.below ++ codes " below 0")))))
 
 abbrev pub often_figure : (what : List ℕ) → Kind → UnitAcross → (signed : Bool) → Bins → List ℕ
 often_figure what kind along signed b =

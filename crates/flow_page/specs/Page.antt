@@ -1,7 +1,7 @@
 -- The whole page of a capture: the table of its media, of each flow with a judged run the pictures and the numbers of
 -- one run, and what else the capture holds. Stamps are nanoseconds; media count from 1 in the text. This project's
 -- own.
-use Rattle.std.specs.Prelude.{ℕ, ◌+◌, ◌-◌, List, [], ◌++◌, codes, Option, Some, None}
+use Rattle.std.specs.Prelude.{ℕ, ◌+◌, List, [], ◌++◌, codes, Option, Some, None}
 use Rattle.std.specs.Fmt.{decimal}
 use Rattle.std.specs.List.{flat_map}
 use Rattle.timing_base.specs.Media.{Media}
@@ -16,13 +16,14 @@ use Rattle.scan_text.specs.Contents.{Contents}
 use Rattle.scan_text.specs.Text.{contents_text}
 use Rattle.flow_page.specs.Around.{around_figures}
 use Rattle.flow_page.specs.Head.{legend, note_line, page_end, page_start}
-use Rattle.flow_page.specs.Levels.{eye_figures, level_figures}
+use Rattle.flow_page.specs.Levels.{level_figures}
 use Rattle.flow_page.specs.Media.{flow_media, media_table}
 use Rattle.flow_page.specs.Numbers.{numbers_table, runs_table, types_table}
 use Rattle.flow_page.specs.Often.{gap_figure, often_from}
 use Rattle.flow_page.specs.Shown.{types_shown}
 use Rattle.flow_page.specs.Timings.{period_of, steps_line, timing_figures}
 use Rattle.flow_page.specs.Words.{clock_text, type_words, utc}
+use Rattle.flow_page.specs.declared.levels.View.TheVariants.{Eye, WholeRun}
 use Rattle.flow_page.specs.declared.shown.FlowPage.{FlowPage}
 use Rattle.flow_page.specs.declared.shown.ShownRun.{ShownRun}
 use Rattle.flow_page.specs.declared.shown.TypeShown.{TypeShown}
@@ -43,18 +44,12 @@ abbrev pub words_list : List TypeShown → (group : List ℕ) → (tai : ℕ) �
 words_list types group tai =
     codes "<ul class=\"words\">\n" ++ (flat_map (λ t. type_words t group tai) types ++ codes "</ul>\n")
 
--- the pictures of a run
-unfoldable pub run_figures : Media → ShownRun → List TypeShown → List ℕ
-run_figures media s types =
-    level_figures s.run.judged s.run.numbers s.curves types
-    ++ (eye_figures s.run.judged s.run.numbers s.curves types
-    ++ (timing_figures (period_of media) (s.last_at - s.first_at) s.run.judged s.run.numbers s.curves
-    ++ (often_from 0 s.run.numbers.kinds ++ (gap_figure s.run.numbers.gap ++ around_figures types s.regions))))
-
--- they stand in a grid
+-- the pictures of a run, in a grid
 unfoldable pub run_grid : Media → ShownRun → List TypeShown → List ℕ
 run_grid media s types =
-    codes "<div class=\"grid\">\n" ++ (run_figures media s types ++ codes "</div>\n")
+    codes "<div class=\"grid\">\n" ++ (level_figures s types WholeRun ++ (level_figures s types Eye
+    ++ (timing_figures (period_of media) s ++ (often_from 0 s.run.numbers.kinds ++ (gap_figure s.run.numbers.gap
+    ++ (around_figures types s.regions ++ codes "</div>\n"))))))
 
 -- its numbers, and those of all judged runs of its flow
 unfoldable pub run_tables : ShownRun → List TypeShown → List MeasuredRun → List ℕ

@@ -1,7 +1,7 @@
 -- The pictures of when packets come and of the RTP timestamps, group by group, and whether the timestamps go on as the
 -- description's rate says. This project's own.
-use Rattle.std.specs.Prelude.{ℕ, ℤ, pos, ◌-ℤ◌, ◌*◌, ◌/◌, ◌^◌, min, max, nat_lt, int_lt, unsigned_abs, Bool, false}
-use Rattle.std.specs.Prelude.{◌||◌, if◌then◌else◌, List, [], ◌∷◌, ◌++◌, codes, Option, Some, None}
+use Rattle.std.specs.Prelude.{ℕ, ℤ, pos, ◌-ℤ◌, ◌-◌, ◌*◌, ◌/◌, ◌^◌, min, max, nat_lt, int_lt, unsigned_abs, Bool}
+use Rattle.std.specs.Prelude.{false, ◌||◌, if◌then◌else◌, List, [], ◌∷◌, ◌++◌, codes, Option, Some, None}
 use Rattle.std.specs.Fmt.{decimal, signed_decimal}
 use Rattle.std.specs.Int.{div_ceil}
 use Rattle.timing_base.specs.Media.{Media}
@@ -19,7 +19,9 @@ use Rattle.page_chart.specs.declared.grid.UnitAcross.TheVariants.{Frame}
 use Rattle.page_chart.specs.declared.lines.Limit.{Limit}
 use Rattle.page_chart.specs.declared.lines.LineName.TheVariants as line
 use Rattle.flow_page.specs.Levels.{across_of}
+use Rattle.flow_page.specs.Words.{counted}
 use Rattle.flow_page.specs.declared.shown.Curves.{Curves}
+use Rattle.flow_page.specs.declared.shown.ShownRun.{ShownRun}
 use Rattle.flow_page.specs.declared.timings.Timing.{Timing}
 use Rattle.flow_page.specs.declared.timings.Timing.TheVariants.{First, Last, Offset, Latency}
 
@@ -49,12 +51,12 @@ timing_unit Last = Nanoseconds
 timing_unit Offset = Ticks
 timing_unit Latency = Ticks
 
--- what they are
-abbrev pub timing_words : Timing → List ℕ
-timing_words First = codes " ns after the frame begins"
-timing_words Last = codes " ns after the frame begins"
-timing_words Offset = codes " ticks of 90 kHz"
-timing_words Latency = codes " ticks of 90 kHz"
+-- so many of them
+abbrev pub timing_words : Timing → ℤ → List ℕ
+timing_words First most = signed_decimal most ++ codes " ns after the frame begins"
+timing_words Last most = signed_decimal most ++ codes " ns after the frame begins"
+timing_words Offset most = counted most (codes "tick") ++ codes " of 90 kHz"
+timing_words Latency most = counted most (codes "tick") ++ codes " of 90 kHz"
 
 -- T_GROUP in nanoseconds, rounded down
 abbrev pub period_of : Media → ℕ
@@ -91,8 +93,8 @@ timing_drift Latency s groups span = []
 -- what is told beside a picture
 abbrev pub timing_detail : Timing → Summary → (groups span : ℕ) → List ℕ
 timing_detail timing s groups span =
-    codes "least " ++ (signed_decimal s.least ++ (codes ", most " ++ (signed_decimal s.greatest
-    ++ (timing_words timing ++ timing_drift timing s groups span))))
+    codes "least " ++ (signed_decimal s.least ++ (codes ", most " ++ (timing_words timing s.greatest
+    ++ timing_drift timing s groups span)))
 
 abbrev pub timing_scene : Judged → Timing → Scene
 timing_scene judged timing = record {
@@ -104,18 +106,23 @@ timing_scene judged timing = record {
   shade = None;
 }
 
+-- the time from the first to the last judged packet of a run
+abbrev pub span_of : ShownRun → ℕ
+span_of s = s.last_at - s.first_at
+
 -- a picture
-abbrev pub timing_figure : (period span : ℕ) → Judged → RunNumbers → Curves → Timing → List ℕ
-timing_figure period span judged n curves timing =
-    curve_figure (timing_title timing) (timing_detail timing (timing_summary n timing) judged.frames span)
-    (timing_scene judged timing) (timing_lines n.target period timing) (timing_columns curves timing)
+abbrev pub timing_figure : (period : ℕ) → ShownRun → Timing → List ℕ
+timing_figure period s timing =
+    curve_figure (timing_title timing)
+    (timing_detail timing (timing_summary s.run.numbers timing) s.run.judged.frames (span_of s))
+    (timing_scene s.run.judged timing) (timing_lines s.run.numbers.target period timing)
+    (timing_columns s.curves timing)
 
 -- all of them
-abbrev pub timing_figures : (period span : ℕ) → Judged → RunNumbers → Curves → List ℕ
-timing_figures period span judged n curves =
-    timing_figure period span judged n curves First
-    ++ (timing_figure period span judged n curves Last
-    ++ (timing_figure period span judged n curves Offset ++ timing_figure period span judged n curves Latency))
+abbrev pub timing_figures : (period : ℕ) → ShownRun → List ℕ
+timing_figures period s =
+    timing_figure period s First
+    ++ (timing_figure period s Last ++ (timing_figure period s Offset ++ timing_figure period s Latency))
 
 -- the ticks of 90 kHz from one group to the next, rounded down and up
 abbrev pub least_step : Media → ℕ

@@ -1,7 +1,9 @@
 -- What is told of each sender type in words. Packets count from 0 and records from 1; a time of day is that of UTC, in
 -- hours, minutes, seconds and nanoseconds. Pass and fail are told by a word and a sign. This project's own.
-use Rattle.std.specs.Prelude.{ℕ, ℤ, ◌-◌, ◌*◌, ◌/◌, ◌%◌, unsigned_abs, List, [], ◌++◌, codes, Option, Some, None}
+use Rattle.std.specs.Prelude.{ℕ, ℤ, pos, ◌-◌, ◌*◌, ◌/◌, ◌%◌, unsigned_abs, if◌then◌else◌, List, [], ◌++◌, codes}
+use Rattle.std.specs.Prelude.{Option, Some, None}
 use Rattle.std.specs.Fmt.{decimal, signed_decimal}
+use Rattle.std.specs.Ordering.{int_eq}
 use Rattle.timing_base.specs.declared.fail.FailProof.{FailProof}
 use Rattle.timing_base.specs.declared.row.KindVerdict.{KindVerdict}
 use Rattle.timing_base.specs.declared.row.KindVerdict.TheVariants.{Pass, Fail}
@@ -32,11 +34,18 @@ abbrev pub sign_text : KindVerdict → List ℕ
 sign_text Pass = codes "<span class=\"pass\">&#10003; pass</span>"
 sign_text (Fail proof) = codes "<span class=\"fail\">&#10007; fail</span>"
 
+-- so many of a thing, whose name ends with an s unless they are one
+abbrev pub noun_end : (count : ℤ) → List ℕ
+noun_end count = if int_eq count (pos 1) then [] else codes "s"
+
+unfoldable pub counted : (count : ℤ) → (noun : List ℕ) → List ℕ
+counted count noun = signed_decimal count ++ (codes " " ++ (noun ++ noun_end count))
+
 -- after how many packets something is above its limit, where it ever is
 abbrev pub above_text : (what : List ℕ) → (count : ℕ) → (first : Option ℕ) → List ℕ
 above_text what count None = []
 above_text what count (Some first) =
-    codes "; after " ++ (decimal count ++ (codes " packets the " ++ (what
+    codes "; after " ++ (counted (pos count) (codes "packet") ++ (codes " the " ++ (what
     ++ (codes " is above its limit, first after packet " ++ decimal first))))
 
 -- by how much the worst one is late
@@ -47,8 +56,8 @@ worst_text slack = codes ", at worst " ++ (decimal (unsigned_abs slack) ++ codes
 abbrev pub late_text : (late : ℕ) → (slack : ℤ) → (first : Option ℕ) → List ℕ
 late_text late slack None = []
 late_text late slack (Some first) =
-    codes "; " ++ (decimal late ++ (codes " packets come after their reads, first packet " ++ (decimal first
-    ++ worst_text slack)))
+    codes "; " ++ (counted (pos late) (codes "packet") ++ (codes " too late for the reads, first packet "
+    ++ (decimal first ++ worst_text slack)))
 
 -- where the last packet of the fail stands
 abbrev pub named_text : (to tai : ℕ) → Option Place → List ℕ
@@ -57,11 +66,10 @@ named_text to tai (Some place) =
     codes ". Packet " ++ (decimal to ++ (codes ", with which the verdict's fail ends, is record "
     ++ (decimal place.«record» ++ (codes " at " ++ (clock_text (utc tai place.stamp) ++ codes " UTC")))))
 
--- how many groups break
+-- how many groups break it
 unfoldable pub broken_text : TypeShown → (group : List ℕ) → List ℕ
 broken_text t group =
-    codes "; " ++ (decimal t.groups_broken ++ (codes " of " ++ (decimal t.groups ++ (codes " " ++ (group
-    ++ codes "s break it")))))
+    codes "; broken by " ++ (decimal t.groups_broken ++ (codes " of " ++ counted (pos t.groups) group))
 
 -- what is above its limit
 unfoldable pub over_text : TypeShown → List ℕ

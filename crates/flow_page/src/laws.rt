@@ -2,7 +2,7 @@
 
 ghost use Rattle.std.specs.Prelude.{◌≡◌, ◌++◌, codes, neg_ℤ, pos};
 ghost use Rattle.flow_page.specs.Timings.{drift_of};
-ghost use Rattle.flow_page.specs.Words.{clock_text, type_words, utc};
+ghost use Rattle.flow_page.specs.Words.{clock_text, counted, type_words, utc};
 ghost use Rattle.flow_page.specs.Worked.{kept, late};
 
 /// The time of day of a stamp, with and without seconds that were added.
@@ -20,9 +20,18 @@ pub fn words_by_hand()
         ≡ codes "<li><span class=\"pass\">&#10003; pass</span> <b>N</b>: bucket 1 of 4, buffer 1 of 8; each packet "
         ++ codes "may come 444 ns later.</li>\n" }
     ensures fail { type_words late (codes "frame") 0
-        ≡ codes "<li><span class=\"fail\">&#10007; fail</span> <b>N</b>: bucket 1 of 4, buffer 1 of 8; 2 of 2 frames "
-        ++ (codes "break it; 38 packets come after their reads, first packet 1, at worst 759556 ns late. Packet 1, "
+        ≡ codes "<li><span class=\"fail\">&#10007; fail</span> <b>N</b>: bucket 1 of 4, buffer 1 of 8; broken by 2 of 2 "
+        ++ (codes "frames; 38 packets too late for the reads, first packet 1, at worst 759556 ns late. Packet 1, "
         ++ codes "with which the verdict's fail ends, is record 3 at 12:26:40.001764000 UTC.</li>\n") }
+{}
+
+/// One packet, several, none, and fewer than none.
+#[tactic(auto, unfolding(crate::proofs::Numerals::numerals))]
+pub fn counts_by_hand()
+    ensures one { counted (pos 1) (codes "packet") ≡ codes "1 packet" }
+    ensures several { counted (pos 38) (codes "packet") ≡ codes "38 packets" }
+    ensures none { counted (pos 0) (codes "tick") ≡ codes "0 ticks" }
+    ensures below { counted (neg_ℤ (pos 1)) (codes "packet") ≡ codes "-1 packets" }
 {}
 
 /// A drift in tenths of a ppm: 7,478 ns in 0.6 s are 12.463 ppm.

@@ -2,9 +2,10 @@
 
 ghost use Rattle.std.specs.Prelude.{◌≡◌, ◌≤◌, ◌^◌, ◌++◌, ◌∷◌, [], IfOk, string_bytes};
 ghost use Rattle.std.specs.List.{flat_map};
-ghost use Rattle.flow_page.specs.Levels.{across_of, base_lines, bucket_limit, buffer_limit, eye_columns, eye_figure, eye_figures, eye_scene, eye_title, is_near, level_columns, level_detail, level_figure, level_figures, level_lines, level_scene, level_summary, level_title, level_words, limit_on, limit_words, line_name, type_line};
+ghost use Rattle.flow_page.specs.Levels.{across_of, base_lines, bucket_limit, buffer_limit, eye_columns, eye_scene, eye_title, is_near, level_columns, level_detail, level_figure, level_figures, level_lines, level_scene, level_summary, level_title, level_words, limit_on, limit_words, line_name, run_columns, run_scene, run_title, type_line};
 
-use crate::shown::{Curves, TypeShown};
+use crate::shown::{Curves, ShownRun, TypeShown};
+use crate::words::Counted;
 use flow_measure::{Extremes, RunNumbers, Summary};
 use page_chart::{Across, Limit, LineName, Scene, Unit, UnitAcross, add_curve_figure};
 use std::alloc::{AllocError as OutOfMemory, Global};
@@ -22,6 +23,14 @@ enum Level {
     Linear,
 }
 
+/// What a picture goes over.
+#[derive(Clone, Copy, Debug, PartialEq, Eq)]
+pub(crate) enum View {
+    WholeRun,
+    /// One group, with all groups laid over each other.
+    Eye,
+}
+
 /// A limit, and the first packet that is above it.
 #[derive(Clone, Copy, Debug, PartialEq, Eq)]
 struct LimitOn {
@@ -30,8 +39,8 @@ struct LimitOn {
 }
 
 /// The title of the picture over the whole run.
-fn level_title(level: Level) -> &'static str
-    ensures { result.now ≡ level_title level }
+fn run_title(level: Level) -> &'static str
+    ensures { result.now ≡ run_title level }
 {
     match level {
         Level::Bucket => "Bucket over the capture",
@@ -51,6 +60,16 @@ fn eye_title(level: Level) -> &'static str
     }
 }
 
+/// The title of a picture.
+fn level_title(view: View, level: Level) -> &'static str
+    ensures { result.now ≡ level_title view level }
+{
+    match view {
+        View::WholeRun => run_title(level),
+        View::Eye => eye_title(level),
+    }
+}
+
 /// The summary of what is held.
 fn level_summary(numbers: &RunNumbers, level: Level) -> Summary
     ensures { result ≡ level_summary numbers.now level }
@@ -63,8 +82,8 @@ fn level_summary(numbers: &RunNumbers, level: Level) -> Summary
 }
 
 /// The columns over the whole run.
-fn level_columns(curves: &Curves, level: Level) -> &[Extremes]
-    ensures { result.now ≡ level_columns curves.now level }
+fn run_columns(curves: &Curves, level: Level) -> &[Extremes]
+    ensures { result.now ≡ run_columns curves.now level }
 {
     match level {
         Level::Bucket => curves.bucket.as_slice(),
@@ -81,6 +100,16 @@ fn eye_columns(curves: &Curves, level: Level) -> &[Extremes]
         Level::Bucket => curves.bucket_eye.as_slice(),
         Level::Gapped => curves.gapped_eye.as_slice(),
         Level::Linear => curves.linear_eye.as_slice(),
+    }
+}
+
+/// The columns of a picture.
+fn level_columns(curves: &Curves, view: View, level: Level) -> &[Extremes]
+    ensures { result.now ≡ level_columns curves.now view level }
+{
+    match view {
+        View::WholeRun => run_columns(curves, level),
+        View::Eye => eye_columns(curves, level),
     }
 }
 
@@ -252,10 +281,11 @@ fn add_all_limits(text: &mut String, level: Level, types: &[TypeShown]) -> Resul
 fn level_words(alloc: Global, summary: Summary, each: u64) -> Result<String, OutOfMemory>
     ensures { IfOk result (λ s. string_bytes s ≡ level_words summary each) }
 {
-    format!(in alloc;
-        "least {}, most {} packets; {each} to a mark",
-        summary.least, summary.greatest
-    )
+    let most = Counted {
+        count: summary.greatest,
+        noun: "packet",
+    };
+    format!(in alloc; "least {}, most {most}; {each} to a mark", summary.least)
 }
 
 /// What is told beside a picture.
@@ -287,8 +317,8 @@ pub(crate) fn across_of(count: u64, most: u64) -> Across
 }
 
 /// The scene of the whole run.
-fn level_scene(judged: &Judged) -> Scene
-    ensures value { result ≡ level_scene judged.now }
+fn run_scene(judged: &Judged) -> Scene
+    ensures value { result ≡ run_scene judged.now }
     ensures few { result.across.count ≤ 2 ^ 60 }
 {
     Scene {
@@ -316,28 +346,38 @@ fn eye_scene(judged: &Judged) -> Scene
     }
 }
 
-/// Adds the picture over the whole run.
+/// The scene of a picture.
+fn level_scene(judged: &Judged, view: View) -> Scene
+    ensures value { result ≡ level_scene judged.now view }
+    ensures few { result.across.count ≤ 2 ^ 60 }
+{
+    match view {
+        View::WholeRun => run_scene(judged),
+        View::Eye => eye_scene(judged),
+    }
+}
+
+/// Adds a picture.
 fn add_level_figure(
     text: &mut String,
     alloc: Global,
-    judged: &Judged,
-    numbers: &RunNumbers,
-    curves: &Curves,
+    shown: &ShownRun,
     types: &[TypeShown],
+    view: View,
     level: Level,
 ) -> Result<(), OutOfMemory>
-    ensures { IfOk result (λ _. string_bytes text.new ≡ string_bytes text.old
-        ++ level_figure judged.now numbers.now curves.now types.now level) }
+    ensures { IfOk result (λ _. string_bytes text.new
+        ≡ string_bytes text.old ++ level_figure shown.now types.now view level) }
 {
-    let scene = level_scene(judged);
-    let each = judged.packets.div_ceil(1000);
-    let detail = level_detail(alloc, level, level_summary(numbers, level), each, types)?;
+    let scene = level_scene(&shown.run.judged, view);
+    let summary = level_summary(&shown.run.numbers, level);
+    let detail = level_detail(alloc, level, summary, scene.across.each, types)?;
     let lines = level_lines(alloc, level, types)?;
-    let columns = level_columns(curves, level);
+    let columns = level_columns(&shown.curves, view, level);
     add_curve_figure(
         text,
         alloc,
-        level_title(level),
+        level_title(view, level),
         detail.as_str(),
         scene,
         lines.as_slice(),
@@ -345,65 +385,18 @@ fn add_level_figure(
     )
 }
 
-/// Adds the picture of all groups laid over each other.
-fn add_eye_figure(
-    text: &mut String,
-    alloc: Global,
-    judged: &Judged,
-    numbers: &RunNumbers,
-    curves: &Curves,
-    types: &[TypeShown],
-    level: Level,
-) -> Result<(), OutOfMemory>
-    ensures { IfOk result (λ _. string_bytes text.new ≡ string_bytes text.old
-        ++ eye_figure judged.now numbers.now curves.now types.now level) }
-{
-    let scene = eye_scene(judged);
-    let each = u64::from(judged.n).div_ceil(500);
-    let detail = level_detail(alloc, level, level_summary(numbers, level), each, types)?;
-    let lines = level_lines(alloc, level, types)?;
-    let columns = eye_columns(curves, level);
-    add_curve_figure(
-        text,
-        alloc,
-        eye_title(level),
-        detail.as_str(),
-        scene,
-        lines.as_slice(),
-        columns,
-    )
-}
-
-/// Adds the pictures over the whole run.
+/// Adds the pictures of bucket and buffer that go over the same.
 pub(crate) fn add_level_figures(
     text: &mut String,
     alloc: Global,
-    judged: &Judged,
-    numbers: &RunNumbers,
-    curves: &Curves,
+    shown: &ShownRun,
     types: &[TypeShown],
+    view: View,
 ) -> Result<(), OutOfMemory>
-    ensures { IfOk result (λ _. string_bytes text.new ≡ string_bytes text.old
-        ++ level_figures judged.now numbers.now curves.now types.now) }
+    ensures { IfOk result (λ _. string_bytes text.new
+        ≡ string_bytes text.old ++ level_figures shown.now types.now view) }
 {
-    add_level_figure(text, alloc, judged, numbers, curves, types, Level::Bucket)?;
-    add_level_figure(text, alloc, judged, numbers, curves, types, Level::Gapped)?;
-    add_level_figure(text, alloc, judged, numbers, curves, types, Level::Linear)
-}
-
-/// Adds the pictures of all groups laid over each other.
-pub(crate) fn add_eye_figures(
-    text: &mut String,
-    alloc: Global,
-    judged: &Judged,
-    numbers: &RunNumbers,
-    curves: &Curves,
-    types: &[TypeShown],
-) -> Result<(), OutOfMemory>
-    ensures { IfOk result (λ _. string_bytes text.new ≡ string_bytes text.old
-        ++ eye_figures judged.now numbers.now curves.now types.now) }
-{
-    add_eye_figure(text, alloc, judged, numbers, curves, types, Level::Bucket)?;
-    add_eye_figure(text, alloc, judged, numbers, curves, types, Level::Gapped)?;
-    add_eye_figure(text, alloc, judged, numbers, curves, types, Level::Linear)
+    add_level_figure(text, alloc, shown, types, view, Level::Bucket)?;
+    add_level_figure(text, alloc, shown, types, view, Level::Gapped)?;
+    add_level_figure(text, alloc, shown, types, view, Level::Linear)
 }

@@ -182,23 +182,6 @@ pub(crate) fn flow_media<'a>(session: &'a Session, page: &FlowPage) -> &'a Media
     media_of(session, key)
 }
 
-/// Adds the rows of flows.
-fn add_media_rows(
-    text: &mut String,
-    alloc: Global,
-    session: &Session,
-    flows: &[FlowPage],
-) -> Result<(), OutOfMemory>
-    requires { AreOfMedia session.now flows.now }
-    ensures { IfOk result (λ _. string_bytes text.new
-        ≡ string_bytes text.old ++ flat_map (λ f. media_row (flow_media session.now f) f) flows.now) }
-{
-    for page in flows {
-        add_media_row(text, alloc, flow_media(session, page), page)?;
-    }
-    Ok(())
-}
-
 /// Adds the table of media.
 pub(crate) fn add_media_table(
     text: &mut String,
@@ -210,6 +193,8 @@ pub(crate) fn add_media_table(
     ensures { IfOk result (λ _. string_bytes text.new ≡ string_bytes text.old ++ media_table session.now flows.now) }
 {
     text.push_str(media_open())?;
-    add_media_rows(text, alloc, session, flows)?;
+    for page in flows {
+        add_media_row(text, alloc, flow_media(session, page), page)?;
+    }
     add_table_close(text)
 }

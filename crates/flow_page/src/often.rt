@@ -5,9 +5,11 @@ ghost use Rattle.flow_page.specs.Shown.{kind_at};
 ghost use Rattle.flow_page.specs.Often.{below_bars, bins_bars, class_bars, gap_detail, gap_figure, gaps_figure, next_class, often_detail, often_figure, often_from, often_kind, often_title, width_bars};
 
 use crate::shown::kind_at;
+use crate::words::Counted;
 use flow_measure::{Bins, Gaps, KindNumbers, RunNumbers, Summary};
 use page_chart::{Bar, BarName, UnitAcross, add_bars_figure};
 use std::alloc::{AllocError as OutOfMemory, Global};
+use std::fmt;
 use timing_base::Kind;
 use timing_report::kind_name;
 
@@ -90,14 +92,38 @@ fn often_title(alloc: Global, what: &str, kind: Kind) -> Result<String, OutOfMem
     format!(in alloc; "How often: {what}, {name}")
 }
 
+/// How many packets of all are above a limit.
+#[derive(Clone, Copy, Debug)]
+struct AboveOf {
+    above: u64,
+    seen: u64,
+}
+
+impl fmt::Display for AboveOf {
+    ghost use Rattle.std.specs.Prelude.{Some};
+    ghost use Rattle.flow_page.specs.Often.{above_of};
+
+    ghost output = { λ a. Some (above_of a.above a.seen) };
+
+    #[tactic(auto, unfolding(crate::specs::Often::above_of))]
+    fn fmt<W: fmt::Write>(&self, f: &mut fmt::Formatter<W>) -> fmt::Result {
+        let packets = Counted {
+            count: i128::from(self.seen),
+            noun: "packet",
+        };
+        write!(f, "{} of {packets} above", self.above)
+    }
+}
+
 /// What is told beside it.
 fn often_detail(alloc: Global, bins: &Bins) -> Result<String, OutOfMemory>
     ensures { IfOk result (λ s. string_bytes s ≡ often_detail bins.now) }
 {
-    format!(in alloc;
-        "limit {}; {} of {} packets above, {} below 0",
-        bins.limit, bins.above, bins.seen, bins.below
-    )
+    let above = AboveOf {
+        above: bins.above,
+        seen: bins.seen,
+    };
+    format!(in alloc; "limit {}; {above}, {} below 0", bins.limit, bins.below)
 }
 
 /// Adds the picture of a type's bucket or buffer.

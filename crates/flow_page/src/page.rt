@@ -1,17 +1,17 @@
 //! The whole page.
 
-ghost use Rattle.std.specs.Prelude.{◌≡◌, ◌+◌, ◌-◌, ◌++◌, IfOk, Some, string_bytes};
+ghost use Rattle.std.specs.Prelude.{◌≡◌, ◌+◌, ◌++◌, IfOk, Some, string_bytes};
 ghost use Rattle.std.specs.List.{flat_map};
 ghost use Rattle.timing_base.specs.Targets.{target_of};
 ghost use Rattle.timing_report.specs.Words.{group_name};
 ghost use Rattle.scan_text.specs.Contents.{contents_of};
 ghost use Rattle.flow_page.specs.Media.{AreOfMedia};
-ghost use Rattle.flow_page.specs.Page.{contents_part, contents_told, flow_heading, flow_part, flow_parts, page_of, part_if, run_figures, run_grid, run_heading, run_part, run_tables, words_list};
+ghost use Rattle.flow_page.specs.Page.{contents_part, contents_told, flow_heading, flow_part, flow_parts, page_of, part_if, run_grid, run_heading, run_tables, words_list};
 ghost use Rattle.flow_page.specs.Words.{utc};
 
 use crate::around::add_around_figures;
 use crate::head::{add_legend, add_note_line, add_page_end, add_page_start};
-use crate::levels::{add_eye_figures, add_level_figures};
+use crate::levels::{View, add_level_figures};
 use crate::media::{add_media_table, flow_media};
 use crate::numbers::{add_numbers_table, add_runs_table, add_types_table};
 use crate::often::{add_gap_figure, add_often_of};
@@ -70,36 +70,7 @@ fn add_words_list(
     add_markup(text, "</ul>\n")
 }
 
-/// Adds the pictures of a run.
-fn add_run_figures(
-    text: &mut String,
-    alloc: Global,
-    media: &Media,
-    shown: &ShownRun,
-    types: &[TypeShown],
-) -> Result<(), OutOfMemory>
-    ensures { IfOk result (λ _. string_bytes text.new
-        ≡ string_bytes text.old ++ run_figures media.now shown.now types.now) }
-{
-    let (judged, numbers, curves) = (&shown.run.judged, &shown.run.numbers, &shown.curves);
-    let period = period_of(media, judged);
-    let span = span_of(shown);
-    add_level_figures(text, alloc, judged, numbers, curves, types)?;
-    add_eye_figures(text, alloc, judged, numbers, curves, types)?;
-    add_timing_figures(text, alloc, period, span, judged, numbers, curves)?;
-    add_often_of(text, alloc, numbers)?;
-    add_gap_figure(text, alloc, &numbers.gap)?;
-    add_around_figures(text, alloc, types, shown.regions.as_slice())
-}
-
-/// The time from the first to the last judged packet, in nanoseconds.
-fn span_of(shown: &ShownRun) -> u64
-    ensures { result ≡ shown.now.last_at - shown.now.first_at }
-{
-    shown.last_at.saturating_sub(shown.first_at)
-}
-
-/// Adds them in a grid.
+/// Adds the pictures of a run, in a grid.
 fn add_run_grid(
     text: &mut String,
     alloc: Global,
@@ -110,8 +81,14 @@ fn add_run_grid(
     ensures { IfOk result (λ _. string_bytes text.new
         ≡ string_bytes text.old ++ run_grid media.now shown.now types.now) }
 {
+    let period = period_of(media, &shown.run.judged);
     add_markup(text, "<div class=\"grid\">\n")?;
-    add_run_figures(text, alloc, media, shown, types)?;
+    add_level_figures(text, alloc, shown, types, View::WholeRun)?;
+    add_level_figures(text, alloc, shown, types, View::Eye)?;
+    add_timing_figures(text, alloc, period, shown)?;
+    add_often_of(text, alloc, &shown.run.numbers)?;
+    add_gap_figure(text, alloc, &shown.run.numbers.gap)?;
+    add_around_figures(text, alloc, types, shown.regions.as_slice())?;
     add_markup(text, "</div>\n")
 }
 
@@ -163,28 +140,7 @@ fn add_types_told(
     add_words_list(text, types, group, tai)
 }
 
-/// Adds a run of a flow of this media.
-fn add_run_part(
-    text: &mut String,
-    alloc: Global,
-    tai: u32,
-    media: &Media,
-    flow: &MeasuredFlow,
-    shown: &ShownRun,
-    types: &[TypeShown],
-) -> Result<(), OutOfMemory>
-    ensures { IfOk result (λ _. string_bytes text.new
-        ≡ string_bytes text.old ++ run_part tai media.now flow.now shown.now types.now) }
-{
-    add_flow_title(text, media, flow)?;
-    add_run_title(text, tai, shown)?;
-    add_types_told(text, media, types, tai)?;
-    add_steps_line(text, media, shown.run.numbers.step)?;
-    add_run_grid(text, alloc, media, shown, types)?;
-    add_run_tables(text, shown, types, flow.runs.as_slice())
-}
-
-/// Adds the run of a flow that is shown.
+/// Adds the run of a flow of this media that is shown.
 fn add_shown(
     text: &mut String,
     alloc: Global,
@@ -197,7 +153,13 @@ fn add_shown(
         ≡ string_bytes text.old ++ part_if tai media.now flow.now (Some shown.now)) }
 {
     let types = types_shown(alloc, &shown.run.judged, &shown.run.numbers)?;
-    add_run_part(text, alloc, tai, media, flow, shown, types.as_slice())
+    let types = types.as_slice();
+    add_flow_title(text, media, flow)?;
+    add_run_title(text, tai, shown)?;
+    add_types_told(text, media, types, tai)?;
+    add_steps_line(text, media, shown.run.numbers.step)?;
+    add_run_grid(text, alloc, media, shown, types)?;
+    add_run_tables(text, shown, types, flow.runs.as_slice())
 }
 
 /// Adds a flow of this media, where a run is shown.

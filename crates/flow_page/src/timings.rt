@@ -2,10 +2,11 @@
 
 ghost use Rattle.std.specs.Prelude.{◌≡◌, ◌<◌, ◌≤◌, ◌^◌, ◌++◌, IfOk, string_bytes};
 ghost use Rattle.sender_params.specs.Times.{groups_of};
-ghost use Rattle.flow_page.specs.Timings.{drift_of, least_step, misfits, most_step, period_of, steps_line, steps_seen, steps_wanted, steps_words, timing_columns, timing_detail, timing_figure, timing_figures, timing_lines, timing_scene, timing_summary, timing_title, timing_unit, timing_words, wanted_text};
+ghost use Rattle.flow_page.specs.Timings.{drift_of, least_step, misfits, most_step, period_of, span_of, steps_line, steps_seen, steps_wanted, steps_words, timing_columns, timing_detail, timing_figure, timing_figures, timing_lines, timing_scene, timing_summary, timing_title, timing_unit, wanted_text};
 
 use crate::levels::{across_of, one_line};
-use crate::shown::Curves;
+use crate::shown::{Curves, ShownRun};
+use crate::words::Counted;
 use flow_measure::{Extremes, RunNumbers, Summary};
 use page_chart::{Limit, LineName, Scene, Tenths, Unit, UnitAcross, add_curve_figure};
 use sender_params::Params;
@@ -74,15 +75,30 @@ fn timing_unit(timing: Timing) -> Unit
     }
 }
 
-/// What its numbers are, in words.
-fn timing_words(timing: Timing) -> &'static str
-    ensures { result.now ≡ timing_words timing }
-{
-    match timing {
-        Timing::First => " ns after the frame begins",
-        Timing::Last => " ns after the frame begins",
-        Timing::Offset => " ticks of 90 kHz",
-        Timing::Latency => " ticks of 90 kHz",
+/// So many of what its numbers count.
+#[derive(Clone, Copy, Debug)]
+struct Most {
+    timing: Timing,
+    most: i128,
+}
+
+impl fmt::Display for Most {
+    ghost use Rattle.std.specs.Prelude.{Some};
+    ghost use Rattle.flow_page.specs.Timings.{timing_words};
+
+    ghost output = { λ m. Some (timing_words m.timing m.most) };
+
+    fn fmt<W: fmt::Write>(&self, f: &mut fmt::Formatter<W>) -> fmt::Result {
+        let ticks = Counted {
+            count: self.most,
+            noun: "tick",
+        };
+        match self.timing {
+            Timing::First => write!(f, "{} ns after the frame begins", self.most),
+            Timing::Last => write!(f, "{} ns after the frame begins", self.most),
+            Timing::Offset => write!(f, "{ticks} of 90 kHz"),
+            Timing::Latency => write!(f, "{ticks} of 90 kHz"),
+        }
     }
 }
 
@@ -219,17 +235,17 @@ fn timing_detail(
 ) -> Result<String, OutOfMemory>
     ensures { IfOk result (λ s. string_bytes s ≡ timing_detail timing summary groups span) }
 {
-    let words = timing_words(timing);
+    let most = Most {
+        timing,
+        most: summary.greatest,
+    };
     let drift = Drift {
         timing,
         summary,
         groups,
         span,
     };
-    format!(in alloc;
-        "least {}, most {}{words}{drift}",
-        summary.least, summary.greatest
-    )
+    format!(in alloc; "least {}, most {most}{drift}", summary.least)
 }
 
 /// The scene of a picture.
@@ -247,26 +263,31 @@ fn timing_scene(judged: &Judged, timing: Timing) -> Scene
     }
 }
 
-/// Adds a picture; `span` is the time from the first to the last packet, in nanoseconds.
+/// The time from the first to the last judged packet of a run, in nanoseconds.
+fn span_of(shown: &ShownRun) -> u64
+    ensures { result ≡ span_of shown.now }
+{
+    shown.last_at.saturating_sub(shown.first_at)
+}
+
+/// Adds a picture.
 fn add_timing_figure(
     text: &mut String,
     alloc: Global,
     period: u128,
-    span: u64,
-    judged: &Judged,
-    numbers: &RunNumbers,
-    curves: &Curves,
+    shown: &ShownRun,
     timing: Timing,
 ) -> Result<(), OutOfMemory>
     requires { period < 2 ^ 40 }
-    ensures { IfOk result (λ _. string_bytes text.new ≡ string_bytes text.old
-        ++ timing_figure period span judged.now numbers.now curves.now timing) }
+    ensures { IfOk result (λ _. string_bytes text.new
+        ≡ string_bytes text.old ++ timing_figure period shown.now timing) }
 {
+    let (judged, numbers) = (&shown.run.judged, &shown.run.numbers);
     let summary = timing_summary(numbers, timing);
-    let detail = timing_detail(alloc, timing, summary, judged.frames, span)?;
+    let detail = timing_detail(alloc, timing, summary, judged.frames, span_of(shown))?;
     let lines = timing_lines(alloc, numbers.target, period, timing)?;
     let scene = timing_scene(judged, timing);
-    let columns = timing_columns(curves, timing);
+    let columns = timing_columns(&shown.curves, timing);
     add_curve_figure(
         text,
         alloc,
@@ -278,60 +299,20 @@ fn add_timing_figure(
     )
 }
 
-/// Adds all of them.
+/// Adds all of them; `period` is the time from one group to the next, in nanoseconds.
 pub(crate) fn add_timing_figures(
     text: &mut String,
     alloc: Global,
     period: u128,
-    span: u64,
-    judged: &Judged,
-    numbers: &RunNumbers,
-    curves: &Curves,
+    shown: &ShownRun,
 ) -> Result<(), OutOfMemory>
     requires { period < 2 ^ 40 }
-    ensures { IfOk result (λ _. string_bytes text.new ≡ string_bytes text.old
-        ++ timing_figures period span judged.now numbers.now curves.now) }
+    ensures { IfOk result (λ _. string_bytes text.new ≡ string_bytes text.old ++ timing_figures period shown.now) }
 {
-    add_timing_figure(
-        text,
-        alloc,
-        period,
-        span,
-        judged,
-        numbers,
-        curves,
-        Timing::First,
-    )?;
-    add_timing_figure(
-        text,
-        alloc,
-        period,
-        span,
-        judged,
-        numbers,
-        curves,
-        Timing::Last,
-    )?;
-    add_timing_figure(
-        text,
-        alloc,
-        period,
-        span,
-        judged,
-        numbers,
-        curves,
-        Timing::Offset,
-    )?;
-    add_timing_figure(
-        text,
-        alloc,
-        period,
-        span,
-        judged,
-        numbers,
-        curves,
-        Timing::Latency,
-    )
+    add_timing_figure(text, alloc, period, shown, Timing::First)?;
+    add_timing_figure(text, alloc, period, shown, Timing::Last)?;
+    add_timing_figure(text, alloc, period, shown, Timing::Offset)?;
+    add_timing_figure(text, alloc, period, shown, Timing::Latency)
 }
 
 /// The groups of a frame.

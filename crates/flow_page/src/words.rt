@@ -2,7 +2,7 @@
 
 ghost use Rattle.std.specs.Prelude.{◌≡◌, ◌++◌, IfOk, string_bytes, unsigned_abs};
 ghost use Rattle.std.specs.List.{flat_map};
-ghost use Rattle.flow_page.specs.Words.{type_words, utc};
+ghost use Rattle.flow_page.specs.Words.{noun_end, type_words, utc};
 
 use crate::shown::TypeShown;
 use flow_measure::Place;
@@ -113,6 +113,34 @@ impl fmt::Display for Sign {
     }
 }
 
+/// So many of a thing.
+#[derive(Clone, Copy, Debug)]
+pub(crate) struct Counted {
+    pub(crate) count: i128,
+    /// What one of them is called.
+    pub(crate) noun: &'static str,
+}
+
+/// The end of the name of so many things.
+fn noun_end(count: i128) -> &'static str
+    ensures { result.now ≡ noun_end count }
+{
+    if count == 1 { "" } else { "s" }
+}
+
+impl fmt::Display for Counted {
+    ghost use Rattle.std.specs.Prelude.{Some};
+    ghost use Rattle.flow_page.specs.Words.{counted};
+
+    ghost output = { λ c. Some (counted c.count c.noun.now) };
+
+    #[tactic(auto, unfolding(crate::specs::Words::counted))]
+    fn fmt<W: fmt::Write>(&self, f: &mut fmt::Formatter<W>) -> fmt::Result {
+        let end = noun_end(self.count);
+        write!(f, "{} {}{end}", self.count, self.noun)
+    }
+}
+
 /// After how many packets something is above its limit, where it ever is.
 #[derive(Clone, Copy, Debug)]
 struct Above {
@@ -130,11 +158,17 @@ impl fmt::Display for Above {
     fn fmt<W: fmt::Write>(&self, f: &mut fmt::Formatter<W>) -> fmt::Result {
         match self.first {
             None => Ok(()),
-            Some(first) => write!(
-                f,
-                "; after {} packets the {} is above its limit, first after packet {first}",
-                self.count, self.what
-            ),
+            Some(first) => {
+                let packets = Counted {
+                    count: i128::from(self.count),
+                    noun: "packet",
+                };
+                write!(
+                    f,
+                    "; after {packets} the {} is above its limit, first after packet {first}",
+                    self.what
+                )
+            }
         }
     }
 }
@@ -182,11 +216,14 @@ impl fmt::Display for Late {
         match self.first {
             None => Ok(()),
             Some(first) => {
+                let packets = Counted {
+                    count: i128::from(self.late),
+                    noun: "packet",
+                };
                 let worst = Worst { late: *self };
                 write!(
                     f,
-                    "; {} packets come after their reads, first packet {first}{worst}",
-                    self.late
+                    "; {packets} too late for the reads, first packet {first}{worst}"
                 )
             }
         }
@@ -270,11 +307,11 @@ impl fmt::Display for BrokenText {
 
     #[tactic(auto, unfolding(crate::specs::Words::broken_text))]
     fn fmt<W: fmt::Write>(&self, f: &mut fmt::Formatter<W>) -> fmt::Result {
-        write!(
-            f,
-            "; {} of {} {}s break it",
-            self.shown.groups_broken, self.shown.groups, self.group
-        )
+        let groups = Counted {
+            count: i128::from(self.shown.groups),
+            noun: self.group,
+        };
+        write!(f, "; broken by {} of {groups}", self.shown.groups_broken)
     }
 }
 

@@ -1,17 +1,18 @@
 -- Texts to which one piece more is added.
 use Rattle.std.proofs.Common.{◌≡◌, ◌<◌, ◌≤◌, ◌+◌, ◌-◌, ◌*◌, ◌==◌, ℕ, suc, zero, false, List, [], ◌∷◌, ◌++◌, length, drop, get_or, sym, ap, refl, ◌∙◌, arith}
 use Rattle.std.proofs.Common.{append-nil, true≢false}
-use Rattle.std.specs.Prelude.{pos, nat_le, if◌then◌else◌}
+use Rattle.std.specs.Prelude.{pos, nat_le, if◌then◌else◌, Option, Some}
 use Rattle.std.proofs.lemmas.List.{at_drop_more, at_drop_all}
 use Rattle.timing_report.proofs.Appends.{one_more, two}
 use Rattle.flow_measure.specs.declared.columns.Extremes.{Extremes}
 use Rattle.page_chart.specs.Axes.{round_from, round_up}
 use Rattle.flow_measure.specs.Columns.{column_at}
 use Rattle.page_chart.specs.Curve.{band_end, band_start, band_text, comes_from, over_text, turn, under_text}
-use Rattle.page_chart.specs.Lines.{line_text, lines_after}
-use Rattle.page_chart.specs.Marks.{apart, base_of, y_of}
+use Rattle.page_chart.specs.Lines.{line_text, lines_after, placed, with_name}
+use Rattle.page_chart.specs.Marks.{base_of, y_of}
 use Rattle.page_chart.specs.Pieces.{upto}
 use Rattle.page_chart.specs.declared.lines.Limit.{Limit}
+use Rattle.page_chart.specs.declared.lines.Names.{Names}
 use Rattle.page_chart.specs.declared.plot.Plot.{Plot}
 
 -- the column that stands where there is none
@@ -49,13 +50,17 @@ over_more p columns column before y d text new whole within at e f =
     ∙ ap (λ s. text ++ s) (sym (at_drop_more (over_text p column before) columns column d within)) ∙ f)
 
 -- one line more
-pub lines_more : (p : Plot) (lines : List Limit) (i before base : ℕ) (d : Limit) (text new whole : List ℕ) → i < length lines
-    → base ≡ apart (base_of p (get_or lines i d).at) before → new ≡ text ++ line_text p base (get_or lines i d)
-    → text ++ lines_after p before (drop i lines) ≡ whole → new ++ lines_after p base (drop (i + 1) lines) ≡ whole
-lines_more p lines i before base d text new whole within at e f =
-    one_more text (line_text p base (get_or lines i d)) new (lines_after p base (drop (i + 1) lines)) whole e
-    (ap (λ z. text ++ (line_text p z (get_or lines i d) ++ lines_after p z (drop (i + 1) lines))) at
-    ∙ ap (λ s. text ++ s) (sym (at_drop_more (lines_after p before) lines i d within)) ∙ f)
+pub lines_more : (p : Plot) (lines : List Limit) (i base : ℕ) (names : Option Names) (next : Names) (d : Limit) (text new whole : List ℕ)
+    → i < length lines → base ≡ placed (base_of p (get_or lines i d).at) names → next ≡ with_name base names
+    → new ≡ text ++ line_text p base (get_or lines i d) → text ++ lines_after p names (drop i lines) ≡ whole
+    → new ++ lines_after p (Some next) (drop (i + 1) lines) ≡ whole
+lines_more p lines i base names next d text new whole within at named e f =
+    let line = get_or lines i d in
+    let rest = drop (i + 1) lines in
+    one_more text (line_text p base line) new (lines_after p (Some next) rest) whole e
+    (ap (λ n. text ++ (line_text p base line ++ lines_after p (Some n) rest)) named
+    ∙ ap (λ z. text ++ (line_text p z line ++ lines_after p (Some (with_name z names)) rest)) at
+    ∙ ap (λ s. text ++ s) (sym (at_drop_more (lines_after p names) lines i d within)) ∙ f)
 
 -- a band of columns
 pub some_columns : (columns : List Extremes) → (length columns == 0) ≡ false → 0 < length columns

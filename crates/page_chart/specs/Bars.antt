@@ -1,7 +1,7 @@
 -- How often: bars side by side over an axis of counts, one for each bin or class. A bar takes the middle eight tenths
 -- of its place, so that bars stand apart. This project's own.
-use Rattle.std.specs.Prelude.{ℕ, pos, ◌+◌, ◌-◌, ◌*◌, ◌/◌, ◌%◌, ◌==◌, max, if◌then◌else◌}
-use Rattle.std.specs.Prelude.{List, [], ◌∷◌, ◌++◌, codes}
+use Rattle.std.specs.Prelude.{ℕ, pos, ◌+◌, ◌-◌, ◌*◌, ◌/◌, ◌%◌, ◌==◌, ◌&&◌, ◌||◌, max, nat_le, Bool}
+use Rattle.std.specs.Prelude.{if◌then◌else◌, List, [], ◌∷◌, ◌++◌, codes}
 use Rattle.std.specs.Fmt.{decimal}
 use Rattle.std.specs.Int.{div_ceil}
 use Rattle.page_chart.specs.Grid.{grid_text, units_text}
@@ -71,13 +71,22 @@ bar_label middle base name =
     codes "<text x=\"" ++ (tenths_text middle ++ (codes "\" y=\"" ++ (tenths_text base
     ++ (codes "\" text-anchor=\"middle\">" ++ (name ++ codes "</text>")))))
 
--- every so many bars have one: each where bars are sixty units apart, which eight digits take, and else fewer
+-- so many bars take sixty units, as eight digits do: one where bars are so far apart, and else more
 unfoldable pub label_step : Plot → ℕ
 label_step p = max 1 (div_ceil (600 * p.across.count) (max 1 p.panel.width))
 
+-- how many bars stand behind one
+abbrev pub behind : Plot → ℕ → ℕ
+behind p k = p.across.count - (k + 1)
+
+-- the first and the last bar have their names, and each of so many that isn't nearer than that to the last one
+unfoldable pub has_name : Plot → ℕ → Bool
+has_name p k =
+    k == 0 || (behind p k == 0 || (k % label_step p == 0 && nat_le (label_step p) (behind p k)))
+
 abbrev pub some_label : Plot → ℕ → Bar → List ℕ
 some_label p k bar =
-    if k % label_step p == 0 then bar_label (bar_x p k 5) (below p.panel 160) (told_text (Name bar.name)) else []
+    if has_name p k then bar_label (bar_x p k 5) (below p.panel 160) (told_text (Name bar.name)) else []
 
 -- its share above it, where each bar has a name
 abbrev pub some_share : Plot → (total k : ℕ) → Bar → List ℕ

@@ -69,7 +69,7 @@ plot_of s a = record { panel = panel_of s.wide (room_of s.unit a); axis = a; acr
 abbrev pub curve_text : Plot → Scene → List Limit → List Extremes → List ℕ
 curve_text p s lines columns =
     grid_text p s.unit ++ (marks_across p ++ (units_text p s.unit s.along ++ (frame_rules p s.every
-    ++ (shade_text p s.shade ++ (band_text p columns ++ lines_text p lines)))))
+    ++ (shade_text p s.unit s.shade ++ (band_text p columns ++ lines_text p lines)))))
 
 -- the axis of columns and lines
 abbrev pub curve_axis : List Limit → List Extremes → Axis

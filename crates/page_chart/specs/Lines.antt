@@ -1,12 +1,14 @@
--- The lines of limits, each with its name at its right end, beside the panel, where no curve runs. A name that would
--- touch the one before it stands above that.
-use Rattle.std.specs.Prelude.{ℕ, ℤ, List, [], ◌∷◌, ◌++◌, codes}
+-- The lines of limits, each with its name at its right end, beside the panel, where no curve runs. A name that isn't
+-- clear of those before it stands above all of them.
+use Rattle.std.specs.Prelude.{ℕ, ℤ, ◌-◌, ◌||◌, min, max, nat_le, if◌then◌else◌, List, [], ◌∷◌, ◌++◌, codes, Option, Some}
+use Rattle.std.specs.Prelude.{None}
 use Rattle.std.specs.Fmt.{signed_decimal}
-use Rattle.page_chart.specs.Marks.{apart, base_of, below, name_x, right_of, tenths_text, y_of}
+use Rattle.page_chart.specs.Marks.{base_of, name_x, right_of, tenths_text, y_of}
 use Rattle.page_chart.specs.declared.lines.Limit.{Limit}
 use Rattle.page_chart.specs.declared.lines.LineName.{LineName}
 use Rattle.page_chart.specs.declared.lines.LineName.TheVariants.{BothNarrow, Empty, Narrow, NarrowLinear, Offset}
 use Rattle.page_chart.specs.declared.lines.LineName.TheVariants.{Period, Wide}
+use Rattle.page_chart.specs.declared.lines.Names.{Names}
 use Rattle.page_chart.specs.declared.plot.Plot.{Plot}
 
 -- the name of a line, with its number where that is a count of packets that isn't 0
@@ -47,12 +49,27 @@ line_text p base line =
     stroke_piece (style_of line.name) p.panel.left (y_of p line.at) (right_of p.panel)
     ++ name_piece (style_of line.name) (name_x p.panel) base (label_text line.name line.at)
 
--- all of them, after one whose name stands at this height
-abbrev pub lines_after : Plot → (before : ℕ) → List Limit → List ℕ
-lines_after p before [] = []
-lines_after p before (line ∷ rest) =
-    line_text p (apart (base_of p line.at) before) line ++ lines_after p (apart (base_of p line.at) before) rest
+-- the height of a name: that of its line where this is fourteen units or more above all names that stand there, or below
+-- all of them; else fourteen units above all
+unfoldable pub free_of : (own : ℕ) → Names → ℕ
+free_of own n = if nat_le 140 (n.top - own) || nat_le 140 (own - n.lowest) then own else n.top - 140
 
--- all of them; what is far below the panel touches no name
+abbrev pub placed : (own : ℕ) → Option Names → ℕ
+placed own None = own
+placed own (Some n) = free_of own n
+
+-- the names with one more, at this height
+abbrev pub with_name : (base : ℕ) → Option Names → Names
+with_name base None = record { top = base; lowest = base }
+with_name base (Some n) = record { top = min n.top base; lowest = max n.lowest base }
+
+-- all of them, where these names stand already
+abbrev pub lines_after : Plot → Option Names → List Limit → List ℕ
+lines_after p names [] = []
+lines_after p names (line ∷ rest) =
+    line_text p (placed (base_of p line.at) names) line
+    ++ lines_after p (Some (with_name (placed (base_of p line.at) names) names)) rest
+
+-- all of them
 abbrev pub lines_text : Plot → List Limit → List ℕ
-lines_text p lines = lines_after p (below p.panel 1000) lines
+lines_text p lines = lines_after p None lines

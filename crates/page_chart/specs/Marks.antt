@@ -1,6 +1,6 @@
 -- Where numbers stand in a picture. Places are tenths of a unit of the picture, rounded down; x grows to the right,
 -- and y downward, as in SVG. This project's own.
-use Rattle.std.specs.Prelude.{ℕ, ℤ, pos, ◌+ℤ◌, ◌-ℤ◌, ◌+◌, ◌-◌, ◌*◌, ◌/◌, ◌%◌, ◌==◌, min, max, nat_lt, int_lt}
+use Rattle.std.specs.Prelude.{ℕ, ℤ, pos, ◌+ℤ◌, ◌-ℤ◌, ◌+◌, ◌-◌, ◌*◌, ◌/◌, ◌%◌, ◌==◌, min, max, int_lt}
 use Rattle.std.specs.Prelude.{unsigned_abs, if◌then◌else◌, List, ◌++◌, codes}
 use Rattle.std.specs.Fmt.{decimal}
 use Rattle.page_chart.specs.declared.axis.Axis.{Axis}
@@ -68,10 +68,6 @@ above p x = p.panel.top + mark p.panel.height p.axis x - 40
 -- where the name of a line begins, to the right of it
 unfoldable pub name_x : Panel → ℕ
 name_x p = p.left + p.width + 60
-
--- its baseline: that of the line, but above the name before where the two would touch
-unfoldable pub apart : (own before : ℕ) → ℕ
-apart own before = if nat_lt (max own before - min own before) 140 then before - 140 else own
 
 -- so far below a panel
 unfoldable pub below : Panel → ℕ → ℕ

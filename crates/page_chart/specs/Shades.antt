@@ -1,7 +1,10 @@
 -- Some places of a picture that are shaded, with their first and last number beside them. This project's own.
-use Rattle.std.specs.Prelude.{ℕ, ◌+◌, ◌-◌, ◌*◌, nat_lt, if◌then◌else◌, List, [], ◌++◌, codes, Option, Some, None}
+use Rattle.std.specs.Prelude.{ℕ, ◌+◌, ◌-◌, ◌*◌, max, nat_lt, if◌then◌else◌, List, [], ◌++◌, codes, length}
+use Rattle.std.specs.Prelude.{Option, Some, None}
 use Rattle.std.specs.Fmt.{decimal}
-use Rattle.page_chart.specs.Marks.{bottom_of, tenths_text, x_of}
+use Rattle.page_chart.specs.Grid.{unit_name}
+use Rattle.page_chart.specs.Marks.{bottom_of, right_of, tenths_text, x_of}
+use Rattle.page_chart.specs.declared.grid.Unit.{Unit}
 use Rattle.page_chart.specs.declared.plot.Plot.{Plot}
 use Rattle.page_chart.specs.declared.shade.Shade.{Shade}
 
@@ -26,17 +29,22 @@ shade_left p s = x_of p s.from
 unfoldable pub shade_right : Plot → Shade → ℕ
 shade_right p s = x_of p (s.to + 1)
 
--- the name stands above the panel, on the side where there is more room
-unfoldable pub shade_named : Plot → Shade → List ℕ
-shade_named p s =
-    if nat_lt (shade_left p s) (2 * p.panel.left + p.panel.width - shade_right p s)
-    then shade_name (shade_right p s) (p.panel.top - 40) (codes "start") (p.across.start + s.from)
-    (p.across.start + s.to)
-    else shade_name (shade_left p s) (p.panel.top - 40) (codes "end") (p.across.start + s.from)
+-- where there is room behind the unit of the axis, whose characters take 7.8 units at most
+unfoldable pub behind_unit : Plot → Unit → ℕ
+behind_unit p unit = 78 * length (unit_name unit p.axis.step) + 60
+
+-- the name stands above the panel and what is shaded: in the left half it begins where that begins, or behind the unit
+-- of the axis, and in the right half it ends where that ends
+unfoldable pub shade_named : Plot → Unit → Shade → List ℕ
+shade_named p unit s =
+    if nat_lt (shade_left p s - p.panel.left) (right_of p.panel - shade_left p s)
+    then shade_name (max (behind_unit p unit) (shade_left p s)) (p.panel.top - 40) (codes "start")
+    (p.across.start + s.from) (p.across.start + s.to)
+    else shade_name (shade_right p s) (p.panel.top - 40) (codes "end") (p.across.start + s.from)
     (p.across.start + s.to)
 
 -- where there are any
-abbrev pub shade_text : Plot → Option Shade → List ℕ
-shade_text p None = []
-shade_text p (Some s) =
-    shade_piece (shade_left p s) p.panel.top (bottom_of p.panel) (shade_right p s) ++ shade_named p s
+abbrev pub shade_text : Plot → Unit → Option Shade → List ℕ
+shade_text p unit None = []
+shade_text p unit (Some s) =
+    shade_piece (shade_left p s) p.panel.top (bottom_of p.panel) (shade_right p s) ++ shade_named p unit s

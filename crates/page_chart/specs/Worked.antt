@@ -32,7 +32,7 @@ abbrev pub nothing : Limit
 nothing = record { name = Empty; at = pos 0 }
 
 -- how often its bucket holds each number: 36 packets 1, and one each 2, 3, 4 and 5, which is above the limit. Six bars
--- of 20 units over an axis from 0 to 40, of which a unit is 0.4; each third one has room for its name
+-- of 20 units over an axis from 0 to 40, of which a unit is 0.4; three of them take the room of a name
 abbrev pub bar : BarName → ℕ → Bar
 bar name count = record { name = name; count = count }
 
@@ -45,6 +45,13 @@ bars_plot = plot_of_bars
     (record { left = 300; width = 1200; top = 200; height = 1000 })
     (record { low = pos 0; step = 10; steps = 4 })
     6
+
+-- the same axis, over eight bars of 20 units
+abbrev pub eight_plot : Plot
+eight_plot = plot_of_bars
+    (record { left = 300; width = 1600; top = 200; height = 1000 })
+    (record { low = pos 0; step = 10; steps = 4 })
+    8
 
 -- the same axis, over two bars of 60 units
 abbrev pub wide_plot : Plot

@@ -1,7 +1,7 @@
 //! Bars of bins and classes.
 
-ghost use Rattle.std.specs.Prelude.{◌≡◌, ◌+◌, ◌-◌, ◌++◌, IfOk, length, string_bytes};
-ghost use Rattle.page_chart.specs.Bars.{bar_label, bar_name, bar_piece, bar_shape, bar_style, bar_text, bar_x, bars_picture, bars_text, label_step, limit_before, limit_line, limit_number, plot_of_bars, share_of, some_label, some_share, told_text};
+ghost use Rattle.std.specs.Prelude.{◌≡◌, ◌≤◌, ◌+◌, ◌-◌, ◌++◌, IfOk, length, string_bytes};
+ghost use Rattle.page_chart.specs.Bars.{bar_label, bar_name, bar_piece, bar_shape, bar_style, bar_text, bar_x, bars_picture, bars_text, has_name, label_step, limit_before, limit_line, limit_number, plot_of_bars, share_of, some_label, some_share, told_text};
 ghost use Rattle.page_chart.specs.Marks.{tenths};
 
 use crate::axis::Axis;
@@ -127,10 +127,11 @@ fn add_shape(text: &mut String, plot: Plot, k: usize, bar: Bar) -> Result<(), Ou
     write_bar(text, left, bottom, y, right, bar)
 }
 
-/// Every so many bars have their names below them.
+/// So many bars take sixty units, as eight digits do.
 #[tactic(auto, unfolding(crate::specs::Bars::label_step))]
 fn label_step(plot: Plot) -> u128
-    ensures { result ≡ label_step plot }
+    ensures value { result ≡ label_step plot }
+    ensures some { 1 ≤ result }
 {
     let wanted = 600 * u128::from(plot.across.count);
     wanted.div_ceil(u128::from(plot.panel.width.max(1))).max(1)
@@ -153,12 +154,22 @@ fn write_label(
     )
 }
 
+/// Whether a bar has its name below it: the first and the last one do, and each of so many that isn't nearer than that to
+/// the last one.
+#[tactic(auto, unfolding(crate::specs::Bars::has_name))]
+fn has_name(plot: Plot, k: usize) -> bool
+    ensures { result ≡ has_name plot k }
+{
+    let (k, step) = (k as u128, label_step(plot));
+    let behind = u128::from(plot.across.count).saturating_sub(k + 1);
+    k == 0 || behind == 0 || k % step == 0 && step <= behind
+}
+
 /// Adds a bar's name below it, where it has one.
-#[tactic(auto, unfolding(crate::specs::Bars::label_step))]
 fn add_some_label(text: &mut String, plot: Plot, k: usize, bar: Bar) -> Result<(), OutOfMemory>
     ensures { IfOk result (λ _. string_bytes text.new ≡ string_bytes text.old ++ some_label plot k bar) }
 {
-    if k as u128 % label_step(plot) == 0 {
+    if has_name(plot, k) {
         let told = BarTold::Name(bar.name);
         write_label(text, bar_x(plot, k, 5), plot.panel.below(160), told)
     } else {
@@ -288,8 +299,8 @@ fn add_each_bar(text: &mut String, plot: Plot, total: u64, bars: &[Bar]) -> Resu
 
 /// Adds bars side by side over the grid of an axis of counts, with the units; `total` is what they count in all. A bar
 /// that counts nothing isn't drawn; one that counts any has its line at least. What is below 0 or above a limit has the
-/// colour of limits, and the limit stands before the bar of what is above it. Names stand below bars where there is
-/// room, and shares above them where each bar has a name.
+/// colour of limits, and the limit stands before the bar of what is above it. Names stand below the first and the last
+/// bar and those between where there is room, and shares above bars where each has a name.
 pub fn add_bars(
     text: &mut String,
     panel: Panel,

@@ -176,7 +176,7 @@ fn add_curve(
     add_marks_across(text, plot)?;
     add_units(text, plot, scene.unit, scene.along)?;
     add_frame_rules(text, plot, scene.every)?;
-    add_shade(text, plot, scene.shade)?;
+    add_shade(text, plot, scene.unit, scene.shade)?;
     add_band(text, plot, columns)?;
     add_lines(text, plot, lines)
 }

@@ -62,7 +62,7 @@ impl Unit {
     }
 
     /// The unit as it is told, in HTML.
-    fn name(self, step: u64) -> &'static str
+    pub(crate) fn name(self, step: u64) -> &'static str
         ensures { result.now ≡ unit_name self step }
     {
         match self {

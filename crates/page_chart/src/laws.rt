@@ -1,21 +1,24 @@
 //! The pictures tried by hand. Each function is a theorem: it does nothing, and its clauses are proved.
 
 ghost use Rattle.std.specs.Prelude.{◌≡◌, ◌<◌, ◌≤◌, ◌≤ℤ◌, ◌<ℤ◌, ◌++◌, ◌∷◌, ℕ, ℤ, false, List, [], codes, length, neg_ℤ, pos};
+ghost use Rattle.std.specs.Prelude.{Some, None, true};
 ghost use Rattle.std.specs.List.{list_any};
 ghost use Rattle.flow_measure.specs.Columns.{AreColumns, column_at, greatest_at, least_at, places_in};
 ghost use Rattle.flow_measure.specs.declared.columns.Extremes.{Extremes};
 ghost use Rattle.page_chart.specs.Axes.{axis_of};
-ghost use Rattle.page_chart.specs.Bars.{bars_text, some_share};
+ghost use Rattle.page_chart.specs.Bars.{bars_text, has_name, some_share};
 ghost use Rattle.page_chart.specs.Charts.{IsOn, curve_axis};
 ghost use Rattle.page_chart.specs.declared.lines.Limit.{Limit};
 ghost use Rattle.page_chart.specs.Curve.{EndsAtNumbers, Spans, band_text};
 ghost use Rattle.page_chart.specs.Escapes.{all_written, escaped, is_markup, unescaped};
-ghost use Rattle.page_chart.specs.Lines.{lines_text};
-ghost use Rattle.page_chart.specs.Marks.{apart, high, mark, place, rise, span, tenths_text, y_of};
+ghost use Rattle.page_chart.specs.Lines.{free_of, lines_text, with_name};
+ghost use Rattle.page_chart.specs.Marks.{high, mark, place, rise, span, tenths_text, y_of};
+ghost use Rattle.page_chart.specs.Shades.{shade_named};
 ghost use Rattle.page_chart.specs.declared.axis.Axis.{Axis};
 ghost use Rattle.page_chart.specs.declared.bars.BarName.TheVariants.{From};
+ghost use Rattle.page_chart.specs.declared.grid.Unit.TheVariants.{Packets};
 ghost use Rattle.page_chart.specs.declared.plot.Plot.{Plot};
-ghost use Rattle.page_chart.specs.Worked.{bar, bars_plot, burst_bars, burst_columns, burst_plot, limit_of_4, nothing, wide_plot};
+ghost use Rattle.page_chart.specs.Worked.{bar, bars_plot, burst_bars, burst_columns, burst_plot, eight_plot, limit_of_4, nothing, wide_plot};
 
 /// Axes: with a tick at each number, below 0 in fives, of one number alone, and far from 0.
 #[tactic(auto, unfolding(crate::proofs::Numerals::numerals, crate::proofs::Numerals::places))]
@@ -89,17 +92,21 @@ pub fn lines_by_hand()
         ++ codes "<path class=\"lim\" d=\"M30 120H110\"/><text class=\"lim\" x=\"116\" y=\"124\">empty</text>" }
 {}
 
-/// Names of lines 13.9 units apart or nearer stand 14 units apart, the later one above; others stand at their lines.
+/// Names of lines 13.9 units apart or nearer stand 14 units apart, the later one above; others
+/// stand at their lines. A third one that would touch the first, of which the second stands clear,
+/// stands above both.
 #[tactic(auto, unfolding(crate::proofs::Numerals::places))]
 pub fn names_by_hand()
-    ensures near_above { apart 440 579 ≡ 439 }
-    ensures near_below { apart 700 579 ≡ 439 }
-    ensures far { apart 439 579 ≡ 439 }
-    ensures far_below { apart 719 579 ≡ 719 }
+    ensures near_above { free_of 440 (with_name 579 None) ≡ 439 }
+    ensures near_below { free_of 700 (with_name 579 None) ≡ 439 }
+    ensures far { free_of 439 (with_name 579 None) ≡ 439 }
+    ensures far_below { free_of 719 (with_name 579 None) ≡ 719 }
+    ensures third { free_of 600 (with_name 439 (Some (with_name 579 None))) ≡ 299 }
+    ensures third_below { free_of 719 (with_name 439 (Some (with_name 579 None))) ≡ 719 }
 {}
 
 /// The bars of how often its bucket holds each number: nothing is drawn of 0, the limit stands before what is above it,
-/// and each third bar has its name.
+/// and the first and the last bar have their names, with no room between for a third one's.
 #[tactic(auto, unfolding(crate::proofs::Numerals::numerals, crate::proofs::Numerals::places))]
 pub fn bars_by_hand()
     ensures { bars_text bars_plot 40 0 burst_bars
@@ -107,11 +114,34 @@ pub fn bars_by_hand()
         ++ (codes "<path class=\"bar\" d=\"M52 120V30H68V120Z\"><title>1: 36</title></path>"
         ++ (codes "<path class=\"bar\" d=\"M72 120V117.5H88V120Z\"><title>2: 1</title></path>"
         ++ (codes "<path class=\"bar\" d=\"M92 120V117.5H108V120Z\"><title>3: 1</title></path>"
-        ++ (codes "<text x=\"100\" y=\"136\" text-anchor=\"middle\">3</text>"
         ++ (codes "<path class=\"bar\" d=\"M112 120V117.5H128V120Z\"><title>4: 1</title></path>"
         ++ (codes "<path class=\"bar over\" d=\"M132 120V117.5H148V120Z\"><title>above 4: 1</title></path>"
+        ++ (codes "<text x=\"140\" y=\"136\" text-anchor=\"middle\">above 4</text>"
         ++ (codes "<path class=\"lim\" d=\"M130 20V120\"/>"
         ++ codes "<text class=\"lim\" x=\"126\" y=\"30\" text-anchor=\"end\">limit 4</text>"))))))) }
+{}
+
+/// Of eight bars twenty units apart the first and the last one have their names, and each third one that isn't nearer than
+/// sixty units to the last.
+#[tactic(auto, unfolding(crate::proofs::Numerals::numerals, crate::proofs::Numerals::places))]
+pub fn bar_names_by_hand()
+    ensures first { has_name eight_plot 0 ≡ true }
+    ensures second { has_name eight_plot 1 ≡ false }
+    ensures third { has_name eight_plot 3 ≡ true }
+    ensures near { has_name eight_plot 6 ≡ false }
+    ensures last { has_name eight_plot 7 ≡ true }
+{}
+
+/// The name of what is shaded: at the left end it begins behind the unit of the axis, in the left half where that begins,
+/// and in the right half it ends where that ends.
+#[tactic(auto, unfolding(crate::proofs::Numerals::numerals, crate::proofs::Numerals::places))]
+pub fn shade_names_by_hand()
+    ensures left { shade_named burst_plot Packets (record { from = 0; to = 0 })
+        ≡ codes "<text class=\"lim\" x=\"60.6\" y=\"16\" text-anchor=\"start\">from 0 to 0</text>" }
+    ensures behind { shade_named burst_plot Packets (record { from = 18; to = 24 })
+        ≡ codes "<text class=\"lim\" x=\"66\" y=\"16\" text-anchor=\"start\">from 18 to 24</text>" }
+    ensures right { shade_named burst_plot Packets (record { from = 20; to = 24 })
+        ≡ codes "<text class=\"lim\" x=\"80\" y=\"16\" text-anchor=\"end\">from 20 to 24</text>" }
 {}
 
 /// Where bars are sixty units apart, each has its name and its share: 36 of 40, and 1 of 2,000, which is less than a

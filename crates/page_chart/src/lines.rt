@@ -1,8 +1,9 @@
 //! The lines of limits.
 
 ghost use Rattle.std.specs.Prelude.{◌≡◌, ◌++◌, IfOk, string_bytes};
-ghost use Rattle.page_chart.specs.Lines.{label_text, line_text, lines_text, name_piece, stroke_piece, style_of};
-ghost use Rattle.page_chart.specs.Marks.{apart, base_of};
+ghost use Rattle.page_chart.specs.Lines.{free_of, label_text, line_text, lines_text, name_piece};
+ghost use Rattle.page_chart.specs.Lines.{placed, stroke_piece, style_of, with_name};
+ghost use Rattle.page_chart.specs.Marks.{base_of};
 
 use crate::plot::{Plot, Tenths};
 use std::alloc::AllocError as OutOfMemory;
@@ -114,27 +115,68 @@ fn base_of(plot: Plot, line: Limit) -> Tenths
     plot.base(line.at)
 }
 
-/// The baseline of a name: its own, but above the name before where the two would touch.
-#[tactic(auto, unfolding(crate::specs::Marks::apart))]
-fn apart(own: Tenths, before: Tenths) -> Tenths
-    ensures { result.tenths ≡ apart own.tenths before.tenths }
-{
-    let distance = own.tenths.max(before.tenths) - own.tenths.min(before.tenths);
-    if distance < 140 {
-        let tenths = before.tenths.saturating_sub(140);
-        return Tenths { tenths };
-    }
-    own
+/// The heights of the names that stand beside lines, in tenths of a unit: of the topmost and of the
+/// lowest.
+#[derive(Clone, Copy, Debug, PartialEq, Eq)]
+pub(crate) struct Names {
+    top: u128,
+    lowest: u128,
 }
 
-/// Adds the lines of limits, each with its name beside it; a name that would touch the one before it stands above that.
+/// The least distance of two names, in tenths of a unit.
+const APART: u128 = 140;
+
+/// The height of a name: that of its line where this is far enough above all these names, or below
+/// all of them; else above all.
+#[tactic(auto, unfolding(crate::specs::Lines::free_of))]
+fn free_of(own: Tenths, names: Names) -> Tenths
+    ensures { result.tenths ≡ free_of own.tenths names }
+{
+    let above = names.top.saturating_sub(own.tenths);
+    let below = own.tenths.saturating_sub(names.lowest);
+    if APART <= above || APART <= below {
+        return own;
+    }
+    let tenths = names.top.saturating_sub(APART);
+    Tenths { tenths }
+}
+
+/// The height of a name, where these names stand already.
+fn placed(own: Tenths, names: Option<Names>) -> Tenths
+    ensures { result.tenths ≡ placed own.tenths names }
+{
+    match names {
+        None => own,
+        Some(names) => free_of(own, names),
+    }
+}
+
+/// The names with one more, at this height.
+fn with_name(base: Tenths, names: Option<Names>) -> Names
+    ensures { result ≡ with_name base.tenths names }
+{
+    match names {
+        None => Names {
+            top: base.tenths,
+            lowest: base.tenths,
+        },
+        Some(names) => Names {
+            top: names.top.min(base.tenths),
+            lowest: names.lowest.max(base.tenths),
+        },
+    }
+}
+
+/// Adds the lines of limits, each with its name beside it; a name that isn't clear of those before
+/// it stands above all of them.
 pub fn add_lines(text: &mut String, plot: Plot, lines: &[Limit]) -> Result<(), OutOfMemory>
     ensures { IfOk result (λ _. string_bytes text.new ≡ string_bytes text.old ++ lines_text plot lines.now) }
 {
-    let mut before = plot.panel.below(1000);
+    let mut names = None;
     for line in lines {
-        before = apart(base_of(plot, *line), before);
-        add_line(text, plot, before, *line)?;
+        let base = placed(base_of(plot, *line), names);
+        names = Some(with_name(base, names));
+        add_line(text, plot, base, *line)?;
     }
     Ok(())
 }

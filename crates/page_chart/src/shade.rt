@@ -1,9 +1,10 @@
 //! Places that are shaded.
 
-ghost use Rattle.std.specs.Prelude.{◌≡◌, ◌-◌, ◌++◌, IfOk, string_bytes};
+ghost use Rattle.std.specs.Prelude.{◌≡◌, ◌-◌, ◌++◌, IfOk, max, string_bytes};
 ghost use Rattle.page_chart.specs.Marks.{tenths};
-ghost use Rattle.page_chart.specs.Shades.{shade_left, shade_name, shade_named, shade_piece, shade_right, shade_text};
+ghost use Rattle.page_chart.specs.Shades.{behind_unit, shade_left, shade_name, shade_named, shade_piece, shade_right, shade_text};
 
+use crate::grid::Unit;
 use crate::plot::{Panel, Plot, Tenths};
 use std::alloc::AllocError as OutOfMemory;
 
@@ -78,19 +79,42 @@ fn above_top(panel: Panel) -> Tenths
     Tenths { tenths }
 }
 
-/// Adds which places they are, on the side where there is more room.
+/// Where there is room behind the unit of the axis.
+#[tactic(auto, unfolding(crate::specs::Shades::behind_unit))]
+fn behind_unit(plot: Plot, unit: Unit) -> u128
+    ensures { result ≡ behind_unit plot unit }
+{
+    78 * unit.name(plot.axis.step).len() as u128 + 60
+}
+
+/// Where a name begins that is to begin here: no farther left than behind the unit of the axis.
+fn clear_of_unit(plot: Plot, unit: Unit, x: Tenths) -> Tenths
+    ensures { result ≡ tenths (max (behind_unit plot unit) x.tenths) }
+{
+    let tenths = behind_unit(plot, unit).max(x.tenths);
+    Tenths { tenths }
+}
+
+/// Adds which places they are, above them and clear of the unit of the axis.
 #[tactic(auto, unfolding(crate::specs::Shades::shade_named))]
-fn add_shade_name(text: &mut String, plot: Plot, shade: Shade) -> Result<(), OutOfMemory>
-    ensures { IfOk result (λ _. string_bytes text.new ≡ string_bytes text.old ++ shade_named plot shade) }
+fn add_shade_name(
+    text: &mut String,
+    plot: Plot,
+    unit: Unit,
+    shade: Shade,
+) -> Result<(), OutOfMemory>
+    ensures { IfOk result (λ _. string_bytes text.new ≡ string_bytes text.old ++ shade_named plot unit shade) }
 {
     let (left, right, base) = (shade.left(plot), shade.right(plot), above_top(plot.panel));
     let first = u128::from(plot.across.start) + u128::from(shade.from);
     let last = u128::from(plot.across.start) + u128::from(shade.to);
-    let middle = 2 * u128::from(plot.panel.left) + u128::from(plot.panel.width);
-    if left.tenths < middle.saturating_sub(right.tenths) {
-        write_shade_name(text, right, base, "start", first, last)
+    let before = left.tenths.saturating_sub(plot.panel.left().tenths);
+    let behind = plot.panel.right().tenths.saturating_sub(left.tenths);
+    if before < behind {
+        let x = clear_of_unit(plot, unit, left);
+        write_shade_name(text, x, base, "start", first, last)
     } else {
-        write_shade_name(text, left, base, "end", first, last)
+        write_shade_name(text, right, base, "end", first, last)
     }
 }
 
@@ -98,16 +122,17 @@ fn add_shade_name(text: &mut String, plot: Plot, shade: Shade) -> Result<(), Out
 pub(crate) fn add_shade(
     text: &mut String,
     plot: Plot,
+    unit: Unit,
     shade: Option<Shade>,
 ) -> Result<(), OutOfMemory>
-    ensures { IfOk result (λ _. string_bytes text.new ≡ string_bytes text.old ++ shade_text plot shade) }
+    ensures { IfOk result (λ _. string_bytes text.new ≡ string_bytes text.old ++ shade_text plot unit shade) }
 {
     match shade {
         None => Ok(()),
         Some(shade) => {
             let (panel, left, right) = (plot.panel, shade.left(plot), shade.right(plot));
             write_shade(text, left, panel.top(), panel.bottom(), right)?;
-            add_shade_name(text, plot, shade)
+            add_shade_name(text, plot, unit, shade)
         }
     }
 }

@@ -16,7 +16,7 @@ returns c =
     let b : List ℕ = marks_across p in
     let d : List ℕ = units_text p s.unit s.along in
     let e : List ℕ = frame_rules p s.every in
-    let f : List ℕ = shade_text p s.shade in
+    let f : List ℕ = shade_text p s.unit s.shade in
     let g : List ℕ = band_text p c.args.columns.now in
     let h : List ℕ = lines_text p c.args.lines.now in
     two_ok r (string_bytes c.args.text.now) a (b ++ (d ++ (e ++ (f ++ (g ++ h))))) _ _ c.in_ok-add_grid.ensures

@@ -5,4 +5,4 @@ use Rattle.page_chart.proofs.lines.add_lines.Given as goal
 
 abbrev pub invariant-loop-line : goal.invariant-loop-line
 invariant-loop-line l =
-    string_bytes l.text ++ lines_after l.plot l.before.tenths (drop l.line-index l.lines) ≡ string_bytes l.fn.text ++ lines_text l.plot l.lines
+    string_bytes l.text ++ lines_after l.plot l.names (drop l.line-index l.lines) ≡ string_bytes l.fn.text ++ lines_text l.plot l.lines
