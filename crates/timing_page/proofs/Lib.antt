@@ -5,5 +5,8 @@ mod Showing
 mod Once
 mod Columns
 pub mod Some
+mod Numbers
+mod Drawings
+pub mod Unique
 mod Finding
 mod Answering

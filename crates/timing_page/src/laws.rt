@@ -20,6 +20,12 @@ pub fn some_page_answer()
         → All (λ r. IsStamp r.stamp) items → (answer : Answer) × HasPage job media text answer }
 {}
 
+/// The texts of `page` have no two answers.
+pub fn one_page_answer()
+    ensures { (job : CaptureJob) (media : List Media) (text : List ℕ) (a b : Answer)
+        → HasPage job media text a → HasPage job media text b → a ≡ b }
+{}
+
 /// Of two judged runs that are the longest the first is shown.
 pub fn first_of_the_longest()
     ensures one { (part : JudgedPart) → IsLongest (part_of 1 40 ∷ part_of 2 60 ∷ part_of 4 60 ∷ []) part
