@@ -1,6 +1,5 @@
 -- The texts of a request define one answer.
 use Rattle.std.proofs.Common.{◌≡◌, ◌⊎◌, ℕ, List, [], ◌∷◌, Option, Some, None, true, refl, sym, ◌∙◌}
-use Rattle.std.proofs.lemmas.Bool.{false≢true}
 use Rattle.std.specs.Prelude.{Result, Ok, Err, map}
 use Rattle.std.proofs.lemmas.List.Elements.{All-head, All-tail}
 use Rattle.timing_base.specs.Jobs.{CheckJob}
@@ -16,7 +15,7 @@ use Rattle.timing_steps.specs.Answers.{Answer, AreThere, AreTold, Gives, Inputs,
 use Rattle.timing_steps.specs.declared.failure.Failure.{Failure}
 use Rattle.timing_steps.specs.declared.failure.Failure.TheVariants as failure
 use Rattle.timing_top.specs.Check.{CheckInputRose, FollowsCheck}
-use Rattle.timing_top.specs.Asked.{Follows, FollowsAtOnce, FollowsHelp, FollowsSelfTest, InputRose, MeasuresBytes, has_one, names_of, page}
+use Rattle.timing_top.specs.Asked.{Follows, FollowsAtOnce, FollowsHelp, FollowsSelfTest, InputRose, MeasuresBytes, names_of, page}
 use Rattle.timing_top.specs.Report.{HasReport}
 use Rattle.timing_top.specs.SelfTest.{HasSelfTest}
 use Rattle.timing_top.proofs.Answering.{Caused, captured-failed, described-failed, not-given, only-captured, only-described, only-given, only-silent}
@@ -24,13 +23,14 @@ use Rattle.timing_top.proofs.Answering.{only-yielded, some-captured, some-descri
 use Rattle.timing_measure.specs.Measures.{HasMeasure, MeasureInputRose}
 use Rattle.timing_measure.proofs.Unique.{once-measure}
 use Rattle.timing_page.specs.Pages.{HasPage, PageInputRose}
+use Rattle.timing_page.proofs.Unique.{once-page}
 use Rattle.timing_reach.specs.Asked.{HasWindow}
 use Rattle.timing_reach.specs.Shaped.{HasShapeIn}
 use Rattle.timing_reach.proofs.SomeShape.{once-shape-in, some-shape-in}
 use Rattle.timing_reach.proofs.Unique.{once-window, some-window}
 use Rattle.timing_series.specs.Series.{HasSeries}
 use Rattle.timing_series.proofs.Unique.{once-series}
-use Rattle.timing_top.proofs.Measurable.{some-measure, some-series}
+use Rattle.timing_top.proofs.Measurable.{some-measure, some-page, some-series}
 use Rattle.timing_top.proofs.Measuring.{flows-failed, only-flows, some-flows}
 use Rattle.timing_top.proofs.Reaching.{only-reach, only-scanned, only-skewed, reach-failed, scanned-failed, skewed-failed}
 use Rattle.timing_top.proofs.Reaching.{some-reach, some-reach-bytes, some-scanned, some-skewed}
@@ -102,46 +102,48 @@ at_once-failed ends e Rises h = yielded-failed (Gives (Err e) (λ x. x ≡ silen
 
 -- there is one answer
 pub some-answer : (asked : Option Request) (i : Inputs) (texts : List (List ℕ)) → AreThere i.lacks (names_of asked) → AreTold i.texts (names_of asked) texts
-    → MeasuresBytes asked texts → has_one asked ≡ true
+    → MeasuresBytes asked texts
     → (answer : Answer) × Follows asked i (Ok answer)
-some-answer None i texts there told bytes one = some-at_once status.Usage
-some-answer (Some (request.Check job)) i texts there told bytes one = some-check job i texts there told
-some-answer (Some (request.Verify job)) i texts there told bytes one = some-verify job i texts there told
-some-answer (Some (request.VerifyReport job)) i texts there told bytes one = some-reread job i texts there told
-some-answer (Some (request.SelfTest job)) i texts there told bytes one = some-self job.frames
-some-answer (Some (request.Window job)) i texts there told bytes one =
+some-answer None i texts there told bytes = some-at_once status.Usage
+some-answer (Some (request.Check job)) i texts there told bytes = some-check job i texts there told
+some-answer (Some (request.Verify job)) i texts there told bytes = some-verify job i texts there told
+some-answer (Some (request.VerifyReport job)) i texts there told bytes = some-reread job i texts there told
+some-answer (Some (request.SelfTest job)) i texts there told bytes = some-self job.frames
+some-answer (Some (request.Window job)) i texts there told bytes =
     some-reach job i texts (HasWindow job.tai) there told (λ m is text. some-window job.tai m text)
-some-answer (Some (request.Shape job)) i texts there told bytes one =
+some-answer (Some (request.Shape job)) i texts there told bytes =
     some-reach job.flow i texts (HasShapeIn job) there told (λ m is text. some-shape-in job m text is)
-some-answer (Some (request.Skew job)) i texts there told bytes one = some-skewed job i texts there told
-some-answer (Some (request.Scan job)) i texts there told bytes one = some-scanned job i texts there told
-some-answer (Some (request.Measure job)) i texts there told bytes one =
+some-answer (Some (request.Skew job)) i texts there told bytes = some-skewed job i texts there told
+some-answer (Some (request.Scan job)) i texts there told bytes = some-scanned job i texts there told
+some-answer (Some (request.Measure job)) i texts there told bytes =
     some-flows job i texts (HasMeasure job) there told bytes.1 (λ media text. some-measure job media text bytes.0)
-some-answer (Some (request.Series job)) i texts there told bytes one =
+some-answer (Some (request.Series job)) i texts there told bytes =
     some-reach-bytes job.flow i texts (HasSeries job.frames job.flow.tai) there told bytes.1 (λ m is text. some-series job m text bytes.0 is)
-some-answer (Some (request.Page job)) i texts there told bytes one = absurd (false≢true one)
-some-answer (Some (request.Help named)) i texts there told bytes one = some-help named
+some-answer (Some (request.Page job)) i texts there told bytes =
+    some-flows job i texts (HasPage job) there told bytes.1 (λ media text. some-page job media text bytes.0)
+some-answer (Some (request.Help named)) i texts there told bytes = some-help named
 
 -- there are not two
 pub only-answer : (asked : Option Request) (i : Inputs) (texts : List (List ℕ)) (a b : Answer) → AreTold i.texts (names_of asked) texts
-    → has_one asked ≡ true → Follows asked i (Ok a)
+    → Follows asked i (Ok a)
     → Follows asked i (Ok b) → a ≡ b
-only-answer None i texts a b told one h k = only-at_once status.Usage a b h k
-only-answer (Some (request.Check job)) i texts a b told one h k = only-check job i texts a b told h k
-only-answer (Some (request.Verify job)) i texts a b told one h k = only-verify job i texts a b told h k
-only-answer (Some (request.VerifyReport job)) i texts a b told one h k = only-reread job i texts a b told h k
-only-answer (Some (request.SelfTest job)) i texts a b told one h k = only-self job.frames a b h k
-only-answer (Some (request.Window job)) i texts a b told one h k =
+only-answer None i texts a b told h k = only-at_once status.Usage a b h k
+only-answer (Some (request.Check job)) i texts a b told h k = only-check job i texts a b told h k
+only-answer (Some (request.Verify job)) i texts a b told h k = only-verify job i texts a b told h k
+only-answer (Some (request.VerifyReport job)) i texts a b told h k = only-reread job i texts a b told h k
+only-answer (Some (request.SelfTest job)) i texts a b told h k = only-self job.frames a b h k
+only-answer (Some (request.Window job)) i texts a b told h k =
     only-reach job i texts (HasWindow job.tai) a b told (λ m text. once-window job.tai m text) h k
-only-answer (Some (request.Shape job)) i texts a b told one h k = only-reach job.flow i texts (HasShapeIn job) a b told (once-shape-in job) h k
-only-answer (Some (request.Skew job)) i texts a b told one h k = only-skewed job i texts a b told h k
-only-answer (Some (request.Scan job)) i texts a b told one h k = only-scanned job i texts a b told h k
-only-answer (Some (request.Measure job)) i texts a b told one h k =
+only-answer (Some (request.Shape job)) i texts a b told h k = only-reach job.flow i texts (HasShapeIn job) a b told (once-shape-in job) h k
+only-answer (Some (request.Skew job)) i texts a b told h k = only-skewed job i texts a b told h k
+only-answer (Some (request.Scan job)) i texts a b told h k = only-scanned job i texts a b told h k
+only-answer (Some (request.Measure job)) i texts a b told h k =
     only-flows job i texts (HasMeasure job) a b told (λ media text. once-measure job media text) h k
-only-answer (Some (request.Series job)) i texts a b told one h k =
+only-answer (Some (request.Series job)) i texts a b told h k =
     only-reach job.flow i texts (HasSeries job.frames job.flow.tai) a b told (λ m text. once-series job.frames job.flow.tai m text) h k
-only-answer (Some (request.Page job)) i texts a b told one h k = absurd (false≢true one)
-only-answer (Some (request.Help named)) i texts a b told one h k = only-help named a b h k
+only-answer (Some (request.Page job)) i texts a b told h k =
+    only-flows job i texts (HasPage job) a b told (λ media text. once-page job media text) h k
+only-answer (Some (request.Help named)) i texts a b told h k = only-help named a b h k
 
 -- what has none has a cause
 pub answer-failed : (asked : Option Request) (i : Inputs) (texts : List (List ℕ)) (e : Failure) → AreTold i.texts (names_of asked) texts

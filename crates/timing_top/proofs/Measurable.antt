@@ -1,4 +1,4 @@
--- The texts of `measure` and `series` have an answer.
+-- The texts of `measure`, `series` and `page` have an answer.
 use Rattle.std.proofs.Common.{◌^◌, ◌+◌, ℕ, List, arith}
 use Rattle.std.specs.Prelude.{All}
 use Rattle.std.proofs.lemmas.List.Elements.{All-weaker}
@@ -11,6 +11,8 @@ use Rattle.pcapng_reader.specs.Bytes.{AreBytes}
 use Rattle.timing_steps.specs.Answers.{Answer}
 use Rattle.timing_measure.specs.Measures.{HasMeasure}
 use Rattle.timing_measure.proofs.Some.{some-measure-answer}
+use Rattle.timing_page.specs.Pages.{HasPage}
+use Rattle.timing_page.proofs.Some.{some-page-answer}
 use Rattle.timing_series.specs.Series.{HasSeries}
 use Rattle.timing_series.proofs.Some.{some-series-answer}
 use Rattle.timing_top.proofs.Small.{IsSmall, one-small}
@@ -30,4 +32,12 @@ some-series job m text within is bytes =
     let all = some_by (header text) (2 ^ 40) text in
     let small = one-small text all.0 all.1 bytes all.2 in
     some-series-answer job.frames job.flow.tai m text all.0 all.1 is within.tai_most all.2 (omega (arith, small.few))
+    (All-weaker (IsSmall (0 + 2 ^ 36)) (λ (r : Record). IsStamp r.stamp) (λ r s. s.stamp) all.0 small.each)
+
+pub some-page : (job : CaptureJob) (media : List Media) (text : List ℕ) → IsCaptureJob job → All IsMedia media → AreBytes text
+    → (answer : Answer) × HasPage job media text answer
+some-page job media text within are bytes =
+    let all = some_by (header text) (2 ^ 40) text in
+    let small = one-small text all.0 all.1 bytes all.2 in
+    some-page-answer job media text all.0 all.1 within are all.2 (omega (arith, small.few))
     (All-weaker (IsSmall (0 + 2 ^ 36)) (λ (r : Record). IsStamp r.stamp) (λ r s. s.stamp) all.0 small.each)

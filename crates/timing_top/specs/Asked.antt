@@ -82,18 +82,13 @@ names_of (Some (request.Series job)) = job.flow.sdp ∷ job.flow.capture ∷ []
 names_of (Some (request.Page job)) = job.sdp ∷ job.capture ∷ []
 names_of other = []
 
--- where `measure` or `series` is asked for: its job is within its limits, as that of all words is, and these
+-- where `measure`, `series` or `page` is asked for: its job is within its limits, as that of all words is, and these
 -- texts are of bytes, as those of all files are
 abbrev pub MeasuresBytes : Option Request → List (List ℕ) → Type 0
 MeasuresBytes (Some (request.Measure job)) told = IsCaptureJob job × All AreBytes told
 MeasuresBytes (Some (request.Series job)) told = IsFlowJob job.flow × All AreBytes told
+MeasuresBytes (Some (request.Page job)) told = IsCaptureJob job × All AreBytes told
 MeasuresBytes other told = ⊤
-
--- of which it is said that there is one answer and not two: all requests but `page`. What its texts define is in
--- `FollowsPage`; that this is one page isn't proved
-abbrev pub has_one : Option Request → Bool
-has_one (Some (request.Page job)) = false
-has_one asked = true
 
 -- what was seen of a shelf that tells by a test which names it lacks; the laws speak of such shelves
 abbrev pub seen : (texts : List ℕ → Option (List ℕ)) → (lacking : List ℕ → Bool) → (before now : List ℕ → ℕ) → Inputs

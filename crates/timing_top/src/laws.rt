@@ -12,7 +12,7 @@ ghost use Rattle.timing_steps.specs.Answers.{Answer, AreTold, seen_of};
 ghost use Rattle.timing_steps.specs.Ran.{Output, Ran};
 ghost use Rattle.timing_steps.specs.declared.failure.Failure.{Failure};
 ghost use Rattle.timing_steps.specs.declared.failure.Failure.TheVariants as failure;
-ghost use Rattle.timing_top.specs.Asked.{Follows, InputRose, MeasuresBytes, has_one, names_of, seen};
+ghost use Rattle.timing_top.specs.Asked.{Follows, InputRose, MeasuresBytes, names_of, seen};
 ghost use Rattle.timing_top.specs.Check.{FollowsCheck};
 ghost use Rattle.timing_top.specs.Headline.{Headline, NoRequest, with_workers};
 ghost use Rattle.timing_top.specs.SelfTest.{HasSelfTest};
@@ -50,20 +50,20 @@ pub fn plain_media_by_hand()
     ensures { session sdp_text ≡ Ok (plain_media ∷ []) }
 {}
 
-/// The texts of a request define one answer, whatever is asked but `page`. Where the texts of all inputs that it names
-/// are told and none is lacking, there is one answer and there are not two; and what has none, of `page` too, ran out of
-/// memory or names an input whose count rose. Of `verify-report` that speaks of all its captures, though it reads only
-/// those that the fails of its report need; that `measure` and `series` have an answer is said of texts of bytes,
-/// which those of all files are.
+/// The texts of a request define one answer, whatever is asked. Where the texts of all inputs that it names are told and
+/// none is lacking, there is one answer and there are not two; and what has none ran out of memory or names an input
+/// whose count rose. Of `verify-report` that speaks of all its captures, though it reads only those that the fails of
+/// its report need; that `measure`, `series` and `page` have an answer is said of texts of bytes, which those of all
+/// files are.
 pub fn one_answer()
     ensures some { (asked : Option Request) (texts : List ℕ → Option (List ℕ))
         (lacking : List ℕ → Bool) (before now : List ℕ → ℕ) (told : List (List ℕ))
         → All (λ name. lacking name ≡ false) (names_of asked)
-        → AreTold texts (names_of asked) told → MeasuresBytes asked told → has_one asked ≡ true
+        → AreTold texts (names_of asked) told → MeasuresBytes asked told
         → (answer : Answer) × Follows asked (seen texts lacking before now) (Ok answer) }
     ensures once { (asked : Option Request) (texts : List ℕ → Option (List ℕ))
         (lacking : List ℕ → Bool) (before now : List ℕ → ℕ) (told : List (List ℕ)) (a b : Answer)
-        → AreTold texts (names_of asked) told → has_one asked ≡ true
+        → AreTold texts (names_of asked) told
         → Follows asked (seen texts lacking before now) (Ok a)
         → Follows asked (seen texts lacking before now) (Ok b) → a ≡ b }
     ensures failed { (asked : Option Request) (texts : List ℕ → Option (List ℕ))
