@@ -66,9 +66,9 @@ planned-step j packets from i order within =
       )
       | inr past ↦ elim (cases_lt (i - from - j.head) j.packets) as (λ _. (later : List FlowPacket) × (planned_packets j packets from (i + 1) ≡ here
           ++ later)) [
-        | inl few ↦ (packet packets i ∷ [], planned-more j packets from i order within (omega (arith, past)) few)
-        | inr all ↦ ([], planned-behind j packets from i order within (omega (arith, past)) (omega (arith, all)) ∙ sym (append-nil here))
-      ]
+            | inl few ↦ (packet packets i ∷ [], planned-more j packets from i order within (omega (arith, past)) few)
+            | inr all ↦ ([], planned-behind j packets from i order within (omega (arith, past)) (omega (arith, all)) ∙ sym (append-nil here))
+          ]
     ]
 
 planned-front : (j : Judged) (packets : List FlowPacket) (from i d : ℕ) → from ≤ i → i + d ≤ length packets

@@ -168,9 +168,12 @@ pub rests-seen : (i j : Inputs) (o : Output) (job : SeriesJob) (m : Media) (rest
     → Rests o (λ outcome. Yields outcome (ReadsCapture j outcome job.flow.capture (λ text. Gives outcome (HasSeries job.frames job.flow.tai m text))))
     (λ front. (text : List ℕ) → classic_texts j.texts job.flow.capture ≡ Some text → (front ≡ []) ⊎ BeginsIn job.frames job.flow.tai m text front) rest
     → Rests o (FollowsSeries job i) (BeginsSeries job i) rest
-rests-seen i j o job m (Ok rest) s there told h =
-    (h.0, h.1, found-follows i j job.flow (HasSeries job.frames job.flow.tai) (Ok (record { text = h.0 ++ rest.text; status = rest.status })) m s there told
-        h.2)
+rests-seen i j o job m (Ok rest) s there told h = (
+  h.0,
+  h.1,
+  found-follows i j job.flow (HasSeries job.frames job.flow.tai) (Ok (record { text = h.0 ++ rest.text; status = rest.status })) m s there told
+      h.2,
+)
 rests-seen i j o job m (Err e) s there told h = (
   follows-or e (λ outcome. Yields outcome (ReadsCapture j outcome job.flow.capture (λ text. Gives outcome (HasSeries job.frames job.flow.tai m text))))
       (FollowsSeries job i) (found-follows i j job.flow (HasSeries job.frames job.flow.tai) (Err e) m s there told) h.0,
@@ -251,8 +254,11 @@ pub stream-cause : (i : Inputs) (between : ℕ) (o : Output) (job : SeriesJob) (
     → IfErr rest (λ e. OnFailure o e (FlowInputRose job.flow i))
 stream-cause i between o job (Ok answer) earlier cause = tt
 stream-cause i between o job (Err (failure.ReadFault x)) earlier cause =
-    subst (FlowInputRose job.flow i) (sym cause.0) (refl, rose-within (i.before job.flow.capture) between (i.now job.flow.capture) (i.now job.flow.capture)
-        earlier (omega arith) cause.1)
+    subst (FlowInputRose job.flow i) (sym cause.0) (
+      refl,
+      rose-within (i.before job.flow.capture) between (i.now job.flow.capture) (i.now job.flow.capture)
+          earlier (omega arith) cause.1,
+    )
 stream-cause i between o job (Err failure.WriteFault) earlier cause = cause
 stream-cause i between o job (Err failure.OutOfMemory) earlier cause = tt
 

@@ -66,7 +66,7 @@ held-once m n stamps gapped k least greatest other_least other_greatest within h
     let same : (i : ℕ) → IsOfGroup n k i → h.occupancy i ≡ j.occupancy i =
     λ i of.
     occupancy-once m n stamps gapped i (h.occupancy i) (j.occupancy i) (h.are i (omega (arith, within, of.below))) (j.are i (omega (arith, within, of.below)))
-        in (
+    in (
       least-once h.occupancy (IsOfGroup n k) least other_least h.least_is
           (IsLeast-same j.occupancy h.occupancy (IsOfGroup n k) other_least same j.least_is),
       greatest-once h.occupancy (IsOfGroup n k) greatest other_greatest h.greatest_is

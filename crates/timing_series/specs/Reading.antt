@@ -61,7 +61,7 @@ feeds_more m x y z here more a b first second frames number tai found rows packe
     subst (λ l. StandsFor frames m number tai found z l (packets ++ flow (a ++ b) m)) (append_assoc rows here more)
     (fed_more (StandsFor frames m number tai found z ((rows ++ here) ++ more)) m packets a b
     (second frames number tai found (rows ++ here) (packets ++ flow a m) (first frames number tai found rows packets
-        h)))
+    h)))
 
 -- the flow of these records was fed, and what is printed at its packets stands behind what isn't written yet
 pub record TakesOn (m : Media) (old new : SeriesMeter) (items : List Record) : Type 0 where

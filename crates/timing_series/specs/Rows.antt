@@ -46,8 +46,8 @@ pub record IsSeries (frames : Bool) (m : Media) (tai : ℕ) (packets : List Flow
 
 -- a front of it
 pub record IsSeriesFront (frames : Bool) (m : Media) (tai : ℕ) (packets : List FlowPacket) (text : List ℕ) : Type 0
-    where
-  pub rows : List ℕ
-  pub begin : BeginRowsOf frames m tai (judged_parts m packets tai) rows
-  pub count : ℕ
-  pub text_is : text ≡ take count (header_text frames ++ rows)
+  where
+    pub rows : List ℕ
+    pub begin : BeginRowsOf frames m tai (judged_parts m packets tai) rows
+    pub count : ℕ
+    pub text_is : text ≡ take count (header_text frames ++ rows)

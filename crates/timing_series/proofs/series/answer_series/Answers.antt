@@ -16,7 +16,7 @@ returns-in-Ok-clause-rests g c =
     (sees-rest g.H.Shelf.text g.H.Shelf.lacks g.H.Shelf.faults c.args.shelf.now c.find_media.new.shelf c.answer_flow.new.shelf c.find_media.ensures.stays)
     (search (rules, c.in_ok-media.ensures.there))
     (λ text t. subst (IsFound (session text) c.args.job.now.flow.media) c.in-Ok.is (search (rules, c.in_ok-media.ensures.told text (search (rules, t)))))
-        c.answer_flow.ensures.rests
+    c.answer_flow.ensures.rests
 
 pub returns-in-Err-clause-rests : goal.returns-in-Err-clause-rests
 returns-in-Err-clause-rests g c =

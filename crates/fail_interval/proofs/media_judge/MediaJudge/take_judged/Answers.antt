@@ -8,5 +8,5 @@ returns-clause-takes c = λ goes. record {
   carried = c.in-Some.ensures;
   takes = λ number.
       takes_carried c.args.self.now _ number c.args.at c.in-Some.expected c.args.frame.now refl (c.feed_judged.ensures.took goes number).stands
-          c.in-Some.ensures;
+      c.in-Some.ensures;
 }
