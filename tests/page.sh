@@ -64,6 +64,12 @@ run_browser() {
         --enable-logging=stderr "$@" 2> "$folder/log"
 }
 
+# a browser that opens nothing here says nothing of a page
+if [ -n "$browser" ] && ! run_browser --dump-dom about:blank > /dev/null; then
+    left_out+=("how pages look: $browser doesn't run here")
+    browser=''
+fi
+
 # A page in a frame of this width, since no window is narrower than 500 pixels.
 framed() {
     printf '<!DOCTYPE html><html lang="en"><meta charset="utf-8"><title>framed</title><body style="margin:0"><iframe width="%s" height="%s" style="border:0" srcdoc="' \
