@@ -38,6 +38,7 @@ impl Before {
     }
 
     /// The number that would have gone on, where a cut stands at the next packet.
+    #[inline(always)]
     pub fn cut(&self, rtp: Rtp) -> Option<u32>
         ensures { (packets : List FlowPacket) (i at : ℕ) → IsAfter packets i self.now
             → IsRead packets i at rtp → result ≡ cut_at packets i }
@@ -51,6 +52,7 @@ impl Before {
     }
 
     /// Whether the next packet has another source than the flow's first.
+    #[inline(always)]
     fn is_second_source(&self, rtp: Rtp) -> bool
         ensures { (packets : List FlowPacket) (i at : ℕ) → IsAfter packets i self.now
             → IsRead packets i at rtp → result ≡ is_second_source packets i }
@@ -59,6 +61,7 @@ impl Before {
     }
 
     /// The fault of the next packet by its RTP timestamp, where no cut stands at it.
+    #[inline(always)]
     fn timestamp_fault(&self, rtp: Rtp) -> Option<PacketFault>
         ensures { (packets : List FlowPacket) (i at : ℕ) → IsAfter packets i self.now
             → IsRead packets i at rtp → is_cut packets i ≡ false
@@ -78,6 +81,7 @@ impl Before {
 
     /// The fault of the next packet by the packet before: a gap too many, a stamp that goes back, or a
     /// frame or field that ends without the marker or goes on after it.
+    #[inline(always)]
     fn order_fault(&self, at: u64, rtp: Rtp, cut: Option<u32>, so_far: u64) -> Option<PacketFault>
         ensures { (packets : List FlowPacket) (i : ℕ) → IsAfter packets i self.now
             → IsRead packets i at rtp → cut ≡ cut_at packets i → so_far ≡ length (cuts packets i)
@@ -98,6 +102,7 @@ impl Before {
     }
 
     /// The fault of the next packet by the packets before it.
+    #[inline(always)]
     pub fn fault(&self, at: u64, rtp: Rtp, cut: Option<u32>, so_far: u64) -> Option<PacketFault>
         ensures { (packets : List FlowPacket) (i : ℕ) → IsAfter packets i self.now
             → IsRead packets i at rtp → cut ≡ cut_at packets i → so_far ≡ length (cuts packets i)

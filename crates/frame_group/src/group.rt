@@ -40,6 +40,7 @@ impl Group {
 
     /// The fault of the next packet: its group has another size than the first one, or is the first
     /// and gets too large.
+    #[inline(always)]
     fn fault(&self, last: bool) -> Option<PacketFault>
         ensures is { (packets : List FlowPacket) (i : ℕ)
             → IsGroup (markers_before packets i) i self.now → has_marker packets i ≡ last
@@ -102,6 +103,7 @@ impl Group {
     }
 
     /// The fault of the next packet by its group, if it stands in one.
+    #[inline(always)]
     pub fn fault_in(group: Option<Group>, last: bool) -> Option<PacketFault>
         ensures is { (packets : List FlowPacket) (i : ℕ)
             → IsIn (markers_before packets i) i group → has_marker packets i ≡ last

@@ -48,6 +48,7 @@ impl Grouper {
     }
 
     /// The number that would have gone on, where a cut stands at the next packet.
+    #[inline(always)]
     fn cut(&self, rtp: Rtp) -> Option<u32>
         ensures { (packets : List FlowPacket) (i at : ℕ) → Keeps packets i self.now
             → IsRead packets i at rtp → result ≡ cut_at packets i }
@@ -59,6 +60,7 @@ impl Grouper {
     }
 
     /// The fault of the next packet by the packets before it, if there are any.
+    #[inline(always)]
     fn earlier_fault(&self, at: u64, rtp: Rtp, cut: Option<u32>) -> Option<PacketFault>
         ensures { (packets : List FlowPacket) (i : ℕ) → Keeps packets i self.now
             → IsRead packets i at rtp → cut ≡ cut_at packets i
@@ -72,6 +74,7 @@ impl Grouper {
     }
 
     /// The fault of the next packet, which has this cut and stands in this group.
+    #[inline(always)]
     fn fault_at(
         &self,
         at: u64,
