@@ -10,3 +10,4 @@ pub mod Found
 pub mod Answering
 pub mod Some
 pub mod Unique
+pub mod lemmas

@@ -6,3 +6,5 @@ pub mod Measures
 pub mod metering
 pub mod Banks
 pub mod Readings
+pub mod series
+pub mod page

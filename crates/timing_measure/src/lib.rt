@@ -10,6 +10,8 @@ pub mod bank;
 pub mod laws;
 mod measure;
 pub mod metering;
+pub mod page;
 pub mod readings;
+pub mod series;
 
 pub use measure::measure_one;

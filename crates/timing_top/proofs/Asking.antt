@@ -22,14 +22,14 @@ use Rattle.timing_top.proofs.Answering.{Caused, captured-failed, described-faile
 use Rattle.timing_top.proofs.Answering.{only-yielded, some-captured, some-described, some-given, some-yielded, yielded-failed}
 use Rattle.timing_measure.specs.Measures.{HasMeasure, MeasureInputRose}
 use Rattle.timing_measure.proofs.Unique.{once-measure}
-use Rattle.timing_page.specs.Pages.{HasPage, PageInputRose}
-use Rattle.timing_page.proofs.Unique.{once-page}
+use Rattle.timing_measure.specs.page.Pages.{HasPage, PageInputRose}
+use Rattle.timing_measure.proofs.lemmas.page.Unique.{once-page}
 use Rattle.timing_reach.specs.Asked.{HasWindow}
 use Rattle.timing_reach.specs.Shaped.{HasShapeIn}
 use Rattle.timing_reach.proofs.SomeShape.{once-shape-in, some-shape-in}
 use Rattle.timing_reach.proofs.Unique.{once-window, some-window}
-use Rattle.timing_series.specs.Series.{HasSeries}
-use Rattle.timing_series.proofs.Unique.{once-series}
+use Rattle.timing_measure.specs.series.Series.{HasSeries}
+use Rattle.timing_measure.proofs.lemmas.series.Unique.{once-series}
 use Rattle.timing_top.proofs.Measurable.{some-measure, some-page, some-series}
 use Rattle.timing_top.proofs.Measuring.{flows-failed, only-flows, some-flows}
 use Rattle.timing_top.proofs.Reaching.{only-reach, only-scanned, only-skewed, reach-failed, scanned-failed, skewed-failed}

@@ -15,12 +15,12 @@ use Rattle.timing_steps.specs.Ran.{Appended, Broke, HasCause, Leaves, Output, Ra
 use Rattle.timing_steps.specs.declared.failure.Failure.{Failure}
 use Rattle.timing_steps.specs.declared.failure.Failure.TheVariants as failure
 use Rattle.timing_measure.specs.Measures.{measure_ends}
-use Rattle.timing_page.specs.Pages.{page_ends}
+use Rattle.timing_measure.specs.page.Pages.{page_ends}
 use Rattle.timing_reach.specs.Scanned.{scan_ends}
 use Rattle.timing_top.specs.Asked.{FollowsHelp, FollowsSelfTest}
 use Rattle.timing_top.specs.Ends.{Ends, may_end, reads_inputs, reads_sdp}
 use Rattle.timing_top.specs.Runs.{prints_whole}
-use Rattle.timing_series.specs.Streams.{StreamEnds, is_silent_stream}
+use Rattle.timing_measure.specs.series.Streams.{StreamEnds, is_silent_stream}
 use Rattle.timing_steps.proofs.Endings.{kept-none}
 use Rattle.timing_top.proofs.Answering.{ok-not-err, same-ok}
 use Rattle.timing_top.proofs.Headlines.{none-broke}

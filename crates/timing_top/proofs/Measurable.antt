@@ -11,10 +11,10 @@ use Rattle.pcapng_reader.specs.Bytes.{AreBytes}
 use Rattle.timing_steps.specs.Answers.{Answer}
 use Rattle.timing_measure.specs.Measures.{HasMeasure}
 use Rattle.timing_measure.proofs.Some.{some-measure-answer}
-use Rattle.timing_page.specs.Pages.{HasPage}
-use Rattle.timing_page.proofs.Some.{some-page-answer}
-use Rattle.timing_series.specs.Series.{HasSeries}
-use Rattle.timing_series.proofs.Some.{some-series-answer}
+use Rattle.timing_measure.specs.page.Pages.{HasPage}
+use Rattle.timing_measure.proofs.lemmas.page.Some.{some-page-answer}
+use Rattle.timing_measure.specs.series.Series.{HasSeries}
+use Rattle.timing_measure.proofs.lemmas.series.Some.{some-series-answer}
 use Rattle.timing_top.proofs.Small.{IsSmall, one-small}
 
 -- of a text of bytes

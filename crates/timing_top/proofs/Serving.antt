@@ -6,7 +6,7 @@ use Rattle.timing_base.specs.Jobs.{CaptureJob, CheckJob, FlowJob, ReportJob, Sca
 use Rattle.timing_words.specs.declared.request.Request.{Request}
 use Rattle.timing_words.specs.declared.request.Request.TheVariants as request
 use Rattle.timing_measure.specs.Measures.{FollowsMeasure, MeasureInputRose}
-use Rattle.timing_page.specs.Pages.{FollowsPage, PageInputRose}
+use Rattle.timing_measure.specs.page.Pages.{FollowsPage, PageInputRose}
 use Rattle.timing_reach.specs.Asked.{FlowInputRose, FollowsWindow}
 use Rattle.timing_reach.specs.Scanned.{FollowsScan, ScanInputRose}
 use Rattle.timing_reach.specs.Shaped.{FollowsShape}
@@ -21,8 +21,8 @@ use Rattle.timing_steps.specs.declared.failure.Failure.TheVariants as failure
 use Rattle.timing_top.specs.Asked.{Follows, InputRose}
 use Rattle.timing_top.specs.Check.{CheckInputRose, FollowsCheck}
 use Rattle.timing_top.specs.Runs.{RanAs, prints_whole}
-use Rattle.timing_series.specs.Series.{BeginsSeries, FollowsSeries}
-use Rattle.timing_series.specs.Streams.{Streams}
+use Rattle.timing_measure.specs.series.Series.{BeginsSeries, FollowsSeries}
+use Rattle.timing_measure.specs.series.Streams.{Streams}
 use Rattle.timing_steps.proofs.Endings.{kept-none}
 use Rattle.timing_verify.specs.Asked.{FollowsReport, FollowsVerify, ReportInputRose, VerifyInputRose}
 

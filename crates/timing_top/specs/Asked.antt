@@ -13,12 +13,12 @@ use Rattle.timing_steps.specs.Answers.{Answer, Gives, Inputs, Yields, silent}
 use Rattle.timing_steps.specs.declared.failure.Failure.{Failure}
 use Rattle.timing_top.specs.Check.{CheckInputRose, FollowsCheck}
 use Rattle.timing_measure.specs.Measures.{FollowsMeasure, MeasureInputRose}
-use Rattle.timing_page.specs.Pages.{FollowsPage, PageInputRose}
+use Rattle.timing_measure.specs.page.Pages.{FollowsPage, PageInputRose}
 use Rattle.timing_reach.specs.Asked.{FlowInputRose, FollowsWindow}
 use Rattle.timing_reach.specs.Scanned.{FollowsScan, ScanInputRose}
 use Rattle.timing_reach.specs.Shaped.{FollowsShape}
 use Rattle.timing_reach.specs.Skewed.{FollowsSkew, SkewInputRose}
-use Rattle.timing_series.specs.Series.{FollowsSeries}
+use Rattle.timing_measure.specs.series.Series.{FollowsSeries}
 use Rattle.timing_verify.specs.Asked.{FollowsReport, FollowsVerify, ReportInputRose, VerifyInputRose}
 use Rattle.timing_top.specs.SelfTest.{HasSelfTest}
 

@@ -6,7 +6,7 @@ use Rattle.timing_report.specs.declared.status.Status.{Status}
 use Rattle.timing_report.specs.declared.status.Status.TheVariants as status
 use Rattle.timing_steps.specs.Ends.{is_silent}
 use Rattle.timing_steps.specs.Ran.{Appended, Output}
-use Rattle.timing_series.specs.Streams.{is_silent_stream}
+use Rattle.timing_measure.specs.series.Streams.{is_silent_stream}
 use Rattle.timing_top.specs.Runs.{prints_whole}
 
 -- the words are a request

@@ -1,0 +1,71 @@
+//! What `page` prints, and its status.
+
+ghost use Rattle.std.specs.Prelude.{◌≡◌, IfOk, true};
+ghost use Rattle.std.specs.List.{list_any};
+ghost use Rattle.flow_page.specs.Media.{AreOfMedia};
+ghost use Rattle.scan_text.specs.Contents.{contents_of};
+ghost use Rattle.timing_measure.specs.page.Pages.{is_judged, page_ends, page_status, paged};
+
+use crate::page::readings::PageReading;
+use flow_page::{FlowPage, page_text};
+use std::alloc::{AllocError as OutOfMemory, Global};
+use timing_base::{CaptureJob, FileNote, Session};
+use timing_report::{Status, any_refused};
+use timing_steps::Answer;
+
+/// Whether a run of the flow is judged.
+fn is_judged(page: &FlowPage) -> bool
+    ensures { result ≡ is_judged page.now }
+{
+    page.flow.runs.len() > 0
+}
+
+/// Whether a run of one of the flows is judged.
+fn is_one_judged(pages: &[FlowPage]) -> bool
+    ensures { result ≡ list_any is_judged pages.now }
+{
+    pages.iter().any(is_judged)
+}
+
+/// The status beside these flows of a capture that ends so.
+fn status_of(note: FileNote, pages: &[FlowPage]) -> Status
+    ensures status { result ≡ page_status note pages.now }
+    ensures ends { page_ends result ≡ true }
+{
+    if !is_one_judged(pages) {
+        return Status::NotAllJudged;
+    }
+    if any_refused(&[note]) {
+        return Status::NotAllJudged;
+    }
+    Status::Pass
+}
+
+/// The answer on a capture of which both readings came to this.
+pub fn paged(
+    alloc: Global,
+    job: &CaptureJob,
+    session: &Session,
+    reading: &PageReading,
+) -> Result<Answer, OutOfMemory>
+    requires { AreOfMedia session.now reading.now.reading.flows.items }
+    ensures { IfOk result (λ answer. answer
+        ≡ paged job.now.capture reading.now.reading.note job.now.tai session.now reading.now.reading.flows.items
+        (contents_of reading.now.found)) }
+{
+    let name = job.capture.as_str();
+    let pages = reading.reading.flows.as_slice();
+    let text = page_text(
+        alloc,
+        name,
+        reading.reading.note,
+        job.tai as u32,
+        session,
+        pages,
+        &reading.found,
+    )?;
+    Ok(Answer {
+        text: text.into_bytes(),
+        status: status_of(reading.reading.note, pages),
+    })
+}

@@ -1,0 +1,89 @@
+//! `page`: the report of the capture of a job, as one page.
+
+ghost use Rattle.std.specs.Prelude.{◌≡◌, IfErr, IfOk};
+ghost use Rattle.flow_page.specs.Media.{AreOfMedia};
+ghost use Rattle.timing_base.specs.Targets.{HaveOwnTargets};
+ghost use Rattle.timing_outside.specs.Shelves.{StaysAs};
+ghost use Rattle.timing_steps.specs.Answers.{Gives, OnReadFault, Yields, seen_of};
+ghost use Rattle.timing_steps.specs.Ends.{EndsWith, HasStatus};
+ghost use Rattle.timing_steps.specs.Ran.{HasCause, Ran, output_of};
+ghost use Rattle.timing_reach.specs.Asked.{ReadsCapture};
+ghost use Rattle.scan_text.specs.Contents.{contents_of};
+ghost use Rattle.timing_measure.specs.page.Pages.{FollowsPage, HasPage, PageInputRose, page_ends, paged};
+
+use crate::page::answer::paged;
+use crate::page::readings::{PageReading, read_pages};
+use std::alloc::Global;
+use timing_base::{CaptureJob, Session};
+use timing_outside::{Shelf, Sink};
+use timing_report::Status;
+use timing_steps::{Answer, Failure, conclude, fetch_session};
+
+/// The answer on a capture of which both readings came to this.
+fn answer_read(
+    alloc: Global,
+    job: &CaptureJob,
+    session: &Session,
+    reading: &PageReading,
+) -> Result<Answer, Failure>
+    requires { AreOfMedia session.now reading.now.reading.flows.items }
+    ensures answered { IfOk result (HasStatus page_ends) }
+    ensures answers { IfOk result (λ answer. answer
+        ≡ paged job.now.capture reading.now.reading.note job.now.tai session.now reading.now.reading.flows.items
+        (contents_of reading.now.found)) }
+    ensures cause { IfErr result (λ e. OnReadFault e (λ _. ⊥)) }
+{
+    Ok(paged(alloc, job, session, reading)?)
+}
+
+/// The answer over a session.
+fn answer_over<H: Shelf>(
+    alloc: Global,
+    job: &CaptureJob,
+    shelf: &mut H,
+    session: &Session,
+) -> Result<Answer, Failure>
+    requires targets { HaveOwnTargets session.now }
+    ensures follows { Yields result (ReadsCapture (seen_of H.Shelf shelf.old shelf.new)
+        result job.now.capture (λ text. Gives result (HasPage job.now session.now text))) }
+    ensures answers { IfOk result (HasStatus page_ends) }
+    ensures cause { HasCause result (PageInputRose job.now (seen_of H.Shelf shelf.old shelf.new)) }
+    ensures stays { StaysAs H.text H.lacks H.faults shelf.old shelf.new }
+{
+    let reading = read_pages(alloc, job, shelf, session.media.as_slice())?;
+    answer_read(alloc, job, session, &reading)
+}
+
+/// The answer of a job, or why there is none. Where the description is refused, no capture is fetched.
+fn answer_page<H: Shelf>(alloc: Global, job: &CaptureJob, shelf: &mut H) -> Result<Answer, Failure>
+    ensures follows { FollowsPage job.now (seen_of H.Shelf shelf.old shelf.new) result }
+    ensures answers { IfOk result (HasStatus page_ends) }
+    ensures cause { HasCause result (PageInputRose job.now (seen_of H.Shelf shelf.old shelf.new)) }
+    ensures stays { StaysAs H.text H.lacks H.faults shelf.old shelf.new }
+{
+    match fetch_session(alloc, shelf, job.sdp.as_str())? {
+        Ok(session) => answer_over(alloc, job, shelf, &session),
+        Err(fault) => Ok(Answer::silent(alloc, Status::SdpRefused(fault))),
+    }
+}
+
+/// Prints on `out` the report of the capture of a job as one page: HTML that needs nothing else. On `err` it tells why
+/// there is none. Where no run is judged the capture is read once, and else twice.
+pub fn page_one<H: Shelf, K: Sink>(
+    alloc: Global,
+    job: &CaptureJob,
+    shelf: &mut H,
+    out: &mut K,
+    err: &mut K,
+) -> Status
+    ensures ran { Ran (FollowsPage job.now (seen_of H.Shelf shelf.old shelf.new))
+        (PageInputRose job.now (seen_of H.Shelf shelf.old shelf.new))
+        (output_of K.Sink out.old out.new)
+        (output_of K.Sink err.old err.new)
+        result }
+    ensures ends { EndsWith page_ends (output_of K.Sink out.old out.new) result }
+    ensures stays { StaysAs H.text H.lacks H.faults shelf.old shelf.new }
+{
+    let outcome = answer_page(alloc, job, shelf);
+    conclude(out, err, outcome)
+}

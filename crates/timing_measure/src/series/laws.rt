@@ -1,0 +1,26 @@
+//! What holds of the definitions themselves. Each function is a theorem: it does nothing, and its
+//! clauses are proved.
+
+ghost use Rattle.std.specs.Prelude.{◌≡◌, ◌≤◌, ◌<◌, ◌^◌, ℕ, All, Bool, List, length};
+ghost use Rattle.timing_base.specs.Captures.{IsStamp, Record};
+ghost use Rattle.timing_base.specs.Media.{IsMedia, Media};
+ghost use Rattle.timing_base.specs.declared.capture.FileNote.{FileNote};
+ghost use Rattle.pcap_reader.specs.Records.{Records};
+ghost use Rattle.timing_steps.specs.Answers.{Answer};
+ghost use Rattle.timing_measure.specs.series.Series.{HasSeries};
+
+/// The texts of `series` have an answer, where the media is within the limits of a media and the
+/// records have stamps that a capture can hold.
+pub fn some_series_answer()
+    ensures { (frames : Bool) (tai : ℕ) (m : Media) (text : List ℕ) (items : List Record)
+        (note : FileNote)
+        → IsMedia m → tai ≤ 1000 → Records text (2 ^ 40) items note → length items < 2 ^ 41
+        → All (λ r. IsStamp r.stamp) items → (answer : Answer)
+        × HasSeries frames tai m text answer }
+{}
+
+/// The texts of `series` have no two answers.
+pub fn one_series_answer()
+    ensures { (frames : Bool) (tai : ℕ) (m : Media) (text : List ℕ) (a b : Answer)
+        → HasSeries frames tai m text a → HasSeries frames tai m text b → a ≡ b }
+{}

@@ -1,0 +1,99 @@
+//! `series`: the rows of the judged runs of the flow of a job.
+
+ghost use Rattle.std.specs.Prelude.{◌≡◌, ◌≤◌, ◌⊎◌, [], ℕ, List, Some, IfErr, IfOk};
+ghost use Rattle.std.specs.Prelude.{Err};
+ghost use Rattle.timing_outside.specs.Causes.{Rose};
+ghost use Rattle.timing_outside.specs.Shelves.{StaysAs};
+ghost use Rattle.pcapng_reader.specs.Classic.{classic_texts};
+ghost use Rattle.timing_report.specs.declared.status.Input.TheVariants as input;
+ghost use Rattle.timing_steps.specs.Answers.{Gives, Yields, seen_of};
+ghost use Rattle.timing_steps.specs.Ran.{Appended, output_of};
+ghost use Rattle.timing_steps.specs.declared.failure.Failure.TheVariants as failure;
+ghost use Rattle.timing_reach.specs.Asked.{FlowInputRose, ReadsCapture};
+ghost use Rattle.timing_measure.specs.series.Series.{BeginsIn, BeginsSeries, FollowsSeries, HasSeries};
+ghost use Rattle.timing_measure.specs.series.Streams.{HasRestStatus, OnFailure, Rests, StreamEnds, Streams};
+
+use crate::metering::plan::has_judged_run;
+use crate::series::readings::{find_flow, write_rows};
+use std::alloc::Global;
+use timing_base::{Media, SeriesJob};
+use timing_outside::{Shelf, Sink};
+use timing_reach::judged::find_media;
+use timing_reach::judged::words::not_judged;
+use timing_report::{Input, Status};
+use timing_steps::{Answer, Failure, conclude};
+
+/// The answer on the flow of this media, or what of it isn't written yet.
+fn answer_flow<H: Shelf, K: Sink>(
+    alloc: Global,
+    job: &SeriesJob,
+    shelf: &mut H,
+    media: &Media,
+    out: &mut K,
+) -> Result<Answer, Failure>
+    ensures rests { Rests (output_of K.Sink out.old out.new) (λ outcome. Yields outcome
+        (ReadsCapture (seen_of H.Shelf shelf.old shelf.new) outcome job.now.flow.capture (λ text.
+        Gives outcome (HasSeries job.now.frames job.now.flow.tai media.now text))))
+        (λ front. (text : List ℕ) → classic_texts (H.text shelf.old) job.now.flow.capture
+        ≡ Some text → (front ≡ [])
+        ⊎ BeginsIn job.now.frames job.now.flow.tai media.now text front) result }
+    ensures answers { IfOk result (HasRestStatus (output_of K.Sink out.old out.new)) }
+    ensures cause { IfErr result (λ e. OnFailure (output_of K.Sink out.old out.new) e (λ i.
+        (i ≡ Input.Capture 0) × Rose (H.faults shelf.old job.now.flow.capture)
+        (H.faults shelf.new job.now.flow.capture))) }
+    ensures later { K.faults out.old ≤ K.faults out.new }
+    ensures stays { StaysAs H.text H.lacks H.faults shelf.old shelf.new }
+{
+    let found = find_flow(alloc, job, shelf, media)?;
+    if !has_judged_run(&found.verdict) {
+        return Ok(not_judged(alloc, media, &found.verdict)?);
+    }
+    write_rows(alloc, job, shelf, media, found, out)
+}
+
+/// The answer of a job, or what of it isn't written yet, or why there is none, or not the whole.
+fn answer_series<H: Shelf, K: Sink>(
+    alloc: Global,
+    job: &SeriesJob,
+    shelf: &mut H,
+    out: &mut K,
+) -> Result<Answer, Failure>
+    ensures rests { Rests (output_of K.Sink out.old out.new)
+        (FollowsSeries job.now (seen_of H.Shelf shelf.old shelf.new))
+        (BeginsSeries job.now (seen_of H.Shelf shelf.old shelf.new)) result }
+    ensures answers { IfOk result (HasRestStatus (output_of K.Sink out.old out.new)) }
+    ensures cause { IfErr result (λ e. OnFailure (output_of K.Sink out.old out.new) e
+        (FlowInputRose job.now.flow (seen_of H.Shelf shelf.old shelf.new))) }
+    ensures silent { result ≡ Err (failure.ReadFault input.Sdp)
+        → Appended (output_of K.Sink out.old out.new) [] }
+    ensures later { K.faults out.old ≤ K.faults out.new }
+    ensures stays { StaysAs H.text H.lacks H.faults shelf.old shelf.new }
+{
+    match find_media(alloc, &job.flow, shelf)? {
+        Ok(media) => answer_flow(alloc, job, shelf, &media, out),
+        Err(answer) => Ok(answer),
+    }
+}
+
+/// Prints on `out` the rows of the judged runs of the flow of a job, while they are made. On `err`
+/// it tells why there are none, or not all. Where no run is judged the capture is read once, and
+/// else twice.
+pub fn series_one<H: Shelf, K: Sink>(
+    alloc: Global,
+    job: &SeriesJob,
+    shelf: &mut H,
+    out: &mut K,
+    err: &mut K,
+) -> Status
+    ensures ran { Streams (FollowsSeries job.now (seen_of H.Shelf shelf.old shelf.new))
+        (BeginsSeries job.now (seen_of H.Shelf shelf.old shelf.new))
+        (FlowInputRose job.now.flow (seen_of H.Shelf shelf.old shelf.new))
+        (output_of K.Sink out.old out.new)
+        (output_of K.Sink err.old err.new)
+        result }
+    ensures ends { StreamEnds (output_of K.Sink out.old out.new) result }
+    ensures stays { StaysAs H.text H.lacks H.faults shelf.old shelf.new }
+{
+    let outcome = answer_series(alloc, job, shelf, out);
+    conclude(out, err, outcome)
+}
