@@ -4,8 +4,8 @@
 #     build/beside.sh PROGRAM
 #
 # `rt all` takes every crate, those with the fewest below them first, and lets a processor wait where they aren't built; this takes
-# the crate from which most is still to be proved up to the program. On standard output it says `crates N`, how many there are with the program, and `begins NAME` for each. What
-# fails here is built again, and told, by the call of rt that builds the program.
+# the crate from which most is still to be proved up to the program. On standard output it says `crates N`, how many there are with
+# the program, and `begins NAME` for each. What fails here is built again, and told, by the call of rt that builds the program.
 set -u
 top=$(cd "$(dirname "$(readlink -f "$0")")/.." && pwd) || exit 2
 program=$1
