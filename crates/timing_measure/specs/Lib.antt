@@ -6,5 +6,6 @@ pub mod Measures
 pub mod metering
 pub mod Banks
 pub mod Readings
+-- what is promised of these commands
 pub mod series
 pub mod page

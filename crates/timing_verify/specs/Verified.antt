@@ -1,6 +1,5 @@
 -- What `verify` and `verify-report` print of what was found, and their statuses. Captures, media and runs count from 0
--- in a
--- claim, and from 1 in the text. This project's profile.
+-- in a claim, and from 1 in the text. This project's profile.
 use Rattle.std.specs.Prelude.{ℕ, ◌+◌, ◌==◌, if◌then◌else◌, Bool, true, false, List, [], ◌++◌, Result, Ok, Err, codes}
 use Rattle.std.specs.Fmt.{decimal}
 use Rattle.std.specs.List.{flat_map, list_all, list_any}
