@@ -16,9 +16,10 @@ const MOST_CUTS: u64 = 1024;
 pub struct Before {
     pub at: u64,
     pub number: u32,
+    // Source and timestamp stand side by side in this order, so that they are read as one number.
+    pub source: u32,
     pub timestamp: u32,
     pub marker: bool,
-    pub source: u32,
 }
 
 impl Before {

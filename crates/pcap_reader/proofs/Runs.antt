@@ -2,7 +2,7 @@
 use Rattle.std.proofs.Common.{subst, refl, ◌≡◌, ◌≤◌, ◌+◌, ◌-◌, ℕ, List, [], ◌∷◌, ◌++◌, length, take, drop, None, Some, sym, ap, ◌∙◌, arith, append_assoc}
 use Rattle.std.proofs.Common.{length-append, length-drop}
 use Rattle.std.proofs.lemmas.List.{drop-append-le, drop-drop, length-take, take_all, take-append-drop}
-use Rattle.std.specs.Prelude.{map, Option}
+use Rattle.std.specs.Prelude.{map, IfOk, MatchResult, Option, Result, Ok, Err}
 use Rattle.std.specs.Io.KnownBytes.{prepend_known}
 use Rattle.std.proofs.KnownBytes.{Keeps-refl}
 use Rattle.timing_base.specs.Captures.{Record, raised}
@@ -16,7 +16,7 @@ use Rattle.pcap_reader.specs.Heads.{IsWhole}
 use Rattle.pcap_reader.specs.Readers.{StageGives}
 use Rattle.pcap_reader.specs.Windows.{held_bytes}
 use Rattle.pcap_reader.specs.Records.{captured, note_at, record_of, RecordsFrom}
-use Rattle.pcap_reader.specs.Runs.{BehindRun}
+use Rattle.pcap_reader.specs.Runs.{BehindRun, TakesRun}
 use Rattle.pcap_reader.specs.Taken.{HasBegun}
 use Rattle.pcap_reader.proofs.Reading.{gives-at, make, none_some, record_is}
 use Rattle.pcap_reader.proofs.TakenRecords.{stops-first, taken-gives}
@@ -196,3 +196,30 @@ pub held-stops : {T E : Type 0} (stops : T → T → E → List Record → Type 
 held-stops stops l w left bytes before old now stop items end at cut told given =
     let a = within-of l w left bytes items end at cut given in
     told w.most w.place a.0 items end a.4 a.5
+
+within-more : {E : Type 0} (result : Result Run E) (few many : ℕ) → few ≤ many → IfOk result (λ run. run.size ≤ few) → IfOk result (λ run. run.size ≤ many)
+within-more (Ok run) few many less within = omega (arith, less, within)
+within-more (Err e) few many less within = tt
+
+-- what takes records from the front of some bytes takes them from all of these
+pub run-of-front : {T E : Type 0} (takes : T → T → List Record → Type 0) (stops : T → T → E → List Record → Type 0) (has_room : ℕ → ℕ → T → Type 0)
+    (layout : Layout) (bytes : List ℕ) (k before number : ℕ) (old new : T) (result : Result Run E)
+    → TakesRun takes stops has_room layout (take k bytes) before number old new result
+    → TakesRun takes stops has_room layout bytes before number old new result
+run-of-front takes stops has_room layout bytes k before number old new result t =
+    let short : length (take k bytes) ≤ length bytes = omega (arith, length-take k bytes) in
+    record {
+      told = λ most place behind items end m from.
+          let e : take k bytes ++ (drop k bytes ++ behind) ≡ bytes ++ behind =
+          sym (append_assoc (take k bytes) (drop k bytes) behind) ∙ ap (λ l. l ++ behind) (take-append-drop k bytes) in
+          subst (λ l. MatchResult result
+          (λ run. HasBegun (BehindRun layout most number place l run) takes before old new run.records items end)
+          (λ stop. stops old new stop (map (raised before) items))) e
+          (t.told most place (drop k bytes ++ behind) items end (omega (arith, m, short))
+          (subst (λ l. RecordsFrom layout most number place l items end) (sym e) from));
+      fed = t.fed;
+      stopped = t.stopped;
+      within = within-more result _ _ short t.within;
+      few = t.few;
+      room = t.room;
+    }

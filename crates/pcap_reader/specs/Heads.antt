@@ -17,6 +17,13 @@ pub record SaysHead (layout : Layout) (bytes : List ℕ) (head : Head) : Type 0 
   pub fits : fraction layout bytes < per_second layout.fraction
   pub few : head.captured ≤ 262144
 
+-- the head of the record at the front of these bytes says this, and its fraction has no fault
+pub record SaysStamp (layout : Layout) (bytes : List ℕ) (head : Head) : Type 0 where
+  pub stamp_is : head.at ≡ stamp layout bytes
+  pub captured_is : head.captured ≡ captured layout bytes
+  pub below : IsStamp head.at
+  pub fits : fraction layout bytes < per_second layout.fraction
+
 -- the head of the record at the front of what is held has no fault, and says this; in a text that has the record whole
 -- nothing stands in its way
 pub record IsHead (layout : Layout) (w : Window) (head : Head) : Type 0 where

@@ -1,6 +1,6 @@
 //! The file header and the head of a record, and how the numbers of a capture are laid out.
 
-ghost use Rattle.std.specs.Prelude.{◌≡◌, ◌≤◌, ◌<◌, ◌+◌, ◌*◌, ◌^◌, ℕ, IfErr, IfOk, Some, length, drop};
+ghost use Rattle.std.specs.Prelude.{◌≡◌, ◌≤◌, ◌<◌, ◌+◌, ◌*◌, ◌^◌, ℕ, IfErr, IfOk, IfSome, None, Some, length, drop};
 ghost use Rattle.pcap_reader.specs.Header.{number, layout_of, header, per_second, nanos};
 
 use crate::stage::Head;
@@ -8,7 +8,7 @@ use byteorder::{BigEndian, ByteOrder, LittleEndian};
 use timing_base::PcapFault;
 
 /// The most bytes of a record that are captured.
-const MOST_CAPTURED: u32 = 262_144;
+const MOST_CAPTURED: usize = 262_144;
 
 /// The order of the bytes of a number.
 #[derive(Clone, Copy, Debug)]
@@ -81,7 +81,7 @@ impl Fraction {
 
 impl Layout {
     ghost use Rattle.timing_base.specs.declared.capture.FileNote.TheVariants as file_note;
-    ghost use Rattle.pcap_reader.specs.Heads.{SaysHead};
+    ghost use Rattle.pcap_reader.specs.Heads.{SaysHead, SaysStamp};
     ghost use Rattle.pcap_reader.specs.Records.{OnReadFault, captured, fraction, note_by};
 
     /// The layout that a magic stands for, its four bytes being read as big-endian.
@@ -128,17 +128,31 @@ impl Layout {
             ≡ Some (file_note.Refused fault)) }
         ensures read { IfErr result (λ fault. OnReadFault (file_note.Refused fault) ⊥) }
     {
+        let Some(head) = self.read_stamped(bytes) else {
+            return Err(PcapFault::BadStamp { rec });
+        };
+        if head.captured > MOST_CAPTURED {
+            return Err(PcapFault::BadLength { rec });
+        }
+        Ok(head)
+    }
+
+    /// Reads the head of a record, where its fraction has no fault. Whether too much was captured isn't asked for: the
+    /// bytes that are held can't have that much.
+    #[inline(always)]
+    pub fn read_stamped(self, bytes: &[u8]) -> Option<Head>
+        requires { 16 ≤ length bytes.now }
+        ensures head { IfSome result (SaysStamp self bytes.now) }
+        ensures faulty { result ≡ None → per_second self.fraction ≤ fraction self bytes.now }
+    {
         let seconds = self.order.read_u32(bytes, 0);
         let fraction = self.order.read_u32(bytes, 4);
         let captured = self.order.read_u32(bytes, 8);
         if fraction >= self.fraction.per_second() {
-            return Err(PcapFault::BadStamp { rec });
-        }
-        if captured > MOST_CAPTURED {
-            return Err(PcapFault::BadLength { rec });
+            return None;
         }
         let nanos = self.fraction.to_nanos(fraction);
-        Ok(Head {
+        Some(Head {
             at: u64::from(seconds) * 1_000_000_000 + u64::from(nanos),
             captured: captured as usize,
         })

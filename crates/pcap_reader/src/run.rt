@@ -11,6 +11,9 @@ use crate::taker::Taker;
 /// The bytes of the head of a record.
 const RECORD_HEAD: usize = 16;
 
+/// The bytes of the largest record, with its head.
+const MOST_HELD: usize = 262_160;
+
 /// Records that were taken, one behind the other.
 #[derive(Clone, Copy, Debug)]
 pub struct Run {
@@ -19,25 +22,25 @@ pub struct Run {
     pub size: usize,
 }
 
-/// The head of the record of this number at the front of these bytes, where it has no fault and stands there whole.
-/// The fault is told once the reader comes to it.
+/// The head of the record at the front of these bytes, where it has no fault and stands there whole. The fault is told
+/// once the reader comes to it. The bytes are too few for a record of which too much was captured.
 #[inline(always)]
-fn whole_head(layout: Layout, bytes: &[u8], rec: u64) -> Option<Head>
+fn whole_head(layout: Layout, bytes: &[u8]) -> Option<Head>
+    requires { length bytes.now ≤ 262160 }
     ensures { IfSome result (IsWhole layout bytes.now) }
 {
     if bytes.len() < RECORD_HEAD {
         return None;
     }
-    let Ok(head) = layout.read_head(bytes, rec) else {
-        return None;
-    };
-    if bytes.len() < RECORD_HEAD + head.captured {
+    let head = layout.read_stamped(bytes)?;
+    if bytes.len() - RECORD_HEAD < head.captured {
         return None;
     }
     Some(head)
 }
 
-/// Takes the records of one layout, as [`take_run`] says.
+/// Takes the records of one layout, as [`take_run`] says, from bytes that are too few for a record with a fault in its
+/// length.
 #[inline(always)]
 fn take_laid_out<T: Taker>(
     layout: Layout,
@@ -48,7 +51,7 @@ fn take_laid_out<T: Taker>(
 ) -> Result<Run, T::Stop>
     requires before { before ≤ 2 ^ 41 }
     requires number { number ≤ 2 ^ 37 }
-    requires short { length bytes.now ≤ 2 ^ 40 }
+    requires short { length bytes.now ≤ 262160 }
     requires room { (count : ℕ) → 16 * count ≤ length bytes.now → T.room (before + number) count taker.old }
     ensures { TakesRun T.takes T.stops T.room layout bytes.now before number taker.old taker.new result }
 {
@@ -56,7 +59,7 @@ fn take_laid_out<T: Taker>(
         records: 0,
         size: 0,
     };
-    while let Some(head) = whole_head(layout, &bytes[run.size..], number + run.records) {
+    while let Some(head) = whole_head(layout, &bytes[run.size..]) {
         let start = run.size + RECORD_HEAD;
         let end = start + head.captured;
         taker.take(before + number + run.records, head.at, &bytes[start..end])?;
@@ -66,10 +69,9 @@ fn take_laid_out<T: Taker>(
     Ok(run)
 }
 
-/// Takes the records that stand whole at the front of these bytes and have no fault, up to the first that
-/// isn't so. The first has this number, and each number is raised by `before`.
+/// Takes the records at the front of these bytes, which aren't many, as [`take_run`] says.
 #[inline(always)]
-pub fn take_run<T: Taker>(
+fn take_few<T: Taker>(
     layout: Layout,
     bytes: &[u8],
     before: u64,
@@ -78,7 +80,7 @@ pub fn take_run<T: Taker>(
 ) -> Result<Run, T::Stop>
     requires before { before ≤ 2 ^ 41 }
     requires number { number ≤ 2 ^ 37 }
-    requires short { length bytes.now ≤ 2 ^ 40 }
+    requires short { length bytes.now ≤ 262160 }
     requires room { (count : ℕ) → 16 * count ≤ length bytes.now → T.room (before + number) count taker.old }
     ensures { TakesRun T.takes T.stops T.room layout bytes.now before number taker.old taker.new result }
 {
@@ -113,4 +115,24 @@ pub fn take_run<T: Taker>(
             take_laid_out(layout, bytes, before, number, taker)
         }
     }
+}
+
+/// Takes the records that stand whole at the front of these bytes and have no fault, up to the first that
+/// isn't so, or up to the most bytes that a record has. The first has this number, and each number is raised by `before`.
+#[inline(always)]
+pub fn take_run<T: Taker>(
+    layout: Layout,
+    bytes: &[u8],
+    before: u64,
+    number: u64,
+    taker: &mut T,
+) -> Result<Run, T::Stop>
+    requires before { before ≤ 2 ^ 41 }
+    requires number { number ≤ 2 ^ 37 }
+    requires short { length bytes.now ≤ 2 ^ 40 }
+    requires room { (count : ℕ) → 16 * count ≤ length bytes.now → T.room (before + number) count taker.old }
+    ensures { TakesRun T.takes T.stops T.room layout bytes.now before number taker.old taker.new result }
+{
+    let few = bytes.len().min(MOST_HELD);
+    take_few(layout, &bytes[..few], before, number, taker)
 }

@@ -1,6 +1,7 @@
 //! Frames that carry a packet that is known beforehand.
 
-ghost use Rattle.std.specs.Prelude.{◌≡◌, ◌≤◌, ◌%◌, ◌^◌, ◌==◌, ◌&&◌, nat_le, length, slice_index};
+ghost use Rattle.std.specs.Prelude.{◌≡◌, ◌≤◌, ◌+◌, ◌*◌, ◌%◌, ◌^◌, ◌==◌, ◌&&◌, nat_le, drop, length, slice_index};
+ghost use Rattle.byteorder.specs.Endian.{big_number};
 ghost use Rattle.udp_rtp.specs.Carried.{carries, goes_to, has_fields, is_plain_rtp, is_plain_udp, number};
 ghost use Rattle.udp_rtp.specs.Numbers.{number16, number32};
 
@@ -76,6 +77,33 @@ fn number(frame: &[u8]) -> u32
     u32::from(high) * 65_536 + u32::from(low)
 }
 
+/// The timestamp in the frame and the source behind it, as one number.
+#[inline(always)]
+fn timestamp_and_source(frame: &[u8]) -> u64
+    requires { 56 ≤ length frame.now }
+    ensures { result ≡ big_number 8 (drop 46 frame.now) }
+{
+    BigEndian::read_u64(&frame[46..])
+}
+
+/// The timestamp of the packet and its source, as one number.
+#[inline(always)]
+fn stream(rtp: Rtp) -> u64
+    ensures { result ≡ rtp.timestamp * 2 ^ 32 + rtp.ssrc }
+{
+    u64::from(rtp.timestamp) * 0x1_0000_0000 + u64::from(rtp.ssrc)
+}
+
+/// Whether timestamp and source in the frame are those of the packet: one comparison serves for both, and where the
+/// caller keeps the two side by side, they are read as one number.
+#[inline(always)]
+fn is_of_stream(frame: &[u8], rtp: Rtp) -> bool
+    requires { 56 ≤ length frame.now }
+    ensures { result ≡ ((number32 frame.now 46 == rtp.timestamp) && (number32 frame.now 50 == rtp.ssrc)) }
+{
+    timestamp_and_source(frame) == stream(rtp)
+}
+
 /// Whether the fields of RTP in the frame are those of the packet.
 #[inline(always)]
 fn has_fields(frame: &[u8], rtp: Rtp) -> bool
@@ -86,8 +114,7 @@ fn has_fields(frame: &[u8], rtp: Rtp) -> bool
         && rtp.pt < 128
         && frame[43] == rtp.pt
         && number(frame) == rtp.number
-        && BigEndian::read_u32(&frame[46..]) == rtp.timestamp
-        && BigEndian::read_u32(&frame[50..]) == rtp.ssrc
+        && is_of_stream(frame, rtp)
 }
 
 /// Whether a frame carries this packet, which has no marker, to this target, and is laid out as most
