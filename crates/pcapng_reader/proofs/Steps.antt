@@ -28,7 +28,7 @@ use Rattle.pcapng_reader.specs.declared.window.Window.{Window}
 use Rattle.pcapng_reader.specs.Classic.{number, begins_section, order_of, kind_of, Section, Given, bare_head, broken, gives, options}
 use Rattle.pcapng_reader.specs.Classic.{padded, interface_by, body_from, add_interface, content, is_length, blocks}
 use Rattle.pcapng_reader.specs.Converting.{found_by, found_with, found_interface, fate_by, fate_given, content_given, options_text, after, head_text}
-use Rattle.pcapng_reader.specs.Texts.{text_by, section_of, ahead, whole, text_of, work, HasRoom, Steps, Waits, IsHead, AtBlock, AtOption, Pours, Puts}
+use Rattle.pcapng_reader.specs.Texts.{text_by, section_of, ahead, whole, text_of, work, HasRoom, Steps, Waits, IsHead, AtBlock, AtOption, Fills, Pours, Puts}
 use Rattle.pcapng_reader.specs.Wholes.{IsWhole}
 use Rattle.pcapng_reader.specs.Windows.{kept_bytes, held_bytes}
 use Rattle.pcapng_reader.proofs.Numbers.{number-front, number-take}
@@ -503,32 +503,41 @@ text-put st s kept k h g r far far' p n m out now head e f w i j head_is put =
     ∙ ap (λ x. take n out ++ x) (sym (text-whole st s kept h r far p e f w))
 
 -- what is put in two steps
-pub puts-more : (at end more : ℕ) (first out now : List ℕ) (old mid new : Converter) → Puts at first out old mid end → Puts end out now mid new more
-    → Puts at first now old new more
-puts-more at end more first out now old mid new a b = record {
+fills-more : (at end more : ℕ) (first out now : List ℕ) (old mid new : Converter) → Fills at first out old mid end → Fills end out now mid new more
+    → Fills at first now old new more
+fills-more at end more first out now old mid new a b = record {
   same_length = b.same_length ∙ a.same_length;
   least = omega (arith, a.least, b.least);
   most = b.most;
   text = λ left. b.text left ∙ a.text left;
   stage = b.stage ∙ a.stage;
-  order = b.order ∙ a.order;
-  kept = b.kept ∙ a.kept;
   budget = b.budget ∙ a.budget;
   work = omega (arith, a.work, b.work);
+}
+
+-- and of records
+pub puts-more : (at end more : ℕ) (first out now : List ℕ) (old mid new : Converter) → Puts at first out old mid end → Puts end out now mid new more
+    → Puts at first now old new more
+puts-more at end more first out now old mid new a b = record {
+  fills = fills-more at end more first out now old mid new a.fills b.fills;
+  order = b.order ∙ a.order;
+  kept = b.kept ∙ a.kept;
 }
 
 -- what is put in none
 pub puts-none : (at : ℕ) (out : List ℕ) (c : Converter) → at ≤ length out → Puts at out out c c at
 puts-none at out c l = record {
-  same_length = refl;
-  least = omega arith;
-  most = l;
-  text = λ left. refl;
-  stage = refl;
+  fills = record {
+    same_length = refl;
+    least = omega arith;
+    most = l;
+    text = λ left. refl;
+    stage = refl;
+    budget = refl;
+    work = omega arith;
+  };
   order = refl;
   kept = refl;
-  budget = refl;
-  work = omega arith;
 }
 
 -- a packet that is held whole, by the same byte order
@@ -539,12 +548,6 @@ whole-same o o' is h p e w = subst (λ x. IsWhole x is h p) e w
 pub pours-puts : (at end count : ℕ) (first out now : List ℕ) (old mid new : Converter) → Pours at first out old mid end → Puts end out now mid new count
     → end < length out → Pours at first now old new count
 pours-puts at end count first out now old mid new a b l = record {
-  same_length = b.same_length ∙ a.same_length;
-  least = omega (arith, a.least, b.least);
-  most = b.most;
-  text = λ left. b.text left ∙ a.text left;
-  stage = b.stage ∙ a.stage;
-  budget = b.budget ∙ a.budget;
-  given = λ m d. b.kept ∙ a.given l (ap is_due (sym b.stage) ∙ d);
-  work = omega (arith, a.work, b.work);
+  fills = fills-more at end count first out now old mid new a.fills b.fills;
+  given = λ m d. b.kept ∙ a.given l (ap is_due (sym b.fills.stage) ∙ d);
 }

@@ -100,8 +100,8 @@ pub record AtOption (body : Body) (found : Found) (code size : ℕ) (c : Convert
   pub size_is : size ≡ number body.order 2 2 (held_bytes c.window)
   pub some : 0 < code
 
--- bytes of the text are put behind those before `at`, as far as there are any to be given
-pub record Pours (at : ℕ) (before now : List ℕ) (old new : Converter) (count : ℕ) : Type 0 where
+-- bytes of the text are put behind those before `at`, within the same stage
+pub record Fills (at : ℕ) (before now : List ℕ) (old new : Converter) (count : ℕ) : Type 0 where
   pub same_length : length now ≡ length before
   pub least : at ≤ count
   pub most : count ≤ length now
@@ -109,21 +109,18 @@ pub record Pours (at : ℕ) (before now : List ℕ) (old new : Converter) (count
       → take count now ++ text_of new left ≡ take at before ++ text_of old left
   pub stage : new.stage ≡ old.stage
   pub budget : new.budget ≡ old.budget
-  pub given : count < length now → is_due new.stage ≡ true → kept_bytes new.window ≡ []
   pub work : work new ≤ work old
 
--- records of packets that are held whole are put behind the bytes before `at`, and their blocks go
+-- as many are put as there are to be given
+pub record Pours (at : ℕ) (before now : List ℕ) (old new : Converter) (count : ℕ) : Type 0 where
+  pub fills : Fills at before now old new count
+  pub given : count < length now → is_due new.stage ≡ true → kept_bytes new.window ≡ []
+
+-- they are the records of packets that are held whole, and their blocks go
 pub record Puts (at : ℕ) (before now : List ℕ) (old new : Converter) (count : ℕ) : Type 0 where
-  pub same_length : length now ≡ length before
-  pub least : at ≤ count
-  pub most : count ≤ length now
-  pub text : (left : List ℕ)
-      → take count now ++ text_of new left ≡ take at before ++ text_of old left
-  pub stage : new.stage ≡ old.stage
+  pub fills : Fills at before now old new count
   pub order : new.order ≡ old.order
   pub kept : kept_bytes new.window ≡ kept_bytes old.window
-  pub budget : new.budget ≡ old.budget
-  pub work : work new ≤ work old
 
 -- a gift takes its bytes off the text, and is none only where there is no room, or where it says why
 abbrev pub GiftTells : (out : List ℕ) → (old new : Converter) → Gift → Type 0

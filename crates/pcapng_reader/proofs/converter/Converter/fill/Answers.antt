@@ -6,7 +6,7 @@ pub put_whole-requires-clause-given : goal.put_whole-requires-clause-given
 put_whole-requires-clause-given c = c.pour-end.ensures.given (omega arith)
 
 pub put_whole-requires-clause-room : goal.put_whole-requires-clause-room
-put_whole-requires-clause-room c = c.pour-end.ensures.most
+put_whole-requires-clause-room c = c.pour-end.ensures.fills.most
 
 pub returns-then-end-out : goal.returns-then-end-out
 returns-then-end-out c =

@@ -20,15 +20,18 @@ returns c =
     let total = length-append (take n o) (kept_bytes c.give.new.self) in
     let part = length-take-le n o fits in
     record {
-      same_length = search (rules, places);
-      least = omega arith;
-      most = omega arith;
-      text = λ left.
-          text-poured w.stage (section_of w) (kept_bytes w.window) (kept_bytes c.give.new.self) o out _ (ahead w left) _ (whole w left) _ at n due
-          c.give.ensures.bytes
-          (ap (λ h. h ++ take w.budget left) c.give.ensures.held) (ap (λ h. h ++ left) c.give.ensures.held) (front-written at n out o _ c.requires fits);
-      stage = refl;
-      budget = refl;
+      fills = record {
+        same_length = search (rules, places);
+        least = omega arith;
+        most = omega arith;
+        text = λ left.
+            text-poured w.stage (section_of w) (kept_bytes w.window) (kept_bytes c.give.new.self) o out _ (ahead w left) _ (whole w left) _ at n due
+            c.give.ensures.bytes
+            (ap (λ h. h ++ take w.budget left) c.give.ensures.held) (ap (λ h. h ++ left) c.give.ensures.held)
+            (front-written at n out o _ c.requires fits);
+        stage = refl;
+        budget = refl;
+        work = omega (arith, split, total, part, ap length c.give.ensures.held);
+      };
       given = λ l d. nil_from_length (kept_bytes c.give.new.self) (omega (arith, split, total, part, c.give.ensures.count, long));
-      work = omega (arith, split, total, part, ap length c.give.ensures.held);
     }

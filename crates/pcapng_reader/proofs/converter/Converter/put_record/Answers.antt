@@ -10,23 +10,25 @@ returns-clause-puts c =
     let h = held_bytes w.window in
     let g = held_bytes c.give_record.new.self in
     record {
-      same_length = c.give_record.ensures.len;
-      least = omega arith;
-      most = omega (arith, c.requires.room, c.give_record.ensures.len);
-      text = λ left.
-          text-put w.stage (section_of w) (kept_bytes w.window) (kept_bytes c.give_record.new.self) h g (take w.budget left) (whole w left) (g ++ left)
-          c.args.packet c.args.at _ c.args.out.now _ _ c.requires.stage c.requires.given c.requires.whole c.give_record.ensures.kept
-          c.give_record.ensures.held c.record_head.ensures c.give_record.ensures.given;
-      stage = refl;
+      fills = record {
+        same_length = c.give_record.ensures.len;
+        least = omega arith;
+        most = omega (arith, c.requires.room, c.give_record.ensures.len);
+        text = λ left.
+            text-put w.stage (section_of w) (kept_bytes w.window) (kept_bytes c.give_record.new.self) h g (take w.budget left) (whole w left) (g ++ left)
+            c.args.packet c.args.at _ c.args.out.now _ _ c.requires.stage c.requires.given c.requires.whole c.give_record.ensures.kept
+            c.give_record.ensures.held c.record_head.ensures c.give_record.ensures.given;
+        stage = refl;
+        budget = refl;
+        work = omega (
+          arith,
+          ap length c.give_record.ensures.kept,
+          ap length c.give_record.ensures.held,
+          length-drop c.args.packet.total h,
+        );
+      };
       order = refl;
       kept = c.give_record.ensures.kept;
-      budget = refl;
-      work = omega (
-        arith,
-        ap length c.give_record.ensures.kept,
-        ap length c.give_record.ensures.held,
-        length-drop c.args.packet.total h,
-      );
     }
 
 pub returns-clause-less : goal.returns-clause-less

@@ -9,7 +9,7 @@ pub loop-packet-init : goal.loop-packet-init
 loop-packet-init c = record { within = c.requires.room; puts = puts-none c.args.at c.args.out.now c.args.self.now c.requires.room }
 
 pub put_record-end-requires-clause-stage : goal.put_record-end-requires-clause-stage
-put_record-end-requires-clause-stage c = c.loop-packet.invariant.puts.stage ∙ c.requires.stage
+put_record-end-requires-clause-stage c = c.loop-packet.invariant.puts.fills.stage ∙ c.requires.stage
 
 pub put_record-end-requires-clause-given : goal.put_record-end-requires-clause-given
 put_record-end-requires-clause-given c = c.loop-packet.invariant.puts.kept ∙ c.requires.given (ap is_due c.requires.stage)
@@ -22,7 +22,7 @@ put_record-end-requires-clause-whole c =
 
 pub loop-packet-preserved : goal.loop-packet-preserved
 loop-packet-preserved c = record {
-  within = c.put_record-end.ensures.puts.most;
+  within = c.put_record-end.ensures.puts.fills.most;
   puts = puts-more c.args.at c.loop-packet.end c.put_record-end.result c.args.out.now c.loop-packet.out c.put_record-end.new.out c.args.self.now
       c.loop-packet.self c.put_record-end.new.self c.loop-packet.invariant.puts c.put_record-end.ensures.puts;
 }
