@@ -17,6 +17,7 @@ pub mod Measured
 pub mod Packets
 pub mod Passes
 pub mod Runs
+pub mod Settled
 pub mod Some
 pub mod Summarized
 pub mod Unique
