@@ -69,22 +69,14 @@ abbrev pub outcome_members : KindVerdict → List Member
 outcome_members kind_verdict.Pass = (codes "pass", boolean true) ∷ []
 outcome_members (kind_verdict.Fail proof) = (codes "pass", boolean false) ∷ (codes "proof", proof_data proof) ∷ []
 
--- the limit and the peak of the bucket
-abbrev pub bucket_members : Media → Judged → Kind → List Member
-bucket_members media judged kind =
-    (codes "bucket_limit", count (c_max_of media judged.n kind)) ∷ (codes "bucket_peak", count judged.bucket_peak) ∷ []
-
--- the limit and the peak of the buffer
-abbrev pub buffer_members : Media → Judged → Kind → List Member
-buffer_members media judged kind = (codes "buffer_limit", count (vrx_full_of media judged.n kind))
-    ∷ (codes "buffer_peak", count (buffer_peak judged kind)) ∷ []
-
 -- the members of a type that comes to this
 abbrev pub type_members : Media → Judged → Kind → KindVerdict → List Member
 type_members media judged kind outcome =
-    bucket_members media judged kind
-    ++ (buffer_members media judged kind
-    ++ ((codes "type", string (kind_name kind)) ∷ outcome_members outcome))
+    (codes "bucket_limit", count (c_max_of media judged.n kind))
+    ∷ (codes "bucket_peak", count judged.bucket_peak)
+    ∷ (codes "buffer_limit", count (vrx_full_of media judged.n kind))
+    ∷ (codes "buffer_peak", count (buffer_peak judged kind))
+    ∷ (codes "type", string (kind_name kind)) ∷ outcome_members outcome
 
 -- a type
 abbrev pub type_data : Media → Judged → Kind → Data

@@ -8,7 +8,7 @@ ghost use Rattle.timing_json.specs.Members.{Puts};
 ghost use Rattle.std.specs.Fmt.{decimal};
 ghost use Rattle.timing_report.specs.Outcomes.{AreOfSession};
 ghost use Rattle.timing_report.specs.Status.{code_of};
-ghost use Rattle.timing_json.specs.Json.{list_of, proof_data, outcome_members, bucket_members, buffer_members, type_data, types_data, interlaced_members, judged_numbers, judged_words, judged_members, no_whole_frame_members, unjudged_members, run_verdict_members, expected_members, run_members, run_data, verdict_members, key_members, flow_data, row_data, file_data, files_data, json_text};
+ghost use Rattle.timing_json.specs.Json.{list_of, proof_data, outcome_members, type_data, types_data, interlaced_members, judged_numbers, judged_words, judged_members, no_whole_frame_members, unjudged_members, run_verdict_members, expected_members, run_members, run_data, verdict_members, key_members, flow_data, row_data, file_data, files_data, json_text};
 
 use crate::object::Object;
 use sender_params::Params;
@@ -49,34 +49,6 @@ fn put_outcome(object: &mut Object, alloc: Global, verdict: KindVerdict) -> Resu
     }
 }
 
-/// The limit and the peak of the bucket.
-fn put_bucket(
-    object: &mut Object,
-    params: &Params,
-    judged: &Judged,
-    kind: Kind,
-) -> Result<(), OutOfMemory>
-    requires { params.now.n ≡ judged.now.n }
-    ensures { IfOk result (λ _. Puts (bucket_members params.now.media judged.now kind) object.old object.new) }
-{
-    object.put_count("bucket_limit", params.c_max(kind))?;
-    object.put_count("bucket_peak", judged.bucket_peak)
-}
-
-/// The limit and the peak of the buffer.
-fn put_buffer(
-    object: &mut Object,
-    params: &Params,
-    judged: &Judged,
-    kind: Kind,
-) -> Result<(), OutOfMemory>
-    requires { params.now.n ≡ judged.now.n }
-    ensures { IfOk result (λ _. Puts (buffer_members params.now.media judged.now kind) object.old object.new) }
-{
-    object.put_count("buffer_limit", params.vrx_full(kind))?;
-    object.put_count("buffer_peak", buffer_peak(judged, kind))
-}
-
 /// A type.
 fn type_value(
     alloc: Global,
@@ -88,8 +60,10 @@ fn type_value(
     ensures { IfOk result (λ value. view value ≡ type_data params.now.media judged.now kind) }
 {
     let mut object = Object::new(alloc);
-    put_bucket(&mut object, params, judged, kind)?;
-    put_buffer(&mut object, params, judged, kind)?;
+    object.put_count("bucket_limit", params.c_max(kind))?;
+    object.put_count("bucket_peak", judged.bucket_peak)?;
+    object.put_count("buffer_limit", params.vrx_full(kind))?;
+    object.put_count("buffer_peak", buffer_peak(judged, kind))?;
     object.put_text("type", kind_name(kind))?;
     put_outcome(&mut object, alloc, verdict_on(judged, kind))?;
     Ok(object.into_value())

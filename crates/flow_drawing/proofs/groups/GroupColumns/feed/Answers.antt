@@ -1,4 +1,4 @@
-use Rattle.std.proofs.Common.{◌≡◌, ◌<◌, ◌+◌, ◌%◌, FitsSigned, refl, ap, ◌∙◌, sym, rules, arith}
+use Rattle.std.proofs.Common.{◌≡◌, ◌<◌, ◌≤◌, ◌+◌, ◌%◌, FitsSigned, refl, ap, ◌∙◌, sym, rules, arith}
 use Rattle.std.proofs.lemmas.Int.{ints, to_z-of_z}
 use Rattle.std.specs.Int.{w128}
 use Rattle.sender_params.proofs.Turns.{next_group, same_group}
@@ -6,8 +6,16 @@ use Rattle.flow_measure.specs.Frames.{after_start}
 use Rattle.flow_measure.specs.Groups.{lasts_of, since_at}
 use Rattle.flow_measure.proofs.Grouped.{groups-begun, last-is}
 use Rattle.flow_drawing.specs.declared.groups.FirstColumns.{FirstColumns}
+use Rattle.flow_drawing.specs.declared.groups.GroupColumns.{GroupColumns}
 use Rattle.flow_drawing.proofs.Feeding.{draws-more, groups-fed}
 use Rattle.flow_drawing.proofs.groups.GroupColumns.feed.Goals as goal
+
+-- how many groups have begun, with this packet
+begun : (s : GroupColumns) (now : FirstColumns) → (s.place ≡ 0 → now.seen ≡ s.firsts.seen + 1) → (0 < s.place → now ≡ s.firsts)
+    → (now.seen ≡ s.last.seen + 1) × (now.seen ≤ s.seen + 1)
+begun s now one kept =
+    groups-begun s.seen s.place s.last.seen s.firsts.seen now.seen one (λ more. ap (λ (x : FirstColumns). x.seen) (kept more))
+    s.firsts_are s.firsts_ahead s.last_few
 
 pub invariant_of-self : goal.invariant_of-self
 invariant_of-self c =
@@ -16,9 +24,7 @@ invariant_of-self c =
     let fits : FitsSigned w128 n0 = search rules in
     let inside : s.seen % s.n + 1 < s.n = omega (arith, s.place_is, c.if-self.true) in
     let same = same_group s.seen s.n inside in
-    let f = c.feed_at.ensures in
-    let begun = groups-begun s.seen s.place s.last.seen s.firsts.seen c.feed_at.new.self.seen f.seen (λ more. ap (λ (x : FirstColumns). x.seen) (f.kept more))
-    s.firsts_are s.firsts_ahead s.last_few in
+    let groups = begun s c.feed_at.new.self c.feed_at.ensures.seen c.feed_at.ensures.kept in
     record {
       n0_low = omega (arith, ints, to_z-of_z w128 n0 fits, c.anchor_at-n0.ensures.low);
       n0_high = omega (arith, ints, to_z-of_z w128 n0 fits, c.anchor_at-n0.ensures.high);
@@ -27,9 +33,9 @@ invariant_of-self c =
       place_within = omega (arith, c.if-self.true);
       last_is = s.last_is ∙ sym same.0;
       last_few = omega (arith, s.last_few);
-      firsts_few = begun.1;
+      firsts_few = groups.1;
       firsts_are = λ none. absurd (omega (arith, none));
-      firsts_ahead = λ more. begun.0;
+      firsts_ahead = λ more. groups.0;
     }
 
 pub invariant_of-self-2 : goal.invariant_of-self-2
@@ -39,9 +45,7 @@ invariant_of-self-2 c =
     let fits : FitsSigned w128 n0 = search rules in
     let outside : s.seen % s.n + 1 ≡ s.n = omega (arith, s.place_is, s.place_within, c.if-self.false) in
     let next = next_group s.seen s.n outside in
-    let f = c.feed_at.ensures in
-    let begun = groups-begun s.seen s.place s.last.seen s.firsts.seen c.feed_at.new.self.seen f.seen (λ more. ap (λ (x : FirstColumns). x.seen) (f.kept more))
-    s.firsts_are s.firsts_ahead s.last_few in
+    let groups = begun s c.feed_at.new.self c.feed_at.ensures.seen c.feed_at.ensures.kept in
     record {
       n0_low = omega (arith, ints, to_z-of_z w128 n0 fits, c.anchor_at-n0.ensures.low);
       n0_high = omega (arith, ints, to_z-of_z w128 n0 fits, c.anchor_at-n0.ensures.high);
@@ -50,8 +54,8 @@ invariant_of-self-2 c =
       place_within = omega (arith, s.place_within);
       last_is = c.feed.ensures.seen ∙ ap (λ k. k + 1) s.last_is ∙ sym next.0;
       last_few = omega (arith, c.feed.ensures.seen, s.last_few);
-      firsts_few = begun.1;
-      firsts_are = λ none. begun.0 ∙ sym c.feed.ensures.seen;
+      firsts_few = groups.1;
+      firsts_are = λ none. groups.0 ∙ sym c.feed.ensures.seen;
       firsts_ahead = λ more. absurd (omega (arith, more));
     }
 
