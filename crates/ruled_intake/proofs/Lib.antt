@@ -1,3 +1,4 @@
 pub mod Counts
 pub mod Rules
 pub mod Steps
+mod Followed

@@ -10,3 +10,4 @@ pub mod Examples
 -- these only serve proofs
 pub mod Knows
 pub mod Readings
+pub mod Following

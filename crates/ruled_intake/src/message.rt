@@ -1,15 +1,15 @@
 //! What a lane carries.
 
-use crate::packet::Packet;
+use crate::packets::Packets;
 use std::marker::Model;
-use timing_base::{FileNote, Items};
+use timing_base::FileNote;
 
 /// Packets of one file, in the order of its records: 1 to 256.
 #[derive(Debug, Drop)]
 pub struct Batch {
     /// The file, counted from 0.
     pub file: u32,
-    pub packets: Items<Packet>,
+    pub packets: Packets,
 }
 
 impl Model for Batch {
