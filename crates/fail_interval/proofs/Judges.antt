@@ -89,14 +89,5 @@ pub takes_carried_if : {T E : Type 0} (result : Result T E) (old new : MediaJudg
     → OnOk result (StandsFor m key tai new.judge (packets ++ record { rec = n; at = stamp; rtp = Ok p } ∷ [])))
     → IfOk result (λ _. (bytes : List ℕ) → carries old.target p bytes ≡ true
     → TakesRecord (record { number = n; stamp = stamp; bytes = bytes }) old new)
-takes_carried_if (Ok x) old new n stamp p target feeds = λ bytes plain m file number tai items h.
-    let r : Record = record { number = n; stamp = stamp; bytes = bytes } in
-    let packet : FlowPacket = record { rec = n; at = stamp; rtp = Ok p } in
-    let kept : flow_packet m r ≡ Some packet =
-    packet-carried m p r (carried (target_of m) p bytes (subst (λ (t : Target). carries t p bytes ≡ true) h.target plain)) in
-    record {
-      target = target ∙ h.target;
-      judge = subst (StandsFor m (key_of file number) tai new.judge) (sym (flow-append_some m items r packet kept))
-          (feeds m (key_of file number) tai (flow items m) h.judge);
-    }
+takes_carried_if (Ok x) old new n stamp p target feeds = λ bytes plain. takes_carried old new n stamp p bytes target feeds plain
 takes_carried_if (Err e) old new n stamp p target feeds = tt
