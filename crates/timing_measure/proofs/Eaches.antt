@@ -1,5 +1,5 @@
 -- Two lists, item by item.
-use Rattle.std.proofs.Common.{◌≡◌, ◌<◌, ◌+◌, ℕ, suc, List, [], ◌∷◌, ◌++◌, length, take, get_or, ap, ◌∙◌, sym, subst, arith, refl, append-nil}
+use Rattle.std.proofs.Common.{◌≡◌, ◌<◌, ◌+◌, ℕ, zero, suc, List, [], ◌∷◌, ◌++◌, length, take, get_or, ap, ap₂, ◌∙◌, sym, subst, arith, refl, append-nil}
 use Rattle.std.proofs.Common.{append_assoc}
 use Rattle.std.specs.Prelude.{All}
 use Rattle.std.proofs.lemmas.List.{length-take-le, take_more}
@@ -36,11 +36,22 @@ each-more P n xs ys more x y within at h is e =
     (subst (EachOf P 0 (take n xs ++ x ∷ [])) (sym e)
     (each-append P 0 (take n xs) ys x y h (subst (λ (k : ℕ). P k x y) (sym long) is)))
 
-pub pairs-more : {X Y : Type 0} (R : X → Y → Type 0) (n : ℕ) (xs : List X) (ys more : List Y) (x : X) (y : Y) → n < length xs → get_or xs n x ≡ x
-    → AllPairs R (take n xs) ys → R x y → more ≡ ys ++ y ∷ [] → AllPairs R (take (n + 1) xs) more
-pairs-more R n xs ys more x y within at h is e =
-    subst (λ l. AllPairs R l more) (sym (next-taken n xs x within at))
-    (subst (AllPairs R (take n xs ++ x ∷ [])) (sym e) (pairs-append R (take n xs) ys x y h is))
+-- of two items in one place
+each-get : {X Y : Type 0} (P : ℕ → X → Y → Type 0) (number n : ℕ) (xs : List X) (ys : List Y) (x : X) (y : Y) → n < length xs → n < length ys
+    → EachOf P number xs ys → P (number + n) (get_or xs n x) (get_or ys n y)
+each-get P number n [] ys x y within there h = absurd (omega (arith, within))
+each-get P number n (a ∷ xs) [] x y within there h = absurd h
+each-get P number zero (a ∷ xs) (b ∷ ys) x y within there h = subst (λ (k : ℕ). P k a b) (omega arith) h.0
+each-get P number (suc n) (a ∷ xs) (b ∷ ys) x y within there h =
+    let far : number + 1 + n ≡ number + suc n = omega arith in
+    subst (λ (k : ℕ). P k (get_or xs n x) (get_or ys n y)) far
+    (each-get P (number + 1) n xs ys x y (omega (arith, within)) (omega (arith, there)) h.1)
+
+pub each-in : {X Y : Type 0} (P : ℕ → X → Y → Type 0) (n : ℕ) (xs : List X) (ys : List Y) (x : X) (y : Y) → n < length xs → n < length ys
+    → get_or xs n x ≡ x → get_or ys n y ≡ y → EachOf P 0 xs ys → P n x y
+each-in P n xs ys x y within there at also h =
+    let near : 0 + n ≡ n = omega arith in
+    subst (λ (k : ℕ). P k x y) near (subst (P (0 + n) x) also (subst (λ a. P (0 + n) a (get_or ys n y)) at (each-get P 0 n xs ys x y within there h)))
 
 -- one thing and then another, of items in one place
 pub each-pairs : {X Y Z : Type 0} (P : ℕ → X → Y → Type 0) (R : Y → Z → Type 0) (Q : ℕ → X → Z → Type 0)
@@ -67,6 +78,16 @@ each-long P n [] [] h = refl
 each-long P n [] (y ∷ ys) h = absurd h
 each-long P n (x ∷ xs) [] h = absurd h
 each-long P n (x ∷ xs) (y ∷ ys) h = ap suc (each-long P (n + 1) xs ys h.1)
+
+-- where each has one, the lists are one
+pub each-once : {X Y : Type 0} (P : ℕ → X → Y → Type 0) → ((n : ℕ) (x : X) (y z : Y) → P n x y → P n x z → y ≡ z)
+    → (n : ℕ) (xs : List X) (ys zs : List Y) → EachOf P n xs ys → EachOf P n xs zs → ys ≡ zs
+each-once P once n [] [] [] h k = refl
+each-once P once n [] [] (z ∷ zs) h k = absurd k
+each-once P once n [] (y ∷ ys) zs h k = absurd h
+each-once P once n (x ∷ xs) [] zs h k = absurd h
+each-once P once n (x ∷ xs) (y ∷ ys) [] h k = absurd k
+each-once P once n (x ∷ xs) (y ∷ ys) (z ∷ zs) h k = ap₂ (λ a l. a ∷ l) (once n x y z h.0 k.0) (each-once P once (n + 1) xs ys zs h.1 k.1)
 
 -- what holds of each, and what follows from it
 pub each-then : {X Y : Type 0} (P Q : ℕ → X → Y → Type 0) → ((n : ℕ) (x : X) (y : Y) → P n x y → Q n x y)

@@ -4,10 +4,11 @@ pub mod Edging
 pub mod Meterings
 pub mod Eaches
 mod Banked
-mod Firsts
+mod Judged
 mod Gauging
 pub mod Found
 pub mod Answering
 pub mod Some
+pub mod Numbers
 pub mod Unique
 pub mod lemmas

@@ -15,6 +15,7 @@
 
 mod answer;
 pub mod bank;
+pub mod both;
 pub mod laws;
 mod measure;
 pub mod metering;

@@ -1,23 +1,51 @@
 //! `measure`: the numbers of every judged run of every media of a job.
 
-ghost use Rattle.std.specs.Prelude.{◌≡◌, IfErr, IfOk};
+ghost use Rattle.std.specs.Prelude.{◌≡◌, ◌≤◌, ℕ, List, Some, IfErr, IfOk, length};
 ghost use Rattle.measure_text.specs.Json.{AreOfMedia};
 ghost use Rattle.timing_base.specs.Targets.{HaveOwnTargets};
+ghost use Rattle.timing_outside.specs.Causes.{Rose};
+ghost use Rattle.pcapng_reader.specs.Classic.{classic_texts};
 ghost use Rattle.timing_outside.specs.Shelves.{StaysAs};
 ghost use Rattle.timing_steps.specs.Answers.{Gives, OnReadFault, Yields, seen_of};
 ghost use Rattle.timing_steps.specs.Ends.{EndsWith, HasStatus};
 ghost use Rattle.timing_steps.specs.Ran.{HasCause, Ran, output_of};
 ghost use Rattle.timing_reach.specs.Asked.{ReadsCapture};
-ghost use Rattle.timing_measure.specs.Measures.{FollowsMeasure, HasMeasure, MeasureInputRose, measure_ends, measured};
+ghost use Rattle.timing_measure.specs.Measures.{AreFlows, FollowsMeasure, HasMeasure, MeasureInputRose, measure_ends};
+ghost use Rattle.timing_measure.specs.Measures.{measured};
+ghost use Rattle.timing_measure.specs.Readings.{IsReadingIn, IsReadingOf};
 
 use crate::answer::measured;
-use crate::readings::{Reading, read_flows};
-use flow_measure::MeasuredFlow;
+use crate::both::Nothing;
+use crate::metering::FlowMeter;
+use crate::readings::{FirstReading, Reading, read_first, read_rest};
+use flow_measure::{MeasuredFlow, RunMeter};
 use std::alloc::Global;
-use timing_base::{CaptureJob, Session};
+use timing_base::{CaptureJob, Media, Session};
 use timing_outside::{Shelf, Sink};
-use timing_report::Status;
+use timing_report::{Input, Status};
 use timing_steps::{Answer, Failure, conclude, fetch_session};
+
+/// The flows of these media in the capture of a job, which is read a second time where a run is judged.
+fn read_flows<H: Shelf>(
+    alloc: Global,
+    job: &CaptureJob,
+    shelf: &mut H,
+    media: &[Media],
+) -> Result<Reading<MeasuredFlow>, Failure>
+    requires targets { HaveOwnTargets media.now }
+    requires few { length media.now ≤ 64 }
+    ensures told { IfOk result (λ read. (text : List ℕ)
+        → classic_texts (H.text shelf.old) job.now.capture ≡ Some text
+        → IsReadingIn (AreFlows job.now.tai media.now) text read) }
+    ensures some { IfOk result (IsReadingOf (AreFlows job.now.tai media.now)) }
+    ensures cause { IfErr result (λ e. OnReadFault e (λ i. (i ≡ Input.Capture 0)
+        × Rose (H.faults shelf.old job.now.capture) (H.faults shelf.new job.now.capture))) }
+    ensures there { IfOk result (λ _. ¬ H.lacks shelf.old job.now.capture) }
+    ensures stays { StaysAs H.text H.lacks H.faults shelf.old shelf.new }
+{
+    let FirstReading { reading: first, .. } = read_first(alloc, job, shelf, media, Nothing)?;
+    read_rest::<H, FlowMeter<RunMeter>>(alloc, job, shelf, media, first)
+}
 
 /// The answer on a capture of which a reading came to this.
 fn answer_read(

@@ -1,22 +1,22 @@
 //! The numbers of the judged runs of a flow. A first reading judged the flow; in a second one each judged run's packets
 //! go to a meter.
 
-pub mod edged;
+pub mod again;
 pub mod edges;
 pub mod first;
 pub mod flow;
 pub mod gauge;
+pub mod judging;
 pub mod numbers;
 pub mod open;
 pub mod plan;
 pub mod same;
-pub mod second;
 pub mod source;
 pub mod walk;
 
-pub use edged::Edged;
+pub use again::{Again, SecondTaker};
 pub use edges::{Edge, EdgeMeter};
-pub use first::FirstMeter;
+pub use first::{FirstMeter, Seen};
 pub use flow::FlowMeter;
 pub use gauge::RunGauge;
-pub use second::{SecondFound, SecondMeter};
+pub use judging::{Findings, Judging};

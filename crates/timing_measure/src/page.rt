@@ -6,7 +6,6 @@
 //! records from 1; stamps are nanoseconds.
 
 mod answer;
-mod both;
 pub mod laws;
 mod longest;
 mod meter;

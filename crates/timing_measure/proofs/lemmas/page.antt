@@ -1,12 +1,11 @@
-mod Most
-mod Passing
-mod Choosing
-mod Showing
-mod Once
-mod Columns
+pub mod Most
+pub mod Passing
+pub mod Choosing
+pub mod Showing
+pub mod Once
+pub mod Columns
 pub mod Some
-mod Numbers
-mod Drawings
+pub mod Drawings
 pub mod Unique
-mod Finding
-mod Answering
+pub mod Finding
+pub mod Answering

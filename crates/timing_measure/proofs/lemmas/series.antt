@@ -1,10 +1,10 @@
-mod Rowing
-mod Metering
-mod Copying
-mod Capturing
-mod Fronting
-mod Ending
-mod Judging
-mod Resting
+pub mod Rowing
+pub mod Metering
+pub mod Copying
+pub mod Capturing
+pub mod Fronting
+pub mod Ending
+pub mod Judging
+pub mod Resting
 pub mod Some
 pub mod Unique

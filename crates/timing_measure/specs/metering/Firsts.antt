@@ -1,31 +1,32 @@
 -- What the first reading of a flow says of its packets.
-use Rattle.std.specs.Prelude.{◌≡◌, ◌≤◌, ◌+◌, ◌^◌, ℕ, List, [], ◌∷◌, ◌++◌, length, None}
-use Rattle.std.proofs.Common.{arith}
+use Rattle.std.specs.Prelude.{◌≡◌, ◌≤◌, ℕ, List, [], ◌∷◌, ◌++◌, length, None}
 use Rattle.timing_base.specs.Captures.{Record}
 use Rattle.timing_base.specs.Judged.{judged}
-use Rattle.timing_base.specs.Keys.{key_of}
 use Rattle.timing_base.specs.Media.{Media}
 use Rattle.timing_base.specs.declared.packet.FlowPacket.{FlowPacket}
 use Rattle.fail_interval.specs.Row.{verdict_of}
-use Rattle.fail_interval.specs.Stands.{StandsFor as JudgeStandsFor}
 use Rattle.flow_measure.specs.declared.numbers.MeasuredFlow.{MeasuredFlow}
 use Rattle.udp_rtp.specs.Flow.{flow, flow_packet}
 use Rattle.timing_measure.specs.Measured.{first_source}
+use Rattle.timing_measure.specs.metering.Edges.{edges_of}
 use Rattle.timing_measure.specs.metering.Fed.{fed_more, fed_none, fed_other}
+use Rattle.timing_measure.specs.metering.Judgings.{HasRoom as JudgingHasRoom, StandsFor as JudgingStandsFor}
+use Rattle.timing_measure.specs.metering.Judgings.{room_less as judging_less}
 use Rattle.timing_measure.specs.declared.metering.first.FirstMeter.{FirstMeter}
+use Rattle.timing_measure.specs.declared.metering.first.Seen.{Seen}
 
 -- these packets of the flow of a media were passed, and no others
 pub record StandsFor (m : Media) (number tai : ℕ) (x : FirstMeter) (packets : List FlowPacket) : Type 0 where
   pub number_is : x.number ≡ number
-  pub judge : JudgeStandsFor m (key_of 0 number) tai x.judge packets
-  pub source : x.source ≡ first_source packets
+  pub judging_is : JudgingStandsFor m number tai x.judging packets
+  pub source_is : x.source ≡ first_source packets
 
 -- there is room for so many packets more
 abbrev pub HasRoom : (count : ℕ) → FirstMeter → Type 0
-HasRoom count x = x.packets + count ≤ 2 ^ 41
+HasRoom count x = JudgingHasRoom count x.judging
 
 pub room_less : (few many : ℕ) (x : FirstMeter) → few ≤ many → HasRoom many x → HasRoom few x
-room_less few many x less room = omega (arith, less, room)
+room_less few many x less room = judging_less few many x.judging less room
 
 -- whatever packets were passed, the flow of these records was passed then, and nothing else
 abbrev pub TakesOn : Media → (old new : FirstMeter) → List Record → Type 0
@@ -52,3 +53,8 @@ pub record IsFirst (m : Media) (number tai : ℕ) (packets : List FlowPacket) (f
   pub source : flow.ssrc ≡ first_source packets
   pub verdict_is : flow.verdict ≡ verdict_of m (judged packets m.pt tai)
   pub none : flow.runs ≡ []
+
+-- the flow of a media, with none of its runs, and how their judged packets begin and end
+pub record IsSeen (m : Media) (number tai : ℕ) (packets : List FlowPacket) (seen : Seen) : Type 0 where
+  pub flow : IsFirst m number tai packets seen.flow
+  pub edges : seen.edges ≡ edges_of packets

@@ -1,6 +1,8 @@
 -- What a `FlowMeter` says of the packets of a flow, as far as it has come. Packets and places count from 0, and runs
 -- too, but for the number of an open run.
-use Rattle.std.specs.Prelude.{◌≡◌, ◌<◌, ◌+◌, ◌-◌, ℕ, ⊤, All, List, [], ◌∷◌, ◌++◌, length, take, Option, Some, None}
+use Rattle.std.specs.Prelude.{◌≡◌, ◌≤◌, ◌<◌, ◌+◌, ◌-◌, ◌^◌, ℕ, ⊤, All, List, [], ◌∷◌, ◌++◌, length, take, Option, Some}
+use Rattle.std.specs.Prelude.{None}
+use Rattle.std.proofs.Common.{arith}
 use Rattle.sender_params.specs.Ticks.{NeverFall}
 use Rattle.timing_base.specs.Flows.{cuts, last_place, packet, read_or_zeros}
 use Rattle.timing_base.specs.Media.{Media}
@@ -111,3 +113,14 @@ abbrev pub StandsFor : {G : Type 0} → Standing G → Measuring → Media → (
     → List FlowPacket → Type 0
 StandsFor stands measures m number tai found meter packets =
     (rest : List FlowPacket) → IsAt stands measures m number tai found meter (packets ++ rest) (length packets)
+
+-- there is room for so many packets more
+pub record HasRoom {G : Type 0} (count : ℕ) (x : FlowMeter G) : Type 0 where
+  pub few : x.walk.packets + count ≤ 2 ^ 41
+  pub tai_few : x.tai ≤ 1000
+
+pub room_less : {G : Type 0} (few many : ℕ) (x : FlowMeter G) → few ≤ many → HasRoom many x → HasRoom few x
+room_less few many x less room = record {
+  few = omega (arith, less, room.few);
+  tai_few = room.tai_few;
+}

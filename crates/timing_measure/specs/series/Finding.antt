@@ -9,7 +9,7 @@ use Rattle.timing_base.specs.declared.packet.FlowPacket.{FlowPacket}
 use Rattle.timing_base.specs.declared.row.Verdict.{Verdict}
 use Rattle.fail_interval.specs.Row.{verdict_of}
 use Rattle.pcap_reader.specs.Records.{Records}
-use Rattle.timing_measure.specs.metering.Edged.{IsAgain}
+use Rattle.timing_measure.specs.metering.Judgings.{IsAgain}
 use Rattle.timing_measure.specs.metering.Edges.{edges_of}
 use Rattle.timing_measure.specs.metering.Plan.{has_judged_run}
 use Rattle.timing_measure.specs.declared.metering.edges.Edge.{Edge}

@@ -4,14 +4,12 @@ use Rattle.std.specs.Prelude.{◌≡◌, ◌<◌, ◌≤◌, ◌+◌, ◌-◌, �
 use Rattle.std.specs.Prelude.{None}
 use Rattle.sender_params.specs.Ticks.{NeverFall}
 use Rattle.timing_base.specs.Flows.{cuts, last_place, packet}
-use Rattle.timing_base.specs.Keys.{key_of}
 use Rattle.timing_base.specs.Media.{Media}
 use Rattle.timing_base.specs.Verdicts.{Judged}
 use Rattle.timing_base.specs.declared.packet.FlowPacket.{FlowPacket}
 use Rattle.timing_base.specs.declared.row.Verdict.{Verdict}
-use Rattle.fail_interval.specs.Stands.{StandsFor as JudgeStandsFor}
 use Rattle.timing_measure.specs.Measured.{JudgedPart, stamps_of}
-use Rattle.timing_measure.specs.metering.Edges.{StandsFor as EdgesStandFor}
+use Rattle.timing_measure.specs.metering.Judgings.{StandsFor as JudgingStandsFor}
 use Rattle.timing_measure.specs.metering.Plan.{IsWhole, planned_at, planned_between, planned_packets, planned_part}
 use Rattle.timing_measure.specs.metering.Walks.{IsWalk}
 use Rattle.flow_rows.specs.Rows.{AreRows}
@@ -100,14 +98,12 @@ pub record IsAt (frames : Bool) (m : Media) (tai : ℕ) (found : Verdict) (x : F
 -- the packets were fed and no others, as far as later calls can tell: whatever packets follow
 pub record StandsFor (frames : Bool) (m : Media) (number tai : ℕ) (found : Verdict) (x : FlowRows) (rows : List ℕ)
     (packets : List FlowPacket) : Type 0 where
-  pub judge_is : JudgeStandsFor m (key_of 0 number) tai x.judge packets
-  pub edges_are : EdgesStandFor x.edges packets
+  pub judging_is : JudgingStandsFor m number tai x.judging packets
   pub at : (rest : List FlowPacket) → IsAt frames m tai found x (packets ++ rest) (length packets) rows
 
 -- all but the open run is as it was
 pub record Keeps (old new : FlowRows) : Type 0 where
-  pub judge_is : new.judge ≡ old.judge
-  pub edges_are : new.edges ≡ old.edges
+  pub judging_is : new.judging ≡ old.judging
   pub media_is : new.media ≡ old.media
   pub frames_is : new.frames ≡ old.frames
   pub tai_is : new.tai ≡ old.tai

@@ -8,9 +8,9 @@ use Rattle.timing_base.specs.declared.capture.FileNote.{FileNote}
 use Rattle.timing_base.specs.declared.packet.FlowPacket.{FlowPacket}
 use Rattle.timing_base.specs.declared.row.Verdict.{Verdict}
 use Rattle.timing_outside.specs.Causes.{Rose}
-use Rattle.fail_interval.specs.Stands.{count_fed}
 use Rattle.pcap_reader.specs.Readers.{GivesNote}
 use Rattle.pcap_reader.specs.Records.{Records}
+use Rattle.timing_measure.specs.metering.Judgings.{HasRoom as JudgingHasRoom, room_less as judging_less}
 use Rattle.timing_measure.specs.metering.Fed.{fed_more, fed_none, fed_other}
 use Rattle.timing_reach.specs.declared.judged.flows.FlowOf.{FlowOf}
 use Rattle.timing_steps.specs.Ran.{Output}
@@ -23,16 +23,14 @@ use Rattle.timing_measure.specs.declared.series.meter.SeriesMeter.{SeriesMeter}
 
 -- there is room for so many packets more
 pub record HasRoom (more : ℕ) (x : FlowRows) : Type 0 where
-  pub judge_few : count_fed x.judge + more ≤ 2 ^ 41
+  pub judging_few : JudgingHasRoom more x.judging
   pub walk_few : x.walk.packets + more ≤ 2 ^ 41
-  pub edges_few : x.edges.walk.packets + more ≤ 2 ^ 41
   pub tai_few : x.tai ≤ 1000
 
 pub room_less : (few many : ℕ) (x : FlowRows) → few ≤ many → HasRoom many x → HasRoom few x
 room_less few many x less room = record {
-  judge_few = omega (arith, less, room.judge_few);
+  judging_few = judging_less few many x.judging less room.judging_few;
   walk_few = omega (arith, less, room.walk_few);
-  edges_few = omega (arith, less, room.edges_few);
   tai_few = room.tai_few;
 }
 

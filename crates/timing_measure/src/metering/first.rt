@@ -1,32 +1,38 @@
-//! The first reading of a flow: it is judged, its packets are counted, and its source is kept.
+//! The first reading of a flow: it is judged, and its source is kept.
 
-ghost use Rattle.std.specs.Prelude.{◌≡◌, ◌≤◌, ◌^◌, [], ℕ, List};
+ghost use Rattle.std.specs.Prelude.{◌≡◌, ◌≤◌, ◌^◌, [], ℕ, List, IfOk};
 ghost use Rattle.timing_base.specs.Media.{Media as MediaValue};
 ghost use Rattle.timing_base.specs.declared.packet.FlowPacket.{FlowPacket as PacketValue};
-ghost use Rattle.fail_interval.specs.Stands.{count_fed};
 
+use crate::metering::edges::Edge;
+use crate::metering::judging::{Findings, Judging};
 use crate::metering::source::source_with;
-use fail_interval::FlowJudge;
 use flow_measure::MeasuredFlow;
 use std::alloc::{AllocError as OutOfMemory, Global};
-use timing_base::{FlowKey, FlowPacket, Items, Media};
+use timing_base::{FlowPacket, Items, Media};
 use timing_reach::judged::flows::FlowTaker;
 
-/// The judge of a flow, and what is told of any flow, judged or not.
+/// What is told of any flow, judged or not.
 #[derive(Drop)]
 pub struct FirstMeter {
     /// The number of the media, counted from 0.
     pub number: u32,
-    pub judge: FlowJudge,
-    /// The packets so far.
-    pub packets: u64,
+    pub judging: Judging,
     /// The source of the first packet that was read.
     pub source: Option<u32>,
-    ghost counted: { packets ≡ count_fed judge },
+}
+
+/// What a first reading found of a flow.
+#[derive(Drop)]
+pub struct Seen {
+    /// The flow, with none of its runs.
+    pub flow: MeasuredFlow,
+    /// How the judged packets of each of its judged runs begin and end.
+    pub edges: Items<Edge>,
 }
 
 impl FirstMeter {
-    ghost use Rattle.timing_measure.specs.metering.Firsts.{HasRoom, IsFirst, StandsFor};
+    ghost use Rattle.timing_measure.specs.metering.Firsts.{HasRoom, IsSeen, StandsFor};
 
     /// Before the first packet of the flow of a media. `tai` seconds are added to the stamps.
     pub fn new(alloc: Global, media: &Media, number: u32, tai: u64) -> FirstMeter
@@ -34,36 +40,33 @@ impl FirstMeter {
         ensures room { HasRoom (2 ^ 41) result }
         ensures stands { StandsFor media.now number tai result [] }
     {
-        let key = FlowKey {
-            file: 0,
-            media: number,
-        };
         FirstMeter {
             number,
-            judge: FlowJudge::new(alloc, media, key, tai),
-            packets: 0,
+            judging: Judging::new(alloc, media, number, tai),
             source: None,
         }
     }
 
-    /// The flow, with none of its runs, where it ends here.
-    pub fn finish(self, alloc: Global) -> MeasuredFlow
-        ensures { (m : MediaValue) (number tai : ℕ) (packets : List PacketValue)
-            → StandsFor m number tai self packets → IsFirst m number tai packets result }
+    /// What was found of the flow, where it ends here. `Err` is want of memory.
+    pub fn finish(self, alloc: Global) -> Result<Seen, OutOfMemory>
+        ensures { IfOk result (λ seen. (m : MediaValue) (number tai : ℕ) (packets : List PacketValue)
+            → StandsFor m number tai self packets → IsSeen m number tai packets seen) }
     {
         let FirstMeter {
             number,
-            judge,
-            packets,
+            judging,
             source,
         } = self;
-        MeasuredFlow {
+        let packets = judging.edges.walk.packets;
+        let Findings { verdict, edges } = judging.finish()?;
+        let flow = MeasuredFlow {
             media: number,
             packets,
             ssrc: source,
-            verdict: judge.finish().verdict,
+            verdict,
             runs: Items::from_vec(Vec::new(alloc)),
-        }
+        };
+        Ok(Seen { flow, edges })
     }
 }
 
@@ -86,7 +89,6 @@ impl FlowTaker for FirstMeter {
     #[inline(always)]
     fn take(&mut self, packet: &FlowPacket, _frame: &[u8]) -> Result<(), OutOfMemory> {
         self.source = source_with(self.source, packet);
-        self.packets += 1;
-        self.judge.feed(packet.rec, packet.at, packet.rtp)
+        self.judging.feed(packet)
     }
 }

@@ -2,15 +2,12 @@
 
 ghost use Rattle.std.specs.Prelude.{◌≡◌, ◌≤◌, ◌<◌, ◌+◌, ◌^◌, ◌++◌, ◌∷◌, [], ℕ, List, Option, IfOk, length, true, false};
 ghost use Rattle.timing_base.specs.Captures.{IsStamp};
-ghost use Rattle.timing_base.specs.Flows.{AreStamped, packet as packet_at};
+ghost use Rattle.timing_base.specs.Flows.{packet as packet_at};
 ghost use Rattle.timing_base.specs.Verdicts.{Judged as JudgedValue};
-ghost use Rattle.timing_base.specs.Judged.{judged};
 ghost use Rattle.timing_base.specs.Media.{Media as MediaValue};
 ghost use Rattle.timing_base.specs.declared.packet.FlowPacket.{FlowPacket as PacketValue};
-ghost use Rattle.timing_base.specs.declared.row.Verdict.{Verdict as VerdictValue};
-ghost use Rattle.fail_interval.specs.Row.{verdict_of};
-ghost use Rattle.timing_measure.specs.Measured.{IsMeasuredFlow};
 
+use crate::metering::again::SecondTaker;
 use crate::metering::gauge::RunGauge;
 use crate::metering::open::OpenRun;
 use crate::metering::plan::planned_at;
@@ -42,44 +39,7 @@ pub struct FlowMeter<G: Drop> {
 }
 
 impl<G: RunGauge + Drop> FlowMeter<G> {
-    ghost use Rattle.timing_measure.specs.metering.Metering.{IsFresh, IsGoing, Keeps, StandsFor};
-
-    /// Before the first packet of the flow of a media, of which a first reading found this.
-    pub fn new(alloc: Global, media: &Media, number: u32, tai: u64, found: Verdict) -> FlowMeter<G>
-        ensures count { result.walk.packets ≡ 0 }
-        ensures tai { result.tai ≡ tai }
-        ensures stands { StandsFor G.stands G.measures media.now number tai found result [] }
-    {
-        FlowMeter {
-            media: *media,
-            number,
-            tai,
-            found,
-            walk: Walk::new(),
-            source: None,
-            done: Vec::new(alloc),
-            last: None,
-        }
-    }
-
-    /// Takes the next packet of the flow. `Err` is want of memory: what it measured isn't known from then on.
-    pub fn feed(&mut self, packet: &FlowPacket) -> Result<(), OutOfMemory>
-        requires stamp { IsStamp packet.now.at }
-        requires few { self.old.walk.packets < 2 ^ 41 }
-        requires tai { self.old.tai ≤ 1000 }
-        ensures count { self.new.walk.packets ≡ self.old.walk.packets + 1 }
-        ensures tai { self.new.tai ≡ self.old.tai }
-        ensures stands { IfOk result (λ _. (m : MediaValue) (number tai : ℕ) (found : VerdictValue)
-            (packets : List PacketValue)
-            → StandsFor G.stands G.measures m number tai found self.old packets
-            → StandsFor G.stands G.measures m number tai found self.new (packets ++ packet.now ∷ [])) }
-    {
-        self.source = source_with(self.source, packet);
-        let begins = self.walk.pass(packet);
-        self.turn(begins, packet)?;
-        pass_open(&mut self.last, packet, self.tai);
-        Ok(())
-    }
+    ghost use Rattle.timing_measure.specs.metering.Metering.{IsFresh, IsGoing, Keeps};
 
     /// Where a run begins with this packet, which isn't passed to it yet, the run before is over.
     fn turn(&mut self, begins: bool, packet: &FlowPacket) -> Result<(), OutOfMemory>
@@ -106,15 +66,54 @@ impl<G: RunGauge + Drop> FlowMeter<G> {
         self.last = begin(&self.media, &self.found, self.walk.cuts, packet);
         Ok(())
     }
+}
 
-    /// The flow and the numbers of its judged runs, where it ends here. `Err` is want of memory.
-    pub fn finish(self) -> Result<MeasuredFlow, OutOfMemory>
-        ensures found { IfOk result (λ flow. flow.verdict ≡ self.found) }
-        ensures measured { IfOk result (λ flow. (m : MediaValue) (number tai : ℕ) (packets : List PacketValue)
-            → tai ≤ 1000 → AreStamped packets → length packets < 2 ^ 41
-            → StandsFor G.stands G.measures m number tai (verdict_of m (judged packets m.pt tai)) self packets
-            → IsMeasuredFlow G.measures m number tai packets flow) }
-    {
+impl<G: RunGauge + Drop> SecondTaker for FlowMeter<G> {
+    ghost use Rattle.timing_measure.specs.Measured.{IsMeasuredFlow};
+    ghost use Rattle.timing_measure.specs.metering.Metering.{HasRoom, StandsFor, room_less};
+
+    /// The flow and the numbers of its judged runs.
+    type End = MeasuredFlow;
+
+    ghost stands = { λ x m number tai found packets.
+        StandsFor G.stands G.measures m number tai found x packets };
+
+    ghost room = { λ count x. HasRoom count x };
+
+    ghost ends = { λ m number tai packets flow. IsMeasuredFlow G.measures m number tai packets flow };
+
+    fn begin(
+        alloc: Global,
+        media: &Media,
+        number: u32,
+        tai: u64,
+        found: Verdict,
+    ) -> Result<Self, OutOfMemory> {
+        Ok(FlowMeter {
+            media: *media,
+            number,
+            tai,
+            found,
+            walk: Walk::new(),
+            source: None,
+            done: Vec::new(alloc),
+            last: None,
+        })
+    }
+
+    fn take(&mut self, packet: &FlowPacket) -> Result<(), OutOfMemory> {
+        self.source = source_with(self.source, packet);
+        let begins = self.walk.pass(packet);
+        self.turn(begins, packet)?;
+        pass_open(&mut self.last, packet, self.tai);
+        Ok(())
+    }
+
+    fn found(&self) -> &Verdict {
+        &self.found
+    }
+
+    fn finish(self, _alloc: Global) -> Result<MeasuredFlow, OutOfMemory> {
         let FlowMeter {
             number,
             found,
@@ -133,6 +132,12 @@ impl<G: RunGauge + Drop> FlowMeter<G> {
             runs: Items::from_vec(done),
         })
     }
+
+    fn unjudged(flow: MeasuredFlow) -> MeasuredFlow {
+        flow
+    }
+
+    ghost less = { λ few many x le room. room_less few many x le room };
 }
 
 ghost use Rattle.timing_measure.specs.metering.Metering.{Closes, OpensAs};

@@ -1,18 +1,19 @@
 //! Whether two readings of a flow found the same.
 
 ghost use Rattle.std.specs.Prelude.{◌≡◌, true};
-ghost use Rattle.timing_measure.specs.metering.Edged.{IsAgain};
+ghost use Rattle.timing_measure.specs.metering.Judgings.{IsAgain};
 
 use crate::metering::edges::Edge;
+use crate::metering::judging::Findings;
 use timing_base::{Judged, KindVerdict, Run, RunVerdict, Verdict};
 
 /// Whether a second reading of a flow found what the first found: its verdict, and how the judged packets of its runs
 /// begin and end.
-pub fn is_again(first: &Verdict, before: &[Edge], second: &Verdict, edges: &[Edge]) -> bool
-    ensures same { result ≡ true → IsAgain first.now before.now second.now edges.now }
-    ensures told { IsAgain first.now before.now second.now edges.now → result ≡ true }
+pub fn is_again(first: &Verdict, before: &[Edge], second: &Findings) -> bool
+    ensures same { result ≡ true → IsAgain first.now before.now second.now.verdict second.now.edges }
+    ensures told { IsAgain first.now before.now second.now.verdict second.now.edges → result ≡ true }
 {
-    is_same(first, second) && are_same_edges(before, edges)
+    is_same(first, &second.verdict) && are_same_edges(before, second.edges.as_slice())
 }
 
 /// Whether the judged packets of two lists of runs begin and end alike.

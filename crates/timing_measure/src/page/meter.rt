@@ -1,72 +1,20 @@
-//! The second reading of a flow: it is judged again while its judged runs are measured, and the longest is drawn.
+//! The second reading of a flow: while it is judged again, its judged runs are measured, and the longest is drawn.
 
-ghost use Rattle.std.specs.Prelude.{◌≡◌, ◌≤◌, ◌^◌, [], ℕ, All, List, IfOk, IfSome, None};
-ghost use Rattle.timing_base.specs.Media.{Media as MediaValue};
-ghost use Rattle.timing_base.specs.declared.packet.FlowPacket.{FlowPacket as PacketValue};
+ghost use Rattle.std.specs.Prelude.{◌≡◌, ◌+◌, All, IfOk, IfSome, None};
 
-use crate::metering::{SecondFound, SecondMeter};
+use crate::metering::{FlowMeter, SecondTaker};
 use crate::page::longest::longest_of;
 use crate::page::shown::{ShownMeter, begin_shown, pass_shown};
-use flow_measure::{MeasuredRun, RunMeter};
+use flow_measure::{MeasuredFlow, MeasuredRun, RunMeter};
 use flow_page::{FlowPage, ShownRun};
 use std::alloc::{AllocError as OutOfMemory, Global};
 use timing_base::{FlowPacket, Media, Verdict};
-use timing_reach::judged::flows::FlowTaker;
 
-/// The judge and the meters of a flow that was judged before, and the drawing of its longest run.
+/// The meter of a flow that was judged before, and the drawing of its longest run.
 #[derive(Drop)]
 pub struct PageMeter {
-    pub second: SecondMeter<RunMeter>,
+    pub meter: FlowMeter<RunMeter>,
     pub shown: Option<ShownMeter>,
-}
-
-/// What a second reading of a flow came to.
-#[derive(Drop)]
-pub struct PageFound {
-    /// What it found of the flow.
-    pub verdict: Verdict,
-    /// What a page has of the flow, by what the first reading found.
-    pub page: FlowPage,
-}
-
-impl PageMeter {
-    ghost use Rattle.timing_measure.specs.page.drawing.Metering.{Comes, HasRoom, StandsFor};
-
-    /// Before the first packet of the flow of a media, of which a first reading found this. `Err` is want of memory.
-    pub fn new(
-        alloc: Global,
-        media: &Media,
-        number: u32,
-        tai: u64,
-        found: Verdict,
-    ) -> Result<PageMeter, OutOfMemory>
-        requires { tai ≤ 1000 }
-        ensures room { IfOk result (HasRoom (2 ^ 41)) }
-        ensures stands { IfOk result (λ x. StandsFor media.now number tai found x []) }
-    {
-        let shown = begin_shown(alloc, media, tai, longest_of(&found))?;
-        Ok(PageMeter {
-            second: SecondMeter::new(alloc, media, number, tai, found),
-            shown,
-        })
-    }
-
-    /// What the second reading came to, where the flow ends here. `Err` is want of memory.
-    pub fn finish(self, alloc: Global) -> Result<PageFound, OutOfMemory>
-        requires { HasRoom 1 self }
-        ensures found { IfOk result (λ found. found.page.flow.verdict ≡ self.second.meter.found) }
-        ensures comes { IfOk result (λ found. (m : MediaValue) (number tai : ℕ) (packets : List PacketValue)
-            → tai ≤ 1000 → StandsFor m number tai self.second.meter.found self packets
-            → Comes m number tai self.second.meter.found packets found) }
-    {
-        let PageMeter { second, shown } = self;
-        let SecondFound { verdict, flow } = second.finish()?;
-        let shown = shown_of(alloc, shown, flow.runs.as_slice())?;
-        Ok(PageFound {
-            verdict,
-            page: FlowPage { flow, shown },
-        })
-    }
 }
 
 ghost use Rattle.timing_measure.specs.page.drawing.Metering.{HasRunOf, IsRunOf};
@@ -101,26 +49,54 @@ fn shown_of(
     }
 }
 
-impl FlowTaker for PageMeter {
-    ghost use Rattle.timing_measure.specs.page.drawing.Metering.{HasRoom, TakesOn, room_less, takes_more, takes_none};
-    ghost use Rattle.timing_measure.specs.page.drawing.Metering.{takes_other};
+impl SecondTaker for PageMeter {
+    ghost use Rattle.timing_measure.specs.page.Shown.{IsFlowPage};
+    ghost use Rattle.timing_measure.specs.page.drawing.Metering.{HasRoom, StandsFor, room_less};
 
-    ghost takes = { TakesOn };
+    /// What a page has of the flow.
+    type End = FlowPage;
+
+    ghost stands = { λ x m number tai found packets. StandsFor m number tai found x packets };
 
     ghost room = { HasRoom };
 
-    ghost none = { takes_none };
+    ghost ends = { IsFlowPage };
 
-    ghost other = { takes_other };
-
-    ghost more = { takes_more };
-
-    ghost less = { room_less };
+    fn begin(
+        alloc: Global,
+        media: &Media,
+        number: u32,
+        tai: u64,
+        found: Verdict,
+    ) -> Result<Self, OutOfMemory> {
+        let shown = begin_shown(alloc, media, tai, longest_of(&found))?;
+        Ok(PageMeter {
+            meter: FlowMeter::begin(alloc, media, number, tai, found)?,
+            shown,
+        })
+    }
 
     #[inline(always)]
-    fn take(&mut self, packet: &FlowPacket, _frame: &[u8]) -> Result<(), OutOfMemory> {
-        self.second.feed(packet)?;
-        pass_shown(&mut self.shown, packet, self.second.meter.walk.cuts);
+    fn take(&mut self, packet: &FlowPacket) -> Result<(), OutOfMemory> {
+        self.meter.take(packet)?;
+        pass_shown(&mut self.shown, packet, self.meter.walk.cuts);
         Ok(())
     }
+
+    fn found(&self) -> &Verdict {
+        &self.meter.found
+    }
+
+    fn finish(self, alloc: Global) -> Result<FlowPage, OutOfMemory> {
+        let PageMeter { meter, shown } = self;
+        let flow = meter.finish(alloc)?;
+        let shown = shown_of(alloc, shown, flow.runs.as_slice())?;
+        Ok(FlowPage { flow, shown })
+    }
+
+    fn unjudged(flow: MeasuredFlow) -> FlowPage {
+        FlowPage { flow, shown: None }
+    }
+
+    ghost less = { room_less };
 }

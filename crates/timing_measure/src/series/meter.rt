@@ -11,15 +11,14 @@ ghost use Rattle.timing_outside.specs.Written.{AppendsFront};
 ghost use Rattle.timing_steps.specs.declared.failure.Failure.TheVariants as failure;
 ghost use Rattle.flow_rows.specs.Rows.{header_text};
 
-use crate::metering::EdgeMeter;
+use crate::metering::Judging;
 use crate::metering::plan::planned_at;
 use crate::metering::walk::Walk;
 use crate::series::open::OpenRows;
-use fail_interval::FlowJudge;
 use flow_rows::header;
 use measure_text::RowText;
 use std::alloc::{AllocError as OutOfMemory, Global};
-use timing_base::{FlowKey, FlowPacket, Media, Verdict};
+use timing_base::{FlowPacket, Media, Verdict};
 use timing_outside::{Sink, put_all};
 use timing_reach::judged::flows::FlowTaker;
 use timing_steps::Failure;
@@ -30,9 +29,7 @@ const FULL: usize = 65_536;
 /// How far a flow has come that was judged before, and the run that isn't over.
 #[derive(Drop)]
 pub struct FlowRows {
-    pub judge: FlowJudge,
-    /// How the judged packets of its runs begin and end.
-    pub edges: EdgeMeter,
+    pub judging: Judging,
     pub media: Media,
     /// Whether groups are listed, in place of packets.
     pub frames: bool,
@@ -64,13 +61,8 @@ impl FlowRows {
         ensures found { result.found ≡ found }
         ensures stands { StandsFor frames media.now number tai found result [] [] }
     {
-        let key = FlowKey {
-            file: 0,
-            media: number,
-        };
         FlowRows {
-            judge: FlowJudge::new(alloc, media, key, tai),
-            edges: EdgeMeter::new(alloc),
+            judging: Judging::new(alloc, media, number, tai),
             media: *media,
             frames,
             tai,
@@ -97,8 +89,7 @@ impl FlowRows {
         ensures goes { IfOk result (λ _. Goes self.old self.new
             packet.now text.old.items text.new.items) }
     {
-        self.judge.feed(packet.rec, packet.at, packet.rtp)?;
-        self.edges.pass(packet)?;
+        self.judging.feed(packet)?;
         let begins = self.walk.pass(packet);
         self.turn(begins);
         pass_open(&mut self.last, packet, self.tai, row, text)

@@ -22,7 +22,7 @@ ghost use Rattle.timing_measure.specs.series.Series.{AnswersFlow, BeginsIn, HasS
 ghost use Rattle.timing_measure.specs.series.Streams.{HasBegun, HasRest, HasRestStatus, OnFailure};
 
 use crate::metering::same::is_again;
-use crate::metering::{Edge, Edged, FirstMeter};
+use crate::metering::{Edge, FirstMeter, Seen};
 use crate::series::meter::{FlowRows, SeriesMeter};
 use crate::series::stream::copy_rows;
 use pcap_reader::{MOST, PcapReader};
@@ -62,17 +62,13 @@ pub fn find_flow<H: Shelf>(
     ensures stays { StaysAs H.text H.lacks H.faults shelf.old shelf.new }
 {
     let meter = FirstMeter::new(alloc, media, job.flow.media, job.flow.tai);
-    let none = Items::from_vec(Vec::new(alloc));
-    let taker = Edged::new(alloc, meter, none);
-    let mut flow = FlowOf::new(media, taker);
+    let mut flow = FlowOf::new(media, meter);
     let taken = take_capture(alloc, shelf, job.flow.capture.as_str(), &mut flow)?;
     let FlowOf { taker, .. } = flow;
-    let Edged { meter, edges, .. } = taker;
-    let end = meter.finish(alloc);
-    let edges = Items::from_vec(edges.finish()?);
+    let Seen { flow, edges } = taker.finish(alloc)?;
     Ok(Found {
         note: taken.note,
-        verdict: end.verdict,
+        verdict: flow.verdict,
         edges,
     })
 }
@@ -178,15 +174,9 @@ fn is_found_again(rows: FlowRows, before: &[Edge]) -> Result<bool, OutOfMemory>
     ensures same { result ≡ Ok true → FindsAgain before.now rows }
     ensures changed { result ≡ Ok false → FindsElse before.now rows }
 {
-    let FlowRows {
-        judge,
-        edges,
-        found,
-        ..
-    } = rows;
-    let second = judge.finish().verdict;
-    let edges = edges.finish()?;
-    Ok(is_again(&found, before, &second, edges.as_slice()))
+    let FlowRows { judging, found, .. } = rows;
+    let second = judging.finish()?;
+    Ok(is_again(&found, before, &second))
 }
 
 /// Reads the flow of a job for the second time, of which the first reading found this, and writes

@@ -1,6 +1,5 @@
 -- The texts of `page` have one answer.
-use Rattle.std.proofs.Common.{◌≡◌, ◌^◌, ◌+◌, ◌∷◌, ℕ, List, [], length, Option, Some, None, refl, ap, ap₂, ◌∙◌, sym, subst, arith, length-append}
-use Rattle.timing_base.specs.Captures.{Record}
+use Rattle.std.proofs.Common.{◌≡◌, ◌^◌, ◌∷◌, ℕ, List, [], length, Option, Some, None, refl, ap, ◌∙◌, sym, subst, arith, length-append}
 use Rattle.timing_base.specs.Jobs.{CaptureJob}
 use Rattle.timing_base.specs.Media.{Media}
 use Rattle.timing_base.specs.declared.packet.FlowPacket.{FlowPacket}
@@ -8,7 +7,6 @@ use Rattle.flow_page.specs.declared.shown.FlowPage.{FlowPage}
 use Rattle.flow_page.specs.declared.shown.ShownRun.{ShownRun}
 use Rattle.pcap_reader.specs.Header.{header}
 use Rattle.pcap_reader.proofs.Lists.{only_by}
-use Rattle.timing_measure.specs.Each.{EachOf}
 use Rattle.timing_measure.specs.Measured.{JudgedPart, judged_parts, stamps_of}
 use Rattle.timing_measure.specs.Measures.{timestamps_of}
 use Rattle.timing_reach.specs.Scanned.{contents}
@@ -17,7 +15,8 @@ use Rattle.udp_rtp.specs.Flow.{flow}
 use Rattle.timing_measure.specs.page.Pages.{ArePages, HasPage, paged}
 use Rattle.timing_measure.specs.page.Shown.{IsFlowPage, IsLongest, IsShownRun, Shows}
 use Rattle.timing_measure.proofs.lemmas.page.Drawings.{curves-once, regions-once}
-use Rattle.timing_measure.proofs.lemmas.page.Numbers.{flow-once, run-once}
+use Rattle.timing_measure.proofs.Eaches.{each-once}
+use Rattle.timing_measure.proofs.Numbers.{flow-once, run-once}
 use Rattle.timing_measure.proofs.lemmas.page.Once.{longest-once}
 
 -- a run is shown in one way
@@ -45,7 +44,7 @@ shows-once m tai parts (Some s) (Some t) h k =
     let same = longest-once parts h.0 k.0 h.1 k.1 in
     ap (λ x. Some x) (run-shown-once m tai k.0 s t (subst (λ p. IsShownRun m tai p s) same h.2) k.2)
 
--- what a page has of a flow, and of all of them
+-- what a page has of a flow
 page-once : (m : Media) (number tai : ℕ) (packets : List FlowPacket) (p q : FlowPage) → IsFlowPage m number tai packets p
     → IsFlowPage m number tai packets q → p ≡ q
 page-once m number tai packets p q h k =
@@ -53,20 +52,11 @@ page-once m number tai packets p q h k =
     let shown = shows-once m tai (judged_parts m packets tai) p.shown q.shown h.shows k.shows in
     λ i. record { flow = flow_same i; shown = shown i }
 
-pages-once : (tai : ℕ) (items : List Record) (number : ℕ) (media : List Media) (ps qs : List FlowPage)
-    → EachOf (λ n m p. IsFlowPage m n tai (flow items m) p) number media ps
-    → EachOf (λ n m p. IsFlowPage m n tai (flow items m) p) number media qs → ps ≡ qs
-pages-once tai items number [] [] [] h k = refl
-pages-once tai items number [] [] (q ∷ qs) h k = absurd k
-pages-once tai items number [] (p ∷ ps) qs h k = absurd h
-pages-once tai items number (m ∷ media) [] qs h k = absurd h
-pages-once tai items number (m ∷ media) (p ∷ ps) [] h k = absurd k
-pages-once tai items number (m ∷ media) (p ∷ ps) (q ∷ qs) h k =
-    ap₂ (λ a l. a ∷ l) (page-once m number tai (flow items m) p q h.0 k.0) (pages-once tai items (number + 1) media ps qs h.1 k.1)
-
 -- texts have no two answers
 pub once-page : (job : CaptureJob) (media : List Media) (text : List ℕ) (a b : Answer) → HasPage job media text a → HasPage job media text b → a ≡ b
 once-page job media text a b h k =
     let (items, note) = only_by (header text) (2 ^ 40) text h.items k.items h.note k.note h.records k.records in
-    let pages = pages-once job.tai k.items 0 media h.pages k.pages (subst (λ l. ArePages job.tai media l h.pages) items h.are) k.are in
+    let pages =
+    each-once (λ n m page. IsFlowPage m n job.tai (flow k.items m) page) (λ n m. page-once m n job.tai (flow k.items m)) 0 media h.pages k.pages
+    (subst (λ l. ArePages job.tai media l h.pages) items h.are) k.are in
     h.answer_is ∙ (λ i. paged job.capture (note i) job.tai media (pages i) (contents (items i))) ∙ sym k.answer_is

@@ -40,6 +40,7 @@ use Rattle.timing_measure.specs.series.Streams.{HasBegun, HasRest, HasRestStatus
 use Rattle.timing_measure.specs.declared.series.meter.FlowRows.{FlowRows}
 use Rattle.timing_measure.specs.declared.series.meter.SeriesMeter.{SeriesMeter}
 use Rattle.timing_measure.specs.declared.series.readings.Found.{Found}
+use Rattle.timing_measure.proofs.Found.{untold}
 use Rattle.timing_measure.proofs.lemmas.series.Copying.{appends-same, stopped-here}
 use Rattle.timing_measure.proofs.lemmas.series.Fronting.{rows-all, rows-begun}
 
@@ -116,7 +117,7 @@ series-of frames m number tai found before o f g note status seconds has fresh c
           record {
             rows = copies.here;
             are = rows-all frames m number tai found (flow items m) g.taker.flow copies.here
-                (omega (arith, stands.judge_is.fed, room.judge_few)) seconds stands.judge_is.stamped (sym again) stands;
+                (omega (arith, stands.judging_is.judge_is.fed, room.judging_few.judge_few)) seconds stands.judging_is.judge_is.stamped (sym again) stands;
             text_is = sym copies.text_is ∙ ap (λ l. l ++ copies.here) fresh.text_is;
           },
           ends,
@@ -163,10 +164,6 @@ never-else frames m number tai text found o f g note k fresh c changed =
       verdict = sym (k.verdict_is ∙ ap (λ l. verdict_of m (judged (flow l m) m.pt tai)) same);
       edges_are = sym (k.edges_are ∙ ap (λ l. edges_of (flow l m)) same);
     })
-
-untold : (o : Option (List ℕ)) → ((text : List ℕ) → o ≡ Some text → ⊥) → o ≡ None
-untold None never = refl
-untold (Some text) never = absurd (never text refl)
 
 -- so where it does, the text isn't told
 pub else-untold : (o : Option (List ℕ)) (frames : Bool) (m : Media) (number tai : ℕ) (found : Found) (out : Output) (f g : FlowOf SeriesMeter)

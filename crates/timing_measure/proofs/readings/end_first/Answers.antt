@@ -1,4 +1,4 @@
-use Rattle.std.proofs.Common.{◌≡◌, ◌∙◌, length, rules}
+use Rattle.std.proofs.Common.{◌≡◌, length, rules}
 use Rattle.timing_measure.specs.Readings.{FirstEnds}
 use Rattle.timing_measure.proofs.Eaches.{through-begin, through-end, through-next}
 use Rattle.timing_measure.proofs.readings.end_first.Goals as goal
@@ -9,13 +9,8 @@ loop-flow-init c = through-begin FirstEnds c.args.flows.items _ c.new-ends.resul
 pub loop-flow-preserved : goal.loop-flow-preserved
 loop-flow-preserved c =
     through-next FirstEnds c.args.flows.items c.loop-flow.ends.items c.push.new.self.items c.loop-flow.flow-iterator.rest.items
-    c.next.new.self.rest.items c.in-Some.flow (record { flow = c.finish-flow.result; edges = c.from_vec-edges.result })
-    c.in-Some.ensures.steps.0 c.in_ok-push.ensures.items
-    (λ m number tai packets h edges. record {
-      flow = c.finish-flow.ensures m number tai packets h;
-      edges = c.from_vec-edges.ensures ∙ c.in_ok-finish.ensures packets edges;
-    })
-    c.loop-flow.invariant
+    c.next.new.self.rest.items c.in-Some.flow c.in_ok-end.end
+    c.in-Some.ensures.steps.0 c.in_ok-push.ensures.items c.in_ok-end.ensures c.loop-flow.invariant
 
 pub returns : goal.returns
 returns c =

@@ -3,13 +3,10 @@ use Rattle.std.proofs.lemmas.List.Elements.{All-weaker}
 use Rattle.timing_outside.specs.Causes.{Rose}
 use Rattle.timing_steps.proofs.Seeing.{rose-within}
 use Rattle.timing_measure.specs.Banks.{HaveRoom}
-use Rattle.timing_measure.specs.Measures.{AreFlows}
-use Rattle.timing_measure.specs.Each.{AllPairs}
-use Rattle.timing_measure.specs.Readings.{AreSeconds, AreUnmeasured, BeginsWith, IsReadingIn, IsReadingOf}
-use Rattle.timing_measure.specs.metering.Edged.{HaveRoom as BothHaveRoom, room_less as both_less}
-use Rattle.timing_measure.specs.metering.Seconds.{HasRoom, room_less}
+use Rattle.timing_measure.specs.Readings.{AreEnds, AreSeconds, AreUnmeasured, IsReadingIn, IsReadingOf}
+use Rattle.timing_measure.specs.metering.Agains.{HasRoom, room_less}
 use Rattle.timing_measure.proofs.Eaches.{each-long}
-use Rattle.timing_measure.proofs.Found.{changed-untold, second-in, second-of, second-room}
+use Rattle.timing_measure.proofs.Found.{changed-untold, second-in, second-of, second-room, seconds-begun}
 use Rattle.timing_measure.proofs.readings.read_again.Goals as goal
 
 pub begin_again-requires-clause-each : goal.begin_again-requires-clause-each
@@ -19,59 +16,78 @@ begin_again-requires-clause-each g c =
 
 pub new-bank-requires : goal.new-bank-requires
 new-bank-requires g c =
-    second-room (BothHaveRoom HasRoom) c.job.inside.tai (2 ^ 36) c.args.media.now c.in_ok-begin_again.field-0.items c.requires.targets
-    c.in_ok-begin_again.ensures.stands
-    (All-weaker (λ f. BothHaveRoom HasRoom (2 ^ 41) f.taker) (λ f. BothHaveRoom HasRoom (2 ^ 36) f.taker)
-    (λ f room. both_less HasRoom room_less (2 ^ 36) (2 ^ 41) f.taker (omega arith) room)
+    let room = g.T.SecondTaker.room in
+    let tai = c.job.inside.tai in
+    let seen : c.deref.result.now ≡ c.args.first.now.flows.items = search rules in
+    let same : tai ≡ c.args.job.now.tai = search rules in
+    let begun = seconds-begun g.T.SecondTaker.stands tai c.args.job.now.tai c.args.media.now c.args.first.now c.deref.result.now
+    c.in_ok-begin_again.field-0.items c.in_ok-begin_again.field-0.items same seen refl c.in_ok-begin_again.ensures.stands c.requires.some in
+    second-room g.T.SecondTaker.stands (HasRoom room) tai (2 ^ 36) c.requires.some.items c.args.media.now c.in_ok-begin_again.field-0.items
+    c.requires.targets begun
+    (All-weaker (λ f. HasRoom room (2 ^ 41) f.taker) (λ f. HasRoom room (2 ^ 36) f.taker)
+    (λ f has. room_less room g.met.T.SecondTaker.less (2 ^ 36) (2 ^ 41) f.taker (omega arith) has)
     c.in_ok-begin_again.field-0.items c.in_ok-begin_again.ensures.room)
 
 pub end_again-requires : goal.end_again-requires
 end_again-requires g c =
+    let room = g.T.SecondTaker.room in
+    let count = c.in_ok-taken.taken.records + 1 in
     let few = c.in_ok-taken.ensures.few in
     let flows : c.new-bank.result.flows.items ≡ c.in_ok-begin_again.field-0.items = search rules in
-    let before = second-room (BothHaveRoom HasRoom) c.job.inside.tai (c.in_ok-taken.taken.records + 1) c.args.media.now c.in_ok-begin_again.field-0.items
-    c.requires.targets c.in_ok-begin_again.ensures.stands
-    (All-weaker (λ f. BothHaveRoom HasRoom (2 ^ 41) f.taker) (λ f. BothHaveRoom HasRoom (c.in_ok-taken.taken.records + 1) f.taker)
-    (λ f room. both_less HasRoom room_less (c.in_ok-taken.taken.records + 1) (2 ^ 41) f.taker (omega (arith, few)) room)
-    c.in_ok-begin_again.field-0.items c.in_ok-begin_again.ensures.room) in
-    record { room = (c.in_ok-taken.ensures.room 1 (subst (HaveRoom (BothHaveRoom HasRoom) (c.in_ok-taken.taken.records + 1)) (sym flows) before)).each }
+    let before : HaveRoom (HasRoom room) count c.in_ok-begin_again.field-0.items = record {
+      apart = (second-room g.T.SecondTaker.stands (HasRoom room) c.job.inside.tai (2 ^ 41) c.requires.some.items c.args.media.now
+          c.in_ok-begin_again.field-0.items c.requires.targets
+          (seconds-begun g.T.SecondTaker.stands c.job.inside.tai c.args.job.now.tai c.args.media.now c.args.first.now c.deref.result.now
+          c.in_ok-begin_again.field-0.items c.in_ok-begin_again.field-0.items (search rules) (search rules) refl c.in_ok-begin_again.ensures.stands
+          c.requires.some) c.in_ok-begin_again.ensures.room).apart;
+      each = All-weaker (λ f. HasRoom room (2 ^ 41) f.taker) (λ f. HasRoom room count f.taker)
+          (λ f has. room_less room g.met.T.SecondTaker.less count (2 ^ 41) f.taker (omega (arith, few)) has)
+          c.in_ok-begin_again.field-0.items c.in_ok-begin_again.ensures.room;
+    } in
+    record { room = (c.in_ok-taken.ensures.room 1 (subst (HaveRoom (HasRoom room) count) (sym flows) before)).each }
 
 pub returns-in-Some-clause-told : goal.returns-in-Some-clause-told
 returns-in-Some-clause-told g c = λ text whole.
+    let t = g.T.SecondTaker in
     let same : c.job.inside.tai ≡ c.args.job.now.tai = search rules in
+    let seen : c.deref.result.now ≡ c.args.first.now.flows.items = search rules in
     let flows : c.new-bank.result.flows.items ≡ c.in_ok-begin_again.field-0.items = search rules in
-    let begun = subst (AreSeconds c.job.inside.tai c.args.media.now []) (sym flows) c.in_ok-begin_again.ensures.stands in
-    subst (λ (x : ℕ). IsReadingIn (AreFlows x c.args.media.now) text (record { note = c.in_ok-taken.taken.note; flows = c.in-Some.flows })) same
-    (second-in c.job.inside.tai c.args.media.now text c.new-bank.result c.take_capture.new.taker c.in_ok-taken.taken
+    let begun = seconds-begun t.stands c.job.inside.tai c.args.job.now.tai c.args.media.now c.args.first.now c.deref.result.now
+    c.in_ok-begin_again.field-0.items c.new-bank.result.flows.items same seen flows c.in_ok-begin_again.ensures.stands c.requires.some in
+    subst (λ (x : ℕ). IsReadingIn (AreEnds t.ends x c.args.media.now) text (record { note = c.in_ok-taken.taken.note; flows = c.in-Some.flows })) same
+    (second-in t.stands t.ends c.job.inside.tai c.requires.some.items c.args.media.now text c.new-bank.result c.take_capture.new.taker c.in_ok-taken.taken
     (record { note = c.in_ok-taken.taken.note; flows = c.in-Some.flows }) c.job.invariant.tai_most
     begun (c.in_ok-taken.ensures.told text (search rules)) (search rules) refl)
 
 pub returns-in-Some-clause-some : goal.returns-in-Some-clause-some
 returns-in-Some-clause-some g c =
+    let t = g.T.SecondTaker in
     let same : c.job.inside.tai ≡ c.args.job.now.tai = search rules in
+    let seen : c.deref.result.now ≡ c.args.first.now.flows.items = search rules in
     let flows : c.new-bank.result.flows.items ≡ c.in_ok-begin_again.field-0.items = search rules in
-    let begun = subst (AreSeconds c.job.inside.tai c.args.media.now []) (sym flows) c.in_ok-begin_again.ensures.stands in
-    subst (λ (x : ℕ). IsReadingOf (AreFlows x c.args.media.now) (record { note = c.in_ok-taken.taken.note; flows = c.in-Some.flows })) same
-    (second-of c.job.inside.tai (2 ^ 36) c.args.media.now c.new-bank.result c.take_capture.new.taker
+    let begun = seconds-begun t.stands c.job.inside.tai c.args.job.now.tai c.args.media.now c.args.first.now c.deref.result.now
+    c.in_ok-begin_again.field-0.items c.new-bank.result.flows.items same seen flows c.in_ok-begin_again.ensures.stands c.requires.some in
+    subst (λ (x : ℕ). IsReadingOf (AreEnds t.ends x c.args.media.now) (record { note = c.in_ok-taken.taken.note; flows = c.in-Some.flows })) same
+    (second-of t.stands t.ends c.job.inside.tai (2 ^ 36) c.requires.some.items c.args.media.now c.new-bank.result c.take_capture.new.taker
     (record { note = c.in_ok-taken.taken.note; flows = c.in-Some.flows }) c.job.invariant.tai_most
     begun c.in_ok-taken.ensures.fed (search rules))
 
 pub returns-in-None-clause-cause : goal.returns-in-None-clause-cause
 returns-in-None-clause-cause g c =
+    let t = g.T.SecondTaker in
     let same : c.job.inside.tai ≡ c.args.job.now.tai = search rules in
     let named : c.as_str-name.result.now ≡ c.args.job.now.capture = search rules in
     let name = c.as_str-name.result.now in
+    let seen : c.deref.result.now ≡ c.args.first.now.flows.items = search rules in
     let flows : c.new-bank.result.flows.items ≡ c.in_ok-begin_again.field-0.items = search rules in
-    let begun = subst (AreSeconds c.job.inside.tai c.args.media.now []) (sym flows) c.in_ok-begin_again.ensures.stands in
-    let firsts : c.deref.result.now ≡ c.args.first.now.flows.items = search rules in
-    let with =
-    subst (λ l. AllPairs BeginsWith l c.new-bank.result.flows.items) firsts
-    (subst (AllPairs BeginsWith c.deref.result.now) (sym flows) c.in_ok-begin_again.ensures.begins) in
     let none =
-    changed-untold (g.H.Shelf.text c.args.shelf.now c.args.job.now.capture) c.job.inside.tai c.args.media.now c.args.first.now c.new-bank.result
-    c.take_capture.new.taker c.in_ok-taken.taken c.job.invariant.tai_most
+    changed-untold t.stands (g.H.Shelf.text c.args.shelf.now c.args.job.now.capture) c.job.inside.tai c.args.media.now c.args.first.now
+    c.new-bank.result c.take_capture.new.taker c.in_ok-taken.taken
     (λ text whole. subst (λ (x : ℕ). IsReadingIn (AreUnmeasured x c.args.media.now) text c.args.first.now) (sym same) (c.requires.known text whole))
-    with begun (λ text whole. c.in_ok-taken.ensures.told text (search rules))
+    (λ items h.
+    subst (AreSeconds t.stands c.job.inside.tai items c.args.media.now []) (sym flows)
+    (c.in_ok-begin_again.ensures.stands items (subst (AreUnmeasured c.job.inside.tai c.args.media.now items) (sym seen) h)))
+    (λ text whole. c.in_ok-taken.ensures.told text (search rules))
     (c.in_ok-flows.ensures.changed (search rules)) in (
       refl,
       subst (λ (x : List ℕ). Rose (g.H.Shelf.faults c.args.shelf.now x) (g.H.Shelf.faults c.note_change.new.self x)) named

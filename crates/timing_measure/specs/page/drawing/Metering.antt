@@ -1,34 +1,27 @@
 -- What a `ShownMeter` and a `PageMeter` say of the packets of a flow, as far as it has come. Packets, places and runs
 -- count from 0, but for the number of a measured run.
-use Rattle.std.specs.Prelude.{◌≡◌, ◌≤◌, ◌+◌, ◌-◌, ◌*◌, ◌^◌, ℕ, ⊤, All, List, [], ◌∷◌, ◌++◌, length, Option}
+use Rattle.std.specs.Prelude.{◌≡◌, ◌≤◌, ◌+◌, ◌-◌, ◌*◌, ◌^◌, ℕ, ⊤, All, List, ◌∷◌, ◌++◌, length, Option}
 use Rattle.std.specs.Prelude.{Some, None}
 use Rattle.std.specs.List.{slice_index_or}
 use Rattle.std.proofs.Common.{arith}
 use Rattle.sender_params.specs.Ticks.{NeverFall}
-use Rattle.timing_base.specs.Captures.{Record}
 use Rattle.timing_base.specs.Flows.{cuts}
-use Rattle.timing_base.specs.Judged.{judged}
 use Rattle.timing_base.specs.Media.{Media}
 use Rattle.timing_base.specs.Verdicts.{Judged}
 use Rattle.timing_base.specs.declared.packet.FlowPacket.{FlowPacket}
 use Rattle.timing_base.specs.declared.row.Verdict.{Verdict}
-use Rattle.fail_interval.specs.Row.{verdict_of}
 use Rattle.flow_drawing.specs.Drawn.{AreCurves, AreRegions}
 use Rattle.flow_drawing.specs.Stands.{Draws, IsDrawable}
 use Rattle.flow_measure.specs.declared.numbers.MeasuredRun.{MeasuredRun}
 use Rattle.flow_page.specs.declared.shown.ShownRun.{ShownRun}
 use Rattle.timing_measure.specs.Measured.{stamps_of}
 use Rattle.timing_measure.specs.Measures.{HasNumbers, timestamps_of}
-use Rattle.timing_measure.specs.metering.Fed.{fed_more, fed_none, fed_other}
 use Rattle.timing_measure.specs.metering.Gauged.{IsFed}
+use Rattle.timing_measure.specs.metering.Metering.{HasRoom as MeterHasRoom, StandsFor as MeterStandsFor}
+use Rattle.timing_measure.specs.metering.Metering.{room_less as meter_less}
 use Rattle.timing_measure.specs.metering.Plan.{planned_packets}
-use Rattle.timing_measure.specs.metering.Seconds.{HasRoom as SecondHasRoom, StandsFor as SecondStandsFor}
-use Rattle.timing_measure.specs.metering.Seconds.{room_less as second_room_less}
-use Rattle.udp_rtp.specs.Flow.{flow, flow_packet}
-use Rattle.timing_measure.specs.page.Shown.{IsFlowPage}
 use Rattle.timing_measure.specs.page.drawing.Longest.{IsLongestOf}
 use Rattle.timing_measure.specs.declared.page.longest.LongestRun.{LongestRun}
-use Rattle.timing_measure.specs.declared.page.meter.PageFound.{PageFound}
 use Rattle.timing_measure.specs.declared.page.meter.PageMeter.{PageMeter}
 use Rattle.timing_measure.specs.declared.page.shown.ShownMeter.{ShownMeter}
 
@@ -80,16 +73,10 @@ MayStand m tai longest shown packets =
 -- these packets of the flow of a media were measured and drawn, and no others; a first reading found this of the flow
 pub record StandsFor (m : Media) (number tai : ℕ) (found : Verdict) (x : PageMeter) (packets : List FlowPacket)
     : Type 0 where
-  pub measures : SecondStandsFor IsFed HasNumbers m number tai found x.second packets
+  pub measures : MeterStandsFor IsFed HasNumbers m number tai found x.meter packets
   pub longest : Option LongestRun
   pub longest_is : IsLongestOf found longest
   pub draws : MayStand m tai longest x.shown packets
-
--- what was found of these packets; where that is what a first reading found, it is what a page has of them
-pub record Comes (m : Media) (number tai : ℕ) (found : Verdict) (packets : List FlowPacket) (second : PageFound)
-    : Type 0 where
-  pub verdict_is : second.verdict ≡ verdict_of m (judged packets m.pt tai)
-  pub paged : second.verdict ≡ found → IsFlowPage m number tai packets second.page
 
 -- there is room for so many packets more
 pub record RunHasRoom (count : ℕ) (x : ShownMeter) : Type 0 where
@@ -108,32 +95,14 @@ shown_room_less few many (Some x) less room = record {
 }
 
 pub record HasRoom (count : ℕ) (x : PageMeter) : Type 0 where
-  pub second : SecondHasRoom count x.second
-  pub shown : ShownHasRoom count x.shown
+  pub meter_few : MeterHasRoom count x.meter
+  pub shown_few : ShownHasRoom count x.shown
 
 pub room_less : (few many : ℕ) (x : PageMeter) → few ≤ many → HasRoom many x → HasRoom few x
 room_less few many x less room = record {
-  second = second_room_less few many x.second less room.second;
-  shown = shown_room_less few many x.shown less room.shown;
+  meter_few = meter_less few many x.meter less room.meter_few;
+  shown_few = shown_room_less few many x.shown less room.shown_few;
 }
-
--- whatever packets were passed, the flow of these records was passed then, and nothing else
-abbrev pub TakesOn : Media → (old new : PageMeter) → List Record → Type 0
-TakesOn m old new more =
-    (number tai : ℕ) (found : Verdict) (packets : List FlowPacket) → StandsFor m number tai found old packets
-    → StandsFor m number tai found new (packets ++ flow more m)
-
-pub takes_none : (m : Media) (x : PageMeter) → TakesOn m x x []
-takes_none m x number tai found packets h = fed_none (StandsFor m number tai found x) packets h
-
-pub takes_other : (m : Media) (x : PageMeter) (r : Record) → flow_packet m r ≡ None → TakesOn m x x (r ∷ [])
-takes_other m x r is number tai found packets h = fed_other (StandsFor m number tai found x) m r packets is h
-
-pub takes_more : (m : Media) (x y z : PageMeter) (a b : List Record) → TakesOn m x y a → TakesOn m y z b
-    → TakesOn m x z (a ++ b)
-takes_more m x y z a b first second number tai found packets h =
-    fed_more (StandsFor m number tai found z) m packets a b
-    (second number tai found (packets ++ flow a m) (first number tai found packets h))
 
 -- of some judged runs this one has this number, counted from 1, and is the first that has it
 pub record IsRunOf (runs : List MeasuredRun) (number : ℕ) (run : MeasuredRun) : Type 0 where

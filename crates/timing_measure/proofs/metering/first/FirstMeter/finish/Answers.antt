@@ -1,13 +1,16 @@
-use Rattle.std.proofs.Common.{◌∙◌, ap}
-use Rattle.timing_base.specs.Keys.{key_of}
-use Rattle.timing_base.specs.declared.row.Row.{Row}
+use Rattle.std.proofs.Common.{◌∙◌, []}
 use Rattle.timing_measure.proofs.metering.first.FirstMeter.finish.Goals as goal
 
 pub returns : goal.returns
-returns c = λ m number tai packets h. record {
-  media = h.number_is;
-  count = c.args.self.counted ∙ h.judge.fed;
-  source = h.source;
-  verdict_is = ap (λ (r : Row). r.verdict) (c.finish.ensures m (key_of 0 number) tai packets h.judge);
-  none = c.from_vec.ensures ∙ c.new.ensures.items;
-}
+returns c = λ m number tai packets h.
+    let found = c.in_ok-verdict.ensures m number tai packets h.judging_is in
+    record {
+      flow = record {
+        media = h.number_is;
+        count = (h.judging_is.edges_are []).walk.count;
+        source = h.source_is;
+        verdict_is = found.verdict_is;
+        none = c.from_vec.ensures ∙ c.new.ensures.items;
+      };
+      edges = found.edges_are;
+    }

@@ -1,11 +1,10 @@
-use Rattle.std.proofs.Common.{◌≡◌, ◌<◌, ◌∙◌, ◌+◌, ◌^◌, ◌++◌, ◌∷◌, [], ap, arith, subst, sym}
-use Rattle.std.specs.Prelude.{OnOk}
-use Rattle.timing_base.specs.Keys.{key_of}
-use Rattle.fail_interval.specs.Stands.{StandsFor}
-use Rattle.timing_measure.specs.metering.Edges.{StandsFor as EdgesStandFor}
+use Rattle.std.proofs.Common.{◌≡◌, ◌<◌, ◌∙◌, ◌+◌, ◌^◌, ◌++◌, ◌∷◌, ◌≤◌, ℕ, [], ap, arith, subst, sym}
+use Rattle.timing_measure.specs.metering.Judgings.{HasRoom, StandsFor}
 use Rattle.timing_measure.specs.metering.Walks.{IsWalk}
 use Rattle.timing_reach.proofs.Takings.{if-ok}
 use Rattle.timing_measure.specs.series.Meters.{OpensAs}
+use Rattle.timing_measure.specs.declared.metering.judging.Judging.{Judging}
+use Rattle.timing_measure.specs.declared.metering.walk.Walk.{Walk}
 use Rattle.timing_measure.specs.declared.series.meter.FlowRows.{FlowRows}
 use Rattle.timing_measure.proofs.lemmas.series.Metering.{at-more, at-next, opens-same, turned-by}
 use Rattle.timing_measure.proofs.series.meter.FlowRows.feed.Goals as goal
@@ -22,10 +21,8 @@ returns-clause-goes c =
       here = passes.here;
       text_is = passes.text_is;
       stands = λ frames m number tai found rows packets h. record {
-        judge_is = subst (λ j. StandsFor m (key_of 0 number) tai j (packets ++ p ∷ [])) (sym kept.judge_is)
-            (subst (λ o. OnOk o (StandsFor m (key_of 0 number) tai c.feed.new.self (packets ++ p ∷ []))) c.in_ok-feed.was
-            (c.feed.ensures.stands m (key_of 0 number) tai packets h.judge_is));
-        edges_are = subst (λ e. EdgesStandFor e (packets ++ p ∷ [])) (sym kept.edges_are) (c.in_ok-pass.ensures.stands packets h.edges_are);
+        judging_is = subst (λ (j : Judging). StandsFor m number tai j (packets ++ p ∷ [])) (sym kept.judging_is)
+            (c.in_ok-feed.ensures.stands m number tai packets h.judging_is);
         at = at-more frames m tai found old _ p rows passes.here
             (λ all i within at before.
             let walk = c.pass-begins.ensures.walk all i before.walk_is at in
@@ -44,5 +41,16 @@ returns-clause-goes c =
             (passes.passes frames m all k from i plan order within few at text) opens))
             packets h.at;
       };
+    })
+    c.pass_open.ensures
+
+pub returns-clause-room : goal.returns-clause-room
+returns-clause-room c = λ more.
+    let kept = c.turn.ensures.kept in
+    if-ok c.pass_open.result
+    (λ _ passes room. record {
+      judging_few = subst (HasRoom more) (sym kept.judging_is) (c.in_ok-feed.ensures.room more room.judging_few);
+      walk_few = subst (λ (w : Walk). w.packets + more ≤ 2 ^ 41) (sym kept.walk_is) (omega (arith, c.pass-begins.ensures.count, room.walk_few));
+      tai_few = subst (λ (t : ℕ). t ≤ 1000) (sym kept.tai_is) room.tai_few;
     })
     c.pass_open.ensures

@@ -3,14 +3,13 @@ use Rattle.timing_measure.proofs.series.meter.FlowRows.new.Goals as goal
 
 pub returns-clause-stands : goal.returns-clause-stands
 returns-clause-stands c = record {
-  judge_is = c.new.ensures.stands;
-  edges_are = c.new-2.ensures.stands;
+  judging_is = c.new.ensures.stands;
   at = λ rest. record {
     media_is = refl;
     tai_is = refl;
     frames_is = refl;
     found_is = refl;
-    walk_is = c.new-3.ensures.walk rest;
+    walk_is = c.new-2.ensures.walk rest;
     fresh = λ _. record { none = refl; closed = refl };
     going = λ some. absurd (omega (arith, some));
   };

@@ -1,0 +1,74 @@
+//! What a reading judges of a flow.
+
+ghost use Rattle.std.specs.Prelude.{◌≡◌, ◌≤◌, ◌+◌, ◌^◌, ◌++◌, ◌∷◌, [], ℕ, List, IfOk};
+ghost use Rattle.timing_base.specs.Captures.{IsStamp};
+ghost use Rattle.timing_base.specs.Media.{Media as MediaValue};
+ghost use Rattle.timing_base.specs.declared.packet.FlowPacket.{FlowPacket as PacketValue};
+ghost use Rattle.fail_interval.specs.States.{IsReading};
+
+use crate::metering::edges::{Edge, EdgeMeter};
+use fail_interval::FlowJudge;
+use std::alloc::{AllocError as OutOfMemory, Global};
+use timing_base::{FlowKey, FlowPacket, Items, Media, Verdict};
+
+/// What a reading finds of a flow.
+#[derive(Drop)]
+pub struct Findings {
+    pub verdict: Verdict,
+    /// How the judged packets of each of its judged runs begin and end.
+    pub edges: Items<Edge>,
+}
+
+/// The judge of a flow in one of its readings, and beside it how the judged packets of its runs begin and end.
+#[derive(Drop)]
+pub struct Judging {
+    pub judge: FlowJudge,
+    pub edges: EdgeMeter,
+}
+
+impl Judging {
+    ghost use Rattle.timing_measure.specs.metering.Judgings.{HasRoom, IsFound, StandsFor};
+
+    /// Before the first packet of the flow of the media of this number. `tai` seconds are added to the stamps.
+    pub fn new(alloc: Global, media: &Media, number: u32, tai: u64) -> Judging
+        requires { tai ≤ 1000 }
+        ensures room { HasRoom (2 ^ 41) result }
+        ensures stands { StandsFor media.now number tai result [] }
+    {
+        let key = FlowKey {
+            file: 0,
+            media: number,
+        };
+        Judging {
+            judge: FlowJudge::new(alloc, media, key, tai),
+            edges: EdgeMeter::new(alloc),
+        }
+    }
+
+    /// Takes the next packet of the flow. `Err` is want of memory: what was found isn't known from then on.
+    #[inline(always)]
+    pub fn feed(&mut self, packet: &FlowPacket) -> Result<(), OutOfMemory>
+        requires stamp { IsStamp packet.now.at }
+        requires reading { IsReading packet.now.rtp }
+        requires room { HasRoom 1 self.old }
+        ensures room { (count : ℕ) → IfOk result (λ _. HasRoom (count + 1) self.old → HasRoom count self.new) }
+        ensures stands { IfOk result (λ _. (m : MediaValue) (number tai : ℕ) (packets : List PacketValue)
+            → StandsFor m number tai self.old packets
+            → StandsFor m number tai self.new (packets ++ packet.now ∷ [])) }
+    {
+        self.edges.pass(packet)?;
+        self.judge.feed(packet.rec, packet.at, packet.rtp)
+    }
+
+    /// What the reading finds, where the flow ends here. `Err` is want of memory.
+    pub fn finish(self) -> Result<Findings, OutOfMemory>
+        ensures { IfOk result (λ findings. (m : MediaValue) (number tai : ℕ) (packets : List PacketValue)
+            → StandsFor m number tai self packets → IsFound m tai packets findings) }
+    {
+        let Judging { judge, edges } = self;
+        Ok(Findings {
+            verdict: judge.finish().verdict,
+            edges: Items::from_vec(edges.finish()?),
+        })
+    }
+}
