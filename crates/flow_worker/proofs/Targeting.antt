@@ -1,16 +1,13 @@
 -- The media that a record goes to, and the packet that it is of it.
 use Rattle.std.proofs.Common.{◌≡◌, ◌<◌, ◌+◌, ℕ, suc, Bool, true, false, if◌then◌else◌, List, [], ◌∷◌, length, get_or, drop, refl, sym, ap, ◌∙◌, arith}
-use Rattle.std.specs.Prelude.{Option, Some, None, Ok}
+use Rattle.std.specs.Prelude.{Option, Some, None}
 use Rattle.std.proofs.lemmas.List.{at_drop_more}
 use Rattle.timing_base.specs.Captures.{Record}
 use Rattle.timing_base.specs.Media.{Media}
 use Rattle.timing_base.specs.Targets.{target_of}
-use Rattle.timing_base.specs.declared.packet.Rtp.{Rtp}
 use Rattle.timing_base.specs.declared.target.Target.{Target}
-use Rattle.udp_rtp.proofs.PlainFrames.{carried, datagram-carried, reading-carried}
-use Rattle.udp_rtp.specs.Carried.{carries}
 use Rattle.udp_rtp.specs.Flow.{datagram_packet, is_same_target}
-use Rattle.udp_rtp.specs.Frames.{Datagram, datagram_of, payload_at}
+use Rattle.udp_rtp.specs.Frames.{Datagram, datagram_of}
 use Rattle.udp_rtp.specs.Reading.{reading}
 use Rattle.ruled_intake.specs.Packets.{Packet, packet_of}
 use Rattle.flow_worker.specs.Opening.{numbered_or, packet_from}
@@ -69,11 +66,3 @@ media_to-here t n ms m below read same h =
     sym
     (h ∙ at_drop_more (media_to t n) ms n m below ∙ ap (λ (x : Media). if is_same_target t (target_of x) then Some n else later) (sym read)
     ∙ ap (λ (b : Bool). if b then Some n else later) same)
-
--- a record whose frame carries a packet to a target: it is of the first media of that target
-pub packet_from-carried : (n : ℕ) (ms : List Media) (r : Record) (t : Target) (p : Rtp) (k : ℕ) → carries t p r.bytes ≡ true → media_to t n ms ≡ Some k
-    → packet_from n ms r ≡ Some (packet_of k record { rec = r.number; at = r.stamp; rtp = Ok p })
-packet_from-carried n ms r t p k does some =
-    let is = carried t p r.bytes does in
-    packet_from-media n ms r record { target = t; payload = payload_at r.bytes 34 } k (datagram-carried t p r.bytes is) some
-    ∙ ap (λ rtp. Some (packet_of k record { rec = r.number; at = r.stamp; rtp = rtp })) (reading-carried t p r.bytes is)

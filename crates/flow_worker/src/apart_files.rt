@@ -75,7 +75,7 @@ impl Apart {
         if file >= self.files.len() || self.files[file].ended {
             return Ok(());
         }
-        self.files[file].judges.take(&batch.packets, 0)
+        self.files[file].judges.take(batch.packets.as_slice(), 0)
     }
 
     /// Marks a file as ended.

@@ -1,7 +1,7 @@
 //! The intake of one file: it reads the file's records, and hands the packets of the session's media
 //! to the workers.
 
-ghost use Rattle.std.specs.Prelude.{◌≡◌, ◌≤◌, ◌<◌, ◌+◌, ◌*◌, ◌^◌, ◌∷◌, [], ℕ, List, None, Some, Bool, IfErr, IfOk, IfSome, MatchResult, if◌then◌else◌, length};
+ghost use Rattle.std.specs.Prelude.{◌≡◌, ◌≤◌, ◌<◌, ◌+◌, ◌*◌, ◌^◌, ◌∷◌, [], ℕ, List, None, Some, Bool, IfOk, MatchResult, if◌then◌else◌, length};
 ghost use Rattle.timing_base.specs.Captures.{IsStamp, Record};
 ghost use Rattle.timing_base.specs.declared.capture.FileNote.{FileNote as NoteValue};
 ghost use Rattle.timing_base.specs.declared.capture.FileNote.TheVariants as file_note;
@@ -10,15 +10,14 @@ ghost use Rattle.timing_outside.specs.Causes.{Rose};
 ghost use Rattle.pcap_reader.specs.Readers.{WillGive, under};
 ghost use Rattle.pcap_reader.specs.Records.{Records};
 ghost use Rattle.flow_worker.specs.Intakes.{AreOfFile, HasTold, HaveSentNothing};
-ghost use Rattle.flow_worker.specs.Opening.{packet_from};
-ghost use Rattle.flow_worker.specs.Sending.{AreSame, BeginsFile, HasBegunFile, HasSentFile, IsRouting, route_of};
+ghost use Rattle.flow_worker.specs.Sending.{AreSame, BeginsFile, HasBegunFile, HasSentFile};
 ghost use Rattle.flow_worker.specs.Settings.{IsIntake, setting_of};
 
 use crate::outboxes::Outboxes;
 use crate::routing::{Routing, deal, dealt_file};
 use crate::setting::RunSetting;
 use pcap_reader::{MOST, PcapReader, Taker, take_records};
-use ruled_intake::{Halt, Lane, Packet, Raised, SendPass};
+use ruled_intake::{Halt, Lane, Raised, SendPass};
 use std::alloc::{AllocError as OutOfMemory, Global};
 use std::sync::Wait;
 use timing_base::FileNote;
@@ -41,9 +40,6 @@ struct Sorter<'a, R: Wait> {
     alloc: Global,
     routing: Routing<'a>,
     outboxes: Outboxes<'a>,
-    /// Media and lane of the packet before. The next one is looked for there first.
-    media: u32,
-    lane: usize,
 }
 
 impl<R: Wait> Taker for Sorter<'_, R> {
@@ -70,58 +66,15 @@ impl<R: Wait> Taker for Sorter<'_, R> {
 
     #[inline(always)]
     fn take(&mut self, number: u64, at: u64, frame: &[u8]) -> Result<(), OutOfMemory> {
-        match self.next_packet(number, at, frame) {
-            Some(packet) => self.outboxes.put(self.rt, self.alloc, self.lane, packet),
-            None => self.take_other(number, at, frame),
-        }
-    }
-}
-
-impl<R: Wait> Sorter<'_, R> {
-    ghost use Rattle.flow_worker.specs.Sorting.{HasRoom, LeavesOff, Sorts};
-
-    /// The packet of a record, where it goes on behind the one before.
-    #[inline(always)]
-    fn next_packet(&self, number: u64, at: u64, frame: &[u8]) -> Option<Packet>
-        requires routing { IsRouting self.now.routing }
-        requires number { number < 2 ^ 37 }
-        requires at { IsStamp at }
-        ensures packet { IfSome result (λ packet. Some packet ≡ packet_from 0 self.now.routing.media.now
-            (record { number = number; stamp = at; bytes = frame.now })) }
-        ensures lane { IfSome result (λ packet. self.now.lane ≡ route_of self.now.routing packet) }
-        ensures within { IfSome result (λ _. self.now.lane < self.now.routing.lanes) }
-    {
-        let expected = self.outboxes.expected(self.lane, self.media, number)?;
-        let packet = self
-            .routing
-            .carried(self.media, expected, number, at, frame)?;
-        if self.routing.lane(&packet) != self.lane {
-            return None;
-        }
-        Some(packet)
-    }
-
-    /// Takes a record as `take` does, whatever its frame, and looks for the next one behind it.
-    #[inline(never)]
-    fn take_other(&mut self, number: u64, at: u64, frame: &[u8]) -> Result<(), OutOfMemory>
-        requires stamp { IsStamp at }
-        requires room { HasRoom number 1 self.old }
-        ensures room { (count : ℕ) → IfOk result (λ _. HasRoom number (count + 1) self.old
-            → HasRoom (number + 1) count self.new) }
-        ensures takes { IfOk result (λ _. Sorts self.old self.new
-            (record { number = number; stamp = at; bytes = frame.now } ∷ [])) }
-        ensures stops { IfErr result (λ _. LeavesOff self.old self.new
-            (record { number = number; stamp = at; bytes = frame.now } ∷ [])) }
-    {
         let Some(packet) = self.routing.packet(number, at, frame) else {
             return Ok(());
         };
         let lane = self.routing.lane(&packet);
-        self.media = packet.media();
-        self.lane = lane;
         self.outboxes.put(self.rt, self.alloc, lane, packet)
     }
+}
 
+impl<R: Wait> Sorter<'_, R> {
     /// Sends all of a reader that has answered no record: its packets, and the ends. Answers how the
     /// records end. `Err` is want of memory.
     fn send_file<S: Source>(&mut self, reader: &mut PcapReader<S>) -> Result<FileNote, OutOfMemory>
@@ -195,8 +148,6 @@ fn take_file<'h, R: Wait, S: Source>(
         alloc: _,
         routing: _,
         outboxes,
-        media: _,
-        lane: _,
     } = sorter;
     let source = reader.into_source();
     let lanes = outboxes.lanes();
@@ -273,8 +224,6 @@ pub fn intake<'h, R: Wait, S: Source, G: Gate>(
                 alloc,
                 routing,
                 outboxes,
-                media: 0,
-                lane: 0,
             };
             take_file(reader, sorter, halt)
         }

@@ -85,7 +85,7 @@ impl Joined {
             return Ok(());
         }
         if file == self.next {
-            return self.judges.take(&batch.packets, self.before);
+            return self.judges.take(batch.packets.as_slice(), self.before);
         }
         self.files[file].batches.push(batch)?;
         Ok(())

@@ -13,7 +13,7 @@ ghost use Rattle.flow_worker.specs.Settings.{IsWorker};
 
 use crate::setting::RunSetting;
 use fail_interval::FlowJudge;
-use ruled_intake::{Batch, Packet, Packets};
+use ruled_intake::{Batch, Packet};
 use std::alloc::{AllocError as OutOfMemory, Global};
 use std::sync::Wait;
 use timing_base::{FlowKey, FlowPacket, Media, Row, route};
@@ -59,16 +59,15 @@ impl Judges {
     /// Feeds the packets of a file to the judges of their media, with their record numbers raised.
     /// Those of a media without a judge are passed over. `Err` is want of memory; what the judges
     /// were fed isn't known from then on.
-    pub fn take(&mut self, packets: &Packets, before: u64) -> Result<(), OutOfMemory>
+    pub fn take(&mut self, packets: &[Packet], before: u64) -> Result<(), OutOfMemory>
         requires before { before ≤ 2 ^ 41 }
         requires room { HaveRoom (length packets.now) self.old }
         ensures feeds { IfOk result (λ _. Feeds before packets.now self.old self.new) }
         ensures room { IfOk result (λ _. (more : ℕ) → HaveRoom (length packets.now + more) self.old
             → HaveRoom more self.new) }
     {
-        for place in 0..packets.len() {
-            let packet = packets.get(place);
-            self.feed(&packet, before)?;
+        for packet in packets {
+            self.feed(packet, before)?;
         }
         Ok(())
     }
@@ -80,7 +79,7 @@ impl Judges {
         ensures feeds { IfOk result (λ _. Feeds before (batched batches.items) self.old self.new) }
     {
         for batch in &batches {
-            self.take(&batch.packets, before)?;
+            self.take(batch.packets.as_slice(), before)?;
         }
         Ok(())
     }

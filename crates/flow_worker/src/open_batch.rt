@@ -2,20 +2,20 @@
 
 ghost use Rattle.std.specs.Prelude.{◌≡◌, ◌≤◌, ◌<◌, ◌+◌, ◌++◌, ◌∷◌, [], IfOk, MatchOption, OnErr, length};
 
-use ruled_intake::{Packet, Packets};
+use ruled_intake::Packet;
 use std::alloc::{AllocError as OutOfMemory, Global};
 use std::marker::Model;
 use std::mem;
-use timing_base::Rtp;
+use timing_base::Items;
 
 /// A batch has so many packets, where it isn't the last one of its file for a lane.
 const FULL: usize = 256;
 
-/// The packets for one lane that fill no batch yet. There is room for a batch of packets that follow one
-/// another from the first on.
+/// The packets for one lane that fill no batch yet. There is room for a whole batch from the first
+/// packet on, so only a batch that begins takes memory.
 #[derive(Drop)]
 pub struct OpenBatch {
-    packets: Packets,
+    packets: Vec<Packet>,
 }
 
 impl Model for OpenBatch {
@@ -24,9 +24,9 @@ impl Model for OpenBatch {
 
     ghost Value = { List Packet };
 
-    ghost view = { λ batch. batch.packets };
+    ghost view = { λ batch. batch.packets.items };
 
-    ghost invariant = { λ batch. length batch.packets < 256 };
+    ghost invariant = { λ batch. length batch.packets.items < 256 };
 }
 
 impl OpenBatch {
@@ -34,20 +34,18 @@ impl OpenBatch {
     pub fn new(alloc: Global) -> Result<OpenBatch, OutOfMemory>
         ensures { IfOk result (λ batch. batch ≡ []) }
     {
-        let packets = Packets::with_room(alloc, FULL)?;
+        let packets = Vec::with_capacity(alloc, FULL)?;
         Ok(OpenBatch { packets })
-    }
-
-    /// What may be read of the packet of this media and record, if it goes on as those before it do.
-    #[inline(always)]
-    pub fn expected(&self, media: u32, rec: u64) -> Option<Rtp> {
-        self.packets.expected(media, rec)
     }
 
     /// Puts a packet at the end. Where that fills the batch, its packets are the answer, and the next
     /// batch begins. `Err` is want of memory, and changes nothing.
     #[inline(always)]
-    pub fn put(&mut self, alloc: Global, packet: Packet) -> Result<Option<Packets>, OutOfMemory>
+    pub fn put(
+        &mut self,
+        alloc: Global,
+        packet: Packet,
+    ) -> Result<Option<Items<Packet>>, OutOfMemory>
         ensures ok { IfOk result (λ full. MatchOption full
             ((self.new ≡ self.old ++ packet ∷ []) × (length self.old + 1 < 256))
             (λ packets. (packets ≡ self.old ++ packet ∷ []) × (length self.old + 1 ≡ 256)
@@ -58,21 +56,20 @@ impl OpenBatch {
             self.packets.push(packet)?;
             return Ok(None);
         }
-        let mut next = Packets::with_room(alloc, FULL)?;
-        next.go_on_behind(&packet);
+        let next = Vec::with_capacity(alloc, FULL)?;
         self.packets.push(packet)?;
-        Ok(Some(mem::replace(&mut self.packets, next)))
+        Ok(Some(Items::from_vec(mem::replace(&mut self.packets, next))))
     }
 
     /// Takes the packets out, if there are any: the last batch of a file. It takes no memory.
-    pub fn take(&mut self, alloc: Global) -> Option<Packets>
+    pub fn take(&mut self, alloc: Global) -> Option<Items<Packet>>
         ensures packets { MatchOption result (self.old ≡ [])
             (λ packets. (packets ≡ self.old) × (1 ≤ length packets) × (length packets ≤ 256)) }
         ensures none { self.new ≡ [] }
     {
-        if self.packets.len() == 0 {
+        if self.packets.is_empty() {
             return None;
         }
-        Some(mem::replace(&mut self.packets, Packets::none(alloc)))
+        Some(Items::from_vec(mem::replace(&mut self.packets, Vec::new(alloc))))
     }
 }

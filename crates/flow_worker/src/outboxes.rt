@@ -6,10 +6,10 @@ ghost use Rattle.flow_worker.specs.Intakes.{HaveSent, HaveSentNothing};
 ghost use Rattle.flow_worker.specs.Messages.{IsPrefix, batch, ending};
 
 use crate::open_batch::OpenBatch;
-use ruled_intake::{Batch, FileEnd, Lane, Message, Packet, Packets, SendPass, Turn};
+use ruled_intake::{Batch, FileEnd, Lane, Message, Packet, SendPass, Turn};
 use std::alloc::{AllocError as OutOfMemory, Global};
 use std::sync::Wait;
-use timing_base::{FileNote, Rtp};
+use timing_base::{FileNote, Items};
 
 /// So many batches are sent before the turn of a file: workers hold them until the files before have ended.
 const AHEAD_OF_TURN: u64 = 64;
@@ -96,12 +96,6 @@ impl<'a> Outboxes<'a> {
         passes
     }
 
-    /// What may be read of the packet of this media and record for a lane, if it goes on as those before it do.
-    #[inline(always)]
-    pub fn expected(&self, lane: usize, media: u32, rec: u64) -> Option<Rtp> {
-        self.batches.get(lane)?.expected(media, rec)
-    }
-
     /// Sends a message to a lane. `Err` is want of memory; then nothing was sent.
     fn send<R: Wait>(&mut self, rt: &R, lane: usize, message: Message) -> Result<(), OutOfMemory>
         requires are { AreOutboxes self.old }
@@ -132,7 +126,7 @@ impl<'a> Outboxes<'a> {
         &mut self,
         rt: &R,
         lane: usize,
-        packets: Packets,
+        packets: Items<Packet>,
     ) -> Result<(), OutOfMemory>
         requires are { AreOutboxes self.old }
         requires lane { lane < length self.old.lanes.now }

@@ -1,14 +1,14 @@
 //! Which packets a file has for the media of a session, and their lanes.
 
-ghost use Rattle.std.specs.Prelude.{◌≡◌, ◌≤◌, ◌<◌, ◌^◌, IfSome, Some, if◌then◌else◌, length};
+ghost use Rattle.std.specs.Prelude.{◌≡◌, ◌≤◌, ◌<◌, ◌^◌, IfSome, if◌then◌else◌, length};
 ghost use Rattle.timing_base.specs.Captures.{IsStamp};
 ghost use Rattle.flow_worker.specs.Opening.{packet_from};
 ghost use Rattle.flow_worker.specs.Sending.{AreDealt};
 ghost use Rattle.flow_worker.specs.Targeted.{media_to};
 
 use ruled_intake::Packet;
-use timing_base::{FlowKey, FlowPacket, Media, Rtp, Target, route};
-use udp_rtp::{carries, datagram, read_rtp};
+use timing_base::{FlowKey, FlowPacket, Media, Target, route};
+use udp_rtp::{datagram, read_rtp};
 
 /// The media of a session, and how their packets in one file are dealt out among lanes.
 #[derive(Clone, Copy)]
@@ -82,36 +82,6 @@ impl Routing<'_> {
             rec: number,
             at,
             rtp: read_rtp(datagram.payload),
-        };
-        Some(Packet::new(media, packet))
-    }
-
-    /// The packet that a record is of this media, where its frame carries one that reads so, and no media before
-    /// has the same target.
-    #[inline(always)]
-    pub fn carried(
-        &self,
-        media: u32,
-        expected: Rtp,
-        number: u64,
-        at: u64,
-        frame: &[u8],
-    ) -> Option<Packet>
-        requires media { length self.now.media.now ≤ 64 }
-        requires number { number < 2 ^ 37 }
-        requires at { IsStamp at }
-        ensures packet { IfSome result (λ packet. Some packet ≡ packet_from 0 self.now.media.now
-            (record { number = number; stamp = at; bytes = frame.now })) }
-        ensures media { IfSome result (λ packet. packet.media < length self.now.media.now) }
-    {
-        let target = self.media.get(media as usize)?.target();
-        if !carries(frame, target, expected) || find_media(self.media, target) != Some(media) {
-            return None;
-        }
-        let packet = FlowPacket {
-            rec: number,
-            at,
-            rtp: Ok(expected),
         };
         Some(Packet::new(media, packet))
     }

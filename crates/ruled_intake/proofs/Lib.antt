@@ -1,4 +1,3 @@
 pub mod Counts
 pub mod Rules
 pub mod Steps
-mod Followed

@@ -10,4 +10,3 @@ pub mod Examples
 -- these only serve proofs
 pub mod Knows
 pub mod Readings
-pub mod Following

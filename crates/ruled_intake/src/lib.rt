@@ -9,13 +9,11 @@
 //! Nothing is promised of how long a lane gets, nor of who waits for whom.
 #![tactic(auto)]
 
-mod following;
 mod halt;
 mod lane;
 pub mod laws;
 mod message;
 mod packet;
-mod packets;
 mod passes;
 mod rule;
 mod turn;
@@ -24,7 +22,6 @@ pub use halt::{Halt, Raised};
 pub use lane::{Closed, Lane, Working};
 pub use message::{Batch, FileEnd, Message};
 pub use packet::Packet;
-pub use packets::Packets;
 pub use passes::{SendPass, TakePass};
 pub use rule::{Entry, NoLesson, View};
 pub use turn::{Reading, Turn};

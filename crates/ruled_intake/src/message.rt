@@ -1,15 +1,15 @@
 //! What a lane carries.
 
-use crate::packets::Packets;
+use crate::packet::Packet;
 use std::marker::Model;
-use timing_base::FileNote;
+use timing_base::{FileNote, Items};
 
 /// Packets of one file, in the order of its records: 1 to 256.
 #[derive(Debug, Drop)]
 pub struct Batch {
     /// The file, counted from 0.
     pub file: u32,
-    pub packets: Packets,
+    pub packets: Items<Packet>,
 }
 
 impl Model for Batch {

@@ -87,9 +87,7 @@ fn is_batch(rt: &impl Abort, message: Option<Message>, media: u32, records: &[u6
         Some(Message::Batch(batch)) => {
             assert_eq!(rt; batch.file, 0);
             assert_eq!(rt; batch.packets.len(), records.len());
-            for (place, record) in records.iter().enumerate() {
-                assert!(rt; place < batch.packets.len());
-                let packet = batch.packets.get(place);
+            for (packet, record) in batch.packets.as_slice().iter().zip(records) {
                 assert_eq!(rt; packet.media(), media);
                 assert_eq!(rt; packet.flow_packet().rec, *record);
             }

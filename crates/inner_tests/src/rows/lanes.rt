@@ -4,8 +4,8 @@ ghost use Rattle.std.specs.Prelude.{◌≡◌, length};
 ghost use Rattle.ruled_intake.specs.Lanes.{AreSenders};
 
 use ruled_intake::{
-    Batch, Closed, FileEnd, Halt, Lane, Message, NoLesson, Packet, Packets, Reading, SendPass,
-    TakePass, Turn, Working,
+    Batch, Closed, FileEnd, Halt, Lane, Message, NoLesson, Packet, Reading, SendPass, TakePass,
+    Turn, Working,
 };
 use std::alloc::Global;
 use std::process::Abort;
@@ -13,7 +13,7 @@ use std::sync::Wait;
 use std::sync::atomic::{AtomicBool, AtomicU32, AtomicU64, Ordering};
 use std::thread::Threads;
 use std::{mem, slice, thread};
-use timing_base::{FileNote, FlowPacket, PacketFault, Rtp};
+use timing_base::{FileNote, FlowPacket, Items, PacketFault, Rtp};
 
 // A lane of so many messages is long, and its senders wait. It is a private number of `ruled_intake`.
 const LONG: u64 = 64;
@@ -174,11 +174,14 @@ fn packet(file: u32, number: u32) -> Packet {
 
 // A batch of 256 packets of a file, from this number on.
 fn batch(alloc: Global, file: u32, first: u32) -> Option<Message> {
-    let mut packets = Packets::with_room(alloc, 256).ok()?;
+    let mut packets = Vec::with_capacity(alloc, 256).ok()?;
     for place in 0..256 {
         packets.push(packet(file, first.wrapping_add(place))).ok()?;
     }
-    Some(Message::Batch(Batch { file, packets }))
+    Some(Message::Batch(Batch {
+        file,
+        packets: Items::from_vec(packets),
+    }))
 }
 
 const SENDERS: u32 = 16;
@@ -221,8 +224,7 @@ fn send_file<R: Wait + Abort>(rt: &R, alloc: Global, lane: &Lane, pass: SendPass
 // Asserts that the packets of a file go on at this number, and returns the one after them.
 fn goes_on(rt: &impl Abort, batch: &Batch, first: u32) -> u32 {
     let mut number = first;
-    for place in 0..batch.packets.len() {
-        let found = batch.packets.get(place);
+    for found in batch.packets.as_slice() {
         let wanted = packet(batch.file, number);
         assert_eq!(rt; found.media(), wanted.media());
         assert_eq!(rt; found.flow_packet(), wanted.flow_packet());

@@ -6,13 +6,13 @@ ghost use Rattle.flow_worker.specs.Works.{HasTakenNothing};
 ghost use Rattle.verdict_book.specs.Receipts.{IsOf};
 
 use flow_worker::{RunSetting, work};
-use ruled_intake::{Batch, FileEnd, Halt, Lane, Message, Packet, Packets, SendPass, TakePass};
+use ruled_intake::{Batch, FileEnd, Halt, Lane, Message, Packet, SendPass, TakePass};
 use std::alloc::{AllocError, Global};
 use std::process::Abort;
 use std::sync::Wait;
 use std::test::Fail;
 use timing_base::worked::{reading, undeclared_to};
-use timing_base::{FileNote, FlowKey, FlowPacket, PacketFault, Row, Unjudged, Verdict};
+use timing_base::{FileNote, FlowKey, FlowPacket, Items, PacketFault, Row, Unjudged, Verdict};
 use timing_outside::NoGate;
 use verdict_book::{Book, Receipt};
 
@@ -42,13 +42,10 @@ fn short(media: u32, rec: u32) -> Packet {
 
 // Two packets of a file.
 fn two(alloc: Global, file: u32, packets: [Packet; 2]) -> Result<Message, AllocError> {
-    let [first, second] = packets;
-    let mut both = Packets::none(alloc);
-    both.push(first)?;
-    both.push(second)?;
+    let packets = Vec::from_array(alloc, packets)?;
     Ok(Message::Batch(Batch {
         file,
-        packets: both,
+        packets: Items::from_vec(packets),
     }))
 }
 

@@ -35,7 +35,7 @@ take-requires-clause-room c =
     let was = c.index_mut.result.now in
     let few = c.requires.few in
     let same : c.batch.inside.file ≡ batch.file = search rules in
-    let packets : batch.packets ≡ c.batch.inside.packets = search rules in
+    let packets : batch.packets ≡ c.as_slice.result.now = search rules in
     let within : batch.file < length items = search rules in
     let here : was ≡ get_or items batch.file was = c.index_mut.ensures.value ∙ ap (λ n. get_or items n was) same in
     subst (λ (l : List Packet). HaveRoom (length l) was.judges) packets
@@ -49,7 +49,7 @@ returns c =
     let was = c.index_mut.result.now in
     let one : OneFile = record { judges = c.take.new.self; ended = was.ended } in
     let same : c.batch.inside.file ≡ batch.file = search rules in
-    let packets : batch.packets ≡ c.batch.inside.packets = search rules in
+    let packets : batch.packets ≡ c.as_slice.result.now = search rules in
     let within : batch.file < length items = search rules in
     let here : was ≡ get_or items batch.file was = c.index_mut.ensures.value ∙ ap (λ n. get_or items n was) same in
     let seen = c.index.result.now in

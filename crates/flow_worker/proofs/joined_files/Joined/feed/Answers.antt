@@ -36,7 +36,7 @@ take-requires-clause-room c =
     let few = c.requires.few in
     let here : batch.file ≡ c.args.self.now.next = search rules in
     let within : batch.file < length c.args.self.now.files.items = search rules in
-    let packets : batch.packets ≡ c.batch.inside.packets = search rules in
+    let packets : batch.packets ≡ c.as_slice.result.now = search rules in
     subst (λ (l : List Packet). HaveRoom (length l) c.args.self.now.judges) packets
     (joined-room few.0 few.1 few.2 few.3 batch.file batch.packets c.args.self.now here within few.5 few.4)
 
@@ -46,7 +46,7 @@ returns-then-file-self c =
     let joined = c.args.self.now in
     let here : batch.file ≡ joined.next = search rules in
     let within : batch.file < length joined.files.items = search rules in
-    let packets : batch.packets ≡ c.batch.inside.packets = search rules in
+    let packets : batch.packets ≡ c.as_slice.result.now = search rules in
     let new : Joined = record { alloc = joined.alloc; judges = c.take.new.self; files = joined.files; next = joined.next; before = joined.before } in
     record {
       stands = joined-fed_if c.take.result batch.file batch.packets joined new here within refl refl refl

@@ -11,7 +11,7 @@ loop-batch-preserved c =
     let i = c.loop-batch.batch-index in
     let one : Batch = c.batch-item.result in
     let within : i < length items = search rules in
-    let packets : one.packets ≡ c.batch.inside.packets = search rules in
+    let packets : one.packets ≡ c.as_slice.result.now = search rules in
     record {
       feeds = feeds-batch c.args.before i items one c.args.self.now c.loop-batch.self c.take.new.self within (sym c.batch-item.is) c.loop-batch.invariant.feeds
           (subst (λ (l : List Packet). Feeds c.args.before l c.loop-batch.self c.take.new.self) (sym packets) c.in_ok-take.ensures.feeds);
@@ -26,7 +26,7 @@ take-requires-clause-room c =
     let i = c.loop-batch.batch-index in
     let one : Batch = c.batch-item.result in
     let within : i < length items = search rules in
-    let packets : one.packets ≡ c.batch.inside.packets = search rules in
+    let packets : one.packets ≡ c.as_slice.result.now = search rules in
     let left = left-batch i items one within (sym c.batch-item.is) in
     subst (λ (l : List Packet). HaveRoom (length l) c.loop-batch.self) packets
     (room-less _ _ c.loop-batch.self (omega (arith, left)) c.loop-batch.invariant.room)

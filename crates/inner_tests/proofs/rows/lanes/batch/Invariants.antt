@@ -2,4 +2,4 @@ use Rattle.std.proofs.Common.{◌≡◌, length}
 use Rattle.inner_tests.proofs.rows.lanes.batch.Given as goal
 
 abbrev pub invariant-loop-place : goal.invariant-loop-place
-invariant-loop-place l = length l.packets ≡ l.place
+invariant-loop-place l = length l.packets.items ≡ l.place
