@@ -17,3 +17,4 @@ pub mod Sending
 pub mod Sorting
 pub mod Judging
 pub mod Standing
+pub mod crew

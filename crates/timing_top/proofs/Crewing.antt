@@ -8,7 +8,7 @@ use Rattle.timing_base.specs.declared.capture.FileNote.TheVariants.{Refused}
 use Rattle.timing_base.specs.declared.capture.PcapFault.TheVariants.{ReadFault}
 use Rattle.timing_base.specs.declared.row.Row.{Row}
 use Rattle.timing_outside.specs.Causes.{Rose}
-use Rattle.flow_crew.specs.Judging.{AreBack, AreTexts}
+use Rattle.flow_worker.specs.crew.Judging.{AreBack, AreTexts}
 use Rattle.timing_report.specs.Outcomes.{AreOfSession}
 use Rattle.timing_report.proofs.Keys.{keys_within}
 use Rattle.timing_steps.specs.Answers.{AreTold, CaptureRose}

@@ -10,7 +10,7 @@ ghost use Rattle.pcapng_reader.specs.Sources.{faults_of};
 ghost use Rattle.timing_top.specs.Found.{AreReady, Judges};
 
 use crate::captures::Found;
-use flow_crew::{Judged, judge_files};
+use flow_worker::crew::{Judged, judge_files};
 use pcapng_reader::Classic;
 use std::alloc::Global;
 use std::sync::Wait;

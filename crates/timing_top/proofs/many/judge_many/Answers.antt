@@ -7,7 +7,7 @@ use Rattle.timing_base.specs.declared.capture.PcapFault.TheVariants.{ReadFault}
 use Rattle.timing_base.specs.declared.row.Row.{Row}
 use Rattle.fail_interval.specs.Found.{AreFound}
 use Rattle.fail_interval.specs.Rows.{rows_over}
-use Rattle.flow_crew.specs.Judging.{AreTexts}
+use Rattle.flow_worker.specs.crew.Judging.{AreTexts}
 use Rattle.pcapng_reader.specs.Classic.{classic_texts}
 use Rattle.pcapng_reader.specs.Sources.{faults_of, left_of, name_of}
 use Rattle.timing_top.proofs.Crewing.{back-length, fetched-texts, keys-of_session, some-at, unread-rose}

@@ -1,6 +1,0 @@
-use Rattle.std.proofs.Common.{map}
-use Rattle.flow_crew.specs.Jobs.{AreMade}
-use Rattle.flow_crew.proofs.jobs.make_lanes.Given as goal
-
-abbrev pub invariant-loop-worker : goal.invariant-loop-worker
-invariant-loop-worker l = AreMade l.files l.worker l.made.lanes.items l.made.workers.items (map (λ c. c.items) l.made.columns.items)

@@ -1,0 +1,41 @@
+//! What the intakes of a run left, in order.
+
+ghost use Rattle.std.specs.Prelude.{◌≡◌, IfOk, map};
+
+use crate::IntakeDone;
+use ruled_intake::SendPass;
+use std::alloc::{AllocError as OutOfMemory, Global};
+use timing_base::FileNote;
+use timing_outside::Source;
+
+/// What the intakes left.
+#[derive(Drop)]
+pub struct Read<S: Source> {
+    pub sources: Vec<S>,
+    /// How each file ends; nothing where memory ran out in its intake.
+    pub notes: Vec<Option<FileNote>>,
+    /// The passes of each file.
+    pub rows: Vec<Vec<SendPass>>,
+}
+
+/// Takes apart what the intakes left. `Err` is want of memory.
+pub fn take_read<S: Source>(
+    alloc: Global,
+    dones: Vec<IntakeDone<S>>,
+) -> Result<Read<S>, OutOfMemory>
+    ensures sources { IfOk result (λ read. read.sources.items ≡ map (λ d. d.source) dones.items) }
+    ensures notes { IfOk result (λ read. read.notes.items ≡ map (λ d. d.note) dones.items) }
+    ensures rows { IfOk result (λ read. read.rows.items ≡ map (λ d. d.passes) dones.items) }
+{
+    let mut read = Read {
+        sources: Vec::new(alloc),
+        notes: Vec::new(alloc),
+        rows: Vec::new(alloc),
+    };
+    for done in dones {
+        read.sources.push(done.source)?;
+        read.notes.push(done.note)?;
+        read.rows.push(done.passes)?;
+    }
+    Ok(read)
+}
