@@ -4,8 +4,8 @@ use Rattle.std.specs.Prelude.{Some, None}
 use Rattle.serde_json.specs.Written.{has_float}
 use Rattle.timing_base.specs.Media.{Media}
 use Rattle.timing_base.specs.declared.row.Unjudged.{Unjudged}
-use Rattle.timing_json.specs.Json.{object_of, unjudged_members}
-use Rattle.timing_json.proofs.Floatless.{any_float, any_float-append, object-floatless, unjudged-floatless}
+use Rattle.timing_report.specs.json_report.Json.{object_of, unjudged_members}
+use Rattle.timing_report.proofs.json_report.Floatless.{any_float, any_float-append, object-floatless, unjudged-floatless}
 use Rattle.measure_text.specs.Json.{flow_members, ssrc_members}
 use Rattle.measure_text.specs.Told.{ToldFlow}
 

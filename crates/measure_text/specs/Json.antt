@@ -23,7 +23,7 @@ use Rattle.timing_base.specs.declared.row.Verdict.{Verdict}
 use Rattle.timing_base.specs.declared.row.Verdict.TheVariants as verdict
 use Rattle.timing_report.specs.Outcomes.{verdict_on}
 use Rattle.timing_report.specs.Words.{kind_name, model_name, note_text, ssrc_text}
-use Rattle.timing_json.specs.Json.{Member, count, object_of, unjudged_members}
+use Rattle.timing_report.specs.json_report.Json.{Member, count, object_of, unjudged_members}
 use Rattle.flow_measure.specs.declared.numbers.Buffer.{Buffer}
 use Rattle.flow_measure.specs.declared.numbers.MeasuredFlow.{MeasuredFlow}
 use Rattle.flow_measure.specs.declared.summary.Summary.{Summary}

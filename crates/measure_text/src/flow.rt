@@ -2,8 +2,8 @@
 
 ghost use Rattle.std.specs.Prelude.{◌≡◌, ◌++◌, IfOk, map, string_bytes};
 ghost use Rattle.serde_json.specs.View.{view};
-ghost use Rattle.timing_json.specs.Json.{object_of, unjudged_members};
-ghost use Rattle.timing_json.specs.Members.{Puts};
+ghost use Rattle.timing_report.specs.json_report.Json.{object_of, unjudged_members};
+ghost use Rattle.timing_report.specs.json_report.Members.{Puts};
 ghost use Rattle.measure_text.specs.Json.{flow_front, flow_members, judged_text, runs_member, ssrc_members, unjudged_text, verdict_flow};
 ghost use Rattle.measure_text.specs.Told.{flow_told, run_told};
 
@@ -13,7 +13,7 @@ use serde_json::Value;
 use std::alloc::{AllocError as OutOfMemory, Global};
 use std::fmt;
 use timing_base::{Media, Unjudged, Verdict};
-use timing_json::{Object, add_value, comma_if, put_unjudged};
+use timing_report::json_report::{Object, add_value, comma_if, put_unjudged};
 use timing_report::SsrcText;
 
 /// Adds a flow of this media.

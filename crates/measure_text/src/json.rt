@@ -10,7 +10,7 @@ use crate::pieces::quoted;
 use flow_measure::MeasuredFlow;
 use std::alloc::{AllocError as OutOfMemory, Global};
 use timing_base::{FileNote, FlowKey, Session};
-use timing_json::comma_if;
+use timing_report::json_report::comma_if;
 use timing_report::{NoteText, media_of};
 
 /// The numbers of the flows of a capture of this name, as one JSON value and a line end. `note` says how the capture

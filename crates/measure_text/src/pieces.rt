@@ -9,7 +9,7 @@ use serde_json::Value;
 use std::alloc::{AllocError as OutOfMemory, Global};
 use std::fmt;
 use timing_base::{FailProof, KindVerdict};
-use timing_json::comma_if;
+use timing_report::json_report::comma_if;
 use timing_report::model_name;
 
 /// A text in quotes, with escapes.

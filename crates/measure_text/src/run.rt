@@ -9,7 +9,7 @@ use crate::pieces::{Held, Level, NumberIf, Outcome, Steps, Whole, counts_of, fla
 use flow_measure::{Bins, Gaps, KindNumbers, MeasuredRun, RunNumbers};
 use std::alloc::{AllocError as OutOfMemory, Global};
 use timing_base::{Judged, Kind, Media};
-use timing_json::comma_if;
+use timing_report::json_report::comma_if;
 use timing_report::{kind_name, verdict_on};
 
 /// Bins, and how many numbers are below 0, where that is told.

@@ -3,8 +3,8 @@ use Rattle.std.proofs.Common.{◌≡◌, ℕ, List, [], ◌∷◌, true, false, 
 use Rattle.std.specs.Prelude.{codes, map, Some, None, Option, nat_lt, if◌then◌else◌}
 use Rattle.serde_json.specs.Written.{has_float}
 use Rattle.timing_base.specs.declared.capture.FileNote.{FileNote}
-use Rattle.timing_json.specs.Json.{list_of}
-use Rattle.timing_json.proofs.Floatless.{neither, any_float, any_float-append, object-floatless, list-floatless}
+use Rattle.timing_report.specs.json_report.Json.{list_of}
+use Rattle.timing_report.proofs.json_report.Floatless.{neither, any_float, any_float-append, object-floatless, list-floatless}
 use Rattle.capture_scan.specs.declared.found.Span.{Span}
 use Rattle.capture_scan.specs.declared.found.UnreadTarget.{UnreadTarget}
 use Rattle.capture_scan.specs.declared.stream.Lines.{Lines}

@@ -7,7 +7,7 @@ use Rattle.serde_json.specs.Written.{compact_text}
 use Rattle.timing_base.specs.Targets.{target_text}
 use Rattle.timing_base.specs.declared.capture.FileNote.{FileNote}
 use Rattle.timing_base.specs.declared.target.Target.{Target}
-use Rattle.timing_json.specs.Json.{Member, count, list_of, object_of}
+use Rattle.timing_report.specs.json_report.Json.{Member, count, list_of, object_of}
 use Rattle.timing_report.specs.Words.{note_text, ssrc_text}
 use Rattle.capture_scan.specs.declared.found.PassedOver.{PassedOver}
 use Rattle.capture_scan.specs.declared.found.Span.{Span}

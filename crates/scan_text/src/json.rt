@@ -2,8 +2,8 @@
 
 ghost use Rattle.std.specs.Prelude.{◌≡◌, ◌++◌, ◌<◌, ◌^◌, IfOk, map, codes, string_bytes};
 ghost use Rattle.serde_json.specs.View.{view};
-ghost use Rattle.timing_json.specs.Json.{list_of};
-ghost use Rattle.timing_json.specs.Members.{Puts};
+ghost use Rattle.timing_report.specs.json_report.Json.{list_of};
+ghost use Rattle.timing_report.specs.json_report.Members.{Puts};
 ghost use Rattle.scan_text.specs.Contents.{contents_of};
 ghost use Rattle.scan_text.specs.Json.{arrival_data, contents_data, file_members, held_members, json_text, key_members, lines_members, order_members, pace_members, packet_members, passed_over_data, range_data, rate_data, rate_members, span_members, stream_data, target_data, unread_data};
 
@@ -13,7 +13,7 @@ use capture_scan::{
 use serde_json::Value;
 use std::alloc::{AllocError as OutOfMemory, Global};
 use timing_base::{FileNote, Target};
-use timing_json::Object;
+use timing_report::json_report::Object;
 use timing_report::{NoteText, SsrcText};
 
 /// An address and a port.

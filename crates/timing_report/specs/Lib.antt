@@ -6,3 +6,4 @@ pub mod Verdict
 pub mod Words
 -- rows that are worked by hand
 pub mod Worked
+pub mod json_report

@@ -5,6 +5,7 @@
 //! count from 1 everywhere, and the packets of a judged run from 0.
 #![tactic(auto)]
 
+pub mod json_report;
 pub mod laws;
 mod outcomes;
 mod status;

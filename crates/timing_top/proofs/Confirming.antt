@@ -16,9 +16,9 @@ use Rattle.fail_interval.specs.Fails.{kind_verdict}
 use Rattle.fail_interval.specs.Row.{judged_values, run_of, run_verdict_of, verdict_of}
 use Rattle.fail_interval.proofs.Confirmed.{fail-confirms}
 use Rattle.interval_checker.specs.Checked.{Says, SaysAt}
-use Rattle.timing_json.specs.Fails.{fail_of, judged_fails, run_fails, runs_fails, verdict_fails}
-use Rattle.timing_json.specs.Reading.{told}
-use Rattle.timing_json.specs.declared.reading.ReportProof.{ReportProof}
+use Rattle.timing_report.specs.json_report.Fails.{fail_of, judged_fails, run_fails, runs_fails, verdict_fails}
+use Rattle.timing_report.specs.json_report.Reading.{told}
+use Rattle.timing_report.specs.declared.json_report.reading.ReportProof.{ReportProof}
 
 -- a fail of this run of this flow, which its judged packets confirm
 record IsOf (m : Media) (n : ℕ) (stamps : List ℕ) (key : FlowKey) (run : ℕ) (c : ReportProof) : Type 0 where

@@ -20,8 +20,8 @@ use Rattle.udp_rtp.specs.Flow.{flow}
 use Rattle.fail_interval.specs.Row.{verdict_of}
 use Rattle.fail_interval.specs.Rows.{rows_from, rows_of, rows_of_files, rows_over}
 use Rattle.interval_checker.specs.Checked.{Says}
-use Rattle.timing_json.specs.Fails.{fails_of, verdict_fails}
-use Rattle.timing_json.specs.declared.reading.ReportProof.{ReportProof}
+use Rattle.timing_report.specs.json_report.Fails.{fails_of, verdict_fails}
+use Rattle.timing_report.specs.declared.json_report.reading.ReportProof.{ReportProof}
 use Rattle.timing_verify.specs.Asked.{FindsOf, media_for}
 use Rattle.timing_verify.specs.Findings.{Finds}
 use Rattle.pcapng_reader.specs.Bytes.{AreBytes}

@@ -11,11 +11,11 @@ use Rattle.pcap_reader.specs.Records.{AreRecords}
 use Rattle.fail_interval.specs.Rows.{rows_over}
 use Rattle.timing_report.specs.Outcomes.{AreRowsOf}
 use Rattle.timing_report.specs.declared.status.Status.TheVariants as status
-use Rattle.timing_json.specs.Fails.{fails_of}
-use Rattle.timing_json.specs.Json.{json_text}
-use Rattle.timing_json.specs.Reading.{IsReport}
-use Rattle.timing_json.specs.declared.reading.ReportProof.{ReportProof}
-use Rattle.timing_json.proofs.Back.{read-back}
+use Rattle.timing_report.specs.json_report.Fails.{fails_of}
+use Rattle.timing_report.specs.json_report.Json.{json_text}
+use Rattle.timing_report.specs.json_report.Reading.{IsReport}
+use Rattle.timing_report.specs.declared.json_report.reading.ReportProof.{ReportProof}
+use Rattle.timing_report.proofs.json_report.Back.{read-back}
 use Rattle.timing_steps.specs.Answers.{Answer}
 use Rattle.timing_verify.specs.Asked.{HasReported}
 use Rattle.timing_verify.proofs.Unique.{confirmed-status}

@@ -5,15 +5,15 @@ use Rattle.std.proofs.lemmas.List.Elements.{All-head, All-tail}
 use Rattle.timing_base.specs.Jobs.{ReportJob}
 use Rattle.timing_base.specs.Media.{Media}
 use Rattle.pcapng_reader.specs.Classic.{classic}
-use Rattle.timing_json.specs.Reading.{IsReport}
-use Rattle.timing_json.specs.declared.reading.ReportProof.{ReportProof}
+use Rattle.timing_report.specs.json_report.Reading.{IsReport}
+use Rattle.timing_report.specs.declared.json_report.reading.ReportProof.{ReportProof}
 use Rattle.timing_report.specs.declared.status.Input.{Input}
 use Rattle.timing_report.specs.declared.status.Input.TheVariants as input
 use Rattle.timing_report.specs.declared.status.Status.TheVariants as status
 use Rattle.timing_steps.specs.Answers.{Answer, AreThere, AreTold, Gives, HasRisen, Inputs, ReadsSession, silent}
 use Rattle.timing_steps.specs.declared.failure.Failure.{Failure}
 use Rattle.timing_verify.specs.Asked.{FollowsReport, HasReported, OnReport, ReadsNeeded, ReadsReport, ReportInputRose, needed}
-use Rattle.timing_json.proofs.Decided.{only-claims, report-decided}
+use Rattle.timing_report.proofs.json_report.Decided.{only-claims, report-decided}
 use Rattle.timing_verify.proofs.Answered.{needed-all, same-needed, same-reported, text_in, told-needed}
 use Rattle.timing_verify.proofs.Unique.{only-reported, some-reported}
 use Rattle.timing_top.proofs.Answering.{Caused, described-failed, not-given, ok-not-err, only-described, only-given, only-silent, only-yielded, same-err}

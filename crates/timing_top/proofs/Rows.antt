@@ -13,7 +13,7 @@ use Rattle.pcap_reader.specs.Records.{AreRecords}
 use Rattle.udp_rtp.specs.Flow.{flow}
 use Rattle.fail_interval.specs.Row.{row}
 use Rattle.fail_interval.specs.Rows.{rows_from, rows_of, rows_of_files, rows_over}
-use Rattle.timing_json.specs.Fails.{FitsVerdict}
+use Rattle.timing_report.specs.json_report.Fails.{FitsVerdict}
 use Rattle.pcapng_reader.specs.Bytes.{AreBytes}
 use Rattle.timing_top.proofs.Small.{AreSmall, joined-small, one-small}
 use Rattle.timing_top.proofs.Words.{flow-fits}

@@ -5,10 +5,10 @@ use Rattle.timing_base.specs.Jobs.{CheckJob}
 use Rattle.timing_base.specs.Media.{Media}
 use Rattle.timing_report.specs.Text.{report_text}
 use Rattle.timing_report.specs.declared.status.Status.TheVariants as status
-use Rattle.timing_json.specs.Fails.{fails_of}
-use Rattle.timing_json.specs.Json.{json_text}
-use Rattle.timing_json.specs.Reading.{IsReport}
-use Rattle.timing_json.specs.declared.reading.ReportProof.{ReportProof}
+use Rattle.timing_report.specs.json_report.Fails.{fails_of}
+use Rattle.timing_report.specs.json_report.Json.{json_text}
+use Rattle.timing_report.specs.json_report.Reading.{IsReport}
+use Rattle.timing_report.specs.declared.json_report.reading.ReportProof.{ReportProof}
 use Rattle.timing_steps.specs.Answers.{Answer}
 use Rattle.timing_verify.specs.Asked.{HasReported}
 use Rattle.timing_top.specs.Report.{HasReport, rows}

@@ -7,7 +7,7 @@ use Rattle.timing_base.specs.declared.capture.FileNote.{FileNote}
 use Rattle.timing_base.specs.declared.row.Row.{Row}
 use Rattle.pcap_reader.specs.Records.{AreRecords}
 use Rattle.fail_interval.specs.Rows.{rows_over}
-use Rattle.timing_json.specs.Json.{json_text}
+use Rattle.timing_report.specs.json_report.Json.{json_text}
 use Rattle.timing_report.specs.Outcomes.{status_of}
 use Rattle.timing_report.specs.Text.{report_text}
 use Rattle.timing_steps.specs.Answers.{Answer}

@@ -6,7 +6,7 @@ use Rattle.timing_base.specs.Jobs.{ReportJob}
 use Rattle.timing_base.specs.Media.{Media}
 use Rattle.timing_base.specs.declared.key.FlowKey.{FlowKey}
 use Rattle.timing_base.specs.declared.row.Unjudged.{Unjudged}
-use Rattle.timing_json.specs.declared.reading.ReportProof.{ReportProof}
+use Rattle.timing_report.specs.declared.json_report.reading.ReportProof.{ReportProof}
 use Rattle.timing_steps.specs.Answers.{Answer, AreTold}
 use Rattle.timing_verify.specs.Asked.{AreTexts, FindsOf, HasReported, captures_for, captures_of, file_count, media_for, needed}
 use Rattle.timing_verify.specs.Findings.{Finds}

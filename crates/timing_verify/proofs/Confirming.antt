@@ -18,7 +18,7 @@ use Rattle.interval_checker.specs.declared.fault.CheckFault.{CheckFault}
 use Rattle.interval_checker.specs.declared.fault.CheckFault.TheVariants as check_fault
 use Rattle.interval_checker.specs.declared.reading.Reading.{Reading}
 use Rattle.interval_checker.proofs.Asks.{asked-no_less}
-use Rattle.timing_json.specs.declared.reading.ReportProof.{ReportProof}
+use Rattle.timing_report.specs.declared.json_report.reading.ReportProof.{ReportProof}
 use Rattle.timing_steps.specs.Answers.{AreTold, CaptureRose}
 use Rattle.timing_steps.specs.Fetched.{AreFetched}
 use Rattle.timing_steps.specs.declared.failure.Failure.{Failure}

@@ -6,8 +6,8 @@ use Rattle.timing_base.specs.Media.{Media}
 use Rattle.timing_base.specs.declared.row.Unjudged.{Unjudged}
 use Rattle.pcapng_reader.specs.Classic.{classic, classic_texts}
 use Rattle.sdp_reader.specs.Session.{session}
-use Rattle.timing_json.specs.Reading.{IsReport}
-use Rattle.timing_json.specs.declared.reading.ReportProof.{ReportProof}
+use Rattle.timing_report.specs.json_report.Reading.{IsReport}
+use Rattle.timing_report.specs.declared.json_report.reading.ReportProof.{ReportProof}
 use Rattle.timing_report.specs.declared.status.Status.TheVariants as status
 use Rattle.timing_steps.specs.Answers.{Answer, AreThere, AreTold, Gives, Inputs, ReadsCaptures, Yields, silent}
 use Rattle.timing_steps.specs.declared.failure.Failure.{Failure}

@@ -10,7 +10,7 @@ use Rattle.timing_base.specs.Media.{Media}
 use Rattle.timing_base.specs.declared.key.FlowKey.{FlowKey}
 use Rattle.timing_base.specs.declared.row.Unjudged.{Unjudged}
 use Rattle.pcapng_reader.specs.Classic.{classic, classic_texts}
-use Rattle.timing_json.specs.declared.reading.ReportProof.{ReportProof}
+use Rattle.timing_report.specs.declared.json_report.reading.ReportProof.{ReportProof}
 use Rattle.timing_steps.specs.Answers.{Answer, AreThere, AreTold, Gives, Inputs, Yields}
 use Rattle.timing_steps.specs.declared.failure.Failure.{Failure}
 use Rattle.timing_verify.specs.Asked.{AreTexts, FindsOf, HasReported, ReadsNeeded, captures_for, captures_of, media_for, needed}

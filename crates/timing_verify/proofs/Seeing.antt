@@ -4,7 +4,7 @@ use Rattle.std.proofs.lemmas.List.Elements.{All-weaker}
 use Rattle.std.specs.Prelude.{Result}
 use Rattle.timing_base.specs.Jobs.{ReportJob, VerifyJob}
 use Rattle.timing_base.specs.Media.{Media}
-use Rattle.timing_json.specs.declared.reading.ReportProof.{ReportProof}
+use Rattle.timing_report.specs.declared.json_report.reading.ReportProof.{ReportProof}
 use Rattle.timing_steps.specs.Answers.{Answer, AreThere, Gives, Inputs}
 use Rattle.timing_steps.specs.declared.failure.Failure.{Failure}
 use Rattle.timing_steps.proofs.Seeing.{Sees, capture-seen, captures-seen, risen-seen, there-seen}

@@ -18,7 +18,7 @@ use Rattle.interval_checker.specs.Readings.{AreSame, HasRead, HaveRead, HaveRoom
 use Rattle.interval_checker.specs.declared.asked.Asked.{Asked}
 use Rattle.interval_checker.specs.declared.reading.Reading.{Reading}
 use Rattle.interval_checker.proofs.Asks.{asked-no_less}
-use Rattle.timing_json.specs.declared.reading.ReportProof.{ReportProof}
+use Rattle.timing_report.specs.declared.json_report.reading.ReportProof.{ReportProof}
 use Rattle.timing_report.specs.declared.status.Input.TheVariants as the_input
 use Rattle.timing_steps.specs.Answers.{AreThere, Inputs, OnReadFault}
 use Rattle.timing_steps.specs.declared.failure.Failure.{Failure}

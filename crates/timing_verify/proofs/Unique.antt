@@ -21,7 +21,7 @@ use Rattle.sender_params.specs.Ticks.{load_of}
 use Rattle.pcap_reader.proofs.Captures.{only-records, some-records}
 use Rattle.udp_rtp.specs.Flow.{flow}
 use Rattle.interval_checker.specs.Checked.{Says, SaysAt, SaysJudged, SaysOutcome}
-use Rattle.timing_json.specs.declared.reading.ReportProof.{ReportProof}
+use Rattle.timing_report.specs.declared.json_report.reading.ReportProof.{ReportProof}
 use Rattle.timing_report.specs.declared.status.Status.TheVariants as status
 use Rattle.timing_steps.specs.Answers.{Answer}
 use Rattle.timing_verify.specs.Asked.{AreChecked, FindsOf, HasReported, HasVerified, captures_of, claim_of, media_for}

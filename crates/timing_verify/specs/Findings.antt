@@ -10,7 +10,7 @@ use Rattle.timing_base.specs.declared.row.Unjudged.{Unjudged}
 use Rattle.pcap_reader.specs.Records.{AreRecords}
 use Rattle.udp_rtp.specs.Flow.{flow}
 use Rattle.interval_checker.specs.Checked.{Says}
-use Rattle.timing_json.specs.declared.reading.ReportProof.{ReportProof}
+use Rattle.timing_report.specs.declared.json_report.reading.ReportProof.{ReportProof}
 
 -- captures of these texts, as one capture, say this of a fail that is claimed of a media; `tai` is in seconds
 pub record Finds (media : Media) (claim : ReportProof) (tai : ℕ) (texts : List (List ℕ))

@@ -15,7 +15,7 @@ use Rattle.interval_checker.specs.declared.asked.Asked.{Asked}
 use Rattle.interval_checker.specs.declared.fault.CheckFault.{CheckFault}
 use Rattle.interval_checker.specs.declared.fault.CheckFault.TheVariants as check_fault
 use Rattle.interval_checker.specs.declared.reading.Reading.{Reading}
-use Rattle.timing_json.specs.declared.reading.ReportProof.{ReportProof}
+use Rattle.timing_report.specs.declared.json_report.reading.ReportProof.{ReportProof}
 use Rattle.timing_report.specs.declared.status.Input.TheVariants as input
 use Rattle.timing_steps.specs.Answers.{AreThere, CaptureRose, Inputs, OnReadFault}
 use Rattle.timing_steps.specs.declared.failure.Failure.{Failure}

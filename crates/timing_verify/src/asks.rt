@@ -8,7 +8,7 @@ ghost use Rattle.timing_verify.specs.Found.{AreAsked, Asks};
 use interval_checker::{Asked, Reading};
 use std::alloc::{AllocError as OutOfMemory, Global};
 use timing_base::Media;
-use timing_json::ReportProof;
+use timing_report::json_report::ReportProof;
 
 /// Asks what a claim asks, where it is one on this flow.
 fn ask_claim(

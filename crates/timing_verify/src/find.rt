@@ -12,7 +12,7 @@ use crate::read::{answer_of, read_captures};
 use interval_checker::{Asked, Reading};
 use std::alloc::Global;
 use timing_base::{FileName, Media};
-use timing_json::ReportProof;
+use timing_report::json_report::ReportProof;
 use timing_outside::Shelf;
 use timing_steps::Failure;
 

@@ -5,7 +5,7 @@ ghost use Rattle.std.specs.Prelude.{◌≡◌, ℕ, Bool, List, All, Ok, Result,
 ghost use Rattle.timing_base.specs.Jobs.{ReportJob, VerifyJob};
 ghost use Rattle.timing_base.specs.Media.{Media};
 ghost use Rattle.timing_base.specs.declared.row.Unjudged.{Unjudged};
-ghost use Rattle.timing_json.specs.declared.reading.ReportProof.{ReportProof};
+ghost use Rattle.timing_report.specs.declared.json_report.reading.ReportProof.{ReportProof};
 ghost use Rattle.timing_report.specs.declared.status.Status.TheVariants as status;
 ghost use Rattle.timing_steps.specs.Answers.{Answer};
 ghost use Rattle.timing_verify.specs.Asked.{FindsOf, HasReported, HasVerified, media_for};

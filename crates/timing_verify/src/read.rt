@@ -17,7 +17,7 @@ use crate::checked::Finding;
 use interval_checker::{CheckFault, Reading, read_sources};
 use std::alloc::Global;
 use timing_base::{FileName, Media, ReportJob};
-use timing_json::ReportProof;
+use timing_report::json_report::ReportProof;
 use timing_outside::Shelf;
 use timing_report::Input;
 use timing_steps::{Failure, fetch_captures, give_back_all};

@@ -1,8 +1,8 @@
 //! `verify-report`: each fail that a JSON report tells, checked from the captures alone.
 
 ghost use Rattle.std.specs.Prelude.{◌≡◌, ℕ, List, Some, IfOk, IfErr, MatchOption};
-ghost use Rattle.timing_json.specs.Reading.{IsReport};
-ghost use Rattle.timing_json.specs.declared.reading.ReportProof.{ReportProof as Claim};
+ghost use Rattle.timing_report.specs.json_report.Reading.{IsReport};
+ghost use Rattle.timing_report.specs.declared.json_report.reading.ReportProof.{ReportProof as Claim};
 ghost use Rattle.timing_outside.specs.Causes.{Rose};
 ghost use Rattle.timing_outside.specs.Shelves.{StaysAs};
 ghost use Rattle.timing_steps.specs.Answers.{Gives, OnReadFault, Yields, seen_of};
@@ -14,7 +14,7 @@ use crate::needs::check_each;
 use crate::words::reported;
 use std::alloc::Global;
 use timing_base::{Media, ReportJob};
-use timing_json::{ReportError, ReportProof, read_json};
+use timing_report::json_report::{ReportError, ReportProof, read_json};
 use timing_outside::{Shelf, Sink};
 use timing_report::{Input, Status};
 use timing_steps::{Answer, Failure, conclude, fetch_front, fetch_session};

@@ -11,7 +11,7 @@ use crate::find::find;
 use crate::words::{unconfirmed, verified};
 use std::alloc::Global;
 use timing_base::{FlowKey, Media, VerifyJob};
-use timing_json::ReportProof;
+use timing_report::json_report::ReportProof;
 use timing_outside::{Shelf, Sink};
 use timing_report::Status;
 use timing_steps::{Answer, Failure, conclude, fetch_session};

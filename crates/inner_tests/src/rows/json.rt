@@ -6,7 +6,7 @@ use std::process::Abort;
 use std::test::Fail;
 use timing_base::worked::{LATE, LINEAR, check_of, plain_session};
 use timing_base::{Broken, FailProof, FileNote, FlowKey, Kind, Row, Unjudged, Verdict};
-use timing_json::{ReportError, ReportProof, json_of, read_json};
+use timing_report::json_report::{ReportError, ReportProof, json_of, read_json};
 
 // The report of one capture that ends whole, with this verdict on its flow.
 fn report(alloc: Global, verdict: Verdict) -> Result<String, AllocError> {

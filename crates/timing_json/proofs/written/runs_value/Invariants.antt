@@ -1,8 +1,0 @@
-use Rattle.std.proofs.Common.{◌≡◌, take}
-use Rattle.std.specs.Prelude.{map}
-use Rattle.serde_json.specs.View.{view}
-use Rattle.timing_json.specs.Json.{run_data}
-use Rattle.timing_json.proofs.written.runs_value.Given as goal
-
-abbrev pub invariant-loop-run : goal.invariant-loop-run
-invariant-loop-run l = map view l.values.items ≡ map (run_data l.media) (take l.run-index l.runs)

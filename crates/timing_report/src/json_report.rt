@@ -1,0 +1,10 @@
+//! The report as JSON (RFC 8259): made from rows, and read back for the fails that it tells.
+
+pub mod laws;
+mod object;
+mod reading;
+mod written;
+
+pub use object::Object;
+pub use reading::{ReportError, ReportProof, read_json};
+pub use written::{add_value, comma_if, json_of, put_unjudged};

@@ -1,0 +1,70 @@
+//! An object of JSON that is put together member by member.
+
+ghost use Rattle.std.specs.Prelude.{◌≡◌, IfOk};
+ghost use Rattle.serde_json.specs.Data.{no_members, object, boolean, string, put as with_member};
+ghost use Rattle.serde_json.specs.View.{view};
+ghost use Rattle.timing_report.specs.json_report.Json.{count};
+
+use serde_json::{Map, Value};
+use std::alloc::{AllocError as OutOfMemory, Global};
+
+/// The members of an object, in the byte order of their keys.
+#[derive(Drop)]
+pub struct Object {
+    map: Map<String, Value>,
+    alloc: Global,
+}
+
+impl Object {
+    ghost use Rattle.timing_report.specs.json_report.Members.{members};
+
+    /// An object without members.
+    pub fn new(alloc: Global) -> Object
+        ensures { members result ≡ no_members }
+    {
+        Object {
+            map: Map::new(alloc),
+            alloc,
+        }
+    }
+
+    /// Puts a value in.
+    pub fn put(&mut self, key: &str, value: Value) -> Result<(), OutOfMemory>
+        ensures { IfOk result
+            (λ _. members self.new ≡ with_member key.now (view value) (members self.old)) }
+    {
+        serde_json::put(&mut self.map, self.alloc, key, value)
+    }
+
+    /// Puts a number in.
+    pub fn put_count(&mut self, key: &str, number: u64) -> Result<(), OutOfMemory>
+        ensures { IfOk result
+            (λ _. members self.new ≡ with_member key.now (count number) (members self.old)) }
+    {
+        self.put(key, Value::from(number))
+    }
+
+    /// Puts a text in.
+    pub fn put_text(&mut self, key: &str, text: &str) -> Result<(), OutOfMemory>
+        ensures { IfOk result
+            (λ _. members self.new ≡ with_member key.now (string text.now) (members self.old)) }
+    {
+        let value = Value::try_from_str(self.alloc, text)?;
+        self.put(key, value)
+    }
+
+    /// Puts true or false in.
+    pub fn put_flag(&mut self, key: &str, flag: bool) -> Result<(), OutOfMemory>
+        ensures { IfOk result
+            (λ _. members self.new ≡ with_member key.now (boolean flag) (members self.old)) }
+    {
+        self.put(key, Value::from(flag))
+    }
+
+    /// The object as a value.
+    pub fn into_value(self) -> Value
+        ensures { view result ≡ object (members self) }
+    {
+        Value::Object(self.map)
+    }
+}
