@@ -2,11 +2,11 @@
 use Rattle.std.proofs.Common.{◌≡◌, ℕ, List, ◌++◌, ap, ◌∙◌}
 use Rattle.std.specs.Prelude.{Result, Ok, Err, IfOk}
 use Rattle.flow_measure.specs.declared.columns.Extremes.{Extremes}
-use Rattle.page_chart.specs.Charts.{bars_figure, curve_figure}
-use Rattle.page_chart.specs.declared.bars.Bar.{Bar}
-use Rattle.page_chart.specs.declared.chart.Scene.{Scene}
-use Rattle.page_chart.specs.declared.grid.UnitAcross.{UnitAcross}
-use Rattle.page_chart.specs.declared.lines.Limit.{Limit}
+use Rattle.flow_page.specs.chart.Charts.{bars_figure, curve_figure}
+use Rattle.flow_page.specs.declared.chart.bars.Bar.{Bar}
+use Rattle.flow_page.specs.declared.chart.chart.Scene.{Scene}
+use Rattle.flow_page.specs.declared.chart.grid.UnitAcross.{UnitAcross}
+use Rattle.flow_page.specs.declared.chart.lines.Limit.{Limit}
 
 -- what was added is another text
 pub added_ok : {T E : Type 0} (r : Result T E) (old new a b : List ℕ) → IfOk r (λ _. new ≡ old ++ a) → a ≡ b → IfOk r (λ _. new ≡ old ++ b)

@@ -10,12 +10,12 @@ use Rattle.timing_base.specs.declared.fail.FailProof.{FailProof}
 use Rattle.timing_base.specs.declared.media.Kind.{Kind}
 use Rattle.timing_report.specs.Outcomes.{place_of}
 use Rattle.timing_report.specs.Words.{kind_name, model_name}
-use Rattle.page_chart.specs.Charts.{curve_figure}
-use Rattle.page_chart.specs.declared.chart.Scene.{Scene}
-use Rattle.page_chart.specs.declared.grid.Unit.TheVariants.{Packets}
-use Rattle.page_chart.specs.declared.grid.UnitAcross.TheVariants.{Packet}
-use Rattle.page_chart.specs.declared.lines.Limit.{Limit}
-use Rattle.page_chart.specs.declared.lines.LineName.TheVariants as line
+use Rattle.flow_page.specs.chart.Charts.{curve_figure}
+use Rattle.flow_page.specs.declared.chart.chart.Scene.{Scene}
+use Rattle.flow_page.specs.declared.chart.grid.Unit.TheVariants.{Packets}
+use Rattle.flow_page.specs.declared.chart.grid.UnitAcross.TheVariants.{Packet}
+use Rattle.flow_page.specs.declared.chart.lines.Limit.{Limit}
+use Rattle.flow_page.specs.declared.chart.lines.LineName.TheVariants as line
 use Rattle.flow_page.specs.Levels.{line_name}
 use Rattle.flow_page.specs.declared.shown.Region.{Region}
 use Rattle.flow_page.specs.declared.shown.TypeShown.{TypeShown}

@@ -4,7 +4,7 @@
 use Rattle.std.specs.Prelude.{ℕ, List, ◌++◌, codes}
 use Rattle.timing_base.specs.declared.capture.FileNote.{FileNote}
 use Rattle.timing_report.specs.Words.{note_text}
-use Rattle.page_chart.specs.Figures.{told}
+use Rattle.flow_page.specs.chart.Figures.{told}
 
 -- the end of the title, and the styles
 unfoldable pub styles : List ℕ

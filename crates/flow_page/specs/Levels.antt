@@ -12,14 +12,14 @@ use Rattle.timing_report.specs.Words.{kind_name}
 use Rattle.flow_measure.specs.declared.columns.Extremes.{Extremes}
 use Rattle.flow_measure.specs.declared.numbers.RunNumbers.{RunNumbers}
 use Rattle.flow_measure.specs.declared.summary.Summary.{Summary}
-use Rattle.page_chart.specs.Charts.{curve_figure}
-use Rattle.page_chart.specs.declared.chart.Scene.{Scene}
-use Rattle.page_chart.specs.declared.grid.Unit.TheVariants.{Packets}
-use Rattle.page_chart.specs.declared.grid.UnitAcross.TheVariants.{Packet, Place}
-use Rattle.page_chart.specs.declared.lines.Limit.{Limit}
-use Rattle.page_chart.specs.declared.lines.LineName.{LineName}
-use Rattle.page_chart.specs.declared.lines.LineName.TheVariants.{Empty, Narrow, NarrowLinear, Wide}
-use Rattle.page_chart.specs.declared.plot.Across.{Across}
+use Rattle.flow_page.specs.chart.Charts.{curve_figure}
+use Rattle.flow_page.specs.declared.chart.chart.Scene.{Scene}
+use Rattle.flow_page.specs.declared.chart.grid.Unit.TheVariants.{Packets}
+use Rattle.flow_page.specs.declared.chart.grid.UnitAcross.TheVariants.{Packet, Place}
+use Rattle.flow_page.specs.declared.chart.lines.Limit.{Limit}
+use Rattle.flow_page.specs.declared.chart.lines.LineName.{LineName}
+use Rattle.flow_page.specs.declared.chart.lines.LineName.TheVariants.{Empty, Narrow, NarrowLinear, Wide}
+use Rattle.flow_page.specs.declared.chart.plot.Across.{Across}
 use Rattle.flow_page.specs.Words.{counted}
 use Rattle.flow_page.specs.declared.levels.Level.{Level}
 use Rattle.flow_page.specs.declared.levels.Level.TheVariants.{Bucket, Gapped, Linear}

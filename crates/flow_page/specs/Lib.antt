@@ -11,3 +11,4 @@ pub mod Around
 pub mod Page
 -- what is worked by hand
 pub mod Worked
+pub mod chart

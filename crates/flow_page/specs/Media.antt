@@ -14,7 +14,7 @@ use Rattle.timing_base.specs.declared.target.Target.{Target}
 use Rattle.timing_report.specs.Outcomes.{first_passing}
 use Rattle.timing_report.specs.Verdict.{verdict_text}
 use Rattle.timing_report.specs.Words.{class_name, declared_name, group_name}
-use Rattle.page_chart.specs.Figures.{told}
+use Rattle.flow_page.specs.chart.Figures.{told}
 use Rattle.flow_page.specs.Shown.{types_shown}
 use Rattle.flow_page.specs.Words.{sign_text}
 use Rattle.flow_page.specs.declared.shown.FlowPage.{FlowPage}

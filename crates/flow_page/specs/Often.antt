@@ -10,11 +10,11 @@ use Rattle.flow_measure.specs.declared.bins.Bins.{Bins}
 use Rattle.flow_measure.specs.declared.numbers.Gaps.{Gaps}
 use Rattle.flow_measure.specs.declared.numbers.KindNumbers.{KindNumbers}
 use Rattle.flow_measure.specs.declared.summary.Summary.{Summary}
-use Rattle.page_chart.specs.Charts.{bars_figure}
-use Rattle.page_chart.specs.declared.bars.Bar.{Bar}
-use Rattle.page_chart.specs.declared.bars.BarName.TheVariants.{Below, From, Above}
-use Rattle.page_chart.specs.declared.grid.UnitAcross.{UnitAcross}
-use Rattle.page_chart.specs.declared.grid.UnitAcross.TheVariants as across
+use Rattle.flow_page.specs.chart.Charts.{bars_figure}
+use Rattle.flow_page.specs.declared.chart.bars.Bar.{Bar}
+use Rattle.flow_page.specs.declared.chart.bars.BarName.TheVariants.{Below, From, Above}
+use Rattle.flow_page.specs.declared.chart.grid.UnitAcross.{UnitAcross}
+use Rattle.flow_page.specs.declared.chart.grid.UnitAcross.TheVariants as across
 use Rattle.flow_page.specs.Shown.{kind_at}
 use Rattle.flow_page.specs.Words.{counted}
 

@@ -11,7 +11,7 @@ use Rattle.timing_base.specs.declared.target.Target.{Target}
 use Rattle.timing_report.specs.Words.{group_name}
 use Rattle.flow_measure.specs.declared.numbers.MeasuredFlow.{MeasuredFlow}
 use Rattle.flow_measure.specs.declared.numbers.MeasuredRun.{MeasuredRun}
-use Rattle.page_chart.specs.Figures.{told}
+use Rattle.flow_page.specs.chart.Figures.{told}
 use Rattle.scan_text.specs.Contents.{Contents}
 use Rattle.scan_text.specs.Text.{contents_text}
 use Rattle.flow_page.specs.Around.{around_figures}

@@ -10,14 +10,14 @@ use Rattle.sender_params.specs.Times.{group_time, groups_of}
 use Rattle.flow_measure.specs.declared.columns.Extremes.{Extremes}
 use Rattle.flow_measure.specs.declared.numbers.RunNumbers.{RunNumbers}
 use Rattle.flow_measure.specs.declared.summary.Summary.{Summary}
-use Rattle.page_chart.specs.Charts.{curve_figure}
-use Rattle.page_chart.specs.Marks.{tenths_text}
-use Rattle.page_chart.specs.declared.chart.Scene.{Scene}
-use Rattle.page_chart.specs.declared.grid.Unit.{Unit}
-use Rattle.page_chart.specs.declared.grid.Unit.TheVariants.{Nanoseconds, Ticks}
-use Rattle.page_chart.specs.declared.grid.UnitAcross.TheVariants.{Frame}
-use Rattle.page_chart.specs.declared.lines.Limit.{Limit}
-use Rattle.page_chart.specs.declared.lines.LineName.TheVariants as line
+use Rattle.flow_page.specs.chart.Charts.{curve_figure}
+use Rattle.flow_page.specs.chart.Marks.{tenths_text}
+use Rattle.flow_page.specs.declared.chart.chart.Scene.{Scene}
+use Rattle.flow_page.specs.declared.chart.grid.Unit.{Unit}
+use Rattle.flow_page.specs.declared.chart.grid.Unit.TheVariants.{Nanoseconds, Ticks}
+use Rattle.flow_page.specs.declared.chart.grid.UnitAcross.TheVariants.{Frame}
+use Rattle.flow_page.specs.declared.chart.lines.Limit.{Limit}
+use Rattle.flow_page.specs.declared.chart.lines.LineName.TheVariants as line
 use Rattle.flow_page.specs.Levels.{across_of}
 use Rattle.flow_page.specs.Words.{counted}
 use Rattle.flow_page.specs.declared.shown.Curves.{Curves}

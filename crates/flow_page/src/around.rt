@@ -7,7 +7,7 @@ ghost use Rattle.flow_page.specs.Around.{around_detail, around_figure, around_fi
 
 use crate::levels::{line_name, one_line};
 use crate::shown::{Region, TypeShown};
-use page_chart::{Across, Limit, LineName, Scene, Shade, Unit, UnitAcross, add_curve_figure};
+use crate::chart::{Across, Limit, LineName, Scene, Shade, Unit, UnitAcross, add_curve_figure};
 use std::alloc::{AllocError as OutOfMemory, Global};
 use timing_base::{Broken, FailProof, Kind};
 use timing_report::{kind_name, model_name};

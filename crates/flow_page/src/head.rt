@@ -3,7 +3,7 @@
 ghost use Rattle.std.specs.Prelude.{◌≡◌, ◌++◌, IfOk, string_bytes};
 ghost use Rattle.flow_page.specs.Head.{front, legend, note_line, page_end, page_start, styles};
 
-use page_chart::add_told;
+use crate::chart::add_told;
 use std::alloc::AllocError as OutOfMemory;
 use timing_base::FileNote;
 use timing_report::NoteText;

@@ -7,7 +7,7 @@ ghost use Rattle.flow_page.specs.Levels.{across_of, base_lines, bucket_limit, bu
 use crate::shown::{Curves, ShownRun, TypeShown};
 use crate::words::Counted;
 use flow_measure::{Extremes, RunNumbers, Summary};
-use page_chart::{Across, Limit, LineName, Scene, Unit, UnitAcross, add_curve_figure};
+use crate::chart::{Across, Limit, LineName, Scene, Unit, UnitAcross, add_curve_figure};
 use std::alloc::{AllocError as OutOfMemory, Global};
 use std::fmt;
 use timing_base::{Judged, Kind};

@@ -3,12 +3,12 @@
 ghost use Rattle.std.specs.Prelude.{◌≡◌, ◌<◌, ◌++◌, IfOk, codes, length, string_bytes};
 ghost use Rattle.std.specs.List.{flat_map};
 ghost use Rattle.flow_page.specs.Shown.{types_shown};
-ghost use Rattle.page_chart.specs.Figures.{told};
+ghost use Rattle.flow_page.specs.chart.Figures.{told};
 ghost use Rattle.flow_page.specs.Media.{AreOfMedia, flow_media, media_open, media_row, media_table, row_open, run_cells, shown_cells, table_close, type_cells, verdict_open, verdict_told};
 
 use crate::shown::{FlowPage, ShownRun, TypeShown, types_shown};
 use crate::words::Sign;
-use page_chart::add_told;
+use crate::chart::add_told;
 use std::alloc::{AllocError as OutOfMemory, Global};
 use std::fmt;
 use timing_base::{FlowKey, Judged, Media, Session, Target, Verdict};
@@ -38,7 +38,7 @@ struct TypeCells {
 impl fmt::Display for TypeCells {
     ghost use Rattle.std.specs.Prelude.{Some};
     ghost use Rattle.flow_page.specs.Shown.{types_shown};
-    ghost use Rattle.page_chart.specs.Figures.{told};
+    ghost use Rattle.flow_page.specs.chart.Figures.{told};
     ghost use Rattle.flow_page.specs.Media.{type_cells};
 
     ghost output = { λ cells. Some (type_cells cells.shown) };

@@ -7,7 +7,7 @@ ghost use Rattle.flow_page.specs.Often.{below_bars, bins_bars, class_bars, gap_d
 use crate::shown::kind_at;
 use crate::words::Counted;
 use flow_measure::{Bins, Gaps, KindNumbers, RunNumbers, Summary};
-use page_chart::{Bar, BarName, UnitAcross, add_bars_figure};
+use crate::chart::{Bar, BarName, UnitAcross, add_bars_figure};
 use std::alloc::{AllocError as OutOfMemory, Global};
 use std::fmt;
 use timing_base::Kind;

@@ -20,7 +20,7 @@ use crate::timings::{add_steps_line, add_timing_figures, period_of};
 use crate::words::{Clock, add_words, utc};
 use capture_scan::Found;
 use flow_measure::{MeasuredFlow, MeasuredRun};
-use page_chart::add_told;
+use crate::chart::add_told;
 use std::alloc::{AllocError as OutOfMemory, Global};
 use timing_base::{FileNote, Media, Session, Target};
 use timing_report::group_name;

@@ -8,7 +8,7 @@ use crate::levels::{across_of, one_line};
 use crate::shown::{Curves, ShownRun};
 use crate::words::Counted;
 use flow_measure::{Extremes, RunNumbers, Summary};
-use page_chart::{Limit, LineName, Scene, Tenths, Unit, UnitAcross, add_curve_figure};
+use crate::chart::{Limit, LineName, Scene, Tenths, Unit, UnitAcross, add_curve_figure};
 use sender_params::Params;
 use std::alloc::{AllocError as OutOfMemory, Global};
 use std::fmt;

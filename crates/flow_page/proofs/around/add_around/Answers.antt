@@ -1,6 +1,6 @@
 use Rattle.std.proofs.Common.{[], ◌∷◌, ap, ◌∙◌}
 use Rattle.std.specs.Prelude.{string_bytes}
-use Rattle.page_chart.specs.declared.lines.Limit.{Limit}
+use Rattle.flow_page.specs.declared.chart.lines.Limit.{Limit}
 use Rattle.flow_page.proofs.Texts.{added_ok, curve_is}
 use Rattle.flow_page.proofs.around.add_around.Goals as goal
 

@@ -1,7 +1,7 @@
 use Rattle.std.proofs.Common.{◌≡◌, ap, ◌∙◌}
 use Rattle.std.specs.Prelude.{string_bytes}
 use Rattle.flow_measure.specs.declared.summary.Summary.{Summary}
-use Rattle.page_chart.specs.declared.chart.Scene.{Scene}
+use Rattle.flow_page.specs.declared.chart.chart.Scene.{Scene}
 use Rattle.flow_page.specs.Levels.{level_detail, level_lines, level_scene, level_summary}
 use Rattle.flow_page.proofs.Texts.{added_ok, curve_is}
 use Rattle.flow_page.proofs.levels.add_level_figure.Goals as goal

@@ -1,6 +1,6 @@
 use Rattle.std.proofs.Common.{refl, ap, ◌∙◌}
 use Rattle.std.specs.Prelude.{string_bytes}
-use Rattle.page_chart.specs.declared.grid.UnitAcross.TheVariants.{Gap}
+use Rattle.flow_page.specs.declared.chart.grid.UnitAcross.TheVariants.{Gap}
 use Rattle.flow_page.specs.Often.{class_bars}
 use Rattle.flow_page.proofs.Texts.{added_ok, bars_is}
 use Rattle.flow_page.proofs.often.add_gaps.Goals as goal

@@ -1,8 +1,0 @@
-use Rattle.std.proofs.Common.{◌≡◌, ◌++◌, drop}
-use Rattle.std.specs.Prelude.{string_bytes}
-use Rattle.page_chart.specs.Bars.{bars_text}
-use Rattle.page_chart.proofs.bars.add_each_bar.Given as goal
-
-abbrev pub invariant-loop-k : goal.invariant-loop-k
-invariant-loop-k l =
-    string_bytes l.text ++ bars_text l.plot l.total l.k (drop l.k l.bars) ≡ string_bytes l.fn.text ++ bars_text l.plot l.total 0 l.bars

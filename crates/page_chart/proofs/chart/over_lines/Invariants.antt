@@ -1,6 +1,0 @@
-use Rattle.std.proofs.Common.{◌≡◌, drop}
-use Rattle.page_chart.specs.Charts.{over_lines}
-use Rattle.page_chart.proofs.chart.over_lines.Given as goal
-
-abbrev pub invariant-loop-line : goal.invariant-loop-line
-invariant-loop-line l = over_lines l.reach (drop l.line-index l.lines) ≡ over_lines l.fn.reached l.lines

@@ -1,5 +1,0 @@
-use Rattle.page_chart.proofs.Escapes.{none_is_markup, reads_back}
-use Rattle.page_chart.proofs.laws.escaped_reads_back.Goals as goal
-
-pub returns : goal.returns
-returns c = record { none = none_is_markup; back = reads_back }
