@@ -12,3 +12,4 @@ pub mod Page
 -- what is worked by hand
 pub mod Worked
 pub mod chart
+pub mod drawing

@@ -4,6 +4,7 @@
 //! and pictures show it; what a text holds of a name is escaped.
 #![tactic(auto)]
 
+pub mod drawing;
 pub mod chart;
 mod around;
 mod head;

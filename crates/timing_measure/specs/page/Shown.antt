@@ -4,7 +4,7 @@
 use Rattle.std.specs.Prelude.{◌≡◌, ◌-◌, ◌≤◌, ◌<◌, ℕ, All, List, [], ◌∷◌, ◌++◌, length, slice_index, Option, Some, None}
 use Rattle.timing_base.specs.Media.{Media}
 use Rattle.timing_base.specs.declared.packet.FlowPacket.{FlowPacket}
-use Rattle.flow_drawing.specs.Drawn.{AreCurves, AreRegions}
+use Rattle.flow_page.specs.drawing.Drawn.{AreCurves, AreRegions}
 use Rattle.flow_page.specs.declared.shown.FlowPage.{FlowPage}
 use Rattle.flow_page.specs.declared.shown.ShownRun.{ShownRun}
 use Rattle.timing_measure.specs.Measured.{IsMeasuredFlow, IsMeasuredRun, JudgedPart, judged_parts, stamps_of}

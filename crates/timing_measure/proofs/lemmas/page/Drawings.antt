@@ -16,7 +16,7 @@ use Rattle.flow_measure.specs.declared.columns.Extremes.{Extremes}
 use Rattle.flow_measure.proofs.Bounds.{IsGreatest-same, IsLeast-same}
 use Rattle.flow_measure.proofs.Passes.{occupancy-once}
 use Rattle.flow_measure.proofs.Unique.{columns-once}
-use Rattle.flow_drawing.specs.Drawn.{AreCurves, AreLevels, AreRegions, IsHeld, IsRegion, count_around, start_around}
+use Rattle.flow_page.specs.drawing.Drawn.{AreCurves, AreLevels, AreRegions, IsHeld, IsRegion, count_around, start_around}
 use Rattle.flow_page.specs.Shown.{kind_at}
 use Rattle.flow_page.specs.declared.shown.Curves.{Curves}
 use Rattle.flow_page.specs.declared.shown.Region.{Region}

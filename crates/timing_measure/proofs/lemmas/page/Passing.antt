@@ -13,8 +13,8 @@ use Rattle.timing_base.specs.Media.{Media}
 use Rattle.timing_base.specs.Verdicts.{Judged}
 use Rattle.timing_base.specs.declared.packet.FlowPacket.{FlowPacket}
 use Rattle.timing_base.proofs.Places.{cuts-here, cuts-other, run_start-le}
-use Rattle.flow_drawing.specs.Stands.{Draws, IsDrawable}
-use Rattle.flow_drawing.specs.declared.drawing.RunDrawing.{RunDrawing}
+use Rattle.flow_page.specs.drawing.Stands.{Draws, IsDrawable}
+use Rattle.flow_page.specs.declared.drawing.drawing.RunDrawing.{RunDrawing}
 use Rattle.timing_measure.specs.Measured.{stamps_of}
 use Rattle.timing_measure.specs.Measures.{timestamps_of}
 use Rattle.timing_measure.specs.metering.Plan.{planned_packets}

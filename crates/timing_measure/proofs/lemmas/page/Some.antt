@@ -15,7 +15,7 @@ use Rattle.timing_base.specs.declared.media.Kind.{Kind}
 use Rattle.timing_base.specs.declared.row.KindVerdict.{KindVerdict}
 use Rattle.timing_base.specs.declared.row.KindVerdict.TheVariants.{Fail, Pass}
 use Rattle.sender_params.specs.Limits.{gapped_of}
-use Rattle.flow_drawing.specs.Drawn.{AreCurves, AreLevels, AreRegions, IsHeld, count_around, start_around}
+use Rattle.flow_page.specs.drawing.Drawn.{AreCurves, AreLevels, AreRegions, IsHeld, count_around, start_around}
 use Rattle.flow_measure.specs.Groups.{firsts_of, lasts_of, latency_at, offset_at, since_at}
 use Rattle.flow_measure.specs.Occupancy.{AreOccupancies, buckets_of}
 use Rattle.flow_measure.specs.Run.{IsMeasured, anchor_in}

@@ -10,8 +10,8 @@ use Rattle.timing_base.specs.Media.{Media}
 use Rattle.timing_base.specs.Verdicts.{Judged}
 use Rattle.timing_base.specs.declared.packet.FlowPacket.{FlowPacket}
 use Rattle.timing_base.specs.declared.row.Verdict.{Verdict}
-use Rattle.flow_drawing.specs.Drawn.{AreCurves, AreRegions}
-use Rattle.flow_drawing.specs.Stands.{Draws, IsDrawable}
+use Rattle.flow_page.specs.drawing.Drawn.{AreCurves, AreRegions}
+use Rattle.flow_page.specs.drawing.Stands.{Draws, IsDrawable}
 use Rattle.flow_measure.specs.declared.numbers.MeasuredRun.{MeasuredRun}
 use Rattle.flow_page.specs.declared.shown.ShownRun.{ShownRun}
 use Rattle.timing_measure.specs.Measured.{stamps_of}
