@@ -22,8 +22,8 @@ use Rattle.fail_interval.specs.Rows.{rows_from, rows_of, rows_of_files, rows_ove
 use Rattle.interval_checker.specs.Checked.{Says}
 use Rattle.timing_report.specs.json_report.Fails.{fails_of, verdict_fails}
 use Rattle.timing_report.specs.declared.json_report.reading.ReportProof.{ReportProof}
-use Rattle.timing_verify.specs.Asked.{FindsOf, media_for}
-use Rattle.timing_verify.specs.Findings.{Finds}
+use Rattle.timing_top.specs.verify.Asked.{FindsOf, media_for}
+use Rattle.timing_top.specs.verify.Findings.{Finds}
 use Rattle.pcapng_reader.specs.Bytes.{AreBytes}
 use Rattle.timing_top.proofs.Confirming.{IsOfFlow, flow-of}
 use Rattle.timing_top.proofs.Small.{flow-grouped, joined-small, one-small}

@@ -24,7 +24,7 @@ use Rattle.timing_top.specs.Runs.{RanAs, prints_whole}
 use Rattle.timing_measure.specs.series.Series.{BeginsSeries, FollowsSeries}
 use Rattle.timing_measure.specs.series.Streams.{Streams}
 use Rattle.timing_steps.proofs.Endings.{kept-none}
-use Rattle.timing_verify.specs.Asked.{FollowsReport, FollowsVerify, ReportInputRose, VerifyInputRose}
+use Rattle.timing_top.specs.verify.Asked.{FollowsReport, FollowsVerify, ReportInputRose, VerifyInputRose}
 
 -- a cause by other names
 cause-as : (outcome : Result Answer Failure) (P Q : Input → Type 0) → ((x : Input) → P x → Q x) → HasCause outcome P → HasCause outcome Q

@@ -10,7 +10,7 @@ use Rattle.timing_report.specs.json_report.Json.{json_text}
 use Rattle.timing_report.specs.json_report.Reading.{IsReport}
 use Rattle.timing_report.specs.declared.json_report.reading.ReportProof.{ReportProof}
 use Rattle.timing_steps.specs.Answers.{Answer}
-use Rattle.timing_verify.specs.Asked.{HasReported}
+use Rattle.timing_top.specs.verify.Asked.{HasReported}
 use Rattle.timing_top.specs.Report.{HasReport, rows}
 use Rattle.timing_top.specs.ReadBack.{IsReadable, reading_back}
 use Rattle.timing_top.proofs.Finding.{IsConfirmed}

@@ -7,9 +7,9 @@ use Rattle.timing_base.specs.Media.{Media}
 use Rattle.pcapng_reader.specs.Classic.{classic}
 use Rattle.timing_steps.specs.Answers.{Answer, AreThere, AreTold, Inputs, ReadsSession}
 use Rattle.timing_steps.specs.declared.failure.Failure.{Failure}
-use Rattle.timing_verify.specs.Asked.{FollowsVerify, HasVerified, ReadsMedia, VerifyInputRose}
-use Rattle.timing_verify.specs.Verified.{verified}
-use Rattle.timing_verify.proofs.Unique.{only-verified, some-verified}
+use Rattle.timing_top.specs.verify.Asked.{FollowsVerify, HasVerified, ReadsMedia, VerifyInputRose}
+use Rattle.timing_top.specs.verify.Verified.{verified}
+use Rattle.timing_top.proofs.verify.Unique.{only-verified, some-verified}
 use Rattle.timing_top.proofs.Answering.{Caused, captured-failed, described-failed, not-given, only-captured, only-described, only-given, only-silent}
 use Rattle.timing_top.proofs.Answering.{only-yielded, some-captured, some-described, some-given, some-yielded, yielded-failed}
 

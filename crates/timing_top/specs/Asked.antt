@@ -19,7 +19,7 @@ use Rattle.timing_reach.specs.Scanned.{FollowsScan, ScanInputRose}
 use Rattle.timing_reach.specs.Shaped.{FollowsShape}
 use Rattle.timing_reach.specs.Skewed.{FollowsSkew, SkewInputRose}
 use Rattle.timing_measure.specs.series.Series.{FollowsSeries}
-use Rattle.timing_verify.specs.Asked.{FollowsReport, FollowsVerify, ReportInputRose, VerifyInputRose}
+use Rattle.timing_top.specs.verify.Asked.{FollowsReport, FollowsVerify, ReportInputRose, VerifyInputRose}
 use Rattle.timing_top.specs.SelfTest.{HasSelfTest}
 
 -- `selftest` with so many frames, for which nothing is read

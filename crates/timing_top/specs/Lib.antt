@@ -11,3 +11,4 @@ pub mod Exact
 pub mod ReadBack
 -- what judging and reporting say to each other
 pub mod Found
+pub mod verify

@@ -21,7 +21,7 @@ use timing_outside::{Gate, Shelf, Sink};
 use timing_reach::{scan_one, shape_one, skew_one, window_one};
 use timing_report::Status;
 use timing_steps::{Answer, Failure, conclude};
-use timing_verify::{verify_all, verify_one};
+use crate::verify::{verify_all, verify_one};
 use timing_words::{Request, WordFault, read_words};
 
 /// Does what a request asks for, by the call of its command: `check` on this thread where the job has no workers.

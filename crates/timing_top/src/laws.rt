@@ -32,7 +32,7 @@ ghost use Rattle.timing_report.specs.json_report.Reading.{IsReport};
 ghost use Rattle.timing_report.specs.declared.json_report.reading.ReportProof.{ReportProof};
 ghost use Rattle.timing_report.specs.declared.status.Status.{Status};
 ghost use Rattle.timing_report.specs.declared.status.Status.TheVariants as status;
-ghost use Rattle.timing_verify.specs.Asked.{FindsOf, HasReported, media_for};
+ghost use Rattle.timing_top.specs.verify.Asked.{FindsOf, HasReported, media_for};
 ghost use Rattle.timing_top.specs.Exact.{IsExactRow};
 ghost use Rattle.timing_top.specs.ReadBack.{IsReadable, reading_back};
 

@@ -4,6 +4,7 @@
 //! printed, and why there is nothing, is its contract.
 #![tactic(auto)]
 
+pub mod verify;
 mod alone;
 mod captures;
 mod check;

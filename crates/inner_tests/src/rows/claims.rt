@@ -9,7 +9,7 @@ use timing_base::worked::file_name;
 use timing_base::{FailProof, Items, Kind, ReportJob, VerifyJob};
 use timing_outside::{MemoryShelf, MemorySink, ReadPlan};
 use timing_report::{Input, Status};
-use timing_verify::{verify_all, verify_one};
+use timing_top::verify::{verify_all, verify_one};
 
 mod rows;
 

@@ -1,0 +1,18 @@
+//! `verify` and `verify-report`: whether captures confirm a fail that is claimed of a sender, and
+//! whether they confirm each fail that a JSON report tells.
+//!
+//! Each claim is checked from the captures alone, by `interval_checker`: no judge runs here.
+
+mod asks;
+mod checked;
+mod find;
+pub mod laws;
+mod needs;
+mod read;
+mod report;
+mod verify;
+mod words;
+
+pub use checked::{Checked, Finding};
+pub use report::verify_all;
+pub use verify::verify_one;

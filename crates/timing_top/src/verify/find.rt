@@ -1,0 +1,45 @@
+//! One claim, checked over captures that are read for it.
+
+ghost use Rattle.std.specs.Prelude.{◌≡◌, ◌≤◌, ℕ, List, IfOk, IfErr, length};
+ghost use Rattle.timing_outside.specs.Shelves.{StaysAs};
+ghost use Rattle.pcapng_reader.specs.Classic.{classic_texts};
+ghost use Rattle.timing_steps.specs.Answers.{AreThere, AreTold};
+ghost use Rattle.timing_top.specs.verify.Findings.{Finds};
+ghost use Rattle.timing_top.specs.verify.Found.{FailedAmong};
+
+use crate::verify::checked::Finding;
+use crate::verify::read::{answer_of, read_captures};
+use interval_checker::{Asked, Reading};
+use std::alloc::Global;
+use timing_base::{FileName, Media};
+use timing_report::json_report::ReportProof;
+use timing_outside::Shelf;
+use timing_steps::Failure;
+
+/// What the captures of these names, as one classic capture, say of a claim. Each is fetched for it, in
+/// order, and goes back to the shelf; one that couldn't be read is named by its number among them,
+/// from 0.
+pub fn find<H: Shelf>(
+    alloc: Global,
+    shelf: &mut H,
+    names: &[FileName],
+    media: &Media,
+    claim: &ReportProof,
+    tai: u64,
+) -> Result<Finding, Failure>
+    requires few { length names.now ≤ 16 }
+    requires tai { tai ≤ 1000 }
+    ensures told { IfOk result (λ finding. (texts : List (List ℕ))
+        → AreTold (classic_texts (H.text shelf.old)) names.now texts
+        → Finds media.now claim.now tai texts finding) }
+    ensures cause { IfErr result (FailedAmong (H.faults shelf.old) (H.faults shelf.new) names.now) }
+    ensures there { IfOk result (λ _. AreThere (H.lacks shelf.old) names.now) }
+    ensures stays { StaysAs H.text H.lacks H.faults shelf.old shelf.new }
+{
+    let mut asked = Asked::new(alloc);
+    asked.ask(u64::from(claim.run), &claim.proof)?;
+    let mut readings = Vec::new(alloc);
+    readings.push(Reading::new(media, tai, asked))?;
+    let read = read_captures(alloc, shelf, names, readings)?;
+    Ok(answer_of(&read, 0, claim))
+}

@@ -1,0 +1,54 @@
+//! What holds of the definitions themselves. Each function is a theorem: it does nothing, and its
+//! clauses are proved.
+
+ghost use Rattle.std.specs.Prelude.{◌≡◌, ℕ, Bool, List, All, Ok, Result, true, map};
+ghost use Rattle.timing_base.specs.Jobs.{ReportJob, VerifyJob};
+ghost use Rattle.timing_base.specs.Media.{Media};
+ghost use Rattle.timing_base.specs.declared.row.Unjudged.{Unjudged};
+ghost use Rattle.timing_report.specs.declared.json_report.reading.ReportProof.{ReportProof};
+ghost use Rattle.timing_report.specs.declared.status.Status.TheVariants as status;
+ghost use Rattle.timing_steps.specs.Answers.{Answer};
+ghost use Rattle.timing_top.specs.verify.Asked.{FindsOf, HasReported, HasVerified, media_for};
+ghost use Rattle.timing_top.specs.verify.Findings.{Finds};
+ghost use Rattle.timing_top.specs.verify.Verified.{reported};
+
+/// Captures say one thing of a claim: there is one, and there are not two.
+pub fn one_finding()
+    ensures some { (media : Media) (claim : ReportProof) (tai : ℕ) (texts : List (List ℕ))
+        → (finding : Result Bool Unjudged) × Finds media claim tai texts finding }
+    ensures once { (media : Media) (claim : ReportProof) (tai : ℕ) (texts : List (List ℕ))
+        (a b : Result Bool Unjudged)
+        → Finds media claim tai texts a → Finds media claim tai texts b → a ≡ b }
+{}
+
+/// The texts of `verify` have one answer.
+pub fn one_verified()
+    ensures some { (job : VerifyJob) (media : Media) (texts : List (List ℕ))
+        → (answer : Answer) × HasVerified job media texts answer }
+    ensures once { (job : VerifyJob) (media : Media) (texts : List (List ℕ)) (a b : Answer)
+        → HasVerified job media texts a → HasVerified job media texts b → a ≡ b }
+{}
+
+/// The texts of `verify-report` have one answer.
+pub fn one_reported()
+    ensures some { (job : ReportJob) (media : List Media) (claims : List ReportProof)
+        (text : List ℕ → List ℕ) → (answer : Answer) × HasReported job media claims text answer }
+    ensures once { (job : ReportJob) (media : List Media) (claims : List ReportProof)
+        (text : List ℕ → List ℕ) (a b : Answer)
+        → HasReported job media claims text a → HasReported job media claims text b → a ≡ b }
+{}
+
+/// Where each fail of a report is confirmed, the answer has a line for each that says so, and the
+/// status 0.
+pub fn confirmed_report()
+    ensures lines { (job : ReportJob) (media : List Media) (claims : List ReportProof)
+        (text : List ℕ → List ℕ) (answer : Answer)
+        → All (λ claim. FindsOf (media_for job media claim.key) job claim text (Ok true)) claims
+        → HasReported job media claims text answer
+        → answer ≡ reported (map (λ claim. record { claim = claim; finding = Ok true }) claims) }
+    ensures status { (job : ReportJob) (media : List Media) (claims : List ReportProof)
+        (text : List ℕ → List ℕ) (answer : Answer)
+        → All (λ claim. FindsOf (media_for job media claim.key) job claim text (Ok true)) claims
+        → HasReported job media claims text answer
+        → answer.status ≡ status.Pass }
+{}

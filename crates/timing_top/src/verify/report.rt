@@ -1,0 +1,120 @@
+//! `verify-report`: each fail that a JSON report tells, checked from the captures alone.
+
+ghost use Rattle.std.specs.Prelude.{◌≡◌, ℕ, List, Some, IfOk, IfErr, MatchOption};
+ghost use Rattle.timing_report.specs.json_report.Reading.{IsReport};
+ghost use Rattle.timing_report.specs.declared.json_report.reading.ReportProof.{ReportProof as Claim};
+ghost use Rattle.timing_outside.specs.Causes.{Rose};
+ghost use Rattle.timing_outside.specs.Shelves.{StaysAs};
+ghost use Rattle.timing_steps.specs.Answers.{Gives, OnReadFault, Yields, seen_of};
+ghost use Rattle.timing_steps.specs.Ends.{EndsWith, HasStatus, report_ends};
+ghost use Rattle.timing_steps.specs.Ran.{HasCause, Ran, output_of};
+ghost use Rattle.timing_top.specs.verify.Asked.{FollowsReport, HasReported, ReadsNeeded, ReadsReport, ReportInputRose};
+
+use crate::verify::needs::check_each;
+use crate::verify::words::reported;
+use std::alloc::Global;
+use timing_base::{Media, ReportJob};
+use timing_report::json_report::{ReportError, ReportProof, read_json};
+use timing_outside::{Shelf, Sink};
+use timing_report::{Input, Status};
+use timing_steps::{Answer, Failure, conclude, fetch_front, fetch_session};
+
+/// The bytes of a report that are read: one more than it may have.
+const REPORT_MOST: usize = 16_777_217;
+
+/// The fails that the report of this name tells, or nothing where it isn't in its form.
+fn fetch_report<H: Shelf>(
+    alloc: Global,
+    shelf: &mut H,
+    name: &str,
+) -> Result<Option<Vec<ReportProof>>, Failure>
+    ensures told { IfOk result (λ read. (text : List ℕ) → H.text shelf.old name.now ≡ Some text
+        → MatchOption read ((claims : List Claim) → ¬ IsReport text claims)
+        (λ claims. IsReport text claims.items)) }
+    ensures cause { IfErr result (λ e. OnReadFault e (λ i. (i ≡ Input.Report)
+        × Rose (H.faults shelf.old name.now) (H.faults shelf.new name.now))) }
+    ensures there { IfOk result (λ _. ¬ H.lacks shelf.old name.now) }
+    ensures stays { StaysAs H.text H.lacks H.faults shelf.old shelf.new }
+{
+    let bytes = match fetch_front(alloc, shelf, name, REPORT_MOST) {
+        Ok(bytes) => bytes,
+        Err(fault) => return Err(Failure::of_input(fault, Input::Report)),
+    };
+    match read_json(alloc, &bytes) {
+        Ok(claims) => Ok(Some(claims)),
+        Err(ReportError::Refused) => Ok(None),
+        Err(ReportError::OutOfMemory) => Err(Failure::OutOfMemory),
+    }
+}
+
+/// The answer on the fails of a report.
+fn answer_on<H: Shelf>(
+    alloc: Global,
+    job: &ReportJob,
+    shelf: &mut H,
+    media: &[Media],
+    claims: &[ReportProof],
+) -> Result<Answer, Failure>
+    ensures follows { Yields result (ReadsNeeded (seen_of H.Shelf shelf.old shelf.new) result job.now media.now claims.now
+        (λ text. Gives result (HasReported job.now media.now claims.now text))) }
+    ensures answers { IfOk result (HasStatus report_ends) }
+    ensures cause { HasCause result (ReportInputRose job.now (seen_of H.Shelf shelf.old shelf.new)) }
+    ensures stays { StaysAs H.text H.lacks H.faults shelf.old shelf.new }
+{
+    let checked = check_each(alloc, job, shelf, media, claims)?;
+    Ok(reported(alloc, &checked)?)
+}
+
+/// The answer over a session of these media.
+fn answer_over<H: Shelf>(
+    alloc: Global,
+    job: &ReportJob,
+    shelf: &mut H,
+    media: &[Media],
+) -> Result<Answer, Failure>
+    ensures follows { Yields result (ReadsReport (seen_of H.Shelf shelf.old shelf.new) result job.now.report (λ claims. ReadsNeeded (seen_of H.Shelf shelf.old shelf.new) result job.now media.now claims
+        (λ text. Gives result (HasReported job.now media.now claims text)))) }
+    ensures answers { IfOk result (HasStatus report_ends) }
+    ensures cause { HasCause result (ReportInputRose job.now (seen_of H.Shelf shelf.old shelf.new)) }
+    ensures stays { StaysAs H.text H.lacks H.faults shelf.old shelf.new }
+{
+    match fetch_report(alloc, shelf, job.report.as_str())? {
+        Some(claims) => answer_on(alloc, job, shelf, media, &claims),
+        None => Ok(Answer::silent(alloc, Status::ReportRefused)),
+    }
+}
+
+/// The answer of a job, or why there is none. For each fail of the report, in its order, the captures
+/// of its flow are fetched anew; nothing is fetched for one whose flow isn't there.
+fn answer_report<H: Shelf>(alloc: Global, job: &ReportJob, shelf: &mut H) -> Result<Answer, Failure>
+    ensures follows { FollowsReport job.now (seen_of H.Shelf shelf.old shelf.new) result }
+    ensures answers { IfOk result (HasStatus report_ends) }
+    ensures cause { HasCause result (ReportInputRose job.now (seen_of H.Shelf shelf.old shelf.new)) }
+    ensures stays { StaysAs H.text H.lacks H.faults shelf.old shelf.new }
+{
+    match fetch_session(alloc, shelf, job.sdp.as_str())? {
+        Ok(session) => answer_over(alloc, job, shelf, session.media.as_slice()),
+        Err(fault) => Ok(Answer::silent(alloc, Status::SdpRefused(fault))),
+    }
+}
+
+/// Checks each fail of a job's report, and prints on `out` which its captures confirm. On `err` it
+/// tells why there is no answer.
+pub fn verify_all<H: Shelf, K: Sink>(
+    alloc: Global,
+    job: &ReportJob,
+    shelf: &mut H,
+    out: &mut K,
+    err: &mut K,
+) -> Status
+    ensures ran { Ran (FollowsReport job.now (seen_of H.Shelf shelf.old shelf.new))
+        (ReportInputRose job.now (seen_of H.Shelf shelf.old shelf.new))
+        (output_of K.Sink out.old out.new)
+        (output_of K.Sink err.old err.new)
+        result }
+    ensures ends { EndsWith report_ends (output_of K.Sink out.old out.new) result }
+    ensures stays { StaysAs H.text H.lacks H.faults shelf.old shelf.new }
+{
+    let outcome = answer_report(alloc, job, shelf);
+    conclude(out, err, outcome)
+}

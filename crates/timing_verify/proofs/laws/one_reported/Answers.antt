@@ -1,8 +1,0 @@
-use Rattle.timing_verify.proofs.Unique.{only-reported, some-reported}
-use Rattle.timing_verify.proofs.laws.one_reported.Goals as goal
-
-pub returns-clause-some : goal.returns-clause-some
-returns-clause-some c = some-reported
-
-pub returns-clause-once : goal.returns-clause-once
-returns-clause-once c = only-reported

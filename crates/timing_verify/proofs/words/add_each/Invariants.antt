@@ -1,9 +1,0 @@
-use Rattle.std.proofs.Common.{◌≡◌, ◌++◌, drop}
-use Rattle.std.specs.Prelude.{string_bytes}
-use Rattle.std.specs.List.{flat_map}
-use Rattle.timing_verify.specs.Verified.{checked_line}
-use Rattle.timing_verify.proofs.words.add_each.Given as goal
-
-abbrev pub invariant-loop-item : goal.invariant-loop-item
-invariant-loop-item l =
-    string_bytes l.text ++ flat_map checked_line (drop l.item-index l.checked) ≡ string_bytes l.fn.text ++ flat_map checked_line l.checked
