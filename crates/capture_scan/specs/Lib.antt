@@ -11,3 +11,4 @@ pub mod Examples
 pub mod Counting
 pub mod Few
 pub mod Places
+pub mod report

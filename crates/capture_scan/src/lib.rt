@@ -5,6 +5,7 @@
 //! Records count from 1; stamps are nanoseconds since 1970-01-01 00:00:00; lengths are bytes.
 #![tactic(auto)]
 
+pub mod report;
 mod class;
 mod counter;
 mod found;

@@ -12,8 +12,8 @@ use Rattle.timing_report.specs.Words.{group_name}
 use Rattle.flow_measure.specs.declared.numbers.MeasuredFlow.{MeasuredFlow}
 use Rattle.flow_measure.specs.declared.numbers.MeasuredRun.{MeasuredRun}
 use Rattle.flow_page.specs.chart.Figures.{told}
-use Rattle.scan_text.specs.Contents.{Contents}
-use Rattle.scan_text.specs.Text.{contents_text}
+use Rattle.capture_scan.specs.report.Contents.{Contents}
+use Rattle.capture_scan.specs.report.Text.{contents_text}
 use Rattle.flow_page.specs.Around.{around_figures}
 use Rattle.flow_page.specs.Head.{legend, note_line, page_end, page_start}
 use Rattle.flow_page.specs.Levels.{level_figures}

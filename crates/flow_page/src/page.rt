@@ -4,7 +4,7 @@ ghost use Rattle.std.specs.Prelude.{◌≡◌, ◌+◌, ◌++◌, IfOk, Some, st
 ghost use Rattle.std.specs.List.{flat_map};
 ghost use Rattle.timing_base.specs.Targets.{target_of};
 ghost use Rattle.timing_report.specs.Words.{group_name};
-ghost use Rattle.scan_text.specs.Contents.{contents_of};
+ghost use Rattle.capture_scan.specs.report.Contents.{contents_of};
 ghost use Rattle.flow_page.specs.Media.{AreOfMedia};
 ghost use Rattle.flow_page.specs.Page.{contents_part, contents_told, flow_heading, flow_part, flow_parts, page_of, part_if, run_grid, run_heading, run_tables, words_list};
 ghost use Rattle.flow_page.specs.Words.{utc};
@@ -218,7 +218,7 @@ fn add_contents_part(
     ensures { IfOk result (λ _. string_bytes text.new
         ≡ string_bytes text.old ++ contents_part name.now note (contents_of found.now)) }
 {
-    let contents = scan_text::text_of(alloc, name, note, found)?;
+    let contents = capture_scan::report::text_of(alloc, name, note, found)?;
     add_contents(text, contents.as_str())?;
     add_markup(text, "</pre></div>\n")
 }

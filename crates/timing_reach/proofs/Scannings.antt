@@ -15,7 +15,7 @@ use Rattle.pcap_reader.specs.Header.{header}
 use Rattle.pcap_reader.specs.Records.{Records}
 use Rattle.pcap_reader.specs.declared.records.Taken.{Taken}
 use Rattle.pcap_reader.proofs.Lists.{only_by, some_by}
-use Rattle.scan_text.specs.Contents.{Contents, contents_of}
+use Rattle.capture_scan.specs.report.Contents.{Contents, contents_of}
 use Rattle.timing_report.specs.Outcomes.{is_refused}
 use Rattle.timing_report.specs.declared.status.Status.{Status}
 use Rattle.timing_report.specs.declared.status.Status.TheVariants as status

@@ -10,11 +10,11 @@ use Rattle.timing_base.specs.declared.job.ScanForm.TheVariants.{Draft, Json, Lin
 use Rattle.capture_scan.specs.Scans.{more_packets, more_unread, packets, passed_over, span_of, streams, unread}
 use Rattle.capture_scan.specs.Scans.{unread_targets}
 use Rattle.pcap_reader.specs.Records.{Records}
-use Rattle.scan_text.specs.Contents.{Contents}
-use Rattle.scan_text.specs.Draft.{draft_text, videos_of}
-use Rattle.scan_text.specs.Json.{json_text}
-use Rattle.scan_text.specs.Text.{contents_text}
-use Rattle.scan_text.specs.declared.draft.DraftVideo.{DraftVideo}
+use Rattle.capture_scan.specs.report.Contents.{Contents}
+use Rattle.capture_scan.specs.report.Draft.{draft_text, videos_of}
+use Rattle.capture_scan.specs.report.Json.{json_text}
+use Rattle.capture_scan.specs.report.Text.{contents_text}
+use Rattle.capture_scan.specs.declared.report.draft.DraftVideo.{DraftVideo}
 use Rattle.timing_report.specs.Outcomes.{is_refused}
 use Rattle.timing_report.specs.declared.status.Input.{Input}
 use Rattle.timing_report.specs.declared.status.Input.TheVariants as input

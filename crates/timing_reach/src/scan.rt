@@ -3,7 +3,7 @@
 mod words;
 
 ghost use Rattle.std.specs.Prelude.{◌≡◌, ℕ, List, Some, IfErr, IfOk};
-ghost use Rattle.scan_text.specs.Contents.{contents_of};
+ghost use Rattle.capture_scan.specs.report.Contents.{contents_of};
 ghost use Rattle.timing_outside.specs.Causes.{Rose};
 ghost use Rattle.timing_outside.specs.Shelves.{StaysAs};
 ghost use Rattle.pcapng_reader.specs.Classic.{classic_texts};

@@ -10,7 +10,7 @@ use Rattle.timing_base.specs.declared.capture.FileNote.{FileNote}
 use Rattle.flow_page.specs.Page.{page_of}
 use Rattle.flow_page.specs.declared.shown.FlowPage.{FlowPage}
 use Rattle.pcap_reader.specs.Records.{Records}
-use Rattle.scan_text.specs.Contents.{Contents}
+use Rattle.capture_scan.specs.report.Contents.{Contents}
 use Rattle.timing_measure.specs.Each.{EachOf}
 use Rattle.timing_measure.specs.Measures.{MeasureInputRose, has_run, measure_ends}
 use Rattle.timing_reach.specs.Asked.{ReadsCapture}

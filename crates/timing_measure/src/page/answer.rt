@@ -3,7 +3,7 @@
 ghost use Rattle.std.specs.Prelude.{◌≡◌, IfOk, true};
 ghost use Rattle.std.specs.List.{list_any};
 ghost use Rattle.flow_page.specs.Media.{AreOfMedia};
-ghost use Rattle.scan_text.specs.Contents.{contents_of};
+ghost use Rattle.capture_scan.specs.report.Contents.{contents_of};
 ghost use Rattle.timing_measure.specs.page.Pages.{is_judged, page_ends, page_status, paged};
 
 use crate::page::readings::PageReading;

@@ -8,7 +8,7 @@ ghost use Rattle.timing_steps.specs.Answers.{Gives, OnReadFault, Yields, seen_of
 ghost use Rattle.timing_steps.specs.Ends.{EndsWith, HasStatus};
 ghost use Rattle.timing_steps.specs.Ran.{HasCause, Ran, output_of};
 ghost use Rattle.timing_reach.specs.Asked.{ReadsCapture};
-ghost use Rattle.scan_text.specs.Contents.{contents_of};
+ghost use Rattle.capture_scan.specs.report.Contents.{contents_of};
 ghost use Rattle.timing_measure.specs.page.Pages.{FollowsPage, HasPage, PageInputRose, page_ends, paged};
 
 use crate::page::answer::paged;

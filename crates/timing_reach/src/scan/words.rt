@@ -1,13 +1,13 @@
 //! What `scan` prints, and its status.
 
 ghost use Rattle.std.specs.Prelude.{◌≡◌, IfOk, true};
-ghost use Rattle.scan_text.specs.Contents.{contents_of};
-ghost use Rattle.scan_text.specs.Draft.{videos_of};
+ghost use Rattle.capture_scan.specs.report.Contents.{contents_of};
+ghost use Rattle.capture_scan.specs.report.Draft.{videos_of};
 ghost use Rattle.timing_reach.specs.Scanned.{drafted, scan_ends, scan_status, scanned};
 
 use crate::scan::Scanned;
 use capture_scan::Found;
-use scan_text::{Draft, json_of, text_of};
+use capture_scan::report::{Draft, json_of, text_of};
 use std::alloc::{AllocError as OutOfMemory, Global};
 use timing_base::{FileNote, ScanForm, ScanJob};
 use timing_report::{Status, any_refused};

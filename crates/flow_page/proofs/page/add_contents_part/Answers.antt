@@ -1,7 +1,7 @@
 use Rattle.std.proofs.Common.{List, ℕ, ◌++◌, ap, ◌∙◌}
 use Rattle.std.specs.Prelude.{codes, string_bytes}
-use Rattle.scan_text.specs.Contents.{contents_of}
-use Rattle.scan_text.specs.Text.{contents_text}
+use Rattle.capture_scan.specs.report.Contents.{contents_of}
+use Rattle.capture_scan.specs.report.Text.{contents_text}
 use Rattle.timing_report.proofs.Appends.{two_ok}
 use Rattle.flow_page.specs.Page.{contents_part, contents_told}
 use Rattle.flow_page.proofs.page.add_contents_part.Goals as goal

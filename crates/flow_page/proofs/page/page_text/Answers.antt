@@ -1,5 +1,5 @@
 use Rattle.std.proofs.Common.{List, ℕ, ◌++◌, ap, ◌∙◌}
-use Rattle.scan_text.specs.Contents.{contents_of}
+use Rattle.capture_scan.specs.report.Contents.{contents_of}
 use Rattle.timing_report.proofs.Appends.{two}
 use Rattle.flow_page.specs.Head.{legend, note_line, page_end, page_start}
 use Rattle.flow_page.specs.Media.{media_table}

@@ -11,7 +11,7 @@ use Rattle.capture_scan.specs.Scans.{IsFound}
 use Rattle.capture_scan.specs.declared.found.Found.{Found}
 use Rattle.flow_page.specs.Media.{AreOfMedia}
 use Rattle.flow_page.specs.declared.shown.FlowPage.{FlowPage}
-use Rattle.scan_text.specs.Contents.{Contents, contents_of}
+use Rattle.capture_scan.specs.report.Contents.{Contents, contents_of}
 use Rattle.sdp_reader.specs.Session.{session}
 use Rattle.timing_report.specs.Outcomes.{is_refused}
 use Rattle.timing_report.specs.declared.status.Status.TheVariants as status

@@ -1,4 +1,4 @@
-use Rattle.scan_text.specs.Contents.{contents_of}
+use Rattle.capture_scan.specs.report.Contents.{contents_of}
 use Rattle.timing_reach.proofs.Scannings.{scan-ends}
 use Rattle.timing_reach.proofs.scan.answer_scanned.Goals as goal
 

@@ -1,4 +1,4 @@
-use Rattle.scan_text.specs.Contents.{contents_of}
+use Rattle.capture_scan.specs.report.Contents.{contents_of}
 use Rattle.timing_measure.proofs.lemmas.page.Answering.{page-ends}
 use Rattle.timing_measure.proofs.page.page.answer_read.Goals as goal
 

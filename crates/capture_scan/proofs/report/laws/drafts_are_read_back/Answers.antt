@@ -1,0 +1,5 @@
+use Rattle.capture_scan.proofs.report.DraftFaults.{draft-reads}
+use Rattle.capture_scan.proofs.report.laws.drafts_are_read_back.Goals as goal
+
+pub returns : goal.returns
+returns c = draft-reads

@@ -1,0 +1,58 @@
+-- What a reader of session descriptions makes of a draft, and which videos a draft has. Lines count from 1.
+use Rattle.std.specs.Prelude.{◌≡◌, ◌≤◌, ◌<◌, ◌+◌, ◌^◌, ℕ, ⊤, false, List, [], ◌∷◌, None}
+use Rattle.timing_base.specs.Media.{Media}
+use Rattle.capture_scan.specs.declared.stream.Stream.{Stream}
+use Rattle.capture_scan.specs.report.Draft.{has_target}
+use Rattle.capture_scan.specs.report.Rates.{denominator, numerator}
+use Rattle.capture_scan.specs.declared.report.draft.DraftVideo.{DraftVideo}
+
+-- the media of a video whose lines begin with this one; no sender type, offset or limit is declared
+abbrev pub media_at : ℕ → DraftVideo → Media
+media_at line v = record {
+  line = line;
+  address = v.target.address;
+  port = v.target.port;
+  pt = v.pt;
+  width = v.width;
+  height = v.height;
+  interlaced = v.interlaced;
+  p = numerator v.rate;
+  q = denominator v.rate;
+  declared = None;
+  troff = None;
+  cmax = None;
+}
+
+-- the media of videos from a line on: each has four lines
+abbrev pub media_from : ℕ → List DraftVideo → List Media
+media_from line [] = []
+media_from line (v ∷ rest) = media_at line v ∷ media_from (line + 4) rest
+
+-- the media of a draft: four lines are the session's
+abbrev pub media_of : List DraftVideo → List Media
+media_of videos = media_from 5 videos
+
+-- no video has the target of an earlier one
+abbrev pub HaveOwnTargets : List DraftVideo → Type 0
+HaveOwnTargets [] = ⊤
+HaveOwnTargets (v ∷ rest) = (has_target v.target rest ≡ false) × HaveOwnTargets rest
+
+-- a video has the ranges of a description: address, port and payload type, sizes of 1 to 32,767, and at most 240
+-- frames per second
+pub record IsDrafted (v : DraftVideo) : Type 0 where
+  pub address : v.target.address < 2 ^ 32
+  pub port_some : 1 ≤ v.target.port
+  pub port : v.target.port ≤ 65535
+  pub pt : v.pt ≤ 127
+  pub width_some : 1 ≤ v.width
+  pub width : v.width ≤ 32767
+  pub height_some : 1 ≤ v.height
+  pub height : v.height ≤ 32767
+  pub rate_some : 1 ≤ v.rate.whole
+  pub rate : v.rate.whole ≤ 240
+
+-- a stream's address, port and payload type have 32, 16 and 7 bits, as in a packet
+pub record HasBits (s : Stream) : Type 0 where
+  pub address : s.target.address < 2 ^ 32
+  pub port : s.target.port < 2 ^ 16
+  pub pt : s.pt < 2 ^ 7

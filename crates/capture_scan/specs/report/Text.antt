@@ -1,0 +1,138 @@
+-- What a capture holds, as lines for eyes, each of which can be read alone. Streams and records count from 1, as do
+-- lines of a picture; a line header counts them from 0.
+-- This project's profile: the whole format.
+use Rattle.std.specs.Prelude.{ℕ, ◌+◌, ◌*◌, ◌/◌, ◌%◌, ◌==◌, max, Bool, if◌then◌else◌, List, [], ◌∷◌}
+use Rattle.std.specs.Prelude.{◌++◌, length}
+use Rattle.std.specs.Prelude.{Option, Some, None, codes}
+use Rattle.std.specs.Fmt.{decimal}
+use Rattle.std.specs.List.{flat_map}
+use Rattle.timing_base.specs.Targets.{target_text}
+use Rattle.timing_base.specs.declared.capture.FileNote.{FileNote}
+use Rattle.timing_report.specs.Words.{note_text, ssrc_text}
+use Rattle.capture_scan.specs.declared.found.PassedOver.{PassedOver}
+use Rattle.capture_scan.specs.declared.found.UnreadTarget.{UnreadTarget}
+use Rattle.capture_scan.specs.declared.stream.Lines.{Lines}
+use Rattle.capture_scan.specs.declared.stream.Pace.{Pace}
+use Rattle.capture_scan.specs.declared.stream.Range.{Range}
+use Rattle.capture_scan.specs.declared.stream.Stream.{Stream}
+use Rattle.capture_scan.specs.report.Contents.{Contents}
+use Rattle.capture_scan.specs.report.Draft.{has_fields}
+use Rattle.capture_scan.specs.report.Rates.{has_steps_of, nearest, rate_text}
+use Rattle.capture_scan.specs.declared.report.rate.FrameRate.{FrameRate}
+
+-- `capture NAME: NOTE, R records, S streams`
+abbrev pub heading : List ℕ → FileNote → Contents → List ℕ
+heading name note c =
+    codes "capture " ++ (name ++ (codes ": " ++ (note_text note ++ (codes ", " ++ (decimal c.records
+    ++ (codes " records, " ++ (decimal (length c.streams) ++ codes " streams\n")))))))
+
+-- `passed over N: WHAT`, where there is one
+abbrev pub class_text : ℕ → List ℕ → List ℕ
+class_text frames what =
+    if frames == 0 then codes "" else codes "passed over " ++ (decimal frames ++ (codes ": " ++ (what ++ codes "\n")))
+
+abbrev pub passed_over_text : PassedOver → List ℕ
+passed_over_text n =
+    class_text n.empty (codes "no byte, or a packet of another link")
+    ++ (class_text n.tags (codes "more than one VLAN tag, or a provider's")
+    ++ (class_text n.ipv6 (codes "IPv6")
+    ++ (class_text n.other (codes "neither IPv4 nor IPv6")
+    ++ (class_text n.not_udp (codes "IPv4, but not UDP")
+    ++ (class_text n.fragment (codes "a fragment of a UDP datagram")
+    ++ class_text n.broken (codes "IPv4 in a bad form, or cut short"))))))
+
+-- `unread N: UDP to TARGET that isn't RTP`
+abbrev pub unread_text : UnreadTarget → List ℕ
+unread_text unread =
+    codes "unread " ++ (decimal unread.packets ++ (codes ": UDP to " ++ (target_text unread.target
+    ++ codes " that isn't RTP with an extended sequence number\n")))
+
+-- what isn't told one by one
+abbrev pub more_text : ℕ → List ℕ
+more_text more =
+    if more == 0 then codes ""
+    else codes "more " ++ (decimal more ++ codes ": packets of further streams and targets\n")
+
+-- who sends to whom
+abbrev pub key_text : Stream → List ℕ
+key_text s =
+    target_text s.source ++ (codes " to " ++ (target_text s.target ++ (codes ", ssrc " ++ (ssrc_text s.ssrc
+    ++ (codes ", payload type " ++ (decimal s.pt ++ (codes " but for " ++ decimal s.pts)))))))
+
+-- how many packets, where
+abbrev pub packets_text : Stream → List ℕ
+packets_text s =
+    decimal s.packets ++ (codes " in records " ++ (decimal s.first.rec ++ (codes " to " ++ (decimal s.last.rec
+    ++ (codes ", " ++ (decimal s.markers ++ (codes " with the marker, " ++ (decimal s.bytes ++ codes " bytes"))))))))
+
+-- `A to B`
+abbrev pub range_text : Range → List ℕ
+range_text range = decimal range.least ++ (codes " to " ++ decimal range.greatest)
+
+-- the nearest rate, where the least step is that of it
+abbrev pub known_rate : Bool → Pace → Option FrameRate
+known_rate fields pace =
+    if has_steps_of fields pace.step (nearest fields pace.rate) then Some (nearest fields pace.rate) else None
+
+abbrev pub known_text : Option FrameRate → List ℕ
+known_text None = codes "none that is known"
+known_text (Some rate) = rate_text rate
+
+abbrev pub steps_told : Option FrameRate → Range → List ℕ
+steps_told rate step = known_text rate ++ (codes ", steps of " ++ (range_text step ++ codes " ticks"))
+
+-- the rate of frames, or of fields, and the steps of the timestamp from one marker to the next
+abbrev pub rate_told : Bool → Option Pace → List ℕ
+rate_told fields None = codes "not seen: fewer than two markers"
+rate_told fields (Some pace) = steps_told (known_rate fields pace) pace.step
+
+-- the packets from one marker to the next
+abbrev pub frame_told : Option Pace → List ℕ
+frame_told None = codes "not seen: fewer than two markers"
+frame_told (Some pace) = range_text pace.frame ++ codes " packets"
+
+-- the hundredths of a percent that are lost of what was sent, rounded down; 0 where nothing was sent
+abbrev pub lost_share : Stream → ℕ
+lost_share s = s.order.lost * 10000 / max 1 (s.packets + s.order.lost)
+
+-- `L of S sent (P %), B back, R repeated, W wraps without the extended number`
+abbrev pub loss_text : Stream → List ℕ
+loss_text s =
+    decimal s.order.lost ++ (codes " of " ++ (decimal (s.packets + s.order.lost) ++ (codes " sent ("
+    ++ (decimal (lost_share s / 100) ++ (codes "." ++ (decimal (lost_share s / 10 % 10)
+    ++ (decimal (lost_share s % 10) ++ (codes " %), " ++ (decimal s.order.back ++ (codes " back, "
+    ++ (decimal s.order.same ++ (codes " repeated, " ++ (decimal s.order.wraps
+    ++ codes " wraps without the extended number")))))))))))))
+
+-- the lines of a picture, or of a field
+abbrev pub lines_told : Option Lines → List ℕ
+lines_told None = codes "not seen: no line header was captured"
+lines_told (Some lines) =
+    if lines.second_field then decimal (lines.greatest + 1) ++ codes " in each of two fields"
+    else decimal (lines.greatest + 1)
+
+-- a line of a stream
+abbrev pub stream_line : ℕ → List ℕ → List ℕ → List ℕ
+stream_line number what told = codes "stream " ++ (decimal number ++ (what ++ (told ++ codes "\n")))
+
+-- the stream with this number
+abbrev pub stream_text : ℕ → Stream → List ℕ
+stream_text number s =
+    stream_line number (codes " from    ") (key_text s)
+    ++ (stream_line number (codes " packets ") (packets_text s)
+    ++ (stream_line number (codes " rate    ") (rate_told (has_fields s.lines) s.pace)
+    ++ (stream_line number (codes " frame   ") (frame_told s.pace)
+    ++ (stream_line number (codes " lost    ") (loss_text s)
+    ++ stream_line number (codes " lines   ") (lines_told s.lines)))))
+
+-- the streams from one on
+abbrev pub streams_text : ℕ → List Stream → List ℕ
+streams_text number [] = []
+streams_text number (s ∷ rest) = stream_text number s ++ streams_text (number + 1) rest
+
+-- the text
+abbrev pub contents_text : List ℕ → FileNote → Contents → List ℕ
+contents_text name note c =
+    heading name note c
+    ++ (passed_over_text c.passed_over
+    ++ (flat_map unread_text c.unread ++ (more_text c.more ++ streams_text 1 c.streams)))

@@ -1,0 +1,15 @@
+//! What a capture holds, as JSON and as lines for eyes, and a draft of a description that is made of its streams.
+//!
+//! Texts are made whole, as values. Stamps are nanoseconds since 1970-01-01 00:00:00, lengths are bytes, and ticks are
+//! of 90 kHz.
+
+mod draft;
+mod json;
+pub mod laws;
+mod rate;
+mod text;
+
+pub use draft::{Draft, DraftVideo};
+pub use json::json_of;
+pub use rate::FrameRate;
+pub use text::text_of;

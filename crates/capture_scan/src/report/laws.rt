@@ -1,0 +1,147 @@
+//! The texts tried by hand. Each function is a theorem: it does nothing, and its clauses are proved.
+
+ghost use Rattle.std.specs.Prelude.{◌≡◌, ◌≤◌, ◌*◌, ◌++◌, ◌∷◌, [], All, List, None, Ok, codes, false, length, map, true};
+ghost use Rattle.sdp_reader.specs.Session.{session};
+ghost use Rattle.capture_scan.specs.report.ReadBack.{HasBits, HaveOwnTargets, IsDrafted, media_of};
+ghost use Rattle.capture_scan.specs.declared.stream.Stream.{Stream};
+ghost use Rattle.capture_scan.specs.declared.report.draft.DraftVideo.{DraftVideo};
+ghost use Rattle.timing_base.specs.declared.capture.FileNote.TheVariants as note;
+ghost use Rattle.capture_scan.specs.report.Draft.{draft_text, height_of, videos_of};
+ghost use Rattle.capture_scan.specs.report.Examples.{empty_contents, fields_to, frames_to, mixed_contents, plain_contents, plain_stream, stream_of_fields, ticks_in};
+ghost use Rattle.capture_scan.specs.report.Json.{json_text};
+ghost use Rattle.capture_scan.specs.report.Text.{contents_text};
+ghost use Rattle.capture_scan.specs.report.Rates.{denominator, exact, faster, nearest, numerator, rate_text, slowed, slowest};
+
+/// The whole JSON of a capture with one stream.
+#[tactic(auto, unfolding(crate::report::proofs::Numerals::scan_texts))]
+pub fn plain_json_by_hand()
+    ensures { json_text (codes "a.pcap") note.End plain_contents
+        ≡ codes "{\"end\":\"end\",\"first\":1599999999999000000,\"last\":1600000000039004000,"
+        ++ (codes "\"more\":0,\"name\":\"a.pcap\",\"passed_over\":{\"broken\":0,\"empty\":0,"
+        ++ (codes "\"fragment\":0,\"ipv6\":0,\"not_udp\":0,\"other\":0,\"tags\":0},\"records\":41,"
+        ++ (codes "\"streams\":[{\"back\":0,\"bytes\":1722,\"first\":{\"record\":1,"
+        ++ (codes "\"stamp\":1599999999999000000},\"frame\":{\"greatest\":20,\"least\":20},"
+        ++ (codes "\"last\":{\"record\":41,\"stamp\":1600000000039004000},\"lost\":0,\"markers\":3,"
+        ++ (codes "\"packets\":41,\"pt\":96,\"pts\":0,\"rate\":{\"steps\":2,\"ticks\":3600},\"same\":0,"
+        ++ (codes "\"source\":\"192.0.2.1:50000\",\"ssrc\":\"00000001\","
+        ++ (codes "\"step\":{\"greatest\":1800,\"least\":1800},\"target\":\"239.0.0.1:50000\","
+        ++ codes "\"wraps\":0}],\"unread\":[]}\n")))))))) }
+{}
+
+/// The whole JSON of a capture without a record.
+#[tactic(auto, unfolding(crate::report::proofs::Numerals::scan_texts))]
+pub fn empty_json_by_hand()
+    ensures { json_text (codes "e.pcap") (note.Cut 24) empty_contents
+        ≡ codes "{\"end\":\"cut at 24\",\"more\":0,\"name\":\"e.pcap\",\"passed_over\":{\"broken\":0,"
+        ++ (codes "\"empty\":0,\"fragment\":0,\"ipv6\":0,\"not_udp\":0,\"other\":0,\"tags\":0},"
+        ++ codes "\"records\":0,\"streams\":[],\"unread\":[]}\n") }
+{}
+
+/// The ticks of each known rate are right: frames per second times the ticks of a frame are 90,000 ticks.
+pub fn known_rates_by_hand()
+    ensures { map (λ r. r.eighths * numerator r) (slowest ∷ faster) ≡ map (λ r. 720000 * denominator r) (slowest ∷ faster) }
+{}
+
+/// The nearest rates: of 1501.5 ticks, half-way between 1501.5 and 1500 ticks and below, of fields of 1501.5 ticks, and
+/// of steps that are longer or shorter than all.
+pub fn nearest_by_hand()
+    ensures near { nearest false (ticks_in 3003 2) ≡ slowed 60 12012 }
+    ensures half_way { nearest false (ticks_in 6003 4) ≡ slowed 60 12012 }
+    ensures below { nearest false (ticks_in 6002 4) ≡ exact 60 12000 }
+    ensures fields { nearest true (ticks_in 3003 2) ≡ slowed 30 24024 }
+    ensures long { nearest false (ticks_in 90000 1) ≡ slowest }
+    ensures short { nearest false (ticks_in 1 1) ≡ exact 120 6000 }
+{}
+
+/// Rates as people say them.
+#[tactic(auto, unfolding(crate::report::proofs::Numerals::scan_texts))]
+pub fn rates_by_hand()
+    ensures film { rate_text (slowed 24 30030) ≡ codes "23.98 frames per second (24000/1001)" }
+    ensures video { rate_text (slowed 60 12012) ≡ codes "59.94 frames per second (60000/1001)" }
+    ensures fast { rate_text (slowed 120 6006) ≡ codes "119.88 frames per second (120000/1001)" }
+    ensures whole { rate_text (exact 50 14400) ≡ codes "50 frames per second" }
+{}
+
+/// The height of a draft by the greatest line number and the second field: fields of 1080, 576, 486 and 480 lines that are
+/// numbered by themselves or over the whole frame, whole frames, heights that aren't in use, and no line.
+pub fn heights_by_hand()
+    ensures fields { map fields_to (539 ∷ 287 ∷ 242 ∷ 239 ∷ []) ≡ 1080 ∷ 576 ∷ 486 ∷ 480 ∷ [] }
+    ensures over_frame { map fields_to (1079 ∷ 575 ∷ 485 ∷ 479 ∷ []) ≡ 1080 ∷ 576 ∷ 486 ∷ 480 ∷ [] }
+    ensures frames { map frames_to (2159 ∷ 1079 ∷ 719 ∷ 479 ∷ []) ≡ 2160 ∷ 1080 ∷ 720 ∷ 480 ∷ [] }
+    ensures others { map fields_to (599 ∷ 1078 ∷ []) ≡ 1200 ∷ 2158 ∷ [] }
+    ensures greatest { map frames_to (32767 ∷ []) ≡ 32767 ∷ [] }
+    ensures no_line { height_of None ≡ 1080 }
+{}
+
+/// The whole draft of a stream.
+#[tactic(auto, unfolding(crate::report::proofs::Numerals::scan_texts))]
+pub fn plain_draft_by_hand()
+    ensures { draft_text (videos_of plain_contents.streams)
+        ≡ codes "v=0\no=- 0 0 IN IP4 0.0.0.0\ns=draft\nt=0 0\n"
+        ++ (codes "m=video 50000 RTP/AVP 96\nc=IN IP4 239.0.0.1/32\na=rtpmap:96 raw/90000\n"
+        ++ codes "a=fmtp:96 width=1920; height=1080; exactframerate=50; \n") }
+{}
+
+/// The draft of a stream of fields, and of a second one to the same target, which has no video.
+#[tactic(auto, unfolding(crate::report::proofs::Numerals::scan_texts))]
+pub fn fields_draft_by_hand()
+    ensures { draft_text (videos_of (stream_of_fields ∷ plain_stream ∷ []))
+        ≡ codes "v=0\no=- 0 0 IN IP4 0.0.0.0\ns=draft\nt=0 0\n"
+        ++ (codes "m=video 50000 RTP/AVP 96\nc=IN IP4 239.0.0.1/32\na=rtpmap:96 raw/90000\n"
+        ++ codes "a=fmtp:96 width=1920; height=1080; exactframerate=30000/1001; interlace; \n") }
+{}
+
+/// The whole text of a capture with one stream.
+#[tactic(auto, unfolding(crate::report::proofs::Numerals::scan_texts))]
+pub fn plain_text_by_hand()
+    ensures { contents_text (codes "a.pcap") note.End plain_contents
+        ≡ codes "capture a.pcap: end, 41 records, 1 streams\n"
+        ++ (codes "stream 1 from    192.0.2.1:50000 to 239.0.0.1:50000, ssrc 00000001, "
+        ++ (codes "payload type 96 but for 0\n"
+        ++ (codes "stream 1 packets 41 in records 1 to 41, 3 with the marker, 1722 bytes\n"
+        ++ (codes "stream 1 rate    50 frames per second, steps of 1800 to 1800 ticks\n"
+        ++ (codes "stream 1 frame   20 to 20 packets\n"
+        ++ (codes "stream 1 lost    0 of 41 sent (0.00 %), 0 back, 0 repeated, "
+        ++ (codes "0 wraps without the extended number\n"
+        ++ codes "stream 1 lines   not seen: no line header was captured\n"))))))) }
+{}
+
+/// The whole text of a capture with frames that were passed over, unread packets, further streams, and a stream of
+/// fields with a loss.
+#[tactic(auto, unfolding(crate::report::proofs::Numerals::scan_texts))]
+pub fn mixed_text_by_hand()
+    ensures { contents_text (codes "b.pcap") (note.Cut 2904) mixed_contents
+        ≡ codes "capture b.pcap: cut at 2904, 51 records, 1 streams\n"
+        ++ (codes "passed over 2: more than one VLAN tag, or a provider's\n"
+        ++ (codes "passed over 1: IPv6\n"
+        ++ (codes "unread 3: UDP to 239.0.0.1:50000 that isn't RTP with an extended sequence number\n"
+        ++ (codes "more 5: packets of further streams and targets\n"
+        ++ (codes "stream 1 from    192.0.2.1:50000 to 239.0.0.1:50000, ssrc 00000001, "
+        ++ (codes "payload type 96 but for 0\n"
+        ++ (codes "stream 1 packets 40 in records 1 to 41, 3 with the marker, 1722 bytes\n"
+        ++ (codes "stream 1 rate    29.97 frames per second (30000/1001), steps of 1501 to 1502 ticks\n"
+        ++ (codes "stream 1 frame   19 to 20 packets\n"
+        ++ (codes "stream 1 lost    1 of 41 sent (2.43 %), 0 back, 0 repeated, "
+        ++ (codes "0 wraps without the extended number\n"
+        ++ codes "stream 1 lines   540 in each of two fields\n"))))))))))) }
+{}
+
+/// A draft is read back as the media that it was made from: videos with the ranges of a description and targets of
+/// their own, 1 to 64, are the session of their draft, with each one's address, port, payload type, sizes, rate and
+/// interlace, and no sender type.
+pub fn drafts_are_read_back()
+    ensures { (videos : List DraftVideo) → All IsDrafted videos → HaveOwnTargets videos → 1 ≤ length videos
+        → length videos ≤ 64 → session (draft_text videos) ≡ Ok (media_of videos) }
+{}
+
+/// The videos of streams have targets of their own, and are at most 64.
+pub fn drafts_have_own_targets()
+    ensures own { (streams : List Stream) → HaveOwnTargets (videos_of streams) }
+    ensures few { (streams : List Stream) → length (videos_of streams) ≤ 64 }
+{}
+
+/// So the draft of streams is read back as their videos, where it has one.
+pub fn streams_are_read_back()
+    ensures { (streams : List Stream) → All HasBits streams → 1 ≤ length (videos_of streams)
+        → session (draft_text (videos_of streams)) ≡ Ok (media_of (videos_of streams)) }
+{}

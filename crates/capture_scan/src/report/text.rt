@@ -1,0 +1,440 @@
+//! What a capture holds as lines for eyes.
+
+ghost use Rattle.std.specs.Prelude.{◌≡◌, ◌++◌, ◌+◌, ◌*◌, ◌/◌, max, IfOk, codes, string_bytes};
+ghost use Rattle.std.specs.List.{flat_map};
+ghost use Rattle.capture_scan.specs.report.Contents.{contents_of};
+ghost use Rattle.capture_scan.specs.report.Text.{class_text, contents_text, frame_told, heading, key_text, known_rate, lines_told, loss_text, more_text, packets_text, passed_over_text, rate_told, stream_line, stream_text, streams_text, unread_text};
+ghost use Rattle.capture_scan.specs.report.Draft.{has_fields};
+
+use crate::report::draft::has_fields;
+use crate::report::rate::FrameRate;
+use crate::{Found, Lines, Pace, PassedOver, Range, Stream, UnreadTarget};
+use std::alloc::{AllocError as OutOfMemory, Global};
+use std::fmt;
+use timing_base::FileNote;
+use timing_report::{NoteText, SsrcText};
+
+/// Adds the line of the capture.
+fn add_heading(
+    text: &mut String,
+    name: &str,
+    note: FileNote,
+    found: &Found,
+) -> Result<(), OutOfMemory>
+    ensures { IfOk result (λ _. string_bytes text.new
+        ≡ string_bytes text.old ++ heading name.now note (contents_of found.now)) }
+{
+    let note = NoteText { note };
+    let records = found.records;
+    let streams = found.streams.len();
+    writeln!(
+        text,
+        "capture {name}: {note}, {records} records, {streams} streams"
+    )
+}
+
+/// Adds the line of a class of frames that are passed over, where there is one.
+fn add_class(text: &mut String, frames: u64, what: &str) -> Result<(), OutOfMemory>
+    ensures { IfOk result (λ _. string_bytes text.new ≡ string_bytes text.old ++ class_text frames what.now) }
+{
+    if frames == 0 {
+        Ok(())
+    } else {
+        writeln!(text, "passed over {frames}: {what}")
+    }
+}
+
+/// Adds the lines of the frames that are passed over.
+fn add_passed_over(text: &mut String, classes: &PassedOver) -> Result<(), OutOfMemory>
+    ensures { IfOk result (λ _. string_bytes text.new ≡ string_bytes text.old ++ passed_over_text classes.now) }
+{
+    add_class(text, classes.empty, "no byte, or a packet of another link")?;
+    add_class(
+        text,
+        classes.tags,
+        "more than one VLAN tag, or a provider's",
+    )?;
+    add_class(text, classes.ipv6, "IPv6")?;
+    add_class(text, classes.other, "neither IPv4 nor IPv6")?;
+    add_class(text, classes.not_udp, "IPv4, but not UDP")?;
+    add_class(text, classes.fragment, "a fragment of a UDP datagram")?;
+    add_class(text, classes.broken, "IPv4 in a bad form, or cut short")
+}
+
+/// Adds the lines of the targets with unread packets.
+fn add_unread(text: &mut String, unread: &[UnreadTarget]) -> Result<(), OutOfMemory>
+    ensures { IfOk result (λ _. string_bytes text.new
+        ≡ string_bytes text.old ++ flat_map unread_text unread.now) }
+{
+    for one in unread {
+        let (packets, target) = (one.packets, one.target);
+        writeln!(
+            text,
+            "unread {packets}: UDP to {target} that isn't RTP with an extended sequence number"
+        )?;
+    }
+    Ok(())
+}
+
+/// Adds the line of what isn't told one by one, where there is any.
+fn add_more(text: &mut String, more: u64) -> Result<(), OutOfMemory>
+    ensures { IfOk result (λ _. string_bytes text.new ≡ string_bytes text.old ++ more_text more) }
+{
+    if more == 0 {
+        Ok(())
+    } else {
+        writeln!(text, "more {more}: packets of further streams and targets")
+    }
+}
+
+/// How many packets were sent.
+fn sent(packets: u64, lost: u64) -> u128
+    ensures { result ≡ packets + lost }
+{
+    u128::from(packets) + u128::from(lost)
+}
+
+/// The hundredths of a percent that are lost of what was sent, rounded down.
+fn share(packets: u64, lost: u64) -> u128
+    ensures { result ≡ lost * 10000 / max 1 (packets + lost) }
+{
+    u128::from(lost) * 10_000 / sent(packets, lost).max(1)
+}
+
+/// Who sends to whom.
+#[derive(Clone, Copy, Debug)]
+struct KeyText {
+    stream: Stream,
+}
+
+impl fmt::Display for KeyText {
+    ghost use Rattle.std.specs.Prelude.{Some};
+    ghost use Rattle.capture_scan.specs.report.Text.{key_text};
+
+    ghost output = { λ text. Some (key_text text.stream) };
+
+    fn fmt<W: fmt::Write>(&self, f: &mut fmt::Formatter<W>) -> fmt::Result {
+        let stream = self.stream;
+        let (source, target) = (stream.source, stream.target);
+        let ssrc = SsrcText { ssrc: stream.ssrc };
+        let (pt, pts) = (stream.pt, stream.pts);
+        write!(
+            f,
+            "{source} to {target}, ssrc {ssrc}, payload type {pt} but for {pts}"
+        )
+    }
+}
+
+/// How many packets, where.
+#[derive(Clone, Copy, Debug)]
+struct PacketsText {
+    stream: Stream,
+}
+
+impl fmt::Display for PacketsText {
+    ghost use Rattle.std.specs.Prelude.{Some};
+    ghost use Rattle.capture_scan.specs.report.Text.{packets_text};
+
+    ghost output = { λ text. Some (packets_text text.stream) };
+
+    fn fmt<W: fmt::Write>(&self, f: &mut fmt::Formatter<W>) -> fmt::Result {
+        let stream = self.stream;
+        let (packets, markers, bytes) = (stream.packets, stream.markers, stream.bytes);
+        let (first, last) = (stream.first.rec, stream.last.rec);
+        write!(
+            f,
+            "{packets} in records {first} to {last}, {markers} with the marker, {bytes} bytes"
+        )
+    }
+}
+
+/// The nearest rate, where the least step is that of it.
+fn known_rate(fields: bool, pace: Pace) -> Option<FrameRate>
+    ensures { result ≡ known_rate fields pace }
+{
+    let rate = FrameRate::nearest(fields, pace.rate);
+    if rate.has_steps(fields, pace.step) {
+        Some(rate)
+    } else {
+        None
+    }
+}
+
+/// A rate, where one is known.
+#[derive(Clone, Copy, Debug)]
+struct KnownText {
+    rate: Option<FrameRate>,
+}
+
+impl fmt::Display for KnownText {
+    ghost use Rattle.std.specs.Prelude.{Some};
+    ghost use Rattle.capture_scan.specs.report.Text.{known_text};
+
+    ghost output = { λ text. Some (known_text text.rate) };
+
+    fn fmt<W: fmt::Write>(&self, f: &mut fmt::Formatter<W>) -> fmt::Result {
+        match self.rate {
+            Some(rate) => write!(f, "{rate}"),
+            None => f.write_str("none that is known"),
+        }
+    }
+}
+
+/// The least and the greatest of some numbers.
+#[derive(Clone, Copy, Debug)]
+struct RangeText {
+    range: Range,
+}
+
+impl fmt::Display for RangeText {
+    ghost use Rattle.std.specs.Prelude.{Some};
+    ghost use Rattle.capture_scan.specs.report.Text.{range_text};
+
+    ghost output = { λ text. Some (range_text text.range) };
+
+    fn fmt<W: fmt::Write>(&self, f: &mut fmt::Formatter<W>) -> fmt::Result {
+        let range = self.range;
+        write!(f, "{} to {}", range.least, range.greatest)
+    }
+}
+
+/// A rate, where one is known, and the steps that were seen.
+#[derive(Clone, Copy, Debug)]
+struct StepsText {
+    rate: Option<FrameRate>,
+    step: Range,
+}
+
+impl fmt::Display for StepsText {
+    ghost use Rattle.std.specs.Prelude.{Some};
+    ghost use Rattle.capture_scan.specs.report.Text.{steps_told};
+
+    ghost output = { λ text. Some (steps_told text.rate text.step) };
+
+    fn fmt<W: fmt::Write>(&self, f: &mut fmt::Formatter<W>) -> fmt::Result {
+        let known = KnownText { rate: self.rate };
+        let step = RangeText { range: self.step };
+        write!(f, "{known}, steps of {step} ticks")
+    }
+}
+
+/// The rate of frames, or of fields where a line of a second field was seen.
+#[derive(Clone, Copy, Debug)]
+struct RateTold {
+    fields: bool,
+    pace: Option<Pace>,
+}
+
+impl fmt::Display for RateTold {
+    ghost use Rattle.std.specs.Prelude.{Some};
+    ghost use Rattle.capture_scan.specs.report.Text.{rate_told};
+
+    ghost output = { λ text. Some (rate_told text.fields text.pace) };
+
+    fn fmt<W: fmt::Write>(&self, f: &mut fmt::Formatter<W>) -> fmt::Result {
+        match self.pace {
+            None => f.write_str("not seen: fewer than two markers"),
+            Some(pace) => {
+                let told = StepsText {
+                    rate: known_rate(self.fields, pace),
+                    step: pace.step,
+                };
+                write!(f, "{told}")
+            }
+        }
+    }
+}
+
+/// The packets from one marker to the next.
+#[derive(Clone, Copy, Debug)]
+struct FrameTold {
+    pace: Option<Pace>,
+}
+
+impl fmt::Display for FrameTold {
+    ghost use Rattle.std.specs.Prelude.{Some};
+    ghost use Rattle.capture_scan.specs.report.Text.{frame_told};
+
+    ghost output = { λ text. Some (frame_told text.pace) };
+
+    fn fmt<W: fmt::Write>(&self, f: &mut fmt::Formatter<W>) -> fmt::Result {
+        match self.pace {
+            None => f.write_str("not seen: fewer than two markers"),
+            Some(pace) => {
+                let frame = RangeText { range: pace.frame };
+                write!(f, "{frame} packets")
+            }
+        }
+    }
+}
+
+/// What was lost.
+#[derive(Clone, Copy, Debug)]
+struct LossText {
+    stream: Stream,
+}
+
+impl fmt::Display for LossText {
+    ghost use Rattle.std.specs.Prelude.{Some};
+    ghost use Rattle.capture_scan.specs.report.Text.{loss_text};
+
+    ghost output = { λ text. Some (loss_text text.stream) };
+
+    fn fmt<W: fmt::Write>(&self, f: &mut fmt::Formatter<W>) -> fmt::Result {
+        let order = self.stream.order;
+        let sent = sent(self.stream.packets, order.lost);
+        let share = share(self.stream.packets, order.lost);
+        let (percents, tenths, last) = (share / 100, share / 10 % 10, share % 10);
+        let (lost, back, same, wraps) = (order.lost, order.back, order.same, order.wraps);
+        write!(
+            f,
+            "{lost} of {sent} sent ({percents}.{tenths}{last} %), {back} back, {same} repeated, {wraps} wraps without the extended number"
+        )
+    }
+}
+
+/// The lines of a picture, or of a field, as far as they were seen.
+fn lines_in(lines: Lines) -> u32
+    ensures { result ≡ lines.greatest + 1 }
+{
+    u32::from(lines.greatest) + 1
+}
+
+/// The lines of a picture, or of a field.
+#[derive(Clone, Copy, Debug)]
+struct LinesTold {
+    lines: Option<Lines>,
+}
+
+impl fmt::Display for LinesTold {
+    ghost use Rattle.std.specs.Prelude.{Some};
+    ghost use Rattle.capture_scan.specs.report.Text.{lines_told};
+
+    ghost output = { λ text. Some (lines_told text.lines) };
+
+    fn fmt<W: fmt::Write>(&self, f: &mut fmt::Formatter<W>) -> fmt::Result {
+        match self.lines {
+            None => f.write_str("not seen: no line header was captured"),
+            Some(lines) => {
+                let count = lines_in(lines);
+                if lines.second_field {
+                    write!(f, "{count} in each of two fields")
+                } else {
+                    write!(f, "{count}")
+                }
+            }
+        }
+    }
+}
+
+/// Adds the line of who sends to whom.
+fn add_key(text: &mut String, number: u64, stream: &Stream) -> Result<(), OutOfMemory>
+    ensures { IfOk result (λ _. string_bytes text.new ≡ string_bytes text.old
+        ++ stream_line number (codes " from    ") (key_text stream.now)) }
+{
+    let told = KeyText { stream: *stream };
+    writeln!(text, "stream {number} from    {told}")
+}
+
+/// Adds the line of how many packets there are.
+fn add_packets(text: &mut String, number: u64, stream: &Stream) -> Result<(), OutOfMemory>
+    ensures { IfOk result (λ _. string_bytes text.new ≡ string_bytes text.old
+        ++ stream_line number (codes " packets ") (packets_text stream.now)) }
+{
+    let told = PacketsText { stream: *stream };
+    writeln!(text, "stream {number} packets {told}")
+}
+
+/// Adds the line of the rate.
+fn add_rate(text: &mut String, number: u64, stream: &Stream) -> Result<(), OutOfMemory>
+    ensures { IfOk result (λ _. string_bytes text.new ≡ string_bytes text.old
+        ++ stream_line number (codes " rate    ") (rate_told (has_fields stream.now.lines) stream.now.pace)) }
+{
+    let told = RateTold {
+        fields: has_fields(stream.lines),
+        pace: stream.pace,
+    };
+    writeln!(text, "stream {number} rate    {told}")
+}
+
+/// Adds the line of the size of a frame.
+fn add_frame(text: &mut String, number: u64, stream: &Stream) -> Result<(), OutOfMemory>
+    ensures { IfOk result (λ _. string_bytes text.new ≡ string_bytes text.old
+        ++ stream_line number (codes " frame   ") (frame_told stream.now.pace)) }
+{
+    let told = FrameTold { pace: stream.pace };
+    writeln!(text, "stream {number} frame   {told}")
+}
+
+/// Adds the line of what was lost.
+fn add_loss(text: &mut String, number: u64, stream: &Stream) -> Result<(), OutOfMemory>
+    ensures { IfOk result (λ _. string_bytes text.new ≡ string_bytes text.old
+        ++ stream_line number (codes " lost    ") (loss_text stream.now)) }
+{
+    let told = LossText { stream: *stream };
+    writeln!(text, "stream {number} lost    {told}")
+}
+
+/// Adds the line of the lines of a picture.
+fn add_lines(text: &mut String, number: u64, stream: &Stream) -> Result<(), OutOfMemory>
+    ensures { IfOk result (λ _. string_bytes text.new ≡ string_bytes text.old
+        ++ stream_line number (codes " lines   ") (lines_told stream.now.lines)) }
+{
+    let told = LinesTold {
+        lines: stream.lines,
+    };
+    writeln!(text, "stream {number} lines   {told}")
+}
+
+/// Adds the lines of a stream.
+fn add_stream(text: &mut String, number: u64, stream: &Stream) -> Result<(), OutOfMemory>
+    ensures { IfOk result (λ _. string_bytes text.new ≡ string_bytes text.old ++ stream_text number stream.now) }
+{
+    add_key(text, number, stream)?;
+    add_packets(text, number, stream)?;
+    add_rate(text, number, stream)?;
+    add_frame(text, number, stream)?;
+    add_loss(text, number, stream)?;
+    add_lines(text, number, stream)
+}
+
+/// Adds the lines of the streams.
+fn add_streams(text: &mut String, streams: &[Stream]) -> Result<(), OutOfMemory>
+    ensures { IfOk result (λ _. string_bytes text.new ≡ string_bytes text.old ++ streams_text 1 streams.now) }
+{
+    for (index, stream) in streams.iter().enumerate() {
+        add_stream(text, index as u64 + 1, stream)?;
+    }
+    Ok(())
+}
+
+/// Adds what isn't a stream: the targets with unread packets, and what isn't told; and then the streams.
+fn add_held(text: &mut String, found: &Found) -> Result<(), OutOfMemory>
+    ensures { IfOk result (λ _. string_bytes text.new ≡ string_bytes text.old
+        ++ (flat_map unread_text found.now.unread.items
+        ++ (more_text found.now.more ++ streams_text 1 found.now.streams.items))) }
+{
+    add_unread(text, found.unread.as_slice())?;
+    add_more(text, found.more)?;
+    add_streams(text, found.streams.as_slice())
+}
+
+/// What a capture of this name holds, as lines. `note` says how the capture ends. `Err` is want of memory.
+///
+/// First the capture, then the classes of frames that were passed over, the targets with packets that aren't read, and
+/// of each stream six lines. A rate is told where the least step is that of a known rate, in ticks rounded down or up.
+/// A loss is told in hundredths of a percent of what was sent, rounded down.
+pub fn text_of(
+    alloc: Global,
+    name: &str,
+    note: FileNote,
+    found: &Found,
+) -> Result<String, OutOfMemory>
+    ensures { IfOk result (λ s. string_bytes s ≡ contents_text name.now note (contents_of found.now)) }
+{
+    let mut text = String::new(alloc);
+    add_heading(&mut text, name, note, found)?;
+    add_passed_over(&mut text, &found.passed_over)?;
+    add_held(&mut text, found)?;
+    Ok(text)
+}

@@ -1,8 +1,0 @@
-use Rattle.scan_text.proofs.Drafted.{drafts-apart}
-use Rattle.scan_text.proofs.laws.drafts_have_own_targets.Goals as goal
-
-pub returns-clause-own : goal.returns-clause-own
-returns-clause-own c = λ streams. (drafts-apart streams).own
-
-pub returns-clause-few : goal.returns-clause-few
-returns-clause-few c = λ streams. (drafts-apart streams).few

@@ -1,7 +1,0 @@
-use Rattle.std.proofs.Common.{◌≡◌, drop}
-use Rattle.scan_text.specs.Rates.{nearest, nearest_from}
-use Rattle.scan_text.proofs.rate.FrameRate.nearest.Given as goal
-
-abbrev pub invariant-loop-next : goal.invariant-loop-next
-invariant-loop-next l =
-    nearest_from l.fields l.rate l.slow (drop l.next-index l.next-items) ≡ nearest l.fields l.rate
