@@ -25,3 +25,4 @@ pub mod Worked
 pub mod Places
 pub mod Parts
 pub mod Own
+pub mod report

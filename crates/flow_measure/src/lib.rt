@@ -7,6 +7,7 @@
 //! and groups are counted from 0.
 #![tactic(auto)]
 
+pub mod report;
 mod bins;
 mod broken;
 mod bucket_meter;

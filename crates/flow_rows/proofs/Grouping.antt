@@ -29,7 +29,7 @@ use Rattle.flow_measure.proofs.Bounds.{IsGreatest-more, IsGreatest-same, IsLeast
 use Rattle.flow_measure.proofs.Breaks.{end-of-group, within-group}
 use Rattle.flow_measure.proofs.Filled.{bucket-front}
 use Rattle.flow_measure.proofs.Followed.{front-is, last-is}
-use Rattle.measure_text.specs.declared.rows.GroupRow.{GroupRow}
+use Rattle.flow_measure.specs.declared.report.rows.GroupRow.{GroupRow}
 use Rattle.flow_rows.specs.Packets.{stamps_of}
 use Rattle.flow_rows.specs.Packets.{timestamps_of}
 use Rattle.flow_rows.specs.Rows.{IsGroupRow, IsOfGroup, IsRowOf, ends_group, step_before, step_from}

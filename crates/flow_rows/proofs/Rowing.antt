@@ -7,9 +7,9 @@ use Rattle.timing_base.specs.Flows.{read_or_zeros}
 use Rattle.timing_base.specs.Judged.{stamp_of}
 use Rattle.timing_base.specs.Media.{Media}
 use Rattle.timing_base.specs.declared.packet.FlowPacket.{FlowPacket}
-use Rattle.measure_text.specs.Rows.{group_row_text, packet_row_text}
-use Rattle.measure_text.specs.declared.rows.GroupRow.{GroupRow}
-use Rattle.measure_text.specs.declared.rows.PacketRow.{PacketRow}
+use Rattle.flow_measure.specs.report.Rows.{group_row_text, packet_row_text}
+use Rattle.flow_measure.specs.declared.report.rows.GroupRow.{GroupRow}
+use Rattle.flow_measure.specs.declared.report.rows.PacketRow.{PacketRow}
 use Rattle.flow_rows.specs.Packets.{stamps_of}
 use Rattle.flow_rows.specs.Rows.{Adds, AddsGroup, IsGroupRow, IsPacketRow, ends_group}
 use Rattle.flow_rows.specs.making.Stands.{PutsRow, StandsFor, StandsForGroups, StandsForPackets}

@@ -14,9 +14,9 @@ use Rattle.flow_measure.specs.Groups.{firsts_of, lasts_of, latency_at, offset_at
 use Rattle.flow_measure.specs.Occupancy.{AreOccupancies, IsOccupancy, buckets_of}
 use Rattle.flow_measure.specs.Run.{anchor_in}
 use Rattle.flow_measure.specs.Summary.{IsGreatest, IsLeast}
-use Rattle.measure_text.specs.Rows.{group_header_text, group_row_text, packet_header_text, packet_row_text}
-use Rattle.measure_text.specs.declared.rows.GroupRow.{GroupRow}
-use Rattle.measure_text.specs.declared.rows.PacketRow.{PacketRow}
+use Rattle.flow_measure.specs.report.Rows.{group_header_text, group_row_text, packet_header_text, packet_row_text}
+use Rattle.flow_measure.specs.declared.report.rows.GroupRow.{GroupRow}
+use Rattle.flow_measure.specs.declared.report.rows.PacketRow.{PacketRow}
 use Rattle.flow_rows.specs.Packets.{stamps_of}
 use Rattle.flow_rows.specs.Packets.{timestamps_of}
 

@@ -13,7 +13,7 @@ ghost use Rattle.flow_rows.specs.Rows.{IsGroupRow, ends_group, step_from};
 
 use crate::levels::{Level, LevelMeter};
 use flow_measure::{latency_of, offset_of, since_start, step_of};
-use measure_text::GroupRow;
+use flow_measure::report::GroupRow;
 use sender_params::Params;
 
 /// The ticks from the RTP timestamp of the group before, where there is one.

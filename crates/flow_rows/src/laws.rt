@@ -3,7 +3,7 @@
 ghost use Rattle.std.specs.Prelude.{◌≡◌, ◌+◌, ◌*◌, [], true, false, None, Some};
 ghost use Rattle.timing_base.specs.Examples.{sent};
 ghost use Rattle.sender_params.specs.Worked.{hd_50};
-ghost use Rattle.measure_text.specs.Examples.{plain_packet};
+ghost use Rattle.flow_measure.specs.report.Examples.{plain_packet};
 ghost use Rattle.flow_rows.specs.Rows.{IsPacketRow, ends_group, step_before, step_from};
 
 /// 1080p at 50 with 20 packets per frame, of which the first comes 764,000 ns after a frame's instant: the bucket holds 1

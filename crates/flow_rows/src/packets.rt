@@ -9,7 +9,7 @@ ghost use Rattle.flow_rows.specs.Packets.{stamps_of};
 ghost use Rattle.flow_rows.specs.Rows.{IsPacketRow};
 
 use crate::levels::LevelMeter;
-use measure_text::PacketRow;
+use flow_measure::report::PacketRow;
 use sender_params::Params;
 
 /// Makes a row of each judged packet of a run.

@@ -5,7 +5,7 @@ ghost use Rattle.flow_rows.specs.Rows.{header_text};
 
 use crate::groups::GroupRows;
 use crate::packets::PacketRows;
-use measure_text::{RowText, group_header, packet_header};
+use flow_measure::report::{RowText, group_header, packet_header};
 use sender_params::Params;
 use std::alloc::AllocError as OutOfMemory;
 use timing_base::{Judged, Media};

@@ -8,7 +8,7 @@ use Rattle.timing_base.specs.Jobs.{CaptureJob}
 use Rattle.timing_base.specs.Media.{Media}
 use Rattle.timing_base.specs.declared.capture.FileNote.{FileNote}
 use Rattle.flow_measure.specs.declared.numbers.MeasuredFlow.{MeasuredFlow}
-use Rattle.measure_text.specs.Json.{AreOfMedia}
+use Rattle.flow_measure.specs.report.Json.{AreOfMedia}
 use Rattle.sdp_reader.specs.Session.{session}
 use Rattle.timing_outside.specs.Causes.{Rose}
 use Rattle.timing_report.specs.Outcomes.{is_refused}

@@ -16,8 +16,8 @@ use Rattle.timing_base.specs.declared.row.KindVerdict.TheVariants as kind_verdic
 use Rattle.flow_measure.specs.Run.{IsMeasured}
 use Rattle.flow_measure.specs.declared.numbers.MeasuredFlow.{MeasuredFlow}
 use Rattle.flow_measure.specs.declared.numbers.RunNumbers.{RunNumbers}
-use Rattle.measure_text.specs.Json.{measure_json}
-use Rattle.measure_text.specs.Told.{flow_told}
+use Rattle.flow_measure.specs.report.Json.{measure_json}
+use Rattle.flow_measure.specs.report.Told.{flow_told}
 use Rattle.pcap_reader.specs.Records.{Records}
 use Rattle.timing_report.specs.Outcomes.{is_refused}
 use Rattle.timing_report.specs.declared.status.Input.{Input}

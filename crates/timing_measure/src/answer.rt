@@ -2,12 +2,12 @@
 
 ghost use Rattle.std.specs.Prelude.{◌≡◌, IfOk, true};
 ghost use Rattle.std.specs.List.{list_any};
-ghost use Rattle.measure_text.specs.Json.{AreOfMedia};
+ghost use Rattle.flow_measure.specs.report.Json.{AreOfMedia};
 ghost use Rattle.timing_measure.specs.Measures.{has_run, measure_ends, measure_status, measured};
 
 use crate::readings::Reading;
 use flow_measure::MeasuredFlow;
-use measure_text::json_of;
+use flow_measure::report::json_of;
 use std::alloc::{AllocError as OutOfMemory, Global};
 use timing_base::{CaptureJob, FileNote, Session};
 use timing_report::{Status, any_refused};

@@ -1,7 +1,7 @@
 //! `measure`: the numbers of every judged run of every media of a job.
 
 ghost use Rattle.std.specs.Prelude.{◌≡◌, ◌≤◌, ℕ, List, Some, IfErr, IfOk, length};
-ghost use Rattle.measure_text.specs.Json.{AreOfMedia};
+ghost use Rattle.flow_measure.specs.report.Json.{AreOfMedia};
 ghost use Rattle.timing_base.specs.Targets.{HaveOwnTargets};
 ghost use Rattle.timing_outside.specs.Causes.{Rose};
 ghost use Rattle.pcapng_reader.specs.Classic.{classic_texts};

@@ -4,7 +4,7 @@ use Rattle.std.specs.Int.{int_max, int_min}
 use Rattle.sender_params.specs.Reads.{anchor_of}
 use Rattle.timing_base.specs.Media.{Media}
 use Rattle.flow_measure.specs.Frames.{after_start, timestamp_latency, timestamp_offset}
-use Rattle.measure_text.specs.declared.rows.GroupRow.{GroupRow}
+use Rattle.flow_measure.specs.declared.report.rows.GroupRow.{GroupRow}
 use Rattle.flow_rows.specs.Rows.{step_from}
 use Rattle.flow_rows.specs.declared.groups.GroupRows.{GroupRows}
 use Rattle.flow_rows.specs.declared.levels.Level.{Level}

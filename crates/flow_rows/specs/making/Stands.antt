@@ -11,7 +11,7 @@ use Rattle.flow_measure.specs.Groups.{firsts_of, latency_at, offset_at, since_at
 use Rattle.flow_measure.specs.Occupancy.{AreOccupancies, buckets_of}
 use Rattle.flow_measure.specs.Run.{anchor_in}
 use Rattle.flow_measure.specs.Summary.{IsGreatest, IsLeast}
-use Rattle.measure_text.specs.declared.rows.GroupRow.{GroupRow}
+use Rattle.flow_measure.specs.declared.report.rows.GroupRow.{GroupRow}
 use Rattle.flow_rows.specs.Packets.{stamps_of}
 use Rattle.flow_rows.specs.Packets.{timestamps_of}
 use Rattle.flow_rows.specs.Rows.{Adds, step_before}

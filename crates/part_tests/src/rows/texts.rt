@@ -5,7 +5,7 @@ use flow_measure::{
     Bins, Buffer, Classes, Gaps, KindNumbers, Margins, MeasuredFlow, MeasuredRun, RunNumbers,
     Summary,
 };
-use measure_text::{GroupRow, PacketRow, RowText, json_of};
+use flow_measure::report::{GroupRow, PacketRow, RowText, json_of};
 use std::alloc::{AllocError, Global};
 use std::process::Abort;
 use std::test::Fail;

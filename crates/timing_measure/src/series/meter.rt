@@ -16,7 +16,7 @@ use crate::metering::plan::planned_at;
 use crate::metering::walk::Walk;
 use crate::series::open::OpenRows;
 use flow_rows::header;
-use measure_text::RowText;
+use flow_measure::report::RowText;
 use std::alloc::{AllocError as OutOfMemory, Global};
 use timing_base::{FlowPacket, Media, Verdict};
 use timing_outside::{Sink, put_all};

@@ -6,7 +6,7 @@ ghost use Rattle.timing_base.specs.declared.packet.FlowPacket.{FlowPacket as Pac
 
 use crate::metering::walk::timestamp_of;
 use flow_rows::RunRows;
-use measure_text::RowText;
+use flow_measure::report::RowText;
 use std::alloc::AllocError as OutOfMemory;
 use timing_base::{FlowPacket, Judged, Media};
 

@@ -16,9 +16,9 @@ use Rattle.flow_measure.specs.Occupancy.{buckets_of}
 use Rattle.flow_measure.proofs.Bounds.{IsGreatest-same, IsLeast-same}
 use Rattle.flow_measure.proofs.Passes.{occupancy-once}
 use Rattle.flow_measure.proofs.Unique.{greatest-once, least-once}
-use Rattle.measure_text.specs.Rows.{group_row_text, packet_row_text}
-use Rattle.measure_text.specs.declared.rows.GroupRow.{GroupRow}
-use Rattle.measure_text.specs.declared.rows.PacketRow.{PacketRow}
+use Rattle.flow_measure.specs.report.Rows.{group_row_text, packet_row_text}
+use Rattle.flow_measure.specs.declared.report.rows.GroupRow.{GroupRow}
+use Rattle.flow_measure.specs.declared.report.rows.PacketRow.{PacketRow}
 use Rattle.flow_rows.specs.Packets.{stamps_of}
 use Rattle.flow_rows.specs.Rows.{Adds, AddsGroup, AreRows, IsHeld, IsOfGroup, IsPacketRow, IsRowOf, ends_group, header_text}
 use Rattle.pcap_reader.specs.Header.{header}

@@ -1,0 +1,154 @@
+-- Numbers that are worked by hand: two frames of 20 packets at 50 frames per second, after a packet with the marker.
+-- Frame k begins k * 20 ms after second 1,600,000,000, its packet j comes 764,000 + 960,000 j ns later, and its
+-- timestamp is 1800 (k + 1).
+use Rattle.std.specs.Prelude.{ℕ, zero, suc, ◌-◌, ◌*◌, pos, neg_ℤ, List, [], ◌∷◌, ◌++◌, Option, Some, None}
+use Rattle.timing_base.specs.Examples.{plain_media}
+use Rattle.timing_base.specs.Media.{Media}
+use Rattle.timing_base.specs.declared.fail.Broken.TheVariants.{Bucket, Empty}
+use Rattle.timing_base.specs.declared.packet.PacketFault.TheVariants.{FrameSize}
+use Rattle.timing_base.specs.declared.row.KindVerdict.{KindVerdict}
+use Rattle.timing_base.specs.declared.row.Unjudged.TheVariants.{Absent, Refused}
+use Rattle.timing_base.specs.declared.row.Verdict.{Verdict}
+use Rattle.timing_base.specs.declared.row.Verdict.TheVariants.{Judged, Unjudged}
+use Rattle.timing_report.specs.Worked.{fail, narrow}
+use Rattle.flow_measure.specs.Worked.{summary}
+use Rattle.flow_measure.specs.declared.numbers.Buffer.{Buffer}
+use Rattle.flow_measure.specs.declared.summary.Summary.{Summary}
+use Rattle.flow_measure.specs.report.Told.{ToldBins, ToldFlow, ToldGaps, ToldKind, ToldNumbers, ToldRun}
+use Rattle.flow_measure.specs.declared.report.rows.GroupRow.{GroupRow}
+use Rattle.flow_measure.specs.declared.report.rows.PacketRow.{PacketRow}
+
+-- so many zeros
+abbrev pub zeros : ℕ → List ℕ
+zeros zero = []
+zeros (suc n) = 0 ∷ zeros n
+
+-- bins of which nothing is above the limit or below 0
+abbrev pub bins_within : (limit width : ℕ) → List ℕ → ToldBins
+bins_within limit width counts = record { limit = limit; width = width; counts = counts; above = 0; below = 0 }
+
+-- one packet at each of 40, up to a limit in bins of one
+abbrev pub ones_to : (limit : ℕ) → ToldBins
+ones_to limit = bins_within limit 1 (0 ∷ 40 ∷ zeros (limit - 1))
+
+-- a type that no packet breaks
+abbrev pub kept : (bucket buffer : ToldBins) → ToldKind
+kept bucket buffer = record {
+  groups_broken = 0;
+  bucket = bucket;
+  buffer = buffer;
+  first_bucket = None;
+  first_over = None;
+  first_empty = None;
+  named = None;
+}
+
+-- the same whole number so often
+abbrev pub same : ℕ → (often : ℕ) → Summary
+same x often = summary (pos x) (pos x) (pos (x * often)) (pos x) (pos x)
+
+-- one packet in the buffer at each of 40; all may come 444 ns later
+abbrev pub one_held : Buffer
+one_held = record { occupancy = same 1 40; margins = record { slack = pos 444; late = 0 } }
+
+-- 960,000 ns 38 times within a frame, and 1,760,000 ns from one frame to the next
+abbrev pub plain_gaps : ToldGaps
+plain_gaps = record {
+  summary = summary (pos 960000) (pos 1760000) (pos 38240000) (pos 960000) (pos 960000);
+  classes = zeros 20 ++ (38 ∷ 1 ∷ []);
+}
+
+abbrev pub plain_numbers : ToldNumbers
+plain_numbers = record {
+  bucket = same 1 40;
+  gapped = one_held;
+  linear = one_held;
+  kinds = kept (ones_to 4) (ones_to 8) ∷ kept (ones_to 4) (ones_to 8)
+      ∷ kept (ones_to 16) (bins_within 720 12 (40 ∷ zeros 60)) ∷ [];
+  first = same 764000 2;
+  last = same 19004000 2;
+  target = 764444;
+  step = Some (same 1800 1);
+  offset = same 1663502088 2;
+  latency = summary (neg_ℤ (pos 1663502020)) (neg_ℤ (pos 1663502020)) (neg_ℤ (pos 3327004040))
+      (neg_ℤ (pos 1663502020)) (neg_ℤ (pos 1663502020));
+  gap = Some plain_gaps;
+}
+
+-- the run, from record 1 on, packet number 0
+abbrev pub plain_run : ToldRun
+plain_run = record { run = 1; rec = 1; number = 0; judged = narrow; numbers = plain_numbers }
+
+-- the flow of the first media of a session, with a source
+abbrev pub flow_of : (packets : ℕ) → Verdict → List ToldRun → ToldFlow
+flow_of packets verdict runs = record { media = 0; packets = packets; ssrc = Some 1; verdict = verdict; runs = runs }
+
+abbrev pub plain_flow : ToldFlow
+plain_flow = flow_of 41 (Judged narrow) (plain_run ∷ [])
+
+abbrev pub plain_session : List Media
+plain_session = plain_media ∷ []
+
+-- a flow whose last frame lacks a packet, and one without packets
+abbrev pub refused_flow : ToldFlow
+refused_flow = flow_of 40 (Unjudged (Refused 40 (FrameSize 20 19))) []
+
+abbrev pub absent_flow : ToldFlow
+absent_flow = record { media = 0; packets = 0; ssrc = None; verdict = Unjudged Absent; runs = [] }
+
+-- a type that fails, at a packet that stands there
+abbrev pub burst_kind : ToldKind
+burst_kind = record (kept (bins_within 4 1 []) (bins_within 8 1 (0 ∷ 36 ∷ 1 ∷ 1 ∷ 1 ∷ 1 ∷ zeros 3))) {
+  groups_broken = 1;
+  bucket = record { limit = 4; width = 1; counts = 0 ∷ 36 ∷ 1 ∷ 1 ∷ 1 ∷ []; above = 1; below = 0 };
+  first_bucket = Some 24;
+  named = Some (record { rec = 26; stamp = 1600000000020764000 });
+}
+
+abbrev pub burst_fail : KindVerdict
+burst_fail = fail Bucket 20 24 5 4
+
+-- packets 1,000,000 ns apart: all but the first of each frame come after their reads
+abbrev pub linear_kind : ToldKind
+linear_kind = record (kept (ones_to 4) (bins_within 8 1 (38 ∷ 2 ∷ zeros 7))) {
+  groups_broken = 2;
+  first_empty = Some 1;
+  named = Some (record { rec = 3; stamp = 1600000000001764000 });
+}
+
+abbrev pub linear_fail : KindVerdict
+linear_fail = fail Empty 1 1 1 2
+
+-- the first packet of the plain flow
+abbrev pub plain_packet : PacketRow
+plain_packet = record {
+  run = 1;
+  packet = 0;
+  rec = 2;
+  stamp = 1600000000000764000;
+  group = 0;
+  place = 0;
+  bucket = 1;
+  gapped = pos 1;
+  linear = pos 1;
+}
+
+-- a group of it
+abbrev pub plain_group : (group rec stamp timestamp : ℕ) → Option ℕ → GroupRow
+plain_group group rec stamp timestamp step = record {
+  run = 1;
+  group = group;
+  rec = rec;
+  stamp = stamp;
+  first = pos 764000;
+  last = pos 19004000;
+  timestamp = timestamp;
+  step = step;
+  offset = pos 1663502088;
+  latency = neg_ℤ (pos 1663502020);
+  bucket = 1;
+  gapped_least = pos 1;
+  gapped = pos 1;
+  linear_least = pos 1;
+  linear = pos 1;
+}

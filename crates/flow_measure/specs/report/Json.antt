@@ -1,0 +1,240 @@
+-- The numbers of the flows of a capture, as JSON (RFC 8259): one value without spaces, and a line end. The members of
+-- each object stand in the byte order of their keys, and numbers are whole, of any size, and written in digits. Media,
+-- runs and records count from 1, packets from 0. Stamps, `first`, `last`, `target`, `slack` and `gap` are nanoseconds;
+-- `step`, `offset` and `latency` are ticks of 90 kHz; the others are packets, groups or counts of them.
+-- This project's profile: the whole format.
+use Rattle.std.specs.Prelude.{ℕ, ◌+◌, ◌<◌, Bool, true, false, List, [], ◌∷◌, ◌++◌, length, Option, Some, None, codes}
+use Rattle.std.specs.Prelude.{All, zero, suc, nat_lt}
+use Rattle.std.specs.Fmt.{decimal, signed_decimal}
+use Rattle.serde_json.specs.Data.{string}
+use Rattle.serde_json.specs.Written.{comma_if, compact_text}
+use Rattle.timing_base.specs.Keys.{key_of, media_of}
+use Rattle.timing_base.specs.Media.{Media}
+use Rattle.timing_base.specs.Targets.{target_of, target_text}
+use Rattle.timing_base.specs.Verdicts.{Judged}
+use Rattle.timing_base.specs.declared.capture.FileNote.{FileNote}
+use Rattle.timing_base.specs.declared.fail.FailProof.{FailProof}
+use Rattle.timing_base.specs.declared.media.Kind.{Kind}
+use Rattle.timing_base.specs.declared.media.Kind.TheVariants.{N, NL, W}
+use Rattle.timing_base.specs.declared.row.KindVerdict.{KindVerdict}
+use Rattle.timing_base.specs.declared.row.KindVerdict.TheVariants as kind_verdict
+use Rattle.timing_base.specs.declared.row.Unjudged.{Unjudged}
+use Rattle.timing_base.specs.declared.row.Verdict.{Verdict}
+use Rattle.timing_base.specs.declared.row.Verdict.TheVariants as verdict
+use Rattle.timing_report.specs.Outcomes.{verdict_on}
+use Rattle.timing_report.specs.Words.{kind_name, model_name, note_text, ssrc_text}
+use Rattle.timing_report.specs.json_report.Json.{Member, count, object_of, unjudged_members}
+use Rattle.flow_measure.specs.declared.numbers.Buffer.{Buffer}
+use Rattle.flow_measure.specs.declared.numbers.MeasuredFlow.{MeasuredFlow}
+use Rattle.flow_measure.specs.declared.summary.Summary.{Summary}
+use Rattle.flow_measure.specs.report.Told.{ToldBins, ToldFlow, ToldGaps, ToldKind, ToldNumbers, ToldPlace, ToldRun}
+
+-- a text, in quotes and with escapes
+abbrev pub quoted_text : List ℕ → List ℕ
+quoted_text s = compact_text (string s)
+
+-- true or false
+abbrev pub flag_text : Bool → List ℕ
+flag_text true = codes "true"
+flag_text false = codes "false"
+
+-- items one after another, with a comma between two, and before the first where something stands before
+abbrev pub items_text : {X : Type 0} → (X → List ℕ) → (later : Bool) → List X → List ℕ
+items_text text later [] = []
+items_text text later (x ∷ xs) = comma_if later ++ (text x ++ items_text text true xs)
+
+-- a list of items
+abbrev pub list_text : {X : Type 0} → (X → List ℕ) → List X → List ℕ
+list_text text xs = codes "[" ++ (items_text text false xs ++ codes "]")
+
+-- a member that may be missing, with the comma after it
+abbrev pub member_if : (key : List ℕ) → Option ℕ → List ℕ
+member_if key None = []
+member_if key (Some x) = codes "\"" ++ (key ++ (codes "\":" ++ (decimal x ++ codes ",")))
+
+-- the least, the greatest and the sum
+abbrev pub level_text : Summary → List ℕ
+level_text s =
+    codes "{\"greatest\":" ++ (signed_decimal s.greatest ++ (codes ",\"least\":" ++ (signed_decimal s.least
+    ++ (codes ",\"sum\":" ++ (signed_decimal s.sum ++ codes "}")))))
+
+-- those of what the buffer holds, how many packets are late, and the slack
+abbrev pub buffer_text : Buffer → List ℕ
+buffer_text b =
+    codes "{\"greatest\":" ++ (signed_decimal b.occupancy.greatest ++ (codes ",\"late\":" ++ (decimal b.margins.late
+    ++ (codes ",\"least\":" ++ (signed_decimal b.occupancy.least ++ (codes ",\"slack\":"
+    ++ (signed_decimal b.margins.slack ++ (codes ",\"sum\":" ++ (signed_decimal b.occupancy.sum ++ codes "}")))))))))
+
+-- the end of a summary: what its numbers are held against, where there is something
+abbrev pub target_end : Option ℕ → List ℕ
+target_end None = codes "}"
+target_end (Some target) = codes ",\"target\":" ++ (decimal target ++ codes "}")
+
+-- all of a summary
+abbrev pub summary_text : Summary → (target : Option ℕ) → List ℕ
+summary_text s target =
+    codes "{\"first\":" ++ (signed_decimal s.first ++ (codes ",\"greatest\":" ++ (signed_decimal s.greatest
+    ++ (codes ",\"last\":" ++ (signed_decimal s.last ++ (codes ",\"least\":" ++ (signed_decimal s.least
+    ++ (codes ",\"sum\":" ++ (signed_decimal s.sum ++ target_end target)))))))))
+
+-- the steps of the timestamp, where there are two groups
+abbrev pub step_member : Option Summary → List ℕ
+step_member None = []
+step_member (Some s) =
+    codes "\"step\":{\"greatest\":" ++ (signed_decimal s.greatest ++ (codes ",\"least\":" ++ (signed_decimal s.least
+    ++ codes "},")))
+
+-- the times between packets, where there are two
+abbrev pub gap_member : Option ToldGaps → List ℕ
+gap_member None = []
+gap_member (Some g) =
+    codes "\"gap\":{\"classes\":" ++ (list_text decimal g.classes ++ (codes ",\"greatest\":"
+    ++ (signed_decimal g.summary.greatest ++ (codes ",\"least\":" ++ (signed_decimal g.summary.least
+    ++ (codes ",\"sum\":" ++ (signed_decimal g.summary.sum ++ codes "},")))))))
+
+-- bins, and how many numbers are below 0, where that is told
+abbrev pub bins_text : ToldBins → (below : Option ℕ) → List ℕ
+bins_text b below =
+    codes "{\"above\":" ++ (decimal b.above ++ (codes "," ++ (member_if (codes "below") below ++ (codes "\"counts\":"
+    ++ (list_text decimal b.counts ++ (codes ",\"limit\":" ++ (decimal b.limit ++ (codes ",\"width\":"
+    ++ (decimal b.width ++ codes "}")))))))))
+
+-- where packet `to` of a fail stands, with the comma after it
+abbrev pub place_members : Option ToldPlace → List ℕ
+place_members None = []
+place_members (Some p) =
+    codes "\"record\":" ++ (decimal p.rec ++ (codes ",\"stamp\":" ++ (decimal p.stamp ++ codes ",")))
+
+-- a fail
+abbrev pub proof_text : FailProof → Option ToldPlace → List ℕ
+proof_text proof place =
+    codes "{\"count\":" ++ (decimal proof.count ++ (codes ",\"from\":" ++ (decimal proof.from ++ (codes ",\"limit\":"
+    ++ (decimal proof.limit ++ (codes ",\"model\":\"" ++ (model_name proof.model ++ (codes "\","
+    ++ (place_members place ++ (codes "\"to\":" ++ (decimal proof.to ++ codes "}")))))))))))
+
+-- whether a type passes, and what shows that it fails
+abbrev pub outcome_text : KindVerdict → Option ToldPlace → List ℕ
+outcome_text kind_verdict.Pass place = codes "\"pass\":true"
+outcome_text (kind_verdict.Fail proof) place = codes "\"pass\":false,\"proof\":" ++ proof_text proof place
+
+-- the packets that break a model first, and the groups that break
+abbrev pub breaks_text : ToldKind → List ℕ
+breaks_text k =
+    member_if (codes "first_bucket") k.first_bucket ++ (member_if (codes "first_empty") k.first_empty
+    ++ (member_if (codes "first_over") k.first_over ++ (codes "\"frames_broken\":" ++ decimal k.groups_broken)))
+
+-- a type; its bucket is never below 0
+unfoldable pub kind_text : Kind → KindVerdict → ToldKind → List ℕ
+kind_text kind outcome k =
+    codes "{\"bucket\":" ++ (bins_text k.bucket None ++ (codes ",\"buffer\":"
+    ++ (bins_text k.buffer (Some k.buffer.below) ++ (codes "," ++ (breaks_text k ++ (codes ","
+    ++ (outcome_text outcome k.named ++ (codes ",\"type\":\"" ++ (kind_name kind ++ codes "\"}")))))))))
+
+-- the type at this place of N, NL and W
+abbrev pub kind_at : ℕ → Kind
+kind_at zero = N
+kind_at (suc zero) = NL
+kind_at (suc (suc place)) = W
+
+-- the types from a place on, with a comma between two
+abbrev pub kinds_from : Judged → (place : ℕ) → List ToldKind → List ℕ
+kinds_from judged place [] = []
+kinds_from judged place (k ∷ ks) =
+    comma_if (nat_lt 0 place)
+    ++ (kind_text (kind_at place) (verdict_on judged (kind_at place)) k ++ kinds_from judged (place + 1) ks)
+
+-- the types N, NL and W
+abbrev pub kinds_text : Judged → List ToldKind → List ℕ
+kinds_text judged ks = codes "[" ++ (kinds_from judged 0 ks ++ codes "]")
+
+-- the members of a run from `bucket` to `gap`
+abbrev pub run_front : Judged → ToldNumbers → List ℕ
+run_front judged n =
+    codes "{\"bucket\":" ++ (level_text n.bucket ++ (codes ",\"first\":" ++ (summary_text n.first (Some n.target)
+    ++ (codes ",\"frames\":" ++ (decimal judged.frames ++ (codes "," ++ gap_member n.gap))))))
+
+-- from `gapped` to `latency`
+abbrev pub run_middle : Media → Judged → ToldNumbers → List ℕ
+run_middle media judged n =
+    codes "\"gapped\":" ++ (buffer_text n.gapped ++ (codes ",\"head\":" ++ (decimal judged.head
+    ++ (codes ",\"interlaced\":" ++ (flag_text media.interlaced ++ (codes ",\"last\":" ++ (summary_text n.last None
+    ++ (codes ",\"latency\":" ++ summary_text n.latency None))))))))
+
+-- from `linear` to `packets`
+abbrev pub run_rest : Judged → ToldRun → List ℕ
+run_rest judged r =
+    codes ",\"linear\":" ++ (buffer_text r.numbers.linear ++ (codes ",\"n\":" ++ (decimal judged.n
+    ++ (codes ",\"number\":" ++ (decimal r.number ++ (codes ",\"offset\":" ++ (summary_text r.numbers.offset None
+    ++ (codes ",\"packets\":" ++ decimal judged.packets))))))))
+
+-- from `record` to `types`
+abbrev pub run_end : Judged → ToldRun → List ℕ
+run_end judged r =
+    codes ",\"record\":" ++ (decimal r.rec ++ (codes ",\"run\":" ++ (decimal r.run ++ (codes ","
+    ++ (step_member r.numbers.step ++ (codes "\"tail\":" ++ (decimal judged.tail ++ (codes ",\"types\":"
+    ++ (kinds_text judged r.numbers.kinds ++ codes "}")))))))))
+
+-- a judged run of this media
+unfoldable pub run_text : Media → ToldRun → List ℕ
+run_text media r =
+    run_front r.judged r.numbers
+    ++ (run_middle media r.judged r.numbers ++ (run_rest r.judged r ++ run_end r.judged r))
+
+-- the judged runs, where there is one
+abbrev pub runs_member : Media → List ToldRun → List ℕ
+runs_member media [] = []
+runs_member media (r ∷ rs) = codes "\"runs\":" ++ (list_text (run_text media) (r ∷ rs) ++ codes ",")
+
+-- the source of the first packet that is read, where one is
+abbrev pub ssrc_member : Option ℕ → List ℕ
+ssrc_member None = []
+ssrc_member (Some ssrc) = codes "\"ssrc\":\"" ++ (ssrc_text ssrc ++ codes "\",")
+
+-- a flow up to its runs
+abbrev pub flow_front : ToldFlow → List ℕ
+flow_front f =
+    codes "{\"media\":" ++ (decimal (f.media + 1) ++ (codes ",\"packets\":" ++ (decimal f.packets ++ codes ",")))
+
+-- what stands after its runs
+abbrev pub flow_end : Media → ToldFlow → (word : List ℕ) → List ℕ
+flow_end media f word =
+    ssrc_member f.ssrc ++ (codes "\"target\":\"" ++ (target_text (target_of media) ++ (codes "\",\"verdict\":\""
+    ++ (word ++ codes "\"}"))))
+
+-- a flow of this media that is judged, as one run or in several
+unfoldable pub judged_text : Media → ToldFlow → (word : List ℕ) → List ℕ
+judged_text media f word = flow_front f ++ (runs_member media f.runs ++ flow_end media f word)
+
+-- the same as members, for a flow that isn't judged
+abbrev pub ssrc_members : Option ℕ → List Member
+ssrc_members None = []
+ssrc_members (Some ssrc) = (codes "ssrc", string (ssrc_text ssrc)) ∷ []
+
+abbrev pub flow_members : Media → ToldFlow → List Member
+flow_members media f =
+    (codes "media", count (f.media + 1)) ∷ (codes "packets", count f.packets)
+    ∷ (codes "target", string (target_text (target_of media))) ∷ ssrc_members f.ssrc
+
+-- a flow that isn't judged: its members, and those that the JSON report has for such a verdict
+abbrev pub unjudged_text : Media → ToldFlow → Unjudged → List ℕ
+unjudged_text media f unjudged = compact_text (object_of (flow_members media f ++ unjudged_members unjudged))
+
+-- a flow of this media with this verdict
+abbrev pub verdict_flow : Media → ToldFlow → Verdict → List ℕ
+verdict_flow media f (verdict.Unjudged unjudged) = unjudged_text media f unjudged
+verdict_flow media f (verdict.Judged judged) = judged_text media f (codes "judged")
+verdict_flow media f (verdict.Runs runs) = judged_text media f (codes "runs")
+
+-- a flow of a session
+abbrev pub flow_text : List Media → ToldFlow → List ℕ
+flow_text session f = verdict_flow (media_of session (key_of 0 f.media)) f f.verdict
+
+-- the whole of a capture of this name that ends so
+abbrev pub measure_json : List ℕ → FileNote → List Media → List ToldFlow → List ℕ
+measure_json name note session flows =
+    codes "{\"end\":" ++ (quoted_text (note_text note) ++ (codes ",\"flows\":" ++ (list_text (flow_text session) flows
+    ++ (codes ",\"name\":" ++ (quoted_text name ++ codes "}\n")))))
+
+-- each flow is of a media of the session
+abbrev pub AreOfMedia : List Media → List MeasuredFlow → Type 0
+AreOfMedia session flows = All (λ f. f.media < length session) flows

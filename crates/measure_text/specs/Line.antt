@@ -1,7 +1,0 @@
--- What a line holds that is written from its end to its front.
-use Rattle.std.specs.Prelude.{ℕ, List, drop}
-use Rattle.measure_text.specs.declared.line.Line.{Line}
-
--- the bytes that were put in so far
-abbrev pub written : Line → List ℕ
-written line = drop line.start line.bytes
