@@ -24,3 +24,4 @@ pub mod Unique
 pub mod Waiting
 pub mod Widths
 pub mod report
+pub mod rows

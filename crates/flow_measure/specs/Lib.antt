@@ -26,3 +26,4 @@ pub mod Places
 pub mod Parts
 pub mod Own
 pub mod report
+pub mod rows

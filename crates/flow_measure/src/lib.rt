@@ -7,6 +7,7 @@
 //! and groups are counted from 0.
 #![tactic(auto)]
 
+pub mod rows;
 pub mod report;
 mod bins;
 mod broken;

@@ -20,7 +20,7 @@ use Rattle.flow_measure.proofs.Followed.{front-is, last-is, occupancies-front}
 use Rattle.flow_measure.proofs.Grouped.{firsts-next}
 use Rattle.flow_measure.proofs.Packets.{listed-front, listed-last, occupancies}
 use Rattle.flow_measure.proofs.Passes.{occupancy-once}
-use Rattle.flow_rows.specs.declared.levels.Level.{Level}
+use Rattle.flow_measure.specs.declared.rows.levels.Level.{Level}
 use Rattle.flow_page.specs.drawing.Drawn.{IsHeld}
 use Rattle.flow_page.specs.declared.drawing.groups.GroupColumns.{GroupColumns}
 use Rattle.flow_page.specs.drawing.drawing.Columns.{DrawsFirsts, DrawsGroups, DrawsIn}

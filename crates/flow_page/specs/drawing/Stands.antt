@@ -6,7 +6,7 @@ use Rattle.timing_base.specs.Media.{Media}
 use Rattle.timing_base.specs.Verdicts.{Judged}
 use Rattle.timing_base.specs.declared.media.Kind.TheVariants.{N, NL, W}
 use Rattle.timing_base.specs.declared.row.KindVerdict.TheVariants.{Pass}
-use Rattle.flow_rows.specs.making.Levels.{StandsFor as LevelsStandFor}
+use Rattle.flow_measure.specs.rows.making.Levels.{StandsFor as LevelsStandFor}
 use Rattle.flow_page.specs.drawing.drawing.Columns.{DrawsGroups, DrawsPackets}
 use Rattle.flow_page.specs.drawing.drawing.Regions.{DrawsKind}
 use Rattle.flow_page.specs.declared.drawing.drawing.RunDrawing.{RunDrawing}

@@ -11,7 +11,7 @@ use crate::drawing::packets::{PacketColumns, listed};
 use crate::drawing::region::RegionMeter;
 use crate::drawing::regions::{begin_region, feed_region, put_region};
 use crate::{Curves, Region};
-use flow_rows::LevelMeter;
+use flow_measure::rows::LevelMeter;
 use sender_params::Params;
 use std::alloc::{AllocError as OutOfMemory, Global};
 use timing_base::{Items, Judged, Kind, Media};

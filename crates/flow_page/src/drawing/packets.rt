@@ -7,7 +7,7 @@ ghost use Rattle.flow_measure.specs.Columns.{AreCurve, AreEye};
 ghost use Rattle.flow_measure.specs.Stands.{Draws};
 
 use flow_measure::{Columns, Extremes};
-use flow_rows::Level;
+use flow_measure::rows::Level;
 use std::alloc::{AllocError as OutOfMemory, Global};
 use timing_base::Items;
 

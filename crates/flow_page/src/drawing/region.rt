@@ -11,7 +11,7 @@ ghost use Rattle.flow_page.specs.drawing.drawing.Held.{Holds, buffer_of, held_by
 use crate::drawing::packets::listed;
 use flow_measure::Columns;
 use crate::Region;
-use flow_rows::Level;
+use flow_measure::rows::Level;
 use std::alloc::{AllocError as OutOfMemory, Global};
 use timing_base::{Broken, FailProof, Kind};
 

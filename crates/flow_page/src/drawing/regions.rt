@@ -9,7 +9,7 @@ ghost use Rattle.flow_page.specs.drawing.drawing.Regions.{DrawsKind, PutsKind};
 
 use crate::drawing::region::RegionMeter;
 use crate::Region;
-use flow_rows::Level;
+use flow_measure::rows::Level;
 use std::alloc::{AllocError as OutOfMemory, Global};
 use timing_base::{Kind, KindVerdict};
 

@@ -12,9 +12,9 @@ use Rattle.timing_measure.specs.Measured.{JudgedPart, stamps_of}
 use Rattle.timing_measure.specs.metering.Judgings.{StandsFor as JudgingStandsFor}
 use Rattle.timing_measure.specs.metering.Plan.{IsWhole, planned_at, planned_between, planned_packets, planned_part}
 use Rattle.timing_measure.specs.metering.Walks.{IsWalk}
-use Rattle.flow_rows.specs.Rows.{AreRows}
+use Rattle.flow_measure.specs.rows.Rows.{AreRows}
 use Rattle.timing_measure.specs.series.Rows.{AreRowsOf}
-use Rattle.flow_rows.specs.making.Stands.{StandsFor as RowsStandFor, seen_of}
+use Rattle.flow_measure.specs.rows.making.Stands.{StandsFor as RowsStandFor, seen_of}
 use Rattle.timing_measure.specs.declared.series.meter.FlowRows.{FlowRows}
 use Rattle.timing_measure.specs.declared.series.open.OpenRows.{OpenRows}
 

@@ -3,7 +3,7 @@
 use Rattle.std.specs.Prelude.{◌≡◌, ℕ, Bool, List, [], ◌∷◌, ◌++◌, take}
 use Rattle.timing_base.specs.Media.{Media}
 use Rattle.timing_base.specs.declared.packet.FlowPacket.{FlowPacket}
-use Rattle.flow_rows.specs.Rows.{AreRows, header_text}
+use Rattle.flow_measure.specs.rows.Rows.{AreRows, header_text}
 use Rattle.timing_measure.specs.Measured.{JudgedPart, judged_parts}
 
 -- the rows of judged runs, one after the other

@@ -9,13 +9,13 @@ ghost use Rattle.fail_interval.specs.States.{IsReading};
 ghost use Rattle.timing_outside.specs.Causes.{Rose};
 ghost use Rattle.timing_outside.specs.Written.{AppendsFront};
 ghost use Rattle.timing_steps.specs.declared.failure.Failure.TheVariants as failure;
-ghost use Rattle.flow_rows.specs.Rows.{header_text};
+ghost use Rattle.flow_measure.specs.rows.Rows.{header_text};
 
 use crate::metering::Judging;
 use crate::metering::plan::planned_at;
 use crate::metering::walk::Walk;
 use crate::series::open::OpenRows;
-use flow_rows::header;
+use flow_measure::rows::header;
 use flow_measure::report::RowText;
 use std::alloc::{AllocError as OutOfMemory, Global};
 use timing_base::{FlowPacket, Media, Verdict};

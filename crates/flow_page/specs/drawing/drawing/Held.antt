@@ -6,7 +6,7 @@ use Rattle.timing_base.specs.declared.fail.Broken.TheVariants.{Bucket, Over, Emp
 use Rattle.timing_base.specs.declared.media.Kind.{Kind}
 use Rattle.timing_base.specs.declared.media.Kind.TheVariants.{N, NL, W}
 use Rattle.flow_measure.specs.Occupancy.{IsOccupancy, buckets_of}
-use Rattle.flow_rows.specs.declared.levels.Level.{Level}
+use Rattle.flow_measure.specs.declared.rows.levels.Level.{Level}
 
 -- just after packet i of those with these stamps
 pub record Holds (m : Media) (n : ℕ) (stamps : List ℕ) (i : ℕ) (level : Level) : Type 0 where

@@ -33,7 +33,7 @@ use Rattle.udp_rtp.specs.Flow.{flow, flow_packet}
 use Rattle.timing_measure.specs.series.Finding.{FindsAgain, FindsElse, IsAnswerOf, IsFoundIn, IsNewFlow}
 use Rattle.timing_measure.specs.series.Meters.{StandsFor}
 use Rattle.timing_measure.specs.series.Reading.{CopiesIn, CopiesSome, FeedsOn, HasRoom, Stopped}
-use Rattle.flow_rows.specs.Rows.{header_text}
+use Rattle.flow_measure.specs.rows.Rows.{header_text}
 use Rattle.timing_measure.specs.series.Rows.{BeginRowsOf}
 use Rattle.timing_measure.specs.series.Series.{AnswersFlow, BeginsIn, HasSeries, series_status}
 use Rattle.timing_measure.specs.series.Streams.{HasBegun, HasRest, HasRestStatus, is_silent_stream}

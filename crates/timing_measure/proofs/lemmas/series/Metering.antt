@@ -12,7 +12,7 @@ use Rattle.timing_base.specs.declared.row.Verdict.{Verdict}
 use Rattle.timing_base.proofs.Places.{cuts-here, cuts-other, last_place-push, run_start-le}
 use Rattle.timing_measure.specs.metering.Plan.{planned_at, planned_part}
 use Rattle.timing_measure.specs.metering.Walks.{IsWalk, begins_at}
-use Rattle.flow_rows.specs.Rows.{AreRows}
+use Rattle.flow_measure.specs.rows.Rows.{AreRows}
 use Rattle.timing_measure.specs.series.Meters.{IsAt, IsFresh, IsGoing, IsOpen, OpensAs, PassesOn, PassesRun}
 use Rattle.timing_measure.specs.declared.series.meter.FlowRows.{FlowRows}
 use Rattle.timing_measure.specs.declared.series.open.OpenRows.{OpenRows}

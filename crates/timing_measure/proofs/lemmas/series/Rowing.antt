@@ -13,11 +13,11 @@ use Rattle.timing_base.specs.Verdicts.{Judged}
 use Rattle.timing_base.specs.declared.packet.FlowPacket.{FlowPacket}
 use Rattle.timing_measure.specs.Measured.{JudgedPart, stamps_of}
 use Rattle.timing_measure.specs.metering.Plan.{IsWhole, planned_packets, planned_part}
-use Rattle.flow_rows.specs.Rows.{Adds, AreRows}
+use Rattle.flow_measure.specs.rows.Rows.{Adds, AreRows}
 use Rattle.timing_measure.specs.series.Rows.{AreRowsOf}
 use Rattle.timing_measure.specs.series.Meters.{IsOpen, OpensAs, PassesRun}
-use Rattle.flow_rows.specs.making.Stands.{PutsRow, StandsFor, seen_of}
-use Rattle.flow_rows.specs.declared.rows.RunRows.{RunRows}
+use Rattle.flow_measure.specs.rows.making.Stands.{PutsRow, StandsFor, seen_of}
+use Rattle.flow_measure.specs.declared.rows.rows.RunRows.{RunRows}
 use Rattle.timing_measure.specs.declared.series.open.OpenRows.{OpenRows}
 use Rattle.timing_measure.proofs.Planning.{planned-behind, planned-few, planned-more, stamps-before}
 

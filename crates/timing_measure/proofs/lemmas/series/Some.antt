@@ -20,8 +20,8 @@ use Rattle.flow_measure.proofs.Passes.{occupancy-some}
 use Rattle.flow_measure.specs.report.Rows.{group_row_text, packet_row_text}
 use Rattle.flow_measure.specs.declared.report.rows.GroupRow.{GroupRow}
 use Rattle.flow_measure.specs.declared.report.rows.PacketRow.{PacketRow}
-use Rattle.flow_rows.specs.Packets.{stamps_of}
-use Rattle.flow_rows.specs.Rows.{Adds, AddsGroup, AreRows, IsHeld, IsOfGroup, IsPacketRow, IsRowOf, ends_group, header_text, step_before}
+use Rattle.flow_measure.specs.rows.Packets.{stamps_of}
+use Rattle.flow_measure.specs.rows.Rows.{Adds, AddsGroup, AreRows, IsHeld, IsOfGroup, IsPacketRow, IsRowOf, ends_group, header_text, step_before}
 use Rattle.pcap_reader.specs.Records.{Records}
 use Rattle.timing_measure.specs.Measured.{JudgedPart, judged_parts}
 use Rattle.timing_measure.specs.metering.Plan.{IsWhole, has_judged_run}

@@ -19,8 +19,8 @@ use Rattle.flow_measure.proofs.Unique.{greatest-once, least-once}
 use Rattle.flow_measure.specs.report.Rows.{group_row_text, packet_row_text}
 use Rattle.flow_measure.specs.declared.report.rows.GroupRow.{GroupRow}
 use Rattle.flow_measure.specs.declared.report.rows.PacketRow.{PacketRow}
-use Rattle.flow_rows.specs.Packets.{stamps_of}
-use Rattle.flow_rows.specs.Rows.{Adds, AddsGroup, AreRows, IsHeld, IsOfGroup, IsPacketRow, IsRowOf, ends_group, header_text}
+use Rattle.flow_measure.specs.rows.Packets.{stamps_of}
+use Rattle.flow_measure.specs.rows.Rows.{Adds, AddsGroup, AreRows, IsHeld, IsOfGroup, IsPacketRow, IsRowOf, ends_group, header_text}
 use Rattle.pcap_reader.specs.Header.{header}
 use Rattle.pcap_reader.proofs.Lists.{only_by}
 use Rattle.timing_measure.specs.Measured.{JudgedPart, judged_parts}

@@ -3,7 +3,7 @@ use Rattle.std.specs.List.{slice_index_or}
 use Rattle.timing_base.specs.Media.{Media}
 use Rattle.timing_base.specs.declared.media.Kind.TheVariants.{N, NL, W}
 use Rattle.timing_base.specs.declared.row.KindVerdict.TheVariants.{Pass}
-use Rattle.flow_rows.specs.making.Levels.{StandsFor as LevelsStandFor}
+use Rattle.flow_measure.specs.rows.making.Levels.{StandsFor as LevelsStandFor}
 use Rattle.flow_page.specs.drawing.Stands.{IsDrawable}
 use Rattle.flow_page.specs.drawing.drawing.Columns.{DrawsGroups, DrawsPackets}
 use Rattle.flow_page.specs.drawing.drawing.Regions.{DrawsKind}

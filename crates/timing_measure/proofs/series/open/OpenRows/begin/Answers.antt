@@ -1,5 +1,5 @@
 use Rattle.std.proofs.Common.{◌≡◌, ap, arith, length, rules, subst, sym, ◌∙◌}
-use Rattle.flow_rows.specs.making.Stands.{StandsFor}
+use Rattle.flow_measure.specs.rows.making.Stands.{StandsFor}
 use Rattle.timing_measure.proofs.lemmas.series.Rowing.{planned-none}
 use Rattle.timing_measure.proofs.series.open.OpenRows.begin.Goals as goal
 
