@@ -22,7 +22,7 @@ use Rattle.pcap_reader.specs.Taken.{TakesFew}
 use Rattle.pcap_reader.specs.declared.records.Taken.{Taken}
 use Rattle.pcap_reader.proofs.Lists.{only_by}
 use Rattle.pcapng_reader.specs.Classic.{classic}
-use Rattle.timing_steps.specs.Taken.{TakesText}
+use Rattle.timing_reach.specs.steps.Taken.{TakesText}
 use Rattle.udp_rtp.specs.Flow.{flow}
 use Rattle.timing_reach.specs.judged.Flows.{TakesFlow}
 use Rattle.timing_reach.specs.declared.judged.flows.FlowOf.{FlowOf}

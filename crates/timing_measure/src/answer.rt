@@ -11,7 +11,7 @@ use flow_measure::report::json_of;
 use std::alloc::{AllocError as OutOfMemory, Global};
 use timing_base::{CaptureJob, FileNote, Session};
 use timing_report::{Status, any_refused};
-use timing_steps::Answer;
+use timing_reach::steps::Answer;
 
 /// Whether the flow has a judged run, which was measured.
 fn has_run(flow: &MeasuredFlow) -> bool

@@ -9,7 +9,7 @@ ghost use Rattle.timing_base.specs.Jobs.{CaptureJob, IsCaptureJob};
 ghost use Rattle.timing_base.specs.Media.{IsMedia, Media};
 ghost use Rattle.timing_base.specs.declared.capture.FileNote.{FileNote};
 ghost use Rattle.pcap_reader.specs.Records.{Records};
-ghost use Rattle.timing_steps.specs.Answers.{Answer};
+ghost use Rattle.timing_reach.specs.steps.Answers.{Answer};
 ghost use Rattle.timing_measure.specs.Measures.{HasMeasure};
 
 /// The texts of `measure` have an answer, where the media are within the limits of a media and the records have stamps

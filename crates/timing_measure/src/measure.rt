@@ -6,9 +6,9 @@ ghost use Rattle.timing_base.specs.Targets.{HaveOwnTargets};
 ghost use Rattle.timing_outside.specs.Causes.{Rose};
 ghost use Rattle.pcapng_reader.specs.Classic.{classic_texts};
 ghost use Rattle.timing_outside.specs.Shelves.{StaysAs};
-ghost use Rattle.timing_steps.specs.Answers.{Gives, OnReadFault, Yields, seen_of};
-ghost use Rattle.timing_steps.specs.Ends.{EndsWith, HasStatus};
-ghost use Rattle.timing_steps.specs.Ran.{HasCause, Ran, output_of};
+ghost use Rattle.timing_reach.specs.steps.Answers.{Gives, OnReadFault, Yields, seen_of};
+ghost use Rattle.timing_reach.specs.steps.Ends.{EndsWith, HasStatus};
+ghost use Rattle.timing_reach.specs.steps.Ran.{HasCause, Ran, output_of};
 ghost use Rattle.timing_reach.specs.Asked.{ReadsCapture};
 ghost use Rattle.timing_measure.specs.Measures.{AreFlows, FollowsMeasure, HasMeasure, MeasureInputRose, measure_ends};
 ghost use Rattle.timing_measure.specs.Measures.{measured};
@@ -23,7 +23,7 @@ use std::alloc::Global;
 use timing_base::{CaptureJob, Media, Session};
 use timing_outside::{Shelf, Sink};
 use timing_report::{Input, Status};
-use timing_steps::{Answer, Failure, conclude, fetch_session};
+use timing_reach::steps::{Answer, Failure, conclude, fetch_session};
 
 /// The flows of these media in the capture of a job, which is read a second time where a run is judged.
 fn read_flows<H: Shelf>(

@@ -9,7 +9,7 @@ ghost use Rattle.timing_base.specs.Targets.{HaveOwnTargets};
 ghost use Rattle.timing_outside.specs.Causes.{Rose};
 ghost use Rattle.timing_outside.specs.Shelves.{StaysAs};
 ghost use Rattle.pcapng_reader.specs.Classic.{classic_texts};
-ghost use Rattle.timing_steps.specs.Answers.{OnReadFault};
+ghost use Rattle.timing_reach.specs.steps.Answers.{OnReadFault};
 ghost use Rattle.timing_measure.specs.Each.{AllPairs};
 ghost use Rattle.timing_measure.specs.Readings.{AreChanged, AreEnds, AreFirsts, AreSeconds, AreUnmeasured, FirstEnds};
 ghost use Rattle.timing_measure.specs.Readings.{IsFirstIn, IsReadingIn, IsReadingOf, IsToldOf, SecondEnds};
@@ -28,7 +28,7 @@ use timing_outside::Shelf;
 use timing_reach::judged::captures::take_capture;
 use timing_reach::judged::flows::FlowOf;
 use timing_report::Input;
-use timing_steps::Failure;
+use timing_reach::steps::Failure;
 
 /// What a reading of a capture came to.
 #[derive(Drop)]

@@ -16,7 +16,7 @@ use Rattle.fail_interval.specs.Stands.{StandsFor}
 use Rattle.pcap_reader.specs.Records.{Records}
 use Rattle.pcap_reader.specs.Taken.{TakesFew}
 use Rattle.udp_rtp.specs.Flow.{flow, flow_packet}
-use Rattle.timing_steps.specs.Answers.{Answer}
+use Rattle.timing_reach.specs.steps.Answers.{Answer}
 use Rattle.timing_reach.specs.Asked.{OnFlow, OnRun, not_judged}
 use Rattle.timing_reach.specs.judged.Flows.{TakesIn}
 use Rattle.timing_reach.specs.judged.Runs.{IsRunOf}

@@ -17,7 +17,7 @@ use Rattle.pcap_reader.specs.Taken.{TakesFew}
 use Rattle.pcap_reader.proofs.Lists.{only_by}
 use Rattle.pcapng_reader.specs.Classic.{classic}
 use Rattle.udp_rtp.specs.Flow.{flow}
-use Rattle.timing_steps.specs.Answers.{Answer}
+use Rattle.timing_reach.specs.steps.Answers.{Answer}
 use Rattle.timing_reach.specs.judged.Readings.{IsJudging, IsJudgment, IsJudgmentIn, JudgesOn}
 use Rattle.timing_reach.specs.judged.Flows.{TakesIn}
 use Rattle.timing_reach.specs.judged.Runs.{IsRunOf}

@@ -11,7 +11,7 @@ use Rattle.timing_base.specs.Verdicts.{Judged}
 use Rattle.timing_base.specs.declared.media.Kind.{Kind}
 use Rattle.timing_base.specs.declared.packet.FlowPacket.{FlowPacket}
 use Rattle.timing_report.specs.declared.status.Status.TheVariants as status
-use Rattle.timing_steps.specs.Answers.{Answer}
+use Rattle.timing_reach.specs.steps.Answers.{Answer}
 use Rattle.timing_reach.specs.judged.Runs.{IsRunOf, gauged}
 use Rattle.udp_rtp.specs.Flow.{flow}
 use Rattle.timing_reach.specs.shape.Leaving.{HasGiven, IsFit, IsPartOf, Part, part_of, stamps_in}

@@ -12,7 +12,7 @@ use Rattle.pcap_reader.specs.Taken.{TakesFew}
 use Rattle.pcap_reader.proofs.Lists.{only_by}
 use Rattle.pcap_reader.specs.declared.records.Taken.{Taken}
 use Rattle.pcap_reader.proofs.Captures.{map-raised}
-use Rattle.timing_steps.specs.Taken.{TakesText}
+use Rattle.timing_reach.specs.steps.Taken.{TakesText}
 use Rattle.timing_reach.specs.judged.Flows.{TakesFlow, TakesIn}
 use Rattle.timing_reach.specs.declared.judged.flows.FlowOf.{FlowOf}
 use Rattle.udp_rtp.specs.Flow.{flow_packet}

@@ -15,3 +15,4 @@ pub mod window
 pub mod shape
 pub mod skew
 pub mod scan
+pub mod steps

@@ -16,7 +16,7 @@ use Rattle.timing_base.specs.Judged.{JudgedRun}
 use Rattle.timing_base.specs.Media.{Media}
 use Rattle.timing_base.specs.declared.media.Kind.{Kind}
 use Rattle.timing_report.specs.declared.status.Status.TheVariants as status
-use Rattle.timing_steps.specs.Answers.{Answer}
+use Rattle.timing_reach.specs.steps.Answers.{Answer}
 use Rattle.udp_rtp.specs.Flow.{flow_packet}
 
 -- the instant of TAI from which on a capture, whose clock is `tai` seconds behind, has no stamp

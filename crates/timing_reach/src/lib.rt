@@ -7,6 +7,7 @@
 //! are nanoseconds.
 #![tactic(auto)]
 
+pub mod steps;
 pub mod judged;
 pub mod laws;
 mod scan;

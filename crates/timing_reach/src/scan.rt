@@ -7,9 +7,9 @@ ghost use Rattle.capture_scan.specs.report.Contents.{contents_of};
 ghost use Rattle.timing_outside.specs.Causes.{Rose};
 ghost use Rattle.timing_outside.specs.Shelves.{StaysAs};
 ghost use Rattle.pcapng_reader.specs.Classic.{classic_texts};
-ghost use Rattle.timing_steps.specs.Answers.{OnReadFault, seen_of};
-ghost use Rattle.timing_steps.specs.Ends.{EndsWith, HasStatus};
-ghost use Rattle.timing_steps.specs.Ran.{HasCause, Ran, output_of};
+ghost use Rattle.timing_reach.specs.steps.Answers.{OnReadFault, seen_of};
+ghost use Rattle.timing_reach.specs.steps.Ends.{EndsWith, HasStatus};
+ghost use Rattle.timing_reach.specs.steps.Ran.{HasCause, Ran, output_of};
 ghost use Rattle.timing_reach.specs.Scanned.{FollowsScan, ScanInputRose, scan_ends, scanned};
 ghost use Rattle.timing_reach.specs.scan.Scanning.{IsScannedIn};
 
@@ -20,7 +20,7 @@ use std::alloc::Global;
 use timing_base::{FileNote, ScanJob};
 use timing_outside::{Shelf, Sink};
 use timing_report::{Input, Status};
-use timing_steps::{Answer, Failure, conclude};
+use crate::steps::{Answer, Failure, conclude};
 
 /// What a capture holds, and how it ends.
 #[derive(Drop)]

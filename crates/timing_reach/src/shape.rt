@@ -8,9 +8,9 @@ mod words;
 
 ghost use Rattle.std.specs.Prelude.{IfOk};
 ghost use Rattle.timing_outside.specs.Shelves.{StaysAs};
-ghost use Rattle.timing_steps.specs.Answers.{seen_of};
-ghost use Rattle.timing_steps.specs.Ends.{EndsWith, HasStatus, look_ends};
-ghost use Rattle.timing_steps.specs.Ran.{HasCause, Ran, output_of};
+ghost use Rattle.timing_reach.specs.steps.Answers.{seen_of};
+ghost use Rattle.timing_reach.specs.steps.Ends.{EndsWith, HasStatus, look_ends};
+ghost use Rattle.timing_reach.specs.steps.Ran.{HasCause, Ran, output_of};
 ghost use Rattle.timing_reach.specs.Asked.{FlowInputRose};
 ghost use Rattle.timing_reach.specs.Shaped.{FollowsShape};
 
@@ -21,7 +21,7 @@ use std::alloc::{AllocError as OutOfMemory, Global};
 use timing_base::{Judged, Kind, Media, ShapeJob};
 use timing_outside::{Shelf, Sink};
 use timing_report::Status;
-use timing_steps::{Answer, Failure, conclude};
+use crate::steps::{Answer, Failure, conclude};
 
 /// A flow is shaped.
 #[derive(Clone, Copy, Debug, PartialEq, Eq)]

@@ -11,9 +11,9 @@ ghost use Rattle.timing_base.specs.declared.packet.FlowPacket.{FlowPacket as Pac
 ghost use Rattle.timing_outside.specs.Causes.{Rose};
 ghost use Rattle.timing_outside.specs.Shelves.{StaysAs};
 ghost use Rattle.pcapng_reader.specs.Classic.{classic_texts};
-ghost use Rattle.timing_steps.specs.Answers.{Gives, OnReadFault, Yields, seen_of};
-ghost use Rattle.timing_steps.specs.Ends.{EndsWith, HasStatus, look_ends};
-ghost use Rattle.timing_steps.specs.Ran.{HasCause, Ran, output_of};
+ghost use Rattle.timing_reach.specs.steps.Answers.{Gives, OnReadFault, Yields, seen_of};
+ghost use Rattle.timing_reach.specs.steps.Ends.{EndsWith, HasStatus, look_ends};
+ghost use Rattle.timing_reach.specs.steps.Ran.{HasCause, Ran, output_of};
 ghost use Rattle.timing_reach.specs.Asked.{FlowInputRose, FollowsWindow, HasWindow, OnRun, ReadsCapture};
 ghost use Rattle.timing_reach.specs.Windows.{HasLines};
 ghost use Rattle.timing_reach.specs.window.Readings.{HasWindows, IsMeasured, IsMeasuredIn};
@@ -27,7 +27,7 @@ use std::alloc::{AllocError as OutOfMemory, Global};
 use timing_base::{FlowJob, Media, Verdict};
 use timing_outside::{Shelf, Sink};
 use timing_report::{Input, Status};
-use timing_steps::{Answer, Failure, conclude};
+use crate::steps::{Answer, Failure, conclude};
 
 /// The lines of a flow that is judged in one run, or the verdict on another.
 fn told_of(alloc: Global, media: &Media, measured: &Measured) -> Result<Answer, OutOfMemory>

@@ -9,9 +9,9 @@ use Rattle.sdp_reader.specs.declared.fault.SdpFault.{SdpFault}
 use Rattle.timing_report.specs.declared.status.Input.{Input}
 use Rattle.timing_report.specs.declared.status.Input.TheVariants as input
 use Rattle.timing_report.specs.declared.status.Status.TheVariants as status
-use Rattle.timing_steps.specs.Answers.{Answer, AreThere, AreTold, CaptureRose, Gives, HasRisen, Inputs, OnSession, ReadsCaptures, ReadsSession, Yields, silent}
-use Rattle.timing_steps.specs.declared.failure.Failure.{Failure}
-use Rattle.timing_steps.specs.declared.failure.Failure.TheVariants as failure
+use Rattle.timing_reach.specs.steps.Answers.{Answer, AreThere, AreTold, CaptureRose, Gives, HasRisen, Inputs, OnSession, ReadsCaptures, ReadsSession, Yields, silent}
+use Rattle.timing_reach.specs.declared.steps.failure.Failure.{Failure}
+use Rattle.timing_reach.specs.declared.steps.failure.Failure.TheVariants as failure
 
 -- memory ran out, or the count of an input rose
 abbrev pub Caused : Failure → (Input → Type 0) → Type 0

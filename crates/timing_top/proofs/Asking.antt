@@ -11,9 +11,9 @@ use Rattle.timing_report.specs.declared.status.Input.{Input}
 use Rattle.timing_report.specs.declared.status.Status.{Status}
 use Rattle.timing_report.specs.declared.status.Status.TheVariants as status
 use Rattle.pcapng_reader.specs.Classic.{classic}
-use Rattle.timing_steps.specs.Answers.{Answer, AreThere, AreTold, Gives, Inputs, ReadsCaptures, ReadsSession, silent}
-use Rattle.timing_steps.specs.declared.failure.Failure.{Failure}
-use Rattle.timing_steps.specs.declared.failure.Failure.TheVariants as failure
+use Rattle.timing_reach.specs.steps.Answers.{Answer, AreThere, AreTold, Gives, Inputs, ReadsCaptures, ReadsSession, silent}
+use Rattle.timing_reach.specs.declared.steps.failure.Failure.{Failure}
+use Rattle.timing_reach.specs.declared.steps.failure.Failure.TheVariants as failure
 use Rattle.timing_top.specs.Check.{CheckInputRose, FollowsCheck}
 use Rattle.timing_top.specs.Asked.{Follows, FollowsAtOnce, FollowsHelp, FollowsSelfTest, InputRose, MeasuresBytes, names_of, page}
 use Rattle.timing_top.specs.Report.{HasReport}

@@ -10,8 +10,8 @@ use Rattle.timing_report.specs.declared.json_report.reading.ReportProof.{ReportP
 use Rattle.timing_report.specs.declared.status.Input.{Input}
 use Rattle.timing_report.specs.declared.status.Input.TheVariants as input
 use Rattle.timing_report.specs.declared.status.Status.TheVariants as status
-use Rattle.timing_steps.specs.Answers.{Answer, AreThere, AreTold, Gives, HasRisen, Inputs, ReadsSession, silent}
-use Rattle.timing_steps.specs.declared.failure.Failure.{Failure}
+use Rattle.timing_reach.specs.steps.Answers.{Answer, AreThere, AreTold, Gives, HasRisen, Inputs, ReadsSession, silent}
+use Rattle.timing_reach.specs.declared.steps.failure.Failure.{Failure}
 use Rattle.timing_top.specs.verify.Asked.{FollowsReport, HasReported, OnReport, ReadsNeeded, ReadsReport, ReportInputRose, needed}
 use Rattle.timing_report.proofs.json_report.Decided.{only-claims, report-decided}
 use Rattle.timing_top.proofs.verify.Answered.{needed-all, same-needed, same-reported, text_in, told-needed}

@@ -5,8 +5,8 @@ use Rattle.std.proofs.lemmas.List.Elements.{All-head, All-tail}
 use Rattle.timing_base.specs.Jobs.{VerifyJob}
 use Rattle.timing_base.specs.Media.{Media}
 use Rattle.pcapng_reader.specs.Classic.{classic}
-use Rattle.timing_steps.specs.Answers.{Answer, AreThere, AreTold, Inputs, ReadsSession}
-use Rattle.timing_steps.specs.declared.failure.Failure.{Failure}
+use Rattle.timing_reach.specs.steps.Answers.{Answer, AreThere, AreTold, Inputs, ReadsSession}
+use Rattle.timing_reach.specs.declared.steps.failure.Failure.{Failure}
 use Rattle.timing_top.specs.verify.Asked.{FollowsVerify, HasVerified, ReadsMedia, VerifyInputRose}
 use Rattle.timing_top.specs.verify.Verified.{verified}
 use Rattle.timing_top.proofs.verify.Unique.{only-verified, some-verified}

@@ -11,7 +11,7 @@ use pcapng_reader::Classic;
 use std::alloc::Global;
 use timing_base::Media;
 use timing_outside::Shelf;
-use timing_steps::Failure;
+use timing_reach::steps::Failure;
 
 /// What is judged in captures on this thread: media, in each capture by itself or in all of them as in one.
 #[derive(Clone, Copy)]

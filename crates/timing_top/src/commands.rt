@@ -2,8 +2,8 @@
 
 ghost use Rattle.std.specs.Prelude.{Some, map, string_bytes};
 ghost use Rattle.timing_outside.specs.Shelves.{StaysAs};
-ghost use Rattle.timing_steps.specs.Answers.{seen_of};
-ghost use Rattle.timing_steps.specs.Ran.{output_of};
+ghost use Rattle.timing_reach.specs.steps.Answers.{seen_of};
+ghost use Rattle.timing_reach.specs.steps.Ran.{output_of};
 ghost use Rattle.timing_words.specs.Request.{request};
 ghost use Rattle.timing_top.specs.Ends.{Ends};
 ghost use Rattle.timing_top.specs.Runs.{RanAs};
@@ -20,7 +20,7 @@ use timing_measure::series::series_one;
 use timing_outside::{Gate, Shelf, Sink};
 use timing_reach::{scan_one, shape_one, skew_one, window_one};
 use timing_report::Status;
-use timing_steps::{Answer, Failure, conclude};
+use timing_reach::steps::{Answer, Failure, conclude};
 use crate::verify::{verify_all, verify_one};
 use timing_words::{Request, WordFault, read_words};
 

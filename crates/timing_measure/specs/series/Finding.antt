@@ -16,7 +16,7 @@ use Rattle.timing_measure.specs.declared.metering.edges.Edge.{Edge}
 use Rattle.timing_reach.specs.declared.judged.flows.FlowOf.{FlowOf}
 use Rattle.udp_rtp.specs.Flow.{flow}
 use Rattle.flow_measure.specs.rows.Rows.{header_text}
-use Rattle.timing_steps.specs.Answers.{Answer}
+use Rattle.timing_reach.specs.steps.Answers.{Answer}
 use Rattle.timing_measure.specs.series.Meters.{StandsFor}
 use Rattle.timing_measure.specs.series.Series.{AnswersFlow}
 use Rattle.timing_measure.specs.declared.series.meter.FlowRows.{FlowRows}

@@ -13,9 +13,9 @@ use Rattle.pcap_reader.specs.Records.{Records}
 use Rattle.timing_measure.specs.metering.Judgings.{HasRoom as JudgingHasRoom, room_less as judging_less}
 use Rattle.timing_measure.specs.metering.Fed.{fed_more, fed_none, fed_other}
 use Rattle.timing_reach.specs.declared.judged.flows.FlowOf.{FlowOf}
-use Rattle.timing_steps.specs.Ran.{Output}
-use Rattle.timing_steps.specs.declared.failure.Failure.{Failure}
-use Rattle.timing_steps.specs.declared.failure.Failure.TheVariants as failure
+use Rattle.timing_reach.specs.steps.Ran.{Output}
+use Rattle.timing_reach.specs.declared.steps.failure.Failure.{Failure}
+use Rattle.timing_reach.specs.declared.steps.failure.Failure.TheVariants as failure
 use Rattle.udp_rtp.specs.Flow.{flow, flow_packet}
 use Rattle.timing_measure.specs.series.Meters.{StandsFor}
 use Rattle.timing_measure.specs.declared.series.meter.FlowRows.{FlowRows}

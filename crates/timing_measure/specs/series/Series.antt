@@ -15,8 +15,8 @@ use Rattle.sdp_reader.specs.Session.{session}
 use Rattle.timing_report.specs.Outcomes.{is_refused}
 use Rattle.timing_report.specs.declared.status.Status.{Status}
 use Rattle.timing_report.specs.declared.status.Status.TheVariants as status
-use Rattle.timing_steps.specs.Answers.{Answer, Inputs, ReadsSession, Yields}
-use Rattle.timing_steps.specs.declared.failure.Failure.{Failure}
+use Rattle.timing_reach.specs.steps.Answers.{Answer, Inputs, ReadsSession, Yields}
+use Rattle.timing_reach.specs.declared.steps.failure.Failure.{Failure}
 use Rattle.timing_reach.specs.Asked.{ReadsFlow, not_judged}
 use Rattle.timing_measure.specs.metering.Plan.{has_judged_run}
 use Rattle.udp_rtp.specs.Flow.{flow}

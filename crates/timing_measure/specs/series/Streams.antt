@@ -6,11 +6,11 @@ use Rattle.timing_report.specs.declared.status.Input.{Input}
 use Rattle.timing_report.specs.declared.status.Input.TheVariants as input
 use Rattle.timing_report.specs.declared.status.Status.{Status}
 use Rattle.timing_report.specs.declared.status.Status.TheVariants as status
-use Rattle.timing_steps.specs.Answers.{Answer}
-use Rattle.timing_steps.specs.Ends.{is_failure, look_ends}
-use Rattle.timing_steps.specs.Ran.{Appended, Broke, IsAnswered, Output, TellsLine, status_of}
-use Rattle.timing_steps.specs.declared.failure.Failure.{Failure}
-use Rattle.timing_steps.specs.declared.failure.Failure.TheVariants as failure
+use Rattle.timing_reach.specs.steps.Answers.{Answer}
+use Rattle.timing_reach.specs.steps.Ends.{is_failure, look_ends}
+use Rattle.timing_reach.specs.steps.Ran.{Appended, Broke, IsAnswered, Output, TellsLine, status_of}
+use Rattle.timing_reach.specs.declared.steps.failure.Failure.{Failure}
+use Rattle.timing_reach.specs.declared.steps.failure.Failure.TheVariants as failure
 
 -- an answer was printed, or a write of it failed; where there is none, or not the whole, a front of one was printed, of
 -- which `Begins` says what it may be

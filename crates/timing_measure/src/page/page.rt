@@ -4,9 +4,9 @@ ghost use Rattle.std.specs.Prelude.{◌≡◌, IfErr, IfOk};
 ghost use Rattle.flow_page.specs.Media.{AreOfMedia};
 ghost use Rattle.timing_base.specs.Targets.{HaveOwnTargets};
 ghost use Rattle.timing_outside.specs.Shelves.{StaysAs};
-ghost use Rattle.timing_steps.specs.Answers.{Gives, OnReadFault, Yields, seen_of};
-ghost use Rattle.timing_steps.specs.Ends.{EndsWith, HasStatus};
-ghost use Rattle.timing_steps.specs.Ran.{HasCause, Ran, output_of};
+ghost use Rattle.timing_reach.specs.steps.Answers.{Gives, OnReadFault, Yields, seen_of};
+ghost use Rattle.timing_reach.specs.steps.Ends.{EndsWith, HasStatus};
+ghost use Rattle.timing_reach.specs.steps.Ran.{HasCause, Ran, output_of};
 ghost use Rattle.timing_reach.specs.Asked.{ReadsCapture};
 ghost use Rattle.capture_scan.specs.report.Contents.{contents_of};
 ghost use Rattle.timing_measure.specs.page.Pages.{FollowsPage, HasPage, PageInputRose, page_ends, paged};
@@ -17,7 +17,7 @@ use std::alloc::Global;
 use timing_base::{CaptureJob, Session};
 use timing_outside::{Shelf, Sink};
 use timing_report::Status;
-use timing_steps::{Answer, Failure, conclude, fetch_session};
+use timing_reach::steps::{Answer, Failure, conclude, fetch_session};
 
 /// The answer on a capture of which both readings came to this.
 fn answer_read(

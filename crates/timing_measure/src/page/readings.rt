@@ -5,7 +5,7 @@ ghost use Rattle.timing_base.specs.Targets.{HaveOwnTargets};
 ghost use Rattle.timing_outside.specs.Causes.{Rose};
 ghost use Rattle.timing_outside.specs.Shelves.{StaysAs};
 ghost use Rattle.pcapng_reader.specs.Classic.{classic_texts};
-ghost use Rattle.timing_steps.specs.Answers.{OnReadFault};
+ghost use Rattle.timing_reach.specs.steps.Answers.{OnReadFault};
 ghost use Rattle.timing_measure.specs.Readings.{IsReadingOf};
 ghost use Rattle.timing_measure.specs.page.Pages.{ArePages};
 ghost use Rattle.timing_measure.specs.page.Readings.{IsPageIn};
@@ -18,7 +18,7 @@ use std::alloc::Global;
 use timing_base::{CaptureJob, Media};
 use timing_outside::Shelf;
 use timing_report::Input;
-use timing_steps::Failure;
+use timing_reach::steps::Failure;
 
 /// What the readings of a capture came to.
 #[derive(Drop)]

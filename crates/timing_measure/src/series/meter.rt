@@ -8,7 +8,7 @@ ghost use Rattle.timing_base.specs.declared.packet.FlowPacket.{FlowPacket as Pac
 ghost use Rattle.fail_interval.specs.States.{IsReading};
 ghost use Rattle.timing_outside.specs.Causes.{Rose};
 ghost use Rattle.timing_outside.specs.Written.{AppendsFront};
-ghost use Rattle.timing_steps.specs.declared.failure.Failure.TheVariants as failure;
+ghost use Rattle.timing_reach.specs.declared.steps.failure.Failure.TheVariants as failure;
 ghost use Rattle.flow_measure.specs.rows.Rows.{header_text};
 
 use crate::metering::Judging;
@@ -21,7 +21,7 @@ use std::alloc::{AllocError as OutOfMemory, Global};
 use timing_base::{FlowPacket, Media, Verdict};
 use timing_outside::{Sink, put_all};
 use timing_reach::judged::flows::FlowTaker;
-use timing_steps::Failure;
+use timing_reach::steps::Failure;
 
 /// The bytes that are written at once.
 const FULL: usize = 65_536;

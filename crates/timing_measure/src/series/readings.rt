@@ -7,9 +7,9 @@ ghost use Rattle.std.specs.Prelude.{◌+◌, Ok};
 ghost use Rattle.timing_outside.specs.Causes.{Rose};
 ghost use Rattle.timing_outside.specs.Shelves.{StaysAs};
 ghost use Rattle.pcapng_reader.specs.Classic.{classic_texts};
-ghost use Rattle.timing_steps.specs.Answers.{OnReadFault};
-ghost use Rattle.timing_steps.specs.Ran.{Appended, output_of};
-ghost use Rattle.timing_steps.specs.declared.failure.Failure.TheVariants as failure;
+ghost use Rattle.timing_reach.specs.steps.Answers.{OnReadFault};
+ghost use Rattle.timing_reach.specs.steps.Ran.{Appended, output_of};
+ghost use Rattle.timing_reach.specs.declared.steps.failure.Failure.TheVariants as failure;
 ghost use Rattle.timing_base.specs.declared.capture.FileNote.TheVariants as file_note;
 ghost use Rattle.timing_base.specs.declared.capture.PcapFault.TheVariants as fault;
 ghost use Rattle.timing_measure.specs.metering.Plan.{has_judged_run};
@@ -32,7 +32,7 @@ use timing_outside::{Shelf, Sink};
 use timing_reach::judged::captures::take_capture;
 use timing_reach::judged::flows::FlowOf;
 use timing_report::{Input, Status, any_refused};
-use timing_steps::{Answer, Failure, fetch_classic, give_back};
+use timing_reach::steps::{Answer, Failure, fetch_classic, give_back};
 
 /// What a first reading of a flow came to.
 #[derive(Drop)]

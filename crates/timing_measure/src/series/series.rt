@@ -6,9 +6,9 @@ ghost use Rattle.timing_outside.specs.Causes.{Rose};
 ghost use Rattle.timing_outside.specs.Shelves.{StaysAs};
 ghost use Rattle.pcapng_reader.specs.Classic.{classic_texts};
 ghost use Rattle.timing_report.specs.declared.status.Input.TheVariants as input;
-ghost use Rattle.timing_steps.specs.Answers.{Gives, Yields, seen_of};
-ghost use Rattle.timing_steps.specs.Ran.{Appended, output_of};
-ghost use Rattle.timing_steps.specs.declared.failure.Failure.TheVariants as failure;
+ghost use Rattle.timing_reach.specs.steps.Answers.{Gives, Yields, seen_of};
+ghost use Rattle.timing_reach.specs.steps.Ran.{Appended, output_of};
+ghost use Rattle.timing_reach.specs.declared.steps.failure.Failure.TheVariants as failure;
 ghost use Rattle.timing_reach.specs.Asked.{FlowInputRose, ReadsCapture};
 ghost use Rattle.timing_measure.specs.series.Series.{BeginsIn, BeginsSeries, FollowsSeries, HasSeries};
 ghost use Rattle.timing_measure.specs.series.Streams.{HasRestStatus, OnFailure, Rests, StreamEnds, Streams};
@@ -21,7 +21,7 @@ use timing_outside::{Shelf, Sink};
 use timing_reach::judged::find_media;
 use timing_reach::judged::words::not_judged;
 use timing_report::{Input, Status};
-use timing_steps::{Answer, Failure, conclude};
+use timing_reach::steps::{Answer, Failure, conclude};
 
 /// The answer on the flow of this media, or what of it isn't written yet.
 fn answer_flow<H: Shelf, K: Sink>(

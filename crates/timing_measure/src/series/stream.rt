@@ -6,7 +6,7 @@ ghost use Rattle.timing_base.specs.declared.capture.FileNote.TheVariants as file
 ghost use Rattle.timing_base.specs.declared.capture.PcapFault.TheVariants as fault;
 ghost use Rattle.timing_outside.specs.Causes.{Rose};
 ghost use Rattle.pcap_reader.specs.Readers.{WillGive, end_note, frame_count, most_of, under};
-ghost use Rattle.timing_steps.specs.Ran.{Appended, output_of};
+ghost use Rattle.timing_reach.specs.steps.Ran.{Appended, output_of};
 ghost use Rattle.timing_measure.specs.series.Reading.{Copied, CopiesSome, HasRoom, Stopped, StopsAt};
 
 use crate::series::meter::SeriesMeter;
@@ -14,7 +14,7 @@ use pcap_reader::{PcapReader, Step, Taker};
 use timing_base::FileNote;
 use timing_outside::{Sink, Source};
 use timing_reach::judged::flows::FlowOf;
-use timing_steps::Failure;
+use timing_reach::steps::Failure;
 
 /// Takes the records of a reader that has answered none, and writes the rows that are made of them
 /// but for the last ones. The records end, or a read of the source fails, which the note says; or

@@ -6,7 +6,7 @@ use Rattle.timing_base.specs.Media.{Media}
 use Rattle.timing_base.specs.Verdicts.{Judged}
 use Rattle.timing_base.specs.declared.row.Verdict.{Verdict}
 use Rattle.timing_base.specs.declared.row.Verdict.TheVariants as verdict
-use Rattle.timing_steps.specs.Answers.{Answer}
+use Rattle.timing_reach.specs.steps.Answers.{Answer}
 use Rattle.timing_reach.specs.judged.Readings.{HasRoom, JudgesOn}
 use Rattle.timing_reach.specs.judged.Runs.{IsRunOf}
 use Rattle.timing_reach.specs.declared.judged.judgment.Judgment.{Judgment}

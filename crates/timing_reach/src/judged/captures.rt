@@ -5,14 +5,14 @@ ghost use Rattle.timing_outside.specs.Causes.{Rose};
 ghost use Rattle.timing_outside.specs.Shelves.{StaysAs};
 ghost use Rattle.pcap_reader.specs.Taken.{TakesFew};
 ghost use Rattle.pcapng_reader.specs.Classic.{classic_texts};
-ghost use Rattle.timing_steps.specs.Answers.{OnReadFault};
-ghost use Rattle.timing_steps.specs.Taken.{TakesText};
+ghost use Rattle.timing_reach.specs.steps.Answers.{OnReadFault};
+ghost use Rattle.timing_reach.specs.steps.Taken.{TakesText};
 
 use pcap_reader::{Taken, Taker};
 use std::alloc::{AllocError as OutOfMemory, Global};
 use timing_outside::Shelf;
 use timing_report::Input;
-use timing_steps::{Failure, fetch_classic, take_source};
+use crate::steps::{Failure, fetch_classic, take_source};
 
 /// Takes the records of the one capture of a job, under this name: it is fetched for that, and goes back
 /// to the shelf.

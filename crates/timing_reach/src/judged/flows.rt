@@ -11,7 +11,7 @@ ghost use Rattle.timing_outside.specs.Causes.{Rose};
 ghost use Rattle.timing_outside.specs.Shelves.{StaysAs};
 ghost use Rattle.pcap_reader.specs.Taken.{TakesFew};
 ghost use Rattle.pcapng_reader.specs.Classic.{classic_texts};
-ghost use Rattle.timing_steps.specs.Answers.{OnReadFault};
+ghost use Rattle.timing_reach.specs.steps.Answers.{OnReadFault};
 ghost use Rattle.timing_base.specs.Targets.{target_of};
 ghost use Rattle.udp_rtp.specs.Carried.{carries};
 ghost use Rattle.udp_rtp.specs.Flow.{flow_packet};
@@ -23,7 +23,7 @@ use std::alloc::{AllocError as OutOfMemory, Global};
 use timing_base::{FlowPacket, Media, Rtp};
 use timing_outside::Shelf;
 use timing_report::Input;
-use timing_steps::Failure;
+use crate::steps::Failure;
 use udp_rtp::{carries, packet_of};
 
 /// What takes the packets of a flow, one after the other.

@@ -7,7 +7,7 @@ ghost use Rattle.timing_base.specs.declared.row.Verdict.TheVariants as verdict;
 ghost use Rattle.timing_outside.specs.Causes.{Rose};
 ghost use Rattle.timing_outside.specs.Shelves.{StaysAs};
 ghost use Rattle.pcapng_reader.specs.Classic.{classic_texts};
-ghost use Rattle.timing_steps.specs.Answers.{OnReadFault};
+ghost use Rattle.timing_reach.specs.steps.Answers.{OnReadFault};
 
 use crate::judged::flows::{FlowTaker, take_flow};
 use crate::judged::judgment::Judgment;
@@ -17,7 +17,7 @@ use std::alloc::{AllocError as OutOfMemory, Global};
 use timing_base::{FlowJob, FlowKey, FlowPacket, Media};
 use timing_outside::Shelf;
 use timing_report::Input;
-use timing_steps::Failure;
+use crate::steps::Failure;
 
 /// The judge of a flow, and how its judged part opens and ends.
 #[derive(Drop)]

@@ -5,14 +5,14 @@ ghost use Rattle.timing_base.specs.Captures.{IsStamp, Record};
 ghost use Rattle.timing_base.specs.Judged.{JudgedRun};
 ghost use Rattle.timing_base.specs.Media.{Media as MediaValue};
 ghost use Rattle.timing_base.specs.Verdicts.{Judged as JudgedValue};
-ghost use Rattle.timing_steps.specs.Answers.{Answer as AnswerValue};
-ghost use Rattle.timing_steps.specs.Ends.{HasStatus, look_ends};
+ghost use Rattle.timing_reach.specs.steps.Answers.{Answer as AnswerValue};
+ghost use Rattle.timing_reach.specs.steps.Ends.{HasStatus, look_ends};
 ghost use Rattle.timing_reach.specs.judged.Runs.{IsRunOf};
 
 use crate::judged::flows::FlowTaker;
 use std::alloc::{AllocError as OutOfMemory, Global};
 use timing_base::{Judged, Media};
-use timing_steps::Answer;
+use crate::steps::Answer;
 
 /// How a command looks into a flow that is judged in one run: a meter takes its packets, one after the other.
 pub trait Look {

@@ -9,9 +9,9 @@ ghost use Rattle.pcap_reader.specs.Records.{Records};
 ghost use Rattle.pcapng_reader.specs.Classic.{classic_texts};
 ghost use Rattle.timing_outside.specs.Causes.{Rose};
 ghost use Rattle.timing_outside.specs.Shelves.{StaysAs};
-ghost use Rattle.timing_steps.specs.Answers.{Gives, OnReadFault, Yields, seen_of};
-ghost use Rattle.timing_steps.specs.Ends.{HasStatus, look_ends};
-ghost use Rattle.timing_steps.specs.Ran.{HasCause};
+ghost use Rattle.timing_reach.specs.steps.Answers.{Gives, OnReadFault, Yields, seen_of};
+ghost use Rattle.timing_reach.specs.steps.Ends.{HasStatus, look_ends};
+ghost use Rattle.timing_reach.specs.steps.Ran.{HasCause};
 ghost use Rattle.timing_reach.specs.Asked.{FlowInputRose, OnFlow, ReadsCapture};
 ghost use Rattle.timing_reach.specs.judged.Readings.{IsJudgmentIn};
 ghost use Rattle.timing_reach.specs.judged.Runs.{IsRunOf};
@@ -27,7 +27,7 @@ use std::alloc::Global;
 use timing_base::{FlowJob, Judged, Media, Verdict};
 use timing_outside::Shelf;
 use timing_report::Input;
-use timing_steps::{Answer, Failure};
+use crate::steps::{Answer, Failure};
 
 /// Reads the capture of a flow again that was judged so in one run. Where the second reading finds another number
 /// of packets, or another first or last stamp, the capture is another one now: that is a read fault, which the

@@ -6,7 +6,7 @@ ghost use Rattle.timing_reach.specs.Asked.{no_such_media, not_judged};
 use std::alloc::{AllocError as OutOfMemory, Global};
 use timing_base::{Media, Verdict};
 use timing_report::{Status, verdict_of};
-use timing_steps::Answer;
+use crate::steps::Answer;
 
 /// The answer on a media that the description hasn't.
 pub fn no_such_media(alloc: Global) -> Result<Answer, OutOfMemory>

@@ -11,7 +11,7 @@ use capture_scan::report::{Draft, json_of, text_of};
 use std::alloc::{AllocError as OutOfMemory, Global};
 use timing_base::{FileNote, ScanForm, ScanJob};
 use timing_report::{Status, any_refused};
-use timing_steps::Answer;
+use crate::steps::Answer;
 
 /// The status beside so many streams, or videos of a draft, of a capture that ends so.
 fn status_of(note: FileNote, told: usize) -> Status

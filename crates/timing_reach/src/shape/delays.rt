@@ -8,7 +8,7 @@ use crate::shape::words::{add_delays, add_packet};
 use flow_shaper::Bound;
 use std::alloc::{AllocError as OutOfMemory, Global};
 use timing_report::Status;
-use timing_steps::Answer;
+use crate::steps::Answer;
 
 /// The delays of the packets so far.
 #[derive(Drop)]

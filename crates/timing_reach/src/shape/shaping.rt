@@ -3,7 +3,7 @@
 ghost use Rattle.std.specs.Prelude.{◌≡◌, ◌≤◌, ◌<◌, ◌+◌, ◌*◌, ◌^◌, [], List, None, Some, IfOk, length};
 ghost use Rattle.timing_base.specs.Captures.{IsStamp, Record};
 ghost use Rattle.timing_base.specs.Judged.{JudgedRun};
-ghost use Rattle.timing_steps.specs.Ends.{HasStatus, look_ends};
+ghost use Rattle.timing_reach.specs.steps.Ends.{HasStatus, look_ends};
 ghost use Rattle.timing_reach.specs.shape.Leaving.{HasGiven, Part};
 ghost use Rattle.timing_reach.specs.Shapes.{HasShape};
 
@@ -16,7 +16,7 @@ use flow_shaper::{Departure, Late};
 use std::alloc::{AllocError as OutOfMemory, Global};
 use timing_base::FlowPacket;
 use timing_report::Status;
-use timing_steps::Answer;
+use crate::steps::Answer;
 
 /// What is made of a flow that is shaped, as far as the flow has come.
 #[derive(Drop)]

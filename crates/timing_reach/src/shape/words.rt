@@ -7,7 +7,7 @@ use flow_shaper::Bound;
 use std::alloc::{AllocError as OutOfMemory, Global};
 use std::fmt;
 use timing_report::Status;
-use timing_steps::Answer;
+use crate::steps::Answer;
 
 /// What holds a packet back, as a line has it.
 #[derive(Clone, Copy, Debug)]

@@ -10,7 +10,7 @@ use path_skew::{Extreme, SkewRow};
 use std::alloc::{AllocError as OutOfMemory, Global};
 use timing_base::SkewJob;
 use timing_report::{Status, add_files, any_refused};
-use timing_steps::Answer;
+use crate::steps::Answer;
 
 /// Adds the front of the line of a pair.
 fn add_head(text: &mut String, job: &SkewJob) -> Result<(), OutOfMemory>

@@ -9,7 +9,7 @@ use std::alloc::{AllocError as OutOfMemory, Global};
 use std::fmt;
 use timing_base::Kind;
 use timing_report::{Status, kind_name};
-use timing_steps::Answer;
+use crate::steps::Answer;
 
 /// The offsets that would keep the buffer of a flow, for each sender type.
 #[derive(Clone, Copy, Debug, PartialEq, Eq)]

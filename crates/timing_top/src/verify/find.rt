@@ -3,7 +3,7 @@
 ghost use Rattle.std.specs.Prelude.{◌≡◌, ◌≤◌, ℕ, List, IfOk, IfErr, length};
 ghost use Rattle.timing_outside.specs.Shelves.{StaysAs};
 ghost use Rattle.pcapng_reader.specs.Classic.{classic_texts};
-ghost use Rattle.timing_steps.specs.Answers.{AreThere, AreTold};
+ghost use Rattle.timing_reach.specs.steps.Answers.{AreThere, AreTold};
 ghost use Rattle.timing_top.specs.verify.Findings.{Finds};
 ghost use Rattle.timing_top.specs.verify.Found.{FailedAmong};
 
@@ -14,7 +14,7 @@ use std::alloc::Global;
 use timing_base::{FileName, Media};
 use timing_report::json_report::ReportProof;
 use timing_outside::Shelf;
-use timing_steps::Failure;
+use timing_reach::steps::Failure;
 
 /// What the captures of these names, as one classic capture, say of a claim. Each is fetched for it, in
 /// order, and goes back to the shelf; one that couldn't be read is named by its number among them,

@@ -2,9 +2,9 @@
 
 ghost use Rattle.std.specs.Prelude.{◌≡◌, IfOk, slice_get};
 ghost use Rattle.timing_outside.specs.Shelves.{StaysAs};
-ghost use Rattle.timing_steps.specs.Answers.{Gives, ReadsCaptures, Yields, seen_of};
-ghost use Rattle.timing_steps.specs.Ends.{EndsWith, HasStatus, check_ends};
-ghost use Rattle.timing_steps.specs.Ran.{HasCause, Ran, output_of};
+ghost use Rattle.timing_reach.specs.steps.Answers.{Gives, ReadsCaptures, Yields, seen_of};
+ghost use Rattle.timing_reach.specs.steps.Ends.{EndsWith, HasStatus, check_ends};
+ghost use Rattle.timing_reach.specs.steps.Ran.{HasCause, Ran, output_of};
 ghost use Rattle.timing_top.specs.verify.Asked.{FollowsVerify, HasVerified, ReadsMedia, VerifyInputRose, claim_of};
 
 use crate::verify::find::find;
@@ -14,7 +14,7 @@ use timing_base::{FlowKey, Media, VerifyJob};
 use timing_report::json_report::ReportProof;
 use timing_outside::{Shelf, Sink};
 use timing_report::Status;
-use timing_steps::{Answer, Failure, conclude, fetch_session};
+use timing_reach::steps::{Answer, Failure, conclude, fetch_session};
 
 /// The fail that a job asks about: one of run 0 of its media.
 fn claim_of(job: &VerifyJob) -> ReportProof

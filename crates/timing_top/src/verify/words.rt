@@ -9,7 +9,7 @@ use std::alloc::{AllocError as OutOfMemory, Global};
 use std::fmt;
 use timing_base::{Media, Unjudged, Verdict};
 use timing_report::{Status, kind_name, verdict_of};
-use timing_steps::Answer;
+use timing_reach::steps::Answer;
 
 /// The status of one fail.
 fn finding_status(finding: Finding) -> Status

@@ -10,7 +10,7 @@ use Rattle.pcap_reader.proofs.Lists.{only_by}
 use Rattle.timing_measure.specs.Measured.{JudgedPart, judged_parts, stamps_of}
 use Rattle.timing_measure.specs.Measures.{timestamps_of}
 use Rattle.timing_reach.specs.Scanned.{contents}
-use Rattle.timing_steps.specs.Answers.{Answer}
+use Rattle.timing_reach.specs.steps.Answers.{Answer}
 use Rattle.udp_rtp.specs.Flow.{flow}
 use Rattle.timing_measure.specs.page.Pages.{ArePages, HasPage, paged}
 use Rattle.timing_measure.specs.page.Shown.{IsFlowPage, IsLongest, IsShownRun, Shows}

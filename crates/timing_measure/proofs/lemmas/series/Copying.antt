@@ -15,7 +15,7 @@ use Rattle.pcap_reader.specs.declared.reader.Step.TheVariants as step
 use Rattle.timing_outside.specs.Written.{AppendsFront}
 use Rattle.timing_reach.specs.declared.judged.flows.FlowOf.{FlowOf}
 use Rattle.timing_reach.specs.judged.Flows.{TakesFlow}
-use Rattle.timing_steps.specs.Ran.{Output}
+use Rattle.timing_reach.specs.steps.Ran.{Output}
 use Rattle.timing_measure.specs.series.Reading.{Copied, Copies, FeedsOn, IsCopying, Stopped, TakesOn, feeds_more, feeds_none}
 use Rattle.timing_measure.specs.declared.series.meter.SeriesMeter.{SeriesMeter}
 

@@ -26,9 +26,9 @@ use Rattle.timing_reach.specs.declared.judged.flows.FlowOf.{FlowOf}
 use Rattle.timing_report.specs.Outcomes.{is_refused}
 use Rattle.timing_report.specs.declared.status.Status.{Status}
 use Rattle.timing_report.specs.declared.status.Status.TheVariants as status
-use Rattle.timing_steps.specs.Ends.{look_ends}
-use Rattle.timing_steps.specs.Answers.{Answer}
-use Rattle.timing_steps.specs.Ran.{Output}
+use Rattle.timing_reach.specs.steps.Ends.{look_ends}
+use Rattle.timing_reach.specs.steps.Answers.{Answer}
+use Rattle.timing_reach.specs.steps.Ran.{Output}
 use Rattle.udp_rtp.specs.Flow.{flow, flow_packet}
 use Rattle.timing_measure.specs.series.Finding.{FindsAgain, FindsElse, IsAnswerOf, IsFoundIn, IsNewFlow}
 use Rattle.timing_measure.specs.series.Meters.{StandsFor}

@@ -11,7 +11,7 @@ use Rattle.timing_measure.specs.declared.metering.first.Seen.{Seen}
 use Rattle.timing_reach.specs.declared.judged.flows.FlowOf.{FlowOf}
 use Rattle.timing_reach.specs.judged.Flows.{TakesFlow}
 use Rattle.timing_reach.proofs.Takings.{fed-alone}
-use Rattle.timing_steps.specs.Taken.{TakesText}
+use Rattle.timing_reach.specs.steps.Taken.{TakesText}
 use Rattle.udp_rtp.specs.Flow.{flow}
 use Rattle.timing_measure.specs.series.Finding.{IsFoundIn, IsFoundOf}
 use Rattle.timing_measure.specs.declared.series.readings.Found.{Found}

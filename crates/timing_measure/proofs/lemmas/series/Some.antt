@@ -27,7 +27,7 @@ use Rattle.timing_measure.specs.Measured.{JudgedPart, judged_parts}
 use Rattle.timing_measure.specs.metering.Plan.{IsWhole, has_judged_run}
 use Rattle.timing_reach.proofs.Packets.{flow-few}
 use Rattle.timing_reach.specs.Asked.{not_judged}
-use Rattle.timing_steps.specs.Answers.{Answer}
+use Rattle.timing_reach.specs.steps.Answers.{Answer}
 use Rattle.udp_rtp.specs.Flow.{flow}
 use Rattle.timing_measure.specs.series.Rows.{AreRowsOf}
 use Rattle.timing_measure.specs.series.Series.{AnswersFlow, HasSeries, series_status}

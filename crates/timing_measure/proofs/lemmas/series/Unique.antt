@@ -25,7 +25,7 @@ use Rattle.pcap_reader.specs.Header.{header}
 use Rattle.pcap_reader.proofs.Lists.{only_by}
 use Rattle.timing_measure.specs.Measured.{JudgedPart, judged_parts}
 use Rattle.timing_measure.specs.metering.Plan.{has_judged_run}
-use Rattle.timing_steps.specs.Answers.{Answer}
+use Rattle.timing_reach.specs.steps.Answers.{Answer}
 use Rattle.udp_rtp.specs.Flow.{flow}
 use Rattle.timing_measure.specs.series.Rows.{AreRowsOf}
 use Rattle.timing_measure.specs.series.Series.{AnswersFlow, HasSeries}

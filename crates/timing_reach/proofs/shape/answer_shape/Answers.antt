@@ -3,11 +3,11 @@ use Rattle.std.specs.Prelude.{IfErr}
 use Rattle.sdp_reader.specs.Session.{session}
 use Rattle.timing_base.specs.Jobs.{ShapeJob}
 use Rattle.timing_base.specs.Media.{Media}
-use Rattle.timing_steps.specs.Answers.{Answer, seen_of}
-use Rattle.timing_steps.specs.Ran.{HasCause}
-use Rattle.timing_steps.specs.Ends.{HasStatus, look_ends}
-use Rattle.timing_steps.proofs.Endings.{look-answered}
-use Rattle.timing_steps.proofs.Seeing.{sees-rest, stays-then}
+use Rattle.timing_reach.specs.steps.Answers.{Answer, seen_of}
+use Rattle.timing_reach.specs.steps.Ran.{HasCause}
+use Rattle.timing_reach.specs.steps.Ends.{HasStatus, look_ends}
+use Rattle.timing_reach.proofs.steps.Endings.{look-answered}
+use Rattle.timing_reach.proofs.steps.Seeing.{sees-rest, stays-then}
 use Rattle.timing_reach.specs.Asked.{FlowInputRose}
 use Rattle.timing_reach.specs.Shaped.{FollowsShape, HasShapeIn}
 use Rattle.timing_reach.specs.judged.Found.{IsFound}

@@ -2,8 +2,8 @@ use Rattle.std.proofs.Common.{◌≡◌, ◌∙◌, [], ap, refl, sym, rules}
 use Rattle.std.specs.Prelude.{◌⊎◌}
 use Rattle.std.specs.Option.{option_map}
 use Rattle.pcapng_reader.specs.Classic.{classic}
-use Rattle.timing_steps.specs.Answers.{seen_of}
-use Rattle.timing_steps.specs.Ran.{output_of}
+use Rattle.timing_reach.specs.steps.Answers.{seen_of}
+use Rattle.timing_reach.specs.steps.Ran.{output_of}
 use Rattle.timing_measure.specs.series.Series.{BeginsIn, HasSeries}
 use Rattle.timing_measure.proofs.lemmas.series.Ending.{none-series}
 use Rattle.timing_measure.proofs.lemmas.series.Resting.{rests-judged, rests-written}

@@ -1,5 +1,5 @@
 use Rattle.std.proofs.Common.{sym, subst, refl, arith}
-use Rattle.timing_steps.specs.Ends.{HasStatus, look_ends}
+use Rattle.timing_reach.specs.steps.Ends.{HasStatus, look_ends}
 use Rattle.timing_reach.proofs.Judgments.{run-on, told-on}
 use Rattle.timing_reach.proofs.Takings.{if-ok}
 use Rattle.timing_reach.proofs.judged.twice.answer_seen.Goals as goal

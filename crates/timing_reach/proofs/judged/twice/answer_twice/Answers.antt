@@ -1,7 +1,7 @@
 use Rattle.std.proofs.Common.{ap, sym, ◌∙◌}
 use Rattle.std.specs.Option.{option_map}
 use Rattle.pcapng_reader.specs.Classic.{classic}
-use Rattle.timing_steps.specs.Answers.{seen_of}
+use Rattle.timing_reach.specs.steps.Answers.{seen_of}
 use Rattle.timing_reach.specs.Asked.{OnFlow}
 use Rattle.timing_reach.specs.judged.Readings.{IsJudgmentIn}
 use Rattle.timing_reach.proofs.Following.{capture-cause, cause-after, reads-twice}
