@@ -2,6 +2,7 @@
 #![tactic(auto)]
 
 #[cfg(test)]
+pub mod inner;
 mod call;
 #[cfg(test)]
 mod rows;
