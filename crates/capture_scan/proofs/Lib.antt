@@ -7,4 +7,4 @@ pub mod Once
 pub mod Parts
 pub mod Scanning
 pub mod StreamFlows
-pub mod report
+pub mod lemmas

@@ -23,5 +23,4 @@ pub mod Summarized
 pub mod Unique
 pub mod Waiting
 pub mod Widths
-pub mod report
-pub mod rows
+pub mod lemmas

@@ -30,4 +30,4 @@ pub mod Few
 pub mod ApartFiles
 pub mod JoinedFiles
 pub mod TakerPasses
-pub mod crew
+pub mod lemmas

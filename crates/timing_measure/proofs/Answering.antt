@@ -19,8 +19,8 @@ use Rattle.timing_reach.specs.steps.Ends.{HasStatus}
 use Rattle.timing_reach.specs.steps.Ran.{HasCause}
 use Rattle.timing_reach.specs.declared.steps.failure.Failure.{Failure}
 use Rattle.timing_reach.specs.declared.steps.failure.Failure.TheVariants as failure
-use Rattle.timing_reach.proofs.steps.Endings.{look-answered}
-use Rattle.timing_reach.proofs.steps.Seeing.{Sees, follows-session, risen-seen, yields-on}
+use Rattle.timing_reach.proofs.lemmas.steps.Endings.{look-answered}
+use Rattle.timing_reach.proofs.lemmas.steps.Seeing.{Sees, follows-session, risen-seen, yields-on}
 use Rattle.timing_reach.specs.Asked.{ReadsCapture}
 use Rattle.timing_reach.proofs.Following.{capture-seen}
 use Rattle.udp_rtp.specs.Flow.{flow}

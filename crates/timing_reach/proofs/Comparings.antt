@@ -20,7 +20,7 @@ use Rattle.timing_reach.specs.steps.Answers.{CaptureRose, OnReadFault}
 use Rattle.timing_reach.specs.steps.Taken.{TakesText}
 use Rattle.timing_reach.specs.declared.steps.failure.Failure.{Failure}
 use Rattle.timing_reach.specs.declared.steps.failure.Failure.TheVariants as failure
-use Rattle.timing_reach.proofs.steps.Seeing.{rose-within}
+use Rattle.timing_reach.proofs.lemmas.steps.Seeing.{rose-within}
 use Rattle.udp_rtp.specs.Flow.{flow}
 use Rattle.timing_reach.specs.skew.Added.{Adds, taken_of}
 use Rattle.timing_reach.specs.skew.Comparing.{AreCompared, ComparesNext, IsComparedIn}

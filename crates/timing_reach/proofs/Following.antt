@@ -14,8 +14,8 @@ use Rattle.timing_reach.specs.steps.Ends.{HasStatus, look_ends}
 use Rattle.timing_reach.specs.steps.Ran.{HasCause}
 use Rattle.timing_reach.specs.declared.steps.failure.Failure.{Failure}
 use Rattle.timing_reach.specs.declared.steps.failure.Failure.TheVariants as failure
-use Rattle.timing_reach.proofs.steps.Endings.{look-answered}
-use Rattle.timing_reach.proofs.steps.Seeing.{Sees, risen-seen, rose-within}
+use Rattle.timing_reach.proofs.lemmas.steps.Endings.{look-answered}
+use Rattle.timing_reach.proofs.lemmas.steps.Seeing.{Sees, risen-seen, rose-within}
 use Rattle.timing_reach.specs.Asked.{FlowInputRose, ReadsCapture, ReadsFlow}
 use Rattle.timing_reach.specs.judged.Found.{IsFound}
 

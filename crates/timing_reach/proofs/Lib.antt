@@ -24,4 +24,4 @@ mod Pairings
 mod Comparings
 mod Skewing
 pub mod Scannings
-pub mod steps
+pub mod lemmas

@@ -7,8 +7,8 @@ use Rattle.pcapng_reader.specs.Classic.{classic, classic_texts}
 use Rattle.sdp_reader.specs.Session.{session}
 use Rattle.timing_reach.specs.steps.Answers.{Answer, AreThere, AreTold, Gives, Inputs, ReadsCaptures, ReadsSession, Yields}
 use Rattle.timing_reach.specs.declared.steps.failure.Failure.{Failure}
-use Rattle.timing_reach.proofs.steps.Classics.{told-classic}
-use Rattle.timing_reach.proofs.steps.Seeing.{Sees, captures-seen, follows-session, yields-on}
+use Rattle.timing_reach.proofs.lemmas.steps.Classics.{told-classic}
+use Rattle.timing_reach.proofs.lemmas.steps.Seeing.{Sees, captures-seen, follows-session, yields-on}
 use Rattle.timing_reach.specs.skew.Comparing.{IsComparedIn}
 use Rattle.timing_reach.specs.Skewed.{HasSkew, ReadsPair, skewed}
 use Rattle.timing_reach.specs.declared.skew.compare.Compared.{Compared}

@@ -2,4 +2,4 @@ pub mod Appends
 pub mod Keys
 pub mod Lines
 pub mod Numerals
-pub mod json_report
+pub mod lemmas

@@ -21,8 +21,8 @@ use Rattle.timing_reach.specs.steps.Answers.{Answer, AreThere, AreTold, CaptureR
 use Rattle.timing_reach.specs.steps.Fetched.{AreFetched}
 use Rattle.timing_reach.specs.declared.steps.failure.Failure.{Failure}
 use Rattle.timing_reach.specs.declared.steps.failure.Failure.TheVariants as failure
-use Rattle.timing_reach.proofs.steps.Classics.{told-classic}
-use Rattle.timing_reach.proofs.steps.Readings.{fetched-fresh, fetched-length}
+use Rattle.timing_reach.proofs.lemmas.steps.Classics.{told-classic}
+use Rattle.timing_reach.proofs.lemmas.steps.Readings.{fetched-fresh, fetched-length}
 use Rattle.timing_top.specs.Check.{CheckInputRose, FollowsCheck}
 use Rattle.timing_top.specs.Found.{Judges, Opens}
 use Rattle.timing_top.specs.Report.{printed, rows}

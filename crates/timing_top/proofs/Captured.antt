@@ -11,7 +11,7 @@ use Rattle.timing_report.specs.declared.status.Input.TheVariants.{Capture}
 use Rattle.timing_reach.specs.steps.Answers.{AreTold, OnReadFault}
 use Rattle.timing_reach.specs.steps.Fetched.{AreFetched, Reading}
 use Rattle.timing_reach.specs.declared.steps.failure.Failure.{Failure}
-use Rattle.timing_reach.proofs.steps.Readings.{reading-all, reading-at, reading-next, reading-start, reading-stopped}
+use Rattle.timing_reach.proofs.lemmas.steps.Readings.{reading-all, reading-at, reading-next, reading-start, reading-stopped}
 
 -- of all captures that were fetched so many were read since the shelf was `first`, and this holds of their texts; the
 -- sources of the others are ahead. Or one couldn't be read

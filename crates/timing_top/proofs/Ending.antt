@@ -21,7 +21,7 @@ use Rattle.timing_top.specs.Asked.{FollowsHelp, FollowsSelfTest}
 use Rattle.timing_top.specs.Ends.{Ends, may_end, reads_inputs, reads_sdp}
 use Rattle.timing_top.specs.Runs.{prints_whole}
 use Rattle.timing_measure.specs.series.Streams.{StreamEnds, is_silent_stream}
-use Rattle.timing_reach.proofs.steps.Endings.{kept-none}
+use Rattle.timing_reach.proofs.lemmas.steps.Endings.{kept-none}
 use Rattle.timing_top.proofs.Answering.{ok-not-err, same-ok}
 use Rattle.timing_top.proofs.Headlines.{none-broke}
 

@@ -21,7 +21,7 @@ use Rattle.timing_reach.specs.declared.steps.failure.Failure.TheVariants as fail
 use Rattle.timing_top.specs.Check.{CheckInputRose, FollowsCheck}
 use Rattle.fail_interval.specs.Found.{AreFound}
 use Rattle.timing_top.specs.Report.{HasReport, printed, rows}
-use Rattle.timing_reach.proofs.steps.Readings.{on-map}
+use Rattle.timing_reach.proofs.lemmas.steps.Readings.{on-map}
 
 -- a description that was read leads on to the captures
 follows-session : (job : CheckJob) (i : Inputs) (outcome : Result Answer Failure) (media : List Media) → ¬ i.lacks job.sdp

@@ -23,4 +23,4 @@ mod Takings
 mod Verified
 mod Verifying
 mod Words
-pub mod verify
+pub mod lemmas

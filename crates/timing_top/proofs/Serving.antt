@@ -23,7 +23,7 @@ use Rattle.timing_top.specs.Check.{CheckInputRose, FollowsCheck}
 use Rattle.timing_top.specs.Runs.{RanAs, prints_whole}
 use Rattle.timing_measure.specs.series.Series.{BeginsSeries, FollowsSeries}
 use Rattle.timing_measure.specs.series.Streams.{Streams}
-use Rattle.timing_reach.proofs.steps.Endings.{kept-none}
+use Rattle.timing_reach.proofs.lemmas.steps.Endings.{kept-none}
 use Rattle.timing_top.specs.verify.Asked.{FollowsReport, FollowsVerify, ReportInputRose, VerifyInputRose}
 
 -- a cause by other names

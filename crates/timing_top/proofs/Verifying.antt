@@ -9,7 +9,7 @@ use Rattle.timing_reach.specs.steps.Answers.{Answer, AreThere, AreTold, Inputs, 
 use Rattle.timing_reach.specs.declared.steps.failure.Failure.{Failure}
 use Rattle.timing_top.specs.verify.Asked.{FollowsVerify, HasVerified, ReadsMedia, VerifyInputRose}
 use Rattle.timing_top.specs.verify.Verified.{verified}
-use Rattle.timing_top.proofs.verify.Unique.{only-verified, some-verified}
+use Rattle.timing_top.proofs.lemmas.verify.Unique.{only-verified, some-verified}
 use Rattle.timing_top.proofs.Answering.{Caused, captured-failed, described-failed, not-given, only-captured, only-described, only-given, only-silent}
 use Rattle.timing_top.proofs.Answering.{only-yielded, some-captured, some-described, some-given, some-yielded, yielded-failed}
 

@@ -43,7 +43,7 @@ use Rattle.fail_interval.specs.Fails.{greatest, kind_verdict}
 use Rattle.fail_interval.specs.Row.{judged_values, run_of, run_verdict_of, verdict_of}
 use Rattle.fail_interval.proofs.Confirmed.{fail-confirms}
 use Rattle.timing_report.specs.json_report.Fails.{AreWords, FitsJudged, FitsKind, FitsRun, FitsRunVerdict, FitsVerdict, IsWord}
-use Rattle.timing_report.proofs.json_report.Limits.{c_max_small, vrx_full_small}
+use Rattle.timing_report.proofs.lemmas.json_report.Limits.{c_max_small, vrx_full_small}
 use Rattle.pcapng_reader.specs.Bytes.{AreBytes}
 use Rattle.timing_top.proofs.Small.{AreSmall, IsSmall, byte-at, cons-all, flow-few, flow-stamped, if-some}
 

@@ -18,7 +18,7 @@ use Rattle.timing_report.specs.declared.status.Status.TheVariants as status
 use Rattle.timing_reach.specs.steps.Answers.{Answer, Gives, Inputs, Yields}
 use Rattle.timing_reach.specs.steps.Ends.{HasStatus}
 use Rattle.timing_reach.specs.declared.steps.failure.Failure.{Failure}
-use Rattle.timing_reach.proofs.steps.Seeing.{Sees, follows-session, yields-on}
+use Rattle.timing_reach.proofs.lemmas.steps.Seeing.{Sees, follows-session, yields-on}
 use Rattle.timing_reach.specs.Asked.{ReadsCapture}
 use Rattle.timing_reach.specs.Scanned.{contents}
 use Rattle.timing_reach.proofs.Following.{capture-seen}

@@ -15,7 +15,7 @@ use Rattle.timing_reach.specs.steps.Ends.{is_failure, look_ends}
 use Rattle.timing_reach.specs.steps.Ran.{Appended, IsAnswered, Leaves, Output, status_of}
 use Rattle.timing_reach.specs.declared.steps.failure.Failure.{Failure}
 use Rattle.timing_reach.specs.declared.steps.failure.Failure.TheVariants as failure
-use Rattle.timing_reach.proofs.steps.Endings.{kept-none}
+use Rattle.timing_reach.proofs.lemmas.steps.Endings.{kept-none}
 use Rattle.std.specs.Prelude.{option_map, slice_get}
 use Rattle.timing_base.specs.Jobs.{SeriesJob}
 use Rattle.timing_base.specs.Media.{Media}
@@ -23,7 +23,7 @@ use Rattle.pcapng_reader.specs.Classic.{classic, classic_texts}
 use Rattle.sdp_reader.specs.Session.{session}
 use Rattle.timing_reach.specs.steps.Answers.{Gives, HasRisen, Inputs, OnReadFault, Yields}
 use Rattle.timing_outside.specs.Causes.{Rose}
-use Rattle.timing_reach.proofs.steps.Seeing.{Sees, rose-within}
+use Rattle.timing_reach.proofs.lemmas.steps.Seeing.{Sees, rose-within}
 use Rattle.timing_reach.specs.Asked.{FlowInputRose, ReadsCapture}
 use Rattle.timing_reach.proofs.Following.{found-follows, none-follows, reads-capture}
 use Rattle.timing_measure.proofs.lemmas.series.Capturing.{wrote-known}

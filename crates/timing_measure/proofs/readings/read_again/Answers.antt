@@ -1,7 +1,7 @@
 use Rattle.std.proofs.Common.{◌≡◌, ◌∙◌, ◌^◌, ◌+◌, ℕ, List, [], length, rules, refl, subst, sym, ap, arith}
 use Rattle.std.proofs.lemmas.List.Elements.{All-weaker}
 use Rattle.timing_outside.specs.Causes.{Rose}
-use Rattle.timing_reach.proofs.steps.Seeing.{rose-within}
+use Rattle.timing_reach.proofs.lemmas.steps.Seeing.{rose-within}
 use Rattle.timing_measure.specs.Banks.{HaveRoom}
 use Rattle.timing_measure.specs.Readings.{AreEnds, AreSeconds, AreUnmeasured, IsReadingIn, IsReadingOf}
 use Rattle.timing_measure.specs.metering.Agains.{HasRoom, room_less}

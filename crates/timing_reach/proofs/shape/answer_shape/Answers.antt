@@ -6,8 +6,8 @@ use Rattle.timing_base.specs.Media.{Media}
 use Rattle.timing_reach.specs.steps.Answers.{Answer, seen_of}
 use Rattle.timing_reach.specs.steps.Ran.{HasCause}
 use Rattle.timing_reach.specs.steps.Ends.{HasStatus, look_ends}
-use Rattle.timing_reach.proofs.steps.Endings.{look-answered}
-use Rattle.timing_reach.proofs.steps.Seeing.{sees-rest, stays-then}
+use Rattle.timing_reach.proofs.lemmas.steps.Endings.{look-answered}
+use Rattle.timing_reach.proofs.lemmas.steps.Seeing.{sees-rest, stays-then}
 use Rattle.timing_reach.specs.Asked.{FlowInputRose}
 use Rattle.timing_reach.specs.Shaped.{FollowsShape, HasShapeIn}
 use Rattle.timing_reach.specs.judged.Found.{IsFound}

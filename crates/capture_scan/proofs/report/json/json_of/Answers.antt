@@ -2,7 +2,7 @@ use Rattle.std.proofs.Common.{ap, ◌∙◌, ◌++◌}
 use Rattle.std.specs.Prelude.{codes}
 use Rattle.serde_json.specs.Written.{compact_text, has_float}
 use Rattle.capture_scan.specs.report.Contents.{contents_of}
-use Rattle.capture_scan.proofs.report.Floatless.{contents-floatless}
+use Rattle.capture_scan.proofs.lemmas.report.Floatless.{contents-floatless}
 use Rattle.capture_scan.proofs.report.json.json_of.Goals as goal
 
 pub returns : goal.returns

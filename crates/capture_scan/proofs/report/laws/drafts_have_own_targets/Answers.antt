@@ -1,4 +1,4 @@
-use Rattle.capture_scan.proofs.report.Drafted.{drafts-apart}
+use Rattle.capture_scan.proofs.lemmas.report.Drafted.{drafts-apart}
 use Rattle.capture_scan.proofs.report.laws.drafts_have_own_targets.Goals as goal
 
 pub returns-clause-own : goal.returns-clause-own

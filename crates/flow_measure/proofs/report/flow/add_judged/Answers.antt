@@ -6,7 +6,7 @@ use Rattle.timing_report.proofs.Appends.{two_ok}
 use Rattle.flow_measure.specs.declared.numbers.MeasuredRun.{MeasuredRun}
 use Rattle.flow_measure.specs.report.Json.{flow_end, flow_front, judged_text, runs_member, ssrc_member}
 use Rattle.flow_measure.specs.report.Told.{flow_told, run_told}
-use Rattle.flow_measure.proofs.report.Joined.{added_ok}
+use Rattle.flow_measure.proofs.lemmas.report.Joined.{added_ok}
 use Rattle.flow_measure.proofs.report.flow.add_judged.Goals as goal
 
 pub returns : goal.returns

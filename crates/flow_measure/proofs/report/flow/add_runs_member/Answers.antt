@@ -2,7 +2,7 @@ use Rattle.std.proofs.Common.{◌≡◌, ◌≤◌, ◌++◌, ◌∙◌, arith, 
 use Rattle.std.specs.Prelude.{codes, map, nat_lt, string_bytes}
 use Rattle.flow_measure.specs.report.Json.{items_text, run_text}
 use Rattle.flow_measure.specs.report.Told.{run_told}
-use Rattle.flow_measure.proofs.report.Joined.{added_ok, listed_ok, some_runs, whole_list}
+use Rattle.flow_measure.proofs.lemmas.report.Joined.{added_ok, listed_ok, some_runs, whole_list}
 use Rattle.flow_measure.proofs.report.flow.add_runs_member.Goals as goal
 
 pub returns : goal.returns

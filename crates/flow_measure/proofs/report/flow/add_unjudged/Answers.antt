@@ -1,7 +1,7 @@
 use Rattle.std.proofs.Common.{ap, ◌∙◌}
 use Rattle.serde_json.specs.Written.{has_float}
 use Rattle.flow_measure.specs.report.Told.{flow_told}
-use Rattle.flow_measure.proofs.report.Floatless.{flow-floatless}
+use Rattle.flow_measure.proofs.lemmas.report.Floatless.{flow-floatless}
 use Rattle.flow_measure.proofs.report.flow.add_unjudged.Goals as goal
 
 pub add_value-requires : goal.add_value-requires

@@ -2,7 +2,7 @@ use Rattle.std.proofs.Common.{◌≡◌, ℕ, List, [], ◌++◌, ap, append_ass
 use Rattle.std.specs.Prelude.{codes}
 use Rattle.timing_base.specs.Examples.{plain_media}
 use Rattle.flow_measure.specs.report.Json.{run_text}
-use Rattle.flow_measure.proofs.report.Numerals.{measure_texts}
+use Rattle.flow_measure.proofs.lemmas.report.Numerals.{measure_texts}
 use Rattle.flow_measure.proofs.report.laws.runs_by_hand.Goals as goal
 
 -- one item of a list, and what stands behind the list

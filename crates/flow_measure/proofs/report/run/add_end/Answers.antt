@@ -4,7 +4,7 @@ use Rattle.timing_base.specs.Verdicts.{Judged}
 use Rattle.flow_measure.specs.declared.numbers.KindNumbers.{KindNumbers}
 use Rattle.flow_measure.specs.report.Json.{kinds_text}
 use Rattle.flow_measure.specs.report.Told.{kind_told, run_told}
-use Rattle.flow_measure.proofs.report.Joined.{added_ok, end-is, end_pieces}
+use Rattle.flow_measure.proofs.lemmas.report.Joined.{added_ok, end-is, end_pieces}
 use Rattle.flow_measure.proofs.report.run.add_end.Goals as goal
 
 pub returns : goal.returns

@@ -4,7 +4,7 @@ use Rattle.timing_base.specs.Media.{Media}
 use Rattle.timing_base.specs.Verdicts.{Judged}
 use Rattle.flow_measure.specs.report.Json.{flag_text}
 use Rattle.flow_measure.specs.report.Told.{numbers_told}
-use Rattle.flow_measure.proofs.report.Joined.{added_ok, middle-is, middle_pieces}
+use Rattle.flow_measure.proofs.lemmas.report.Joined.{added_ok, middle-is, middle_pieces}
 use Rattle.flow_measure.proofs.report.run.add_middle.Goals as goal
 
 pub returns : goal.returns

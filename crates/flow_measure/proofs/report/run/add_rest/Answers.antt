@@ -2,7 +2,7 @@ use Rattle.std.proofs.Common.{ap}
 use Rattle.std.specs.Prelude.{string_bytes}
 use Rattle.timing_base.specs.Verdicts.{Judged}
 use Rattle.flow_measure.specs.report.Told.{run_told}
-use Rattle.flow_measure.proofs.report.Joined.{added_ok, rest-is, rest_pieces}
+use Rattle.flow_measure.proofs.lemmas.report.Joined.{added_ok, rest-is, rest_pieces}
 use Rattle.flow_measure.proofs.report.run.add_rest.Goals as goal
 
 pub returns : goal.returns

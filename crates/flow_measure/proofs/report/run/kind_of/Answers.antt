@@ -3,7 +3,7 @@ use Rattle.std.specs.Prelude.{string_bytes}
 use Rattle.timing_base.specs.declared.row.KindVerdict.{KindVerdict}
 use Rattle.flow_measure.specs.report.Json.{kind_text, outcome_text}
 use Rattle.flow_measure.specs.report.Told.{kind_told}
-use Rattle.flow_measure.proofs.report.Joined.{kind-is, kind_pieces, text_ok}
+use Rattle.flow_measure.proofs.lemmas.report.Joined.{kind-is, kind_pieces, text_ok}
 use Rattle.flow_measure.proofs.report.run.kind_of.Goals as goal
 
 pub returns : goal.returns

@@ -1,7 +1,7 @@
 use Rattle.std.proofs.Common.{◌++◌, refl}
 use Rattle.flow_measure.specs.rows.making.Stands.{PutsRow}
 use Rattle.flow_measure.specs.declared.rows.rows.RunRows.TheVariants.{Groups}
-use Rattle.flow_measure.proofs.rows.Rowing.{group-put, group-still, on-ok}
+use Rattle.flow_measure.proofs.lemmas.rows.Rowing.{group-put, group-still, on-ok}
 use Rattle.flow_measure.proofs.rows.rows.put_group.Goals as goal
 
 pub returns-in-Some-clause-puts : goal.returns-in-Some-clause-puts

@@ -1,7 +1,7 @@
 use Rattle.std.proofs.Common.{◌++◌, refl}
 use Rattle.flow_measure.specs.rows.making.Stands.{PutsRow}
 use Rattle.flow_measure.specs.declared.rows.rows.RunRows.TheVariants.{Packets}
-use Rattle.flow_measure.proofs.rows.Rowing.{on-ok, packets-put}
+use Rattle.flow_measure.proofs.lemmas.rows.Rowing.{on-ok, packets-put}
 use Rattle.flow_measure.proofs.rows.rows.put_packet.Goals as goal
 
 pub returns-clause-puts : goal.returns-clause-puts

@@ -1,7 +1,7 @@
 use Rattle.std.proofs.Common.{◌≤◌, arith}
 use Rattle.std.proofs.lemmas.Bool.Decides.{nat_tests}
-use Rattle.flow_page.proofs.chart.Reaches.{round_reaches}
-use Rattle.flow_page.proofs.chart.Texts.{one_power, round_begins, round_ends}
+use Rattle.flow_page.proofs.lemmas.chart.Reaches.{round_reaches}
+use Rattle.flow_page.proofs.lemmas.chart.Texts.{one_power, round_begins, round_ends}
 use Rattle.flow_page.proofs.chart.axis.round_up.Goals as goal
 
 pub loop-tried-init : goal.loop-tried-init

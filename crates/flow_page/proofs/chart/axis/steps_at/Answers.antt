@@ -3,7 +3,7 @@ use Rattle.std.proofs.lemmas.Int.{to_z-of_z}
 use Rattle.std.specs.Int.{div_ceil}
 use mir.Syntax.{w64}
 use mir.Val.{of_z, to_z}
-use Rattle.flow_page.proofs.chart.Reaches.{steps_reach}
+use Rattle.flow_page.proofs.lemmas.chart.Reaches.{steps_reach}
 use Rattle.flow_page.proofs.chart.axis.steps_at.Goals as goal
 
 pub returns-clause-room : goal.returns-clause-room

@@ -4,7 +4,7 @@ use Rattle.flow_measure.specs.Columns.{column_at}
 use Rattle.timing_report.proofs.Appends.{two_ok}
 use Rattle.flow_page.specs.chart.Curve.{band_end, over_text, under_text}
 use Rattle.flow_page.specs.chart.Marks.{y_of}
-use Rattle.flow_page.proofs.chart.Texts.{band_some}
+use Rattle.flow_page.proofs.lemmas.chart.Texts.{band_some}
 use Rattle.flow_page.proofs.chart.curve.add_band.Goals as goal
 
 pub returns : goal.returns

@@ -1,4 +1,4 @@
-use Rattle.flow_page.proofs.chart.Texts.{over_more}
+use Rattle.flow_page.proofs.lemmas.chart.Texts.{over_more}
 use Rattle.flow_page.proofs.chart.curve.add_over.Goals as goal
 
 pub loop-column-preserved : goal.loop-column-preserved

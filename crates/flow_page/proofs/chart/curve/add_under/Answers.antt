@@ -1,7 +1,7 @@
 use Rattle.std.proofs.Common.{◌-◌, length}
 use Rattle.std.specs.Prelude.{string_bytes}
 use Rattle.flow_measure.specs.Columns.{column_at}
-use Rattle.flow_page.proofs.chart.Texts.{next_from, none_back, none_from, one_back}
+use Rattle.flow_page.proofs.lemmas.chart.Texts.{next_from, none_back, none_from, one_back}
 use Rattle.flow_page.proofs.chart.curve.add_under.Goals as goal
 
 pub loop-done-init : goal.loop-done-init

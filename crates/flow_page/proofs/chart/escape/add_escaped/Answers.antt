@@ -5,7 +5,7 @@ use Rattle.std.proofs.lemmas.List.{map-id}
 use Rattle.std.specs.List.{flat_map}
 use Rattle.std.specs.Prelude.{chars, string_bytes, encode_utf8_all}
 use Rattle.flow_page.specs.chart.Escapes.{written}
-use Rattle.flow_page.proofs.chart.Escapes.{each_written}
+use Rattle.flow_page.proofs.lemmas.chart.Escapes.{each_written}
 use Rattle.flow_page.proofs.chart.escape.add_escaped.Goals as goal
 
 pub returns : goal.returns

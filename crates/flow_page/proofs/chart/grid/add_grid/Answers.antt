@@ -1,6 +1,6 @@
 use Rattle.std.specs.Prelude.{string_bytes}
 use Rattle.flow_page.specs.chart.Grid.{grid_line}
-use Rattle.flow_page.proofs.chart.Texts.{one_upto}
+use Rattle.flow_page.proofs.lemmas.chart.Texts.{one_upto}
 use Rattle.flow_page.proofs.chart.grid.add_grid.Goals as goal
 
 pub loop-k-preserved : goal.loop-k-preserved

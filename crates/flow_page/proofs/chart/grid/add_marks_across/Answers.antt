@@ -2,7 +2,7 @@ use Rattle.std.proofs.Common.{◌≡◌, ◌++◌, ap, ◌∙◌, arith}
 use Rattle.std.specs.Prelude.{string_bytes}
 use Rattle.flow_page.specs.chart.Grid.{some_mark_across}
 use Rattle.flow_page.specs.chart.Pieces.{upto}
-use Rattle.flow_page.proofs.chart.Texts.{one_upto}
+use Rattle.flow_page.proofs.lemmas.chart.Texts.{one_upto}
 use Rattle.flow_page.proofs.chart.grid.add_marks_across.Goals as goal
 
 pub loop-k-preserved : goal.loop-k-preserved

@@ -1,4 +1,4 @@
-use Rattle.flow_page.proofs.chart.Escapes.{none_is_markup, reads_back}
+use Rattle.flow_page.proofs.lemmas.chart.Escapes.{none_is_markup, reads_back}
 use Rattle.flow_page.proofs.chart.laws.escaped_reads_back.Goals as goal
 
 pub returns : goal.returns

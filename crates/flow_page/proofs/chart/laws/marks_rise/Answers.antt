@@ -1,4 +1,4 @@
-use Rattle.flow_page.proofs.chart.Rises.{high_stands, low_stands, mark_falls, rises, rises_above, stands_within}
+use Rattle.flow_page.proofs.lemmas.chart.Rises.{high_stands, low_stands, mark_falls, rises, rises_above, stands_within}
 use Rattle.flow_page.proofs.chart.laws.marks_rise.Goals as goal
 
 pub returns : goal.returns

@@ -1,5 +1,5 @@
-use Rattle.flow_page.proofs.chart.Peaks.{ends_each, spans_each}
-use Rattle.flow_page.proofs.chart.Spans.{on_curve_axis}
+use Rattle.flow_page.proofs.lemmas.chart.Peaks.{ends_each, spans_each}
+use Rattle.flow_page.proofs.lemmas.chart.Spans.{on_curve_axis}
 use Rattle.flow_page.proofs.chart.laws.no_peak_is_hidden.Goals as goal
 
 pub returns : goal.returns

@@ -1,6 +1,6 @@
 use Rattle.std.proofs.Common.{ap, ◌∙◌}
 use Rattle.flow_page.specs.chart.Lines.{placed}
-use Rattle.flow_page.proofs.chart.Texts.{lines_more}
+use Rattle.flow_page.proofs.lemmas.chart.Texts.{lines_more}
 use Rattle.flow_page.proofs.chart.lines.add_lines.Goals as goal
 
 pub loop-line-preserved : goal.loop-line-preserved

@@ -3,7 +3,7 @@ use Rattle.flow_measure.specs.Columns.{AreExtremes, column_at, places_in, width_
 use Rattle.flow_measure.specs.Worked.{column}
 use Rattle.flow_measure.proofs.ByHand.{each-two, extremes-by, within-by}
 use Rattle.flow_page.specs.drawing.Worked.{each_packet, held, laid_over}
-use Rattle.flow_page.proofs.drawing.ByHand.{each-four}
+use Rattle.flow_page.proofs.lemmas.drawing.ByHand.{each-four}
 use Rattle.flow_page.proofs.drawing.laws.levels_by_hand.Goals as goal
 
 pub returns : goal.returns

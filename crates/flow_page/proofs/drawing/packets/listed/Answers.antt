@@ -1,6 +1,6 @@
 use Rattle.std.proofs.Common.{◌≡◌, ◌++◌, ap, ◌∙◌, sym, subst}
 use Rattle.flow_measure.specs.Columns.{AreCurve, AreEye}
-use Rattle.flow_page.proofs.drawing.Finishing.{curve-of}
+use Rattle.flow_page.proofs.lemmas.drawing.Finishing.{curve-of}
 use Rattle.flow_page.proofs.drawing.packets.listed.Goals as goal
 
 pub returns-clause-curve : goal.returns-clause-curve

@@ -1,6 +1,6 @@
 use Rattle.std.proofs.Common.{length, subst}
 use Rattle.flow_page.specs.drawing.drawing.Regions.{DrawsKind}
-use Rattle.flow_page.proofs.drawing.Around.{region-put}
+use Rattle.flow_page.proofs.lemmas.drawing.Around.{region-put}
 use Rattle.flow_page.proofs.drawing.regions.put_region.Goals as goal
 
 pub returns-in_ok-push-in-Some : goal.returns-in_ok-push-in-Some

@@ -2,7 +2,7 @@ use Rattle.std.proofs.Common.{◌≡◌, ◌∷◌, ◌++◌, [], List, map, len
 use Rattle.std.proofs.lemmas.List.{length-append}
 use Rattle.ruled_intake.specs.Lanes.{Sender}
 use Rattle.ruled_intake.specs.declared.passes.SendPass.{SendPass}
-use Rattle.flow_worker.proofs.crew.Dealing.{deal_room, deal_step}
+use Rattle.flow_worker.proofs.lemmas.crew.Dealing.{deal_room, deal_step}
 use Rattle.flow_worker.proofs.crew.columns.deal.Goals as goal
 
 pub index_mut-requires : goal.index_mut-requires

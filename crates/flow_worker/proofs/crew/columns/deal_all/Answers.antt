@@ -1,6 +1,6 @@
 use Rattle.std.proofs.Common.{◌≡◌, ◌∷◌, ◌++◌, [], List, length, sym, ap, ◌∙◌, Vec, Global, append_assoc}
 use Rattle.ruled_intake.specs.declared.passes.SendPass.{SendPass}
-use Rattle.flow_worker.proofs.crew.Dealing.{behind_first, deal_next}
+use Rattle.flow_worker.proofs.lemmas.crew.Dealing.{behind_first, deal_next}
 use Rattle.flow_worker.proofs.crew.columns.deal_all.Goals as goal
 
 pub loop-row-preserved : goal.loop-row-preserved

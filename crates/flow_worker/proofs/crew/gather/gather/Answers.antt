@@ -3,7 +3,7 @@ use Rattle.std.specs.Vec.Iter.{into_iter_items}
 use Rattle.timing_base.specs.declared.key.FlowKey.{FlowKey}
 use Rattle.timing_base.specs.declared.row.Row.{Row}
 use Rattle.flow_worker.specs.crew.Gathering.{AreQueued}
-use Rattle.flow_worker.proofs.crew.Queues.{row_more, some_receipt, take_receipt}
+use Rattle.flow_worker.proofs.lemmas.crew.Queues.{row_more, some_receipt, take_receipt}
 use Rattle.flow_worker.proofs.crew.gather.gather.Goals as goal
 
 -- a key that isn't there

@@ -1,4 +1,4 @@
-use Rattle.flow_worker.proofs.crew.Keys.{push_file}
+use Rattle.flow_worker.proofs.lemmas.crew.Keys.{push_file}
 use Rattle.flow_worker.proofs.crew.gather.list_keys.Goals as goal
 
 pub loop-file-preserved : goal.loop-file-preserved

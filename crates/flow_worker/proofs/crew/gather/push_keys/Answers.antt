@@ -1,4 +1,4 @@
-use Rattle.flow_worker.proofs.crew.Keys.{push_key}
+use Rattle.flow_worker.proofs.lemmas.crew.Keys.{push_key}
 use Rattle.flow_worker.proofs.crew.gather.push_keys.Goals as goal
 
 pub loop-number-preserved : goal.loop-number-preserved

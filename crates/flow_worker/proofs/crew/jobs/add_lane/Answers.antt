@@ -1,6 +1,6 @@
 use Rattle.std.proofs.Common.{refl, map, Vec, Global}
 use Rattle.ruled_intake.specs.declared.passes.SendPass.{SendPass}
-use Rattle.flow_worker.proofs.crew.Making.{made-next, on_ok}
+use Rattle.flow_worker.proofs.lemmas.crew.Making.{made-next, on_ok}
 use Rattle.flow_worker.proofs.crew.jobs.add_lane.Goals as goal
 
 pub returns : goal.returns

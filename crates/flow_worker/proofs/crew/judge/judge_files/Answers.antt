@@ -4,9 +4,9 @@ use Rattle.ruled_intake.specs.Lanes.{LaneId}
 use Rattle.timing_base.specs.Keys.{keys_of}
 use Rattle.flow_worker.specs.crew.Reading.{AreIntakeJobs}
 use Rattle.flow_worker.specs.crew.Threads.{AreWorkJobs}
-use Rattle.flow_worker.proofs.crew.Finding.{each_long, found, if_all, keys-found, made_on, posted_count, read_on, run_is, some_posted}
-use Rattle.flow_worker.proofs.crew.Running.{can_close}
-use Rattle.flow_worker.proofs.crew.Starting.{intake_jobs, rows_are, sources_back, work_jobs}
+use Rattle.flow_worker.proofs.lemmas.crew.Finding.{each_long, found, if_all, keys-found, made_on, posted_count, read_on, run_is, some_posted}
+use Rattle.flow_worker.proofs.lemmas.crew.Running.{can_close}
+use Rattle.flow_worker.proofs.lemmas.crew.Starting.{intake_jobs, rows_are, sources_back, work_jobs}
 use Rattle.flow_worker.proofs.crew.judge.judge_files.Goals as goal
 
 pub run_threads-requires-clause-run : goal.run_threads-requires-clause-run

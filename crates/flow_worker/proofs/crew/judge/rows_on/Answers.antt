@@ -1,8 +1,8 @@
 use Rattle.std.proofs.Common.{◌∙◌, length, map, ap}
 use Rattle.std.specs.Vec.Iter.{into_iter_items}
 use Rattle.timing_base.specs.Keys.{keys_of}
-use Rattle.flow_worker.proofs.crew.Listing.{keys-are, keys-within, queued_by}
-use Rattle.flow_worker.proofs.crew.Making.{on_ok}
+use Rattle.flow_worker.proofs.lemmas.crew.Listing.{keys-are, keys-within, queued_by}
+use Rattle.flow_worker.proofs.lemmas.crew.Making.{on_ok}
 use Rattle.flow_worker.proofs.crew.judge.rows_on.Goals as goal
 
 pub gather-requires-clause-keys : goal.gather-requires-clause-keys

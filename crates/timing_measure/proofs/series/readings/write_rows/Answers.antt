@@ -1,7 +1,7 @@
 use Rattle.std.proofs.Common.{◌≡◌, ◌∙◌, ℕ, List, ap, arith, refl, subst, rules}
 use Rattle.timing_outside.specs.Causes.{Rose}
 use Rattle.timing_reach.specs.steps.Ran.{output_of}
-use Rattle.timing_reach.proofs.steps.Seeing.{rose-within}
+use Rattle.timing_reach.proofs.lemmas.steps.Seeing.{rose-within}
 use Rattle.timing_measure.specs.declared.metering.edges.Edge.{Edge}
 use Rattle.timing_measure.specs.series.Finding.{FindsElse}
 use Rattle.timing_measure.proofs.lemmas.series.Copying.{any-err}

@@ -1,6 +1,6 @@
 use Rattle.std.proofs.Common.{rules, arith, refl, subst, ap, ◌∙◌, ℕ, List, ◌≡◌, ◌^◌, true, false}
 use Rattle.timing_outside.specs.Causes.{Rose}
-use Rattle.timing_reach.proofs.steps.Seeing.{rose-within}
+use Rattle.timing_reach.proofs.lemmas.steps.Seeing.{rose-within}
 use Rattle.timing_reach.specs.judged.Readings.{IsJudgmentIn}
 use Rattle.timing_reach.specs.judged.SecondReadings.{AnswersSome, TakesBoth, is_again}
 use Rattle.timing_reach.proofs.Judgments.{judgment-in, passed-few}

@@ -6,8 +6,8 @@ use Rattle.pcapng_reader.specs.Classic.{classic, classic_texts}
 use Rattle.pcapng_reader.specs.Sources.{faults_of, left_of, name_of}
 use Rattle.timing_reach.specs.steps.Answers.{AreThere}
 use Rattle.timing_reach.specs.steps.Fetched.{AreFetched}
-use Rattle.timing_reach.proofs.steps.Fetches.{err-of, not-err, there-push, fetch-cause, fetched-push, take-next}
-use Rattle.timing_reach.proofs.steps.Seeing.{stays-then}
+use Rattle.timing_reach.proofs.lemmas.steps.Fetches.{err-of, not-err, there-push, fetch-cause, fetched-push, take-next}
+use Rattle.timing_reach.proofs.lemmas.steps.Seeing.{stays-then}
 use Rattle.timing_reach.proofs.steps.fetch.fetch_each.Goals as goal
 
 pub returns-in-Err-clause-cause : goal.returns-in-Err-clause-cause

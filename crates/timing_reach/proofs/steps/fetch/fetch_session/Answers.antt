@@ -1,6 +1,6 @@
 use Rattle.std.proofs.Common.{◌∙◌, sym, ap}
 use Rattle.sdp_reader.specs.Session.{session}
-use Rattle.timing_reach.proofs.steps.Sessions.{session-take}
+use Rattle.timing_reach.proofs.lemmas.steps.Sessions.{session-take}
 use Rattle.timing_reach.proofs.steps.fetch.fetch_session.Goals as goal
 
 pub returns-in-Ok-read_sdp-clause-told : goal.returns-in-Ok-read_sdp-clause-told

@@ -1,7 +1,7 @@
 use Rattle.std.proofs.Common.{rules}
 use Rattle.pcapng_reader.specs.Sources.{faults_of, name_of}
-use Rattle.timing_reach.proofs.steps.Fetches.{returning-all, returning-next, returning-start}
-use Rattle.timing_reach.proofs.steps.Seeing.{stays-then}
+use Rattle.timing_reach.proofs.lemmas.steps.Fetches.{returning-all, returning-next, returning-start}
+use Rattle.timing_reach.proofs.lemmas.steps.Seeing.{stays-then}
 use Rattle.timing_reach.proofs.steps.fetch.give_back_all.Goals as goal
 
 pub loop-source-init : goal.loop-source-init

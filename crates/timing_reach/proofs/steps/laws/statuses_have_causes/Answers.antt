@@ -1,4 +1,4 @@
-use Rattle.timing_reach.proofs.steps.Endings.{answered-is, read-is, write-is}
+use Rattle.timing_reach.proofs.lemmas.steps.Endings.{answered-is, read-is, write-is}
 use Rattle.timing_reach.proofs.steps.laws.statuses_have_causes.Goals as goal
 
 pub returns-clause-read : goal.returns-clause-read

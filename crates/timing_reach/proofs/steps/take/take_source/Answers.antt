@@ -1,5 +1,5 @@
 use Rattle.std.proofs.Common.{refl}
-use Rattle.timing_reach.proofs.steps.Takings.{takes-text}
+use Rattle.timing_reach.proofs.lemmas.steps.Takings.{takes-text}
 use Rattle.timing_reach.proofs.steps.take.take_source.Goals as goal
 
 pub returns-else-read_failed-clause-told : goal.returns-else-read_failed-clause-told

@@ -1,6 +1,6 @@
 use Rattle.std.proofs.Common.{ap, ◌∙◌}
 use Rattle.serde_json.specs.Written.{has_float}
-use Rattle.timing_report.proofs.json_report.Floatless.{flow-floatless}
+use Rattle.timing_report.proofs.lemmas.json_report.Floatless.{flow-floatless}
 use Rattle.timing_report.proofs.json_report.written.add_flow.Goals as goal
 
 pub add_value-requires : goal.add_value-requires

@@ -3,7 +3,7 @@ use Rattle.std.specs.Prelude.{string_bytes, codes, map}
 use Rattle.std.specs.Fmt.{decimal}
 use Rattle.serde_json.specs.View.{items_of}
 use Rattle.serde_json.specs.Written.{compact_text, items_text}
-use Rattle.timing_report.proofs.json_report.Frame.{frame, parts}
+use Rattle.timing_report.proofs.lemmas.json_report.Frame.{frame, parts}
 use Rattle.timing_report.specs.json_report.Json.{list_of, files_data, row_data}
 use Rattle.timing_report.specs.declared.status.Status.{Status}
 use Rattle.timing_report.specs.Outcomes.{status_of}

@@ -2,7 +2,7 @@ use Rattle.std.proofs.Common.{rules, subst, take_all}
 use Rattle.std.proofs.lemmas.List.Elements.{All-nil}
 use Rattle.std.specs.Prelude.{All}
 use Rattle.timing_top.specs.verify.Found.{Asks}
-use Rattle.timing_top.proofs.verify.Served.{asks-more}
+use Rattle.timing_top.proofs.lemmas.verify.Served.{asks-more}
 use Rattle.timing_top.proofs.verify.asks.asked_of.Goals as goal
 
 pub loop-claim-init : goal.loop-claim-init

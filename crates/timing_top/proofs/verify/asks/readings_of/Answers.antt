@@ -5,7 +5,7 @@ use Rattle.interval_checker.specs.Readings.{HaveRead, HaveRoom}
 use Rattle.interval_checker.specs.declared.asked.Asked.{Asked}
 use Rattle.interval_checker.specs.declared.reading.Reading.{Reading}
 use Rattle.timing_top.specs.verify.Found.{AreAsked, Asks}
-use Rattle.timing_top.proofs.verify.Served.{asked-more, none-more, room-more}
+use Rattle.timing_top.proofs.lemmas.verify.Served.{asked-more, none-more, room-more}
 use Rattle.timing_top.proofs.verify.asks.readings_of.Goals as goal
 
 pub loop-number-init : goal.loop-number-init

@@ -2,7 +2,7 @@ use Rattle.std.proofs.Common.{◌≡◌, [], ◌∷◌, ◌++◌, sym, ap, ◌�
 use Rattle.std.specs.Prelude.{slice_get}
 use Rattle.interval_checker.specs.Asking.{IsAsked}
 use Rattle.interval_checker.specs.Readings.{AreSame, asked_by}
-use Rattle.timing_top.proofs.verify.Confirming.{one-read}
+use Rattle.timing_top.proofs.lemmas.verify.Confirming.{one-read}
 use Rattle.timing_top.proofs.verify.find.find.Goals as goal
 
 pub returns-clause-told : goal.returns-clause-told

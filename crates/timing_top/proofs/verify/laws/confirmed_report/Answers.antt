@@ -1,4 +1,4 @@
-use Rattle.timing_top.proofs.verify.Unique.{confirmed-lines, confirmed-status}
+use Rattle.timing_top.proofs.lemmas.verify.Unique.{confirmed-lines, confirmed-status}
 use Rattle.timing_top.proofs.verify.laws.confirmed_report.Goals as goal
 
 pub returns-clause-lines : goal.returns-clause-lines

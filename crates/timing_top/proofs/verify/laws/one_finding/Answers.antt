@@ -1,4 +1,4 @@
-use Rattle.timing_top.proofs.verify.Unique.{only-finding, some-finding}
+use Rattle.timing_top.proofs.lemmas.verify.Unique.{only-finding, some-finding}
 use Rattle.timing_top.proofs.verify.laws.one_finding.Goals as goal
 
 pub returns-clause-some : goal.returns-clause-some

@@ -1,4 +1,4 @@
-use Rattle.timing_top.proofs.verify.Unique.{only-reported, some-reported}
+use Rattle.timing_top.proofs.lemmas.verify.Unique.{only-reported, some-reported}
 use Rattle.timing_top.proofs.verify.laws.one_reported.Goals as goal
 
 pub returns-clause-some : goal.returns-clause-some

@@ -1,4 +1,4 @@
-use Rattle.timing_top.proofs.verify.Unique.{only-verified, some-verified}
+use Rattle.timing_top.proofs.lemmas.verify.Unique.{only-verified, some-verified}
 use Rattle.timing_top.proofs.verify.laws.one_verified.Goals as goal
 
 pub returns-clause-some : goal.returns-clause-some

@@ -1,5 +1,5 @@
 use Rattle.std.proofs.Common.{rules}
-use Rattle.timing_top.proofs.verify.Served.{serves-finds}
+use Rattle.timing_top.proofs.lemmas.verify.Served.{serves-finds}
 use Rattle.timing_top.proofs.verify.needs.answer.Goals as goal
 
 pub returns : goal.returns

@@ -7,7 +7,7 @@ use Rattle.interval_checker.specs.Asking.{IsAsked}
 use Rattle.interval_checker.specs.Checked.{Says}
 use Rattle.interval_checker.specs.Readings.{HasRead, asked_by, media_of, tai_of}
 use Rattle.interval_checker.specs.declared.reading.Reading.{Reading}
-use Rattle.timing_top.proofs.verify.Confirming.{finds-answer, no-reading, same-reading}
+use Rattle.timing_top.proofs.lemmas.verify.Confirming.{finds-answer, no-reading, same-reading}
 use Rattle.timing_top.proofs.verify.read.answer_of.Goals as goal
 
 pub returns-in-Some : goal.returns-in-Some

@@ -1,6 +1,6 @@
 use Rattle.std.proofs.Common.{◌≡◌, rules, subst}
 use Rattle.timing_top.specs.verify.Found.{AreAsked}
-use Rattle.timing_top.proofs.verify.Served.{asked-same}
+use Rattle.timing_top.proofs.lemmas.verify.Served.{asked-same}
 use Rattle.timing_top.proofs.verify.read.read_file.Goals as goal
 
 pub returns-clause-tells : goal.returns-clause-tells

@@ -2,10 +2,10 @@ use Rattle.std.proofs.Common.{rules, ◌≡◌, ◌<◌, ◌+◌, ◌∙◌, if�
 use Rattle.std.specs.Prelude.{slice_range}
 use Rattle.pcapng_reader.specs.Classic.{classic_texts}
 use Rattle.timing_reach.specs.steps.Answers.{AreThere}
-use Rattle.timing_reach.proofs.steps.Readings.{if_ok-map}
+use Rattle.timing_reach.proofs.lemmas.steps.Readings.{if_ok-map}
 use Rattle.timing_top.specs.verify.Asked.{captures_of}
 use Rattle.timing_top.specs.verify.Found.{ReadAs, key_at}
-use Rattle.timing_top.proofs.verify.Needing.{apart-names, joined-names, told-captures}
+use Rattle.timing_top.proofs.lemmas.verify.Needing.{apart-names, joined-names, told-captures}
 use Rattle.timing_top.proofs.verify.read.read_there.Goals as goal
 
 pub returns-then-job-clause-tells : goal.returns-then-job-clause-tells

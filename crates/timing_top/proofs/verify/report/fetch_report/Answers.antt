@@ -1,5 +1,5 @@
 use Rattle.std.proofs.Common.{rules, ◌∙◌}
-use Rattle.timing_top.proofs.verify.Reports.{no-report-front, report-front}
+use Rattle.timing_top.proofs.lemmas.verify.Reports.{no-report-front, report-front}
 use Rattle.timing_top.proofs.verify.report.fetch_report.Goals as goal
 
 pub returns-in-Ok-read_json-clause-told : goal.returns-in-Ok-read_json-clause-told

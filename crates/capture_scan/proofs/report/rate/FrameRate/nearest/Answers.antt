@@ -1,6 +1,6 @@
 use Rattle.std.proofs.Common.{sym, ◌∙◌}
 use Rattle.capture_scan.specs.report.Rates.{faster}
-use Rattle.capture_scan.proofs.report.Rates.{found_here, found_later}
+use Rattle.capture_scan.proofs.lemmas.report.Rates.{found_here, found_later}
 use Rattle.capture_scan.proofs.report.rate.FrameRate.nearest.Goals as goal
 
 pub returns-then-is_slow : goal.returns-then-is_slow

@@ -2,7 +2,7 @@ use Rattle.std.proofs.Common.{FitsSigned, ◌∙◌, ap, refl, rules}
 use Rattle.std.proofs.lemmas.Int.{to_z-of_z}
 use Rattle.std.specs.Int.{w128}
 use Rattle.flow_measure.specs.Frames.{after_start}
-use Rattle.flow_measure.proofs.rows.Grouping.{place-kept}
+use Rattle.flow_measure.proofs.lemmas.rows.Grouping.{place-kept}
 use Rattle.flow_measure.proofs.rows.groups.GroupRows.end.Goals as goal
 
 pub returns-clause-row : goal.returns-clause-row

@@ -1,6 +1,6 @@
 use Rattle.std.proofs.Common.{◌≡◌, ◌+◌, ◌∙◌, length, ap, refl, arith}
 use Rattle.flow_measure.specs.declared.rows.levels.LevelMeter.{LevelMeter}
-use Rattle.flow_measure.proofs.rows.Grouping.{ends, ends-group, ends-row, goes, goes-on, taken-fed}
+use Rattle.flow_measure.proofs.lemmas.rows.Grouping.{ends, ends-group, ends-row, goes, goes-on, taken-fed}
 use Rattle.flow_measure.proofs.rows.groups.GroupRows.feed.Goals as goal
 
 pub returns-then-self-clause-ends : goal.returns-then-self-clause-ends

@@ -1,5 +1,5 @@
 use Rattle.std.proofs.Common.{refl}
-use Rattle.flow_measure.proofs.rows.Grouping.{groups-none}
+use Rattle.flow_measure.proofs.lemmas.rows.Grouping.{groups-none}
 use Rattle.flow_measure.proofs.rows.groups.GroupRows.new.Goals as goal
 
 pub returns-clause-stands : goal.returns-clause-stands

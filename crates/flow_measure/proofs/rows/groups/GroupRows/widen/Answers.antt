@@ -1,7 +1,7 @@
 use Rattle.std.proofs.Common.{FitsSigned, rules, arith}
 use Rattle.std.proofs.lemmas.Int.{clamps, ints, to_z-of_z}
 use Rattle.std.specs.Int.{w128}
-use Rattle.flow_measure.proofs.rows.Grouping.{place-kept}
+use Rattle.flow_measure.proofs.lemmas.rows.Grouping.{place-kept}
 use Rattle.flow_measure.proofs.rows.groups.GroupRows.widen.Goals as goal
 
 pub returns-clause-row : goal.returns-clause-row

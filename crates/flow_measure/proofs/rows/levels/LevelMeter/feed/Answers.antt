@@ -2,7 +2,7 @@ use Rattle.std.proofs.Common.{◌≡◌, ◌+◌, ◌++◌, ◌∷◌, [], true,
 use Rattle.timing_base.specs.Media.{Media}
 use Rattle.drain_bucket.specs.Word.{bucket_of}
 use Rattle.flow_measure.specs.rows.making.Levels.{Fills}
-use Rattle.flow_measure.proofs.rows.Filling.{begun-meter, occupancy-same}
+use Rattle.flow_measure.proofs.lemmas.rows.Filling.{begun-meter, occupancy-same}
 use Rattle.flow_measure.proofs.rows.levels.LevelMeter.feed.Goals as goal
 
 pub returns-clause-bucket : goal.returns-clause-bucket

@@ -4,7 +4,7 @@ use Rattle.std.specs.Int.{w128}
 use Rattle.sender_params.specs.Reads.{anchor_of}
 use Rattle.flow_measure.specs.Occupancy.{IsOccupancy}
 use Rattle.flow_measure.proofs.Filled.{bucket-more, count-is}
-use Rattle.flow_measure.proofs.rows.Filling.{first-is, occupancy-next, stood-next}
+use Rattle.flow_measure.proofs.lemmas.rows.Filling.{first-is, occupancy-next, stood-next}
 use Rattle.flow_measure.proofs.rows.levels.Levels.feed.Goals as goal
 
 pub returns-clause-bucket : goal.returns-clause-bucket

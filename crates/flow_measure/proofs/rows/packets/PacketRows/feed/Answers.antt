@@ -6,8 +6,8 @@ use Rattle.drain_bucket.specs.Word.{bucket_of}
 use Rattle.flow_measure.specs.Occupancy.{IsOccupancy}
 use Rattle.flow_measure.specs.rows.Packets.{stamps_of}
 use Rattle.flow_measure.specs.rows.making.Levels.{StandsFor}
-use Rattle.flow_measure.proofs.rows.Filling.{latest-of, stamps-long, stamps-more}
-use Rattle.flow_measure.proofs.rows.Numbering.{numbered}
+use Rattle.flow_measure.proofs.lemmas.rows.Filling.{latest-of, stamps-long, stamps-more}
+use Rattle.flow_measure.proofs.lemmas.rows.Numbering.{numbered}
 use Rattle.flow_measure.proofs.rows.packets.PacketRows.feed.Goals as goal
 
 pub returns-clause-row : goal.returns-clause-row

@@ -7,7 +7,7 @@ use Rattle.flow_measure.specs.rows.making.Levels.{StandsFor as LevelsStandFor}
 use Rattle.flow_page.specs.drawing.Stands.{IsDrawable}
 use Rattle.flow_page.specs.drawing.drawing.Columns.{DrawsGroups, DrawsPackets}
 use Rattle.flow_page.specs.drawing.drawing.Regions.{DrawsKind}
-use Rattle.flow_page.proofs.drawing.Finishing.{draws-same, no-fewer}
+use Rattle.flow_page.proofs.lemmas.drawing.Finishing.{draws-same, no-fewer}
 use Rattle.flow_page.proofs.drawing.drawing.RunDrawing.begin.Goals as goal
 
 pub returns-clause-draws : goal.returns-clause-draws

@@ -4,7 +4,7 @@ use Rattle.flow_measure.specs.Groups.{firsts_of, lasts_of, latency_at, offset_at
 use Rattle.flow_measure.specs.Occupancy.{buckets_of}
 use Rattle.flow_measure.specs.Run.{anchor_in}
 use Rattle.flow_measure.proofs.Packets.{occupancies}
-use Rattle.flow_page.proofs.drawing.Finishing.{curve-in, groups-came, levels-are}
+use Rattle.flow_page.proofs.lemmas.drawing.Finishing.{curve-in, groups-came, levels-are}
 use Rattle.flow_page.proofs.drawing.drawing.RunDrawing.curves.Goals as goal
 
 pub returns : goal.returns

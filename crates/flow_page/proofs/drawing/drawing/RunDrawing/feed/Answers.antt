@@ -6,7 +6,7 @@ use Rattle.timing_base.specs.declared.row.KindVerdict.TheVariants.{Pass}
 use Rattle.flow_measure.proofs.Followed.{last-is}
 use Rattle.flow_page.specs.drawing.drawing.Columns.{DrawsGroups}
 use Rattle.flow_page.specs.drawing.drawing.Held.{Holds}
-use Rattle.flow_page.proofs.drawing.Feeding.{first-more, latest-of}
+use Rattle.flow_page.proofs.lemmas.drawing.Feeding.{first-more, latest-of}
 use Rattle.flow_page.proofs.drawing.drawing.RunDrawing.feed.Goals as goal
 
 pub returns-clause-draws : goal.returns-clause-draws

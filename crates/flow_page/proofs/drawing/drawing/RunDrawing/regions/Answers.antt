@@ -5,7 +5,7 @@ use Rattle.timing_base.specs.declared.media.Kind.TheVariants.{N, NL, W}
 use Rattle.timing_base.specs.declared.row.KindVerdict.TheVariants.{Pass}
 use Rattle.flow_page.specs.drawing.Drawn.{AreRegions}
 use Rattle.flow_page.specs.drawing.drawing.Regions.{DrawsKind, PutsKind}
-use Rattle.flow_page.proofs.drawing.Around.{regions-are}
+use Rattle.flow_page.proofs.lemmas.drawing.Around.{regions-are}
 use Rattle.flow_page.proofs.drawing.drawing.RunDrawing.regions.Goals as goal
 
 pub returns : goal.returns

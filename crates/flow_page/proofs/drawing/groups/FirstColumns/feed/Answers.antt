@@ -3,7 +3,7 @@ use Rattle.std.proofs.lemmas.Int.{to_z-of_z}
 use Rattle.std.specs.Int.{w128}
 use Rattle.flow_measure.specs.Groups.{latency_at, offset_at, since_at}
 use Rattle.flow_measure.proofs.Grouped.{latency-first, offset-first, since-first}
-use Rattle.flow_page.proofs.drawing.Feeding.{draws-more}
+use Rattle.flow_page.proofs.lemmas.drawing.Feeding.{draws-more}
 use Rattle.flow_page.proofs.drawing.groups.FirstColumns.feed.Goals as goal
 
 pub returns-clause-draws : goal.returns-clause-draws

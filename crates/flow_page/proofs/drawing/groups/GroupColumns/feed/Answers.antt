@@ -7,7 +7,7 @@ use Rattle.flow_measure.specs.Groups.{lasts_of, since_at}
 use Rattle.flow_measure.proofs.Grouped.{groups-begun, last-is}
 use Rattle.flow_page.specs.declared.drawing.groups.FirstColumns.{FirstColumns}
 use Rattle.flow_page.specs.declared.drawing.groups.GroupColumns.{GroupColumns}
-use Rattle.flow_page.proofs.drawing.Feeding.{draws-more, groups-fed}
+use Rattle.flow_page.proofs.lemmas.drawing.Feeding.{draws-more, groups-fed}
 use Rattle.flow_page.proofs.drawing.groups.GroupColumns.feed.Goals as goal
 
 -- how many groups have begun, with this packet

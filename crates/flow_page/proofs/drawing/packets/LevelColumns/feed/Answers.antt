@@ -1,7 +1,7 @@
 use Rattle.std.proofs.Common.{FitsSigned, ap, ◌∙◌, sym, rules}
 use Rattle.std.proofs.lemmas.Int.{to_z-of_z}
 use Rattle.std.specs.Int.{w128}
-use Rattle.flow_page.proofs.drawing.Feeding.{draws-more}
+use Rattle.flow_page.proofs.lemmas.drawing.Feeding.{draws-more}
 use Rattle.flow_page.proofs.drawing.packets.LevelColumns.feed.Goals as goal
 
 pub returns-clause-draws : goal.returns-clause-draws

@@ -3,7 +3,7 @@ use Rattle.std.proofs.lemmas.Int.{to_z-of_z}
 use Rattle.std.specs.Int.{w128}
 use Rattle.flow_measure.proofs.Filled.{buckets-front}
 use Rattle.flow_measure.proofs.Followed.{occupancies-front}
-use Rattle.flow_page.proofs.drawing.Feeding.{bucket-last, gapped-last, linear-last}
+use Rattle.flow_page.proofs.lemmas.drawing.Feeding.{bucket-last, gapped-last, linear-last}
 use Rattle.flow_page.proofs.drawing.packets.PacketColumns.feed.Goals as goal
 
 pub returns-clause-draws : goal.returns-clause-draws

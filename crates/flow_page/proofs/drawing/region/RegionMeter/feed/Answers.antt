@@ -4,8 +4,8 @@ use Rattle.std.specs.Int.{w128}
 use Rattle.timing_base.specs.declared.fail.FailProof.{FailProof}
 use Rattle.flow_page.specs.drawing.Drawn.{start_around}
 use Rattle.flow_page.specs.drawing.drawing.Held.{held_by}
-use Rattle.flow_page.proofs.drawing.Around.{region-same}
-use Rattle.flow_page.proofs.drawing.Feeding.{held-front, held-last}
+use Rattle.flow_page.proofs.lemmas.drawing.Around.{region-same}
+use Rattle.flow_page.proofs.lemmas.drawing.Feeding.{held-front, held-last}
 use Rattle.flow_page.proofs.drawing.region.RegionMeter.feed.Goals as goal
 
 pub returns-then-place-self : goal.returns-then-place-self

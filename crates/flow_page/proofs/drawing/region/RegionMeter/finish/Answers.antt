@@ -1,6 +1,6 @@
 use Rattle.std.proofs.Common.{◌≡◌, ◌+◌, ◌-◌, min, length, arith}
 use Rattle.flow_page.specs.drawing.Drawn.{count_around, start_around}
-use Rattle.flow_page.proofs.drawing.Feeding.{held-some}
+use Rattle.flow_page.proofs.lemmas.drawing.Feeding.{held-some}
 use Rattle.flow_page.proofs.drawing.region.RegionMeter.finish.Goals as goal
 
 pub returns : goal.returns

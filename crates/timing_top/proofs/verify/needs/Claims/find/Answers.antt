@@ -1,9 +1,9 @@
 use Rattle.std.proofs.Common.{◌≡◌, Some, None, rules, sym, ap, ◌∙◌}
 use Rattle.pcapng_reader.specs.Classic.{classic_texts}
-use Rattle.timing_reach.proofs.steps.Readings.{if_ok-map}
+use Rattle.timing_reach.proofs.lemmas.steps.Readings.{if_ok-map}
 use Rattle.timing_top.specs.verify.Asked.{media_for}
 use Rattle.timing_top.specs.verify.Found.{IsChecked, IsFound}
-use Rattle.timing_top.proofs.verify.Served.{checked-none, checked-there, media-there}
+use Rattle.timing_top.proofs.lemmas.verify.Served.{checked-none, checked-there, media-there}
 use Rattle.timing_top.proofs.verify.needs.Claims.find.Goals as goal
 
 pub returns-in-Some-clause-found : goal.returns-in-Some-clause-found

@@ -3,7 +3,7 @@ use Rattle.std.proofs.lemmas.List.Elements.{All-contains}
 use Rattle.std.specs.Prelude.{Contains}
 use Rattle.pcapng_reader.specs.Classic.{classic_texts}
 use Rattle.timing_top.specs.verify.Found.{IsServed}
-use Rattle.timing_top.proofs.verify.Served.{found-of, served-push, served-read}
+use Rattle.timing_top.proofs.lemmas.verify.Served.{found-of, served-push, served-read}
 use Rattle.timing_top.proofs.verify.needs.Claims.find_there.Goals as goal
 
 pub returns-in-Some-clause-found : goal.returns-in-Some-clause-found

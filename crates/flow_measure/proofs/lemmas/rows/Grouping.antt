@@ -1,0 +1,610 @@
+-- The row of a group, one packet on.
+use Rattle.std.proofs.Common.{◌≡◌, ◌≤◌, ◌<◌, ◌+◌, ◌-◌, ◌*◌, ◌/◌, ◌%◌, ◌++◌, ◌∷◌, [], ℕ, zero, suc, ℤ, pos, Bool, true, false, List, length, slice_index}
+use Rattle.std.proofs.Common.{cond, Option, Some, None, inl, inr, refl, ap, ap₂, ◌∙◌, sym, subst, arith, length-append}
+use Rattle.std.specs.Prelude.{◌⊎◌, ◌==◌}
+use Rattle.std.proofs.Math.Dec.{ltb}
+use Rattle.std.proofs.Math.Nat.{add-mul, mul-le-mul_right, zero-div, zero-mod}
+use Rattle.std.proofs.Math.Seq.{get_or-append_seam}
+use Rattle.std.proofs.lemmas.Bool.{cases_lt, cond-false, cond-true, le-ltb, lt-ltb}
+use Rattle.std.proofs.lemmas.Bool.Decides.{nat_tests}
+use Rattle.std.proofs.lemmas.Int.{clamps, ints}
+use Rattle.std.proofs.lemmas.List.{get_or_append_left, length-map, map-append}
+use Rattle.std.proofs.lemmas.Nat.{div-add-mod'}
+use Rattle.std.specs.Int.{int_max, int_min}
+use Rattle.fraction128.specs.Fractions.{whole}
+use Rattle.drain_bucket.specs.Word.{bucket_of}
+use Rattle.sender_params.specs.Reads.{AreDue, anchor_of}
+use Rattle.sender_params.specs.Ticks.{NeverFall}
+use Rattle.timing_base.specs.Flows.{no_packet, read_or_zeros}
+use Rattle.timing_base.specs.Judged.{stamp_of}
+use Rattle.timing_base.specs.Media.{Media}
+use Rattle.timing_base.specs.declared.packet.FlowPacket.{FlowPacket}
+use Rattle.flow_measure.specs.Frames.{after_start, timestamp_latency, timestamp_offset, timestamp_step}
+use Rattle.flow_measure.specs.Groups.{firsts_of}
+use Rattle.flow_measure.specs.Occupancy.{AreOccupancies, IsOccupancy, buckets_of}
+use Rattle.flow_measure.specs.Run.{anchor_in}
+use Rattle.flow_measure.specs.RunStands.{IsLatest}
+use Rattle.flow_measure.specs.Summary.{IsGreatest, IsLeast}
+use Rattle.flow_measure.proofs.Bounds.{IsGreatest-more, IsGreatest-same, IsLeast-more, IsLeast-same}
+use Rattle.flow_measure.proofs.Breaks.{end-of-group, within-group}
+use Rattle.flow_measure.proofs.Filled.{bucket-front}
+use Rattle.flow_measure.proofs.Followed.{front-is, last-is}
+use Rattle.flow_measure.specs.declared.report.rows.GroupRow.{GroupRow}
+use Rattle.flow_measure.specs.rows.Packets.{stamps_of}
+use Rattle.flow_measure.specs.rows.Packets.{timestamps_of}
+use Rattle.flow_measure.specs.rows.Rows.{IsGroupRow, IsOfGroup, IsRowOf, ends_group, step_before, step_from}
+use Rattle.flow_measure.specs.rows.making.Groups.{Begins, BeginsRow, EndsRow, KeepsPlace, KeepsRest, Widens}
+use Rattle.flow_measure.specs.rows.making.Levels.{StandsFor as LevelsStandFor}
+use Rattle.flow_measure.specs.rows.making.Stands.{IsBegun, OfFront, StandsForGroups, last_of, records_in, ticks_in}
+use Rattle.flow_measure.specs.declared.rows.groups.GroupRows.{GroupRows}
+use Rattle.flow_measure.specs.declared.rows.levels.Level.{Level}
+use Rattle.flow_measure.proofs.lemmas.rows.Filling.{latest-of, stamps-long, stamps-more}
+
+-- the numbers of so many packets, and those of one more
+pub record Extends {A : Type 0} (count : ℕ) (old new : ℕ → A) (x : A) : Type 0 where
+  pub front : (i : ℕ) → i < count → new i ≡ old i
+  pub last : new count ≡ x
+
+-- of a list
+list-extends : (xs : List ℕ) (x : ℕ) → Extends (length xs) (slice_index xs) (slice_index (xs ++ x ∷ [])) x
+list-extends xs x = record { front = λ i few. front-is xs x i few; last = last-is xs x }
+
+stamps-extend : (tai : ℕ) (before : List FlowPacket) (p : FlowPacket) (at : ℕ) → stamp_of tai p ≡ at
+    → Extends (length before) (slice_index (stamps_of tai before)) (slice_index (stamps_of tai (before ++ p ∷ []))) at
+stamps-extend tai before p at is =
+    let old = stamps_of tai before in
+    subst (λ l. Extends (length before) (slice_index old) (slice_index l) at) (sym (stamps-more tai before p at is))
+    (subst (λ k. Extends k (slice_index old) (slice_index (old ++ at ∷ [])) at) (stamps-long tai before) (list-extends old at))
+
+ticks-extend : (before : List FlowPacket) (p : FlowPacket) (t : ℕ) → (read_or_zeros p.rtp).timestamp ≡ t
+    → Extends (length before) (ticks_in before) (ticks_in (before ++ p ∷ [])) t
+ticks-extend before p t is =
+    let of = λ (q : FlowPacket). (read_or_zeros q.rtp).timestamp in
+    let old = timestamps_of before in
+    let more : timestamps_of (before ++ p ∷ []) ≡ old ++ t ∷ [] = map-append of before (p ∷ []) ∙ ap (λ x. old ++ x ∷ []) is in
+    subst (λ l. Extends (length before) (slice_index old) (slice_index l) t) (sym more)
+    (subst (λ k. Extends k (slice_index old) (slice_index (old ++ t ∷ [])) t) (length-map before of) (list-extends old t))
+
+records-extend : (before : List FlowPacket) (p : FlowPacket) (rec : ℕ) → p.rec ≡ rec
+    → Extends (length before) (records_in before) (records_in (before ++ p ∷ [])) rec
+records-extend before p rec is = record {
+  front = λ i few. ap (λ (q : FlowPacket). q.rec) (get_or_append_left before (p ∷ []) no_packet i few);
+  last = ap (λ (q : FlowPacket). q.rec) (get_or-append_seam before p [] no_packet) ∙ is;
+}
+
+buckets-extend : (m : Media) (n : ℕ) (stamps : List ℕ) (at bucket : ℕ) → buckets_of m n (stamps ++ at ∷ []) (length stamps) ≡ pos bucket
+    → Extends (length stamps) (buckets_of m n stamps) (buckets_of m n (stamps ++ at ∷ [])) (pos bucket)
+buckets-extend m n stamps at bucket is = record {
+  front = λ i few. ap (λ k. pos k) (bucket-front m n stamps at i few);
+  last = is;
+}
+
+-- numbers with one more
+abbrev extended : (count : ℕ) → (ℕ → ℤ) → ℤ → ℕ → ℤ
+extended count old x i = cond (ltb i count) (old i) x
+
+extends-with : (count : ℕ) (old : ℕ → ℤ) (x : ℤ) → Extends count old (extended count old x) x
+extends-with count old x = record {
+  front = λ i few. cond-true (ltb i count) (old i) x (lt-ltb i count few);
+  last = cond-false (ltb count count) (old count) x (le-ltb count count (omega arith));
+}
+
+-- what the buffer holds at a packet is so still once another came
+occupancy-later : (m : Media) (n : ℕ) (stamps : List ℕ) (gapped : Bool) (at i : ℕ) (x : ℤ) → i < length stamps
+    → IsOccupancy m n stamps gapped i x → IsOccupancy m n (stamps ++ at ∷ []) gapped i x
+occupancy-later m n stamps gapped at i x few o =
+    let new = stamps ++ at ∷ [] in
+    let first : slice_index new 0 ≡ slice_index stamps 0 = front-is stamps at 0 (omega (arith, few)) in
+    let here : slice_index new i ≡ slice_index stamps i = front-is stamps at i few in
+    record {
+      reads = o.reads;
+      due = subst (λ t. AreDue m n (anchor_of m (slice_index new 0)) gapped (whole t) o.reads) (sym here)
+          (subst (λ f. AreDue m n (anchor_of m f) gapped (whole (slice_index stamps i)) o.reads) (sym first) o.due);
+      is = o.is;
+    }
+
+occupancies-more : (m : Media) (n : ℕ) (stamps : List ℕ) (gapped : Bool) (at : ℕ) (old : ℕ → ℤ) (x : ℤ) → AreOccupancies m n stamps gapped old
+    → IsOccupancy m n (stamps ++ at ∷ []) gapped (length stamps) x
+    → AreOccupancies m n (stamps ++ at ∷ []) gapped (extended (length stamps) old x)
+occupancies-more m n stamps gapped at old x are here = λ i few.
+    let count = length stamps in
+    let new = stamps ++ at ∷ [] in
+    let long : length new ≡ count + 1 = length-append stamps (at ∷ []) in
+    let more = extends-with count old x in
+    elim (cases_lt i count) as (λ _. IsOccupancy m n new gapped i (extended count old x i)) [
+      | inl low ↦ subst (IsOccupancy m n new gapped i) (sym (more.front i low)) (occupancy-later m n stamps gapped at i (old i) low (are i low))
+      | inr high ↦
+          let same : count ≡ i = omega (arith, high, few, long) in
+          subst (λ k. IsOccupancy m n new gapped k (extended count old x k)) same (subst (IsOccupancy m n new gapped count) (sym more.last) here)
+    ]
+
+-- the first packet of a group is the only one that came of it
+one-alone : (numbers : ℕ → ℤ) (n k count i : ℕ) (x : ℤ) → k * n ≡ count → numbers count ≡ x → OfFront n k (count + 1) i → numbers i ≡ x
+one-alone numbers n k count i x whole is p =
+    let here : i ≡ count = omega (arith, whole, p.0, p.1) in ap numbers here ∙ is
+
+one-reached : (numbers : ℕ → ℤ) (n k count : ℕ) (x : ℤ) → k * n ≡ count → numbers count ≡ x
+    → (i : ℕ) × OfFront n k (count + 1) i × (numbers i ≡ x)
+one-reached numbers n k count x whole is = (count, (omega (arith, whole), omega arith), is)
+
+-- so its number is both extremes
+greatest-one : (numbers : ℕ → ℤ) (n k count : ℕ) (x : ℤ) → k * n ≡ count → numbers count ≡ x → IsGreatest numbers (OfFront n k (count + 1)) x
+greatest-one numbers n k count x whole is = record {
+  greatest = λ i p. omega (arith, ints, one-alone numbers n k count i x whole is p);
+  reached = one-reached numbers n k count x whole is;
+}
+
+least-one : (numbers : ℕ → ℤ) (n k count : ℕ) (x : ℤ) → k * n ≡ count → numbers count ≡ x → IsLeast numbers (OfFront n k (count + 1)) x
+least-one numbers n k count x whole is = record {
+  least = λ i p. omega (arith, ints, one-alone numbers n k count i x whole is p);
+  reached = one-reached numbers n k count x whole is;
+}
+
+-- and with another packet
+front-split : (n k count i : ℕ) → OfFront n k (count + 1) i → OfFront n k count i ⊎ (i ≡ count)
+front-split n k count i p = elim (cases_lt i count) as (λ _. OfFront n k count i ⊎ (i ≡ count)) [
+  | inl below ↦ inl (p.0, below)
+  | inr same ↦ inr (omega (arith, p.1, same))
+]
+
+greatest-more : (old new : ℕ → ℤ) (n k count : ℕ) (at x y : ℤ) → k * n ≤ count → Extends count old new at
+    → IsGreatest old (OfFront n k count) x → y ≡ int_max x at → IsGreatest new (OfFront n k (count + 1)) y
+greatest-more old new n k count at x y from e h is =
+    IsGreatest-more new (OfFront n k count) (OfFront n k (count + 1)) count x y
+    (IsGreatest-same old new (OfFront n k count) x (λ i p. e.front i p.1) h)
+    (λ i p. (p.0, omega (arith, p.1))) (from, omega arith) (front-split n k count) (is ∙ ap (int_max x) (sym e.last))
+
+least-more : (old new : ℕ → ℤ) (n k count : ℕ) (at x y : ℤ) → k * n ≤ count → Extends count old new at
+    → IsLeast old (OfFront n k count) x → y ≡ int_min x at → IsLeast new (OfFront n k (count + 1)) y
+least-more old new n k count at x y from e h is =
+    IsLeast-more new (OfFront n k count) (OfFront n k (count + 1)) count x y
+    (IsLeast-same old new (OfFront n k count) x (λ i p. e.front i p.1) h)
+    (λ i p. (p.0, omega (arith, p.1))) (from, omega arith) (front-split n k count) (is ∙ ap (int_min x) (sym e.last))
+
+-- a group before another one begins before it
+times-below : (j k n : ℕ) → j < k → 1 ≤ n → j * n < k * n
+times-below j k n low some =
+    let more : (j + 1) * n ≤ k * n = mul-le-mul_right {m = j + 1} {n = k} n (omega (arith, low)) in
+    omega (arith, more, add-mul j 1 n, some)
+
+-- the step to the timestamp of the group that begins
+step-is : (f g : ℕ → ℕ) (before : Option ℕ) (k t : ℕ) → before ≡ last_of f k → ((j : ℕ) → j < k → g j ≡ f j) → g k ≡ t
+    → step_from before t ≡ step_before g k
+step-is f g before zero t is same here = ap (λ b. step_from b t) is
+step-is f g before (suc j) t is same here =
+    let e : suc j ≡ j + 1 = omega arith in
+    ap (λ b. step_from b t) is ∙ ap₂ (λ (a b : ℕ). Some (timestamp_step a b)) (sym (same j (omega arith))) (sym here ∙ ap g e)
+
+-- the group of the epoch to which the first packet belongs, once a group begins
+anchor-begun : (m : Media) (k n count : ℕ) (before : Option ℕ) (n0 new : ℤ) (f stamp more : ℕ → ℕ) (at : ℕ) → k * n ≡ count → 1 ≤ n
+    → Extends count stamp more at → before ≡ last_of f k → (before ≡ None → new ≡ anchor_of m at)
+    → ((b : ℕ) → before ≡ Some b → new ≡ n0) → (0 < count → n0 ≡ anchor_of m (stamp 0))
+    → new ≡ anchor_of m (more 0)
+anchor-begun m zero n count before n0 new f stamp more at whole some e is first later known =
+    let none : 0 ≡ count = omega (arith, whole) in
+    first is ∙ ap (anchor_of m) (sym (ap more none ∙ e.last))
+anchor-begun m (suc j) n count before n0 new f stamp more at whole some e is first later known =
+    let low : 0 * n < suc j * n = times-below 0 (suc j) n (omega arith) some in
+    let few : 0 < count = omega (arith, whole, low) in
+    later (f j) is ∙ known few ∙ ap (anchor_of m) (sym (e.front 0 few))
+
+-- the packets of a run and one more: their numbers
+pub record IsNext (count : ℕ) (stamp more_stamp records more_records timestamp more_timestamp : ℕ → ℕ)
+    (bucket more_bucket gapped more_gapped linear more_linear : ℕ → ℤ) (at rec t : ℕ) (level : Level) : Type 0 where
+  pub stamps : Extends count stamp more_stamp at
+  pub recs : Extends count records more_records rec
+  pub ticks : Extends count timestamp more_timestamp t
+  pub buckets : Extends count bucket more_bucket (pos level.bucket)
+  pub gapped_next : Extends count gapped more_gapped level.gapped
+  pub linear_next : Extends count linear more_linear level.linear
+
+-- a group begins with it
+row-begins : (m : Media) (n k count : ℕ) (n0 anchor : ℤ) (before : Option ℕ) (s s2 r r2 ts ts2 : ℕ → ℕ) (b b2 g g2 l l2 : ℕ → ℤ) (at rec t : ℕ)
+    (level : Level) (old new : GroupRow) → k * n ≡ count → 1 ≤ n → old.group ≡ k → n0 ≡ anchor → before ≡ last_of (firsts_of n ts) k
+    → IsNext count s s2 r r2 ts ts2 b b2 g g2 l l2 at rec t level
+    → BeginsRow m n0 before rec at t level old new
+    → IsBegun m n k (count + 1) anchor s2 r2 ts2 b2 g2 l2 new
+row-begins m n k count n0 anchor before s s2 r r2 ts ts2 b b2 g g2 l l2 at rec t level old new whole some group same is e h =
+    let here_at : s2 (k * n) ≡ at = ap s2 whole ∙ e.stamps.last in
+    let here_t : ts2 (k * n) ≡ t = ap ts2 whole ∙ e.ticks.last in
+    let front : (j : ℕ) → j < k → firsts_of n ts2 j ≡ firsts_of n ts j =
+    λ j low. e.ticks.front (j * n) (omega (arith, whole, times-below j k n low some)) in
+    record {
+      rec = h.rec_is ∙ sym (ap r2 whole ∙ e.recs.last);
+      stamp_is = h.stamp ∙ sym here_at;
+      first = h.first ∙ ap (λ a. after_start m a old.group at) same ∙ ap (λ j. after_start m anchor j at) group
+          ∙ ap (after_start m anchor k) (sym here_at);
+      timestamp_is = h.timestamp_is ∙ sym here_t;
+      step = h.step ∙ step-is (firsts_of n ts) (firsts_of n ts2) before k t is front here_t;
+      offset = h.offset ∙ ap (λ a. timestamp_offset m a old.group t) same ∙ ap (λ j. timestamp_offset m anchor j t) group
+          ∙ ap (timestamp_offset m anchor k) (sym here_t);
+      latency = h.latency ∙ ap₂ (λ (a x : ℕ). timestamp_latency a x) (sym here_at) (sym here_t);
+      bucket_is = greatest-one b2 n k count (pos new.bucket) whole (e.buckets.last ∙ ap (λ x. pos x) (sym h.bucket));
+      gapped_least = least-one g2 n k count new.gapped_least whole (e.gapped_next.last ∙ sym h.gapped_least);
+      gapped_is = greatest-one g2 n k count new.gapped whole (e.gapped_next.last ∙ sym h.gapped);
+      linear_least = least-one l2 n k count new.linear_least whole (e.linear_next.last ∙ sym h.linear_least);
+      linear_is = greatest-one l2 n k count new.linear whole (e.linear_next.last ∙ sym h.linear);
+    }
+
+-- it is another one of its group
+row-widens : (m : Media) (n k count : ℕ) (anchor : ℤ) (s s2 r r2 ts ts2 : ℕ → ℕ) (b b2 g g2 l l2 : ℕ → ℤ) (at rec t : ℕ)
+    (level : Level) (old new : GroupRow) → k * n < count → 1 ≤ n
+    → IsNext count s s2 r r2 ts ts2 b b2 g g2 l l2 at rec t level
+    → IsBegun m n k count anchor s r ts b g l old
+    → Widens level old new
+    → IsBegun m n k (count + 1) anchor s2 r2 ts2 b2 g2 l2 new
+row-widens m n k count anchor s s2 r r2 ts ts2 b b2 g g2 l l2 at rec t level old new behind some e o w =
+    let p = w.place in
+    let from : k * n ≤ count = omega (arith, behind) in
+    let here_at : s (k * n) ≡ s2 (k * n) = sym (e.stamps.front (k * n) behind) in
+    let here_t : ts (k * n) ≡ ts2 (k * n) = sym (e.ticks.front (k * n) behind) in
+    let front : (j : ℕ) → j < k → firsts_of n ts2 j ≡ firsts_of n ts j =
+    λ j low. e.ticks.front (j * n) (omega (arith, behind, times-below j k n low some)) in
+    let high : pos new.bucket ≡ int_max (pos old.bucket) (pos level.bucket) = omega (arith, ints, clamps, w.bucket) in
+    record {
+      rec = p.rec_is ∙ o.rec ∙ sym (e.recs.front (k * n) behind);
+      stamp_is = p.stamp ∙ o.stamp_is ∙ here_at;
+      first = p.first ∙ o.first ∙ ap (after_start m anchor k) here_at;
+      timestamp_is = p.timestamp_is ∙ o.timestamp_is ∙ here_t;
+      step = p.step ∙ o.step ∙ step-same (firsts_of n ts) (firsts_of n ts2) k front (sym here_t);
+      offset = p.offset ∙ o.offset ∙ ap (timestamp_offset m anchor k) here_t;
+      latency = p.latency ∙ o.latency ∙ ap₂ (λ (a x : ℕ). timestamp_latency a x) here_at here_t;
+      bucket_is = greatest-more b b2 n k count (pos level.bucket) (pos old.bucket) (pos new.bucket) from e.buckets o.bucket_is high;
+      gapped_least = least-more g g2 n k count level.gapped old.gapped_least new.gapped_least from e.gapped_next o.gapped_least w.gapped_least;
+      gapped_is = greatest-more g g2 n k count level.gapped old.gapped new.gapped from e.gapped_next o.gapped_is w.gapped;
+      linear_least = least-more l l2 n k count level.linear old.linear_least new.linear_least from e.linear_next o.linear_least w.linear_least;
+      linear_is = greatest-more l l2 n k count level.linear old.linear new.linear from e.linear_next o.linear_is w.linear;
+    }
+  where
+    step-same : (f g : ℕ → ℕ) (k : ℕ) → ((j : ℕ) → j < k → g j ≡ f j) → g k ≡ f k → step_before f k ≡ step_before g k
+    step-same f g zero same here = refl
+    step-same f g (suc j) same here =
+        let e : suc j ≡ j + 1 = omega arith in
+        ap₂ (λ (a b : ℕ). Some (timestamp_step a b)) (sym (same j (omega arith))) (ap f (sym e) ∙ sym here ∙ ap g e)
+
+-- the packets came, of which the last is of group k, and its row has all of it that came
+pub record IsTaken (m : Media) (tai run n k : ℕ) (x : GroupRows) (packets : List FlowPacket) : Type 0 where
+  pub run_is : x.row.run ≡ run
+  pub group_is : x.row.group ≡ k
+  pub levels_are : LevelsStandFor m n x.levels (stamps_of tai packets)
+  pub anchor_is : x.n0 ≡ anchor_in m (stamps_of tai packets)
+  pub before_is : x.before ≡ Some (firsts_of n (ticks_in packets) k)
+  pub gapped : ℕ → ℤ
+  pub linear : ℕ → ℤ
+  pub gapped_are : AreOccupancies m n (stamps_of tai packets) true gapped
+  pub linear_are : AreOccupancies m n (stamps_of tai packets) false linear
+  pub begun : IsBegun m n k (length packets) (anchor_in m (stamps_of tai packets)) (slice_index (stamps_of tai packets)) (records_in packets)
+      (ticks_in packets) (buckets_of m n (stamps_of tai packets)) gapped linear x.row
+
+-- what is held at a packet more, in words of the packets
+record IsHeldAt (m : Media) (tai n : ℕ) (before : List FlowPacket) (p : FlowPacket) (at : ℕ) (level : Level) : Type 0 where
+  pub bucket : pos level.bucket ≡ buckets_of m n (stamps_of tai before ++ at ∷ []) (length (stamps_of tai before))
+  pub gapped : IsOccupancy m n (stamps_of tai before ++ at ∷ []) true (length (stamps_of tai before)) level.gapped
+  pub linear : IsOccupancy m n (stamps_of tai before ++ at ∷ []) false (length (stamps_of tai before)) level.linear
+
+-- the numbers of a packet more
+next-of : (m : Media) (tai n : ℕ) (before : List FlowPacket) (p : FlowPacket) (rec at t : ℕ) (level : Level) (gapped linear : ℕ → ℤ) → p.rec ≡ rec
+    → stamp_of tai p ≡ at → (read_or_zeros p.rtp).timestamp ≡ t → IsHeldAt m tai n before p at level
+    → IsNext (length before) (slice_index (stamps_of tai before)) (slice_index (stamps_of tai (before ++ p ∷ []))) (records_in before)
+    (records_in (before ++ p ∷ [])) (ticks_in before) (ticks_in (before ++ p ∷ [])) (buckets_of m n (stamps_of tai before))
+    (buckets_of m n (stamps_of tai (before ++ p ∷ []))) gapped (extended (length (stamps_of tai before)) gapped level.gapped) linear
+    (extended (length (stamps_of tai before)) linear level.linear) at rec t level
+next-of m tai n before p rec at t level gapped linear same came ticks held =
+    let old = stamps_of tai before in
+    let long = stamps-long tai before in
+    record {
+      stamps = stamps-extend tai before p at came;
+      recs = records-extend before p rec same;
+      ticks = ticks-extend before p t ticks;
+      buckets = subst (λ l. Extends (length before) (buckets_of m n old) (buckets_of m n l) (pos level.bucket)) (sym (stamps-more tai before p at came))
+          (subst (λ k. Extends k (buckets_of m n old) (buckets_of m n (old ++ at ∷ [])) (pos level.bucket)) long
+          (buckets-extend m n old at level.bucket (sym held.bucket)));
+      gapped_next = subst (λ k. Extends k gapped (extended (length old) gapped level.gapped) level.gapped) long
+          (extends-with (length old) gapped level.gapped);
+      linear_next = subst (λ k. Extends k linear (extended (length old) linear level.linear) level.linear) long
+          (extends-with (length old) linear level.linear);
+    }
+
+-- so with a packet more
+taken : (m : Media) (tai run n : ℕ) (old mid new : GroupRows) (before : List FlowPacket) (p : FlowPacket) (rec at t : ℕ) (level : Level)
+    → (mid.place ≡ 0 → Begins rec at t level mid new)
+    → (0 < mid.place → KeepsRest mid new × Widens level mid.row new.row)
+    → mid.row ≡ old.row → mid.n0 ≡ old.n0 → mid.place ≡ old.place → mid.before ≡ old.before → old.place < n
+    → LevelsStandFor m n mid.levels (stamps_of tai (before ++ p ∷ [])) → new.levels ≡ mid.levels
+    → p.rec ≡ rec → stamp_of tai p ≡ at → (read_or_zeros p.rtp).timestamp ≡ t
+    → IsHeldAt m tai n before p at level
+    → StandsForGroups m tai run n old before
+    → IsTaken m tai run n (length before / n) new (before ++ p ∷ [])
+taken m tai run n old mid new before p rec at t level begins widens row_same n0_same place_same before_same within fed levels same came ticks held h =
+    let count = length before in
+    let k = count / n in
+    let all = before ++ p ∷ [] in
+    let past = stamps_of tai before in
+    let now = stamps_of tai all in
+    let more = stamps-more tai before p at came in
+    let long : length all ≡ count + 1 = length-append before (p ∷ []) in
+    let parts : k * n + count % n ≡ count = div-add-mod' count n in
+    let gapped = extended (length past) h.gapped level.gapped in
+    let linear = extended (length past) h.linear level.linear in
+    let gapped_are : AreOccupancies m n now true gapped = subst (λ l. AreOccupancies m n l true gapped) (sym more)
+    (occupancies-more m n past true at h.gapped level.gapped h.gapped_are held.gapped) in
+    let linear_are : AreOccupancies m n now false linear = subst (λ l. AreOccupancies m n l false linear) (sym more)
+    (occupancies-more m n past false at h.linear level.linear h.linear_are held.linear) in
+    let e = next-of m tai n before p rec at t level h.gapped h.linear same came ticks held in
+    let media : mid.levels.params.media ≡ m = fed.media_is in
+    let some : 1 ≤ n = omega (arith, within) in
+    elim (cases_lt 0 old.place) as (λ _. IsTaken m tai run n k new all) [
+      | inl inside ↦
+          let w = widens (omega (arith, inside, place_same)) in
+          let behind : k * n < count = omega (arith, parts, inside, h.place_is) in
+          let few : 0 < count = omega (arith, behind) in
+          let anchors : anchor_in m past ≡ anchor_in m now = ap (anchor_of m) (sym (e.stamps.front 0 few)) in
+          record {
+            run_is = w.1.place.run ∙ ap (λ (r : GroupRow). r.run) row_same ∙ h.run_is;
+            group_is = w.1.place.group ∙ ap (λ (r : GroupRow). r.group) row_same ∙ h.group_is;
+            levels_are = subst (λ l. LevelsStandFor m n l now) (sym levels) fed;
+            anchor_is = w.0.n0_is ∙ n0_same ∙ h.anchor_is few ∙ anchors;
+            before_is = w.0.before_is ∙ before_same ∙ h.goes_on inside ∙ ap (λ (x : ℕ). Some x) (sym (e.ticks.front (k * n) behind));
+            gapped = gapped;
+            linear = linear;
+            gapped_are = gapped_are;
+            linear_are = linear_are;
+            begun = subst (λ c. IsBegun m n k c (anchor_in m now) (slice_index now) (records_in all) (ticks_in all) (buckets_of m n now) gapped linear new.row)
+                (sym long)
+                (row-widens m n k count (anchor_in m now) (slice_index past) (slice_index now) (records_in before) (records_in all) (ticks_in before)
+                (ticks_in all) (buckets_of m n past) (buckets_of m n now) h.gapped gapped h.linear linear at rec t level mid.row new.row behind some e
+                (subst (λ a. IsBegun m n k count a (slice_index past) (records_in before) (ticks_in before) (buckets_of m n past) h.gapped h.linear mid.row)
+                anchors
+                (subst (λ r. IsBegun m n k count (anchor_in m past) (slice_index past) (records_in before) (ticks_in before) (buckets_of m n past) h.gapped
+                h.linear r) (sym row_same) (h.begun inside)))
+                w.1);
+          }
+      | inr outside ↦
+          let zero_place : old.place ≡ 0 = omega (arith, outside) in
+          let b = begins (omega (arith, zero_place, place_same)) in
+          let whole : k * n ≡ count = omega (arith, parts, zero_place, h.place_is) in
+          let is : mid.before ≡ last_of (firsts_of n (ticks_in before)) k = before_same ∙ h.over zero_place in
+          let group : mid.row.group ≡ k = ap (λ (r : GroupRow). r.group) row_same ∙ h.group_is in
+          let here_t : ticks_in all (k * n) ≡ t = ap (ticks_in all) whole ∙ e.ticks.last in
+          let anchor : new.n0 ≡ anchor_in m now =
+          anchor-begun m k n count mid.before mid.n0 new.n0 (firsts_of n (ticks_in before)) (slice_index past) (slice_index now) at whole some e.stamps is
+          (λ none. b.first none ∙ ap (λ (x : Media). anchor_of x at) media) b.later (λ few. n0_same ∙ h.anchor_is few) in
+          record {
+            run_is = b.row_is.run ∙ ap (λ (r : GroupRow). r.run) row_same ∙ h.run_is;
+            group_is = b.row_is.group ∙ group;
+            levels_are = subst (λ l. LevelsStandFor m n l now) (sym levels) fed;
+            anchor_is = anchor;
+            before_is = b.before_is ∙ ap (λ (x : ℕ). Some x) (sym here_t);
+            gapped = gapped;
+            linear = linear;
+            gapped_are = gapped_are;
+            linear_are = linear_are;
+            begun = subst (λ c. IsBegun m n k c (anchor_in m now) (slice_index now) (records_in all) (ticks_in all) (buckets_of m n now) gapped linear new.row)
+                (sym long)
+                (row-begins m n k count new.n0 (anchor_in m now) mid.before (slice_index past) (slice_index now) (records_in before) (records_in all)
+                (ticks_in before) (ticks_in all) (buckets_of m n past) (buckets_of m n now) h.gapped gapped h.linear linear at rec t level mid.row new.row
+                whole some group anchor is e
+                (subst (λ (x : Media). BeginsRow x new.n0 mid.before rec at t level mid.row new.row) media b.row_is));
+          }
+    ]
+
+-- so where a meter of levels was fed the packet, which says what is held
+pub taken-fed : (m : Media) (tai run n : ℕ) (old mid new : GroupRows) (before : List FlowPacket) (p : FlowPacket) (rec at t : ℕ) (level : Level)
+    → ((m : Media) (n : ℕ) (stamps : List ℕ) → LevelsStandFor m n old.levels stamps → IsLatest stamps at
+    → level.bucket ≡ bucket_of m n (stamps ++ at ∷ []) (length stamps))
+    → ((m : Media) (n : ℕ) (stamps : List ℕ) → LevelsStandFor m n old.levels stamps → IsLatest stamps at
+    → IsOccupancy m n (stamps ++ at ∷ []) true (length stamps) level.gapped)
+    → ((m : Media) (n : ℕ) (stamps : List ℕ) → LevelsStandFor m n old.levels stamps → IsLatest stamps at
+    → IsOccupancy m n (stamps ++ at ∷ []) false (length stamps) level.linear)
+    → ((m : Media) (n : ℕ) (stamps : List ℕ) → LevelsStandFor m n old.levels stamps → IsLatest stamps at
+    → LevelsStandFor m n mid.levels (stamps ++ at ∷ []))
+    → (mid.place ≡ 0 → Begins rec at t level mid new)
+    → (0 < mid.place → KeepsRest mid new × Widens level mid.row new.row)
+    → mid.row ≡ old.row → mid.n0 ≡ old.n0 → mid.place ≡ old.place → mid.before ≡ old.before → old.place < n → new.levels ≡ mid.levels
+    → p.rec ≡ rec → stamp_of tai p ≡ at → (read_or_zeros p.rtp).timestamp ≡ t
+    → NeverFall (stamps_of tai (before ++ p ∷ []))
+    → StandsForGroups m tai run n old before
+    → IsTaken m tai run n (length before / n) new (before ++ p ∷ [])
+taken-fed m tai run n old mid new before p rec at t level bucket gapped linear stands begins widens row n0 place earlier within levels same came ticks
+    rising h =
+    let past = stamps_of tai before in
+    let more = stamps-more tai before p at came in
+    let latest = latest-of past at (subst NeverFall more rising) in
+    let fed : LevelsStandFor m n mid.levels (stamps_of tai (before ++ p ∷ [])) =
+    subst (λ l. LevelsStandFor m n mid.levels l) (sym more) (stands m n past h.levels_are latest) in
+    let held : IsHeldAt m tai n before p at level = record {
+      bucket = ap (λ k. pos k) (bucket m n past h.levels_are latest);
+      gapped = gapped m n past h.levels_are latest;
+      linear = linear m n past h.levels_are latest;
+    } in
+    taken m tai run n old mid new before p rec at t level begins widens row n0 place earlier within fed levels same came ticks held h
+
+-- a row with another last packet, and other extremes, is of the same place
+pub place-kept : (row : GroupRow) (last : ℤ) (bucket : ℕ) (gapped_least gapped linear_least linear : ℤ)
+    → KeepsPlace row (record (row) {
+      last = last;
+      bucket = bucket;
+      gapped_least = gapped_least;
+      gapped = gapped;
+      linear_least = linear_least;
+      linear = linear;
+    })
+place-kept row last bucket gapped_least gapped linear_least linear = record {
+  run = refl;
+  group = refl;
+  rec_is = refl;
+  stamp = refl;
+  first = refl;
+  timestamp_is = refl;
+  step = refl;
+  offset = refl;
+  latency = refl;
+}
+
+-- the group goes on
+pub goes-on : (m : Media) (tai run n : ℕ) (x y : GroupRows) (before : List FlowPacket) (p : FlowPacket) (place : ℕ) → y.row ≡ x.row → y.levels ≡ x.levels
+    → y.n0 ≡ x.n0 → y.before ≡ x.before → y.place ≡ place + 1 → place + 1 < n → place ≡ length before % n
+    → IsTaken m tai run n (length before / n) x (before ++ p ∷ [])
+    → StandsForGroups m tai run n y (before ++ p ∷ [])
+goes-on m tai run n x y before p place row levels n0 earlier at within is t =
+    let count = length before in
+    let all = before ++ p ∷ [] in
+    let now = stamps_of tai all in
+    let long : length all ≡ count + 1 = length-append before (p ∷ []) in
+    let e = within-group count n 1 (omega (arith, is, within)) in
+    let group : count / n ≡ length all / n = sym e.0 ∙ ap (λ c. c / n) (sym long) in
+    record {
+      run_is = ap (λ (r : GroupRow). r.run) row ∙ t.run_is;
+      levels_are = subst (λ l. LevelsStandFor m n l now) (sym levels) t.levels_are;
+      place_is = at ∙ ap (λ c. c + 1) is ∙ sym e.1 ∙ ap (λ c. c % n) (sym long);
+      group_is = ap (λ (r : GroupRow). r.group) row ∙ t.group_is ∙ group;
+      anchor_is = λ _. n0 ∙ t.anchor_is;
+      over = λ none. absurd (omega (arith, none, at));
+      goes_on = λ _. earlier ∙ t.before_is ∙ ap (λ j. Some (firsts_of n (ticks_in all) j)) group;
+      gapped = t.gapped;
+      linear = t.linear;
+      gapped_are = t.gapped_are;
+      linear_are = t.linear_are;
+      begun = λ _.
+          subst (λ j. IsBegun m n j (length all) (anchor_in m now) (slice_index now) (records_in all) (ticks_in all) (buckets_of m n now) t.gapped
+          t.linear y.row) group
+          (subst (λ r. IsBegun m n (count / n) (length all) (anchor_in m now) (slice_index now) (records_in all) (ticks_in all) (buckets_of m n now) t.gapped
+          t.linear r) (sym row) t.begun);
+    }
+
+-- a group that came whole
+front-whole : (n k count i : ℕ) → count ≡ k * n + n → IsOfGroup n k i → OfFront n k count i
+front-whole n k count i whole p = (p.from, omega (arith, p.below, whole))
+
+reached-whole : (numbers : ℕ → ℤ) (n k count : ℕ) (x y : ℤ) → count ≡ k * n + n → y ≡ x → (i : ℕ) × OfFront n k count i × (numbers i ≡ x)
+    → (i : ℕ) × IsOfGroup n k i × (numbers i ≡ y)
+reached-whole numbers n k count x y whole same r =
+    (r.0, record { from = r.1.0; below = omega (arith, r.1.1, whole) }, r.2 ∙ sym same)
+
+least-whole : (numbers : ℕ → ℤ) (n k count : ℕ) (x y : ℤ) → count ≡ k * n + n → y ≡ x → IsLeast numbers (OfFront n k count) x
+    → IsLeast numbers (IsOfGroup n k) y
+least-whole numbers n k count x y whole same h = record {
+  least = λ i p. omega (arith, ints, same, h.least i (front-whole n k count i whole p));
+  reached = reached-whole numbers n k count x y whole same h.reached;
+}
+
+greatest-whole : (numbers : ℕ → ℤ) (n k count : ℕ) (x y : ℤ) → count ≡ k * n + n → y ≡ x → IsGreatest numbers (OfFront n k count) x
+    → IsGreatest numbers (IsOfGroup n k) y
+greatest-whole numbers n k count x y whole same h = record {
+  greatest = λ i p. omega (arith, ints, same, h.greatest i (front-whole n k count i whole p));
+  reached = reached-whole numbers n k count x y whole same h.reached;
+}
+
+-- the group is over, and its row is
+pub ends-row : (m : Media) (tai run n : ℕ) (x : GroupRows) (before : List FlowPacket) (p : FlowPacket) (place at : ℕ) (row : GroupRow) → place + 1 ≡ n
+    → place ≡ length before % n → stamp_of tai p ≡ at
+    → EndsRow x.levels.params.media x.n0 at x.row row
+    → IsTaken m tai run n (length before / n) x (before ++ p ∷ [])
+    → IsGroupRow m tai run n (before ++ p ∷ []) row
+ends-row m tai run n x before p place at row outside is came ends t =
+    let count = length before in
+    let k = count / n in
+    let all = before ++ p ∷ [] in
+    let now = stamps_of tai all in
+    let long : length all ≡ count + 1 = length-append before (p ∷ []) in
+    let turn = end-of-group count n 1 (omega arith) (omega (arith, is, outside)) in
+    let parts : k * n + count % n ≡ count = div-add-mod' count n in
+    let whole : length all ≡ k * n + n = omega (arith, long, parts, is, outside) in
+    let group : length all / n ≡ k + 1 = ap (λ c. c / n) long ∙ turn.0 in
+    let number : k ≡ length all / n - 1 = omega (arith, group) in
+    let end : k * n + (n - 1) ≡ count = omega (arith, parts, is, outside) in
+    let last : slice_index now (k * n + (n - 1)) ≡ at = ap (slice_index now) end ∙ (stamps-extend tai before p at came).last in
+    let b = t.begun in
+    let q = ends.place in
+    subst (λ j. IsRowOf m run n j now (records_in all) (ticks_in all) row) number (record {
+      run = q.run ∙ t.run_is;
+      group = q.group ∙ t.group_is;
+      rec = q.rec_is ∙ b.rec;
+      stamp = q.stamp ∙ b.stamp_is;
+      first = q.first ∙ b.first;
+      last = ends.last ∙ ap (λ (v : Media). after_start v x.n0 x.row.group at) t.levels_are.media_is
+          ∙ ap (λ a. after_start m a x.row.group at) t.anchor_is ∙ ap (λ j. after_start m (anchor_in m now) j at) t.group_is
+          ∙ ap (after_start m (anchor_in m now) k) (sym last);
+      timestamp_is = q.timestamp_is ∙ b.timestamp_is;
+      step = q.step ∙ b.step;
+      offset = q.offset ∙ b.offset;
+      latency = q.latency ∙ b.latency;
+      bucket = greatest-whole (buckets_of m n now) n k (length all) (pos x.row.bucket) (pos row.bucket) whole (ap (λ c. pos c) ends.bucket) b.bucket_is;
+      gapped = record {
+        occupancy = t.gapped;
+        are = t.gapped_are;
+        least_is = least-whole t.gapped n k (length all) x.row.gapped_least row.gapped_least whole ends.gapped_least b.gapped_least;
+        greatest_is = greatest-whole t.gapped n k (length all) x.row.gapped row.gapped whole ends.gapped b.gapped_is;
+      };
+      linear = record {
+        occupancy = t.linear;
+        are = t.linear_are;
+        least_is = least-whole t.linear n k (length all) x.row.linear_least row.linear_least whole ends.linear_least b.linear_least;
+        greatest_is = greatest-whole t.linear n k (length all) x.row.linear row.linear whole ends.linear b.linear_is;
+      };
+    })
+
+-- and the next one hasn't begun
+pub ends-group : (m : Media) (tai run n : ℕ) (x y : GroupRows) (before : List FlowPacket) (p : FlowPacket) (place : ℕ) → y.row.run ≡ x.row.run
+    → y.row.group ≡ x.row.group + 1 → y.levels ≡ x.levels → y.n0 ≡ x.n0 → y.before ≡ x.before → y.place ≡ 0 → place + 1 ≡ n
+    → place ≡ length before % n
+    → IsTaken m tai run n (length before / n) x (before ++ p ∷ [])
+    → StandsForGroups m tai run n y (before ++ p ∷ [])
+ends-group m tai run n x y before p place run_same group_same levels n0 earlier at outside is t =
+    let count = length before in
+    let k = count / n in
+    let all = before ++ p ∷ [] in
+    let now = stamps_of tai all in
+    let f = firsts_of n (ticks_in all) in
+    let long : length all ≡ count + 1 = length-append before (p ∷ []) in
+    let turn = end-of-group count n 1 (omega arith) (omega (arith, is, outside)) in
+    let group : length all / n ≡ k + 1 = ap (λ c. c / n) long ∙ turn.0 in
+    let next : suc k ≡ length all / n = omega (arith, group) in
+    record {
+      run_is = run_same ∙ t.run_is;
+      levels_are = subst (λ l. LevelsStandFor m n l now) (sym levels) t.levels_are;
+      place_is = at ∙ sym turn.1 ∙ ap (λ c. c % n) (sym long);
+      group_is = group_same ∙ ap (λ g. g + 1) t.group_is ∙ sym group;
+      anchor_is = λ _. n0 ∙ t.anchor_is;
+      over = λ _. earlier ∙ t.before_is ∙ ap (last_of f) next;
+      goes_on = λ some. absurd (omega (arith, some, at));
+      gapped = t.gapped;
+      linear = t.linear;
+      gapped_are = t.gapped_are;
+      linear_are = t.linear_are;
+      begun = λ some. absurd (omega (arith, some, at));
+    }
+
+-- before the first packet
+pub groups-none : (m : Media) (tai run n : ℕ) (x : GroupRows) → x.row.run ≡ run → LevelsStandFor m n x.levels [] → x.place ≡ 0 → x.row.group ≡ 0
+    → x.before ≡ None → 1 ≤ n
+    → StandsForGroups m tai run n x []
+groups-none m tai run n x run_is levels place group before some =
+    let none : 0 ≡ 0 / n = sym (zero-div n) in
+    record {
+      run_is = run_is;
+      levels_are = levels;
+      place_is = place ∙ sym (zero-mod n);
+      group_is = group ∙ none;
+      anchor_is = λ few. absurd (omega (arith, few));
+      over = λ _. before ∙ ap (last_of (firsts_of n (ticks_in []))) none;
+      goes_on = λ few. absurd (omega (arith, few, place));
+      gapped = λ i. pos 0;
+      linear = λ i. pos 0;
+      gapped_are = λ i few. absurd (omega (arith, few));
+      linear_are = λ i few. absurd (omega (arith, few));
+      begun = λ few. absurd (omega (arith, few, place));
+    }
+
+-- whether a packet behind so many ends its group
+pub goes : (count n place : ℕ) → place ≡ count % n → place + 1 < n → false ≡ ends_group n count
+goes count n place is within =
+    let e = within-group count n 1 (omega (arith, is, within)) in
+    let more : (count + 1) % n ≡ suc (count % n) = omega (arith, e.1) in
+    let later : (suc (count % n) == 0) ≡ false = grind (arith, nat_tests) in
+    sym (ap (λ x. x == 0) more ∙ later)
+
+pub ends : (count n place : ℕ) → place ≡ count % n → place + 1 ≡ n → true ≡ ends_group n count
+ends count n place is outside =
+    let e = end-of-group count n 1 (omega arith) (omega (arith, is, outside)) in
+    sym (ap (λ x. x == 0) e.1)

@@ -1,0 +1,108 @@
+-- What follows for the two commands from what their steps found.
+use Rattle.std.proofs.Common.{◌≡◌, ℕ, List, Option, Some, None, refl, ap, ◌∙◌, subst, inl, inr}
+use Rattle.std.specs.Prelude.{Bool, MatchOption, Result, Ok, map, slice_get}
+use Rattle.timing_base.specs.Jobs.{ReportJob, VerifyJob}
+use Rattle.timing_base.specs.Media.{Media}
+use Rattle.timing_base.specs.declared.row.Unjudged.{Unjudged}
+use Rattle.pcapng_reader.specs.Classic.{classic, classic_texts}
+use Rattle.sdp_reader.specs.Session.{session}
+use Rattle.timing_report.specs.json_report.Reading.{IsReport}
+use Rattle.timing_report.specs.declared.json_report.reading.ReportProof.{ReportProof}
+use Rattle.timing_report.specs.declared.status.Status.TheVariants as status
+use Rattle.timing_reach.specs.steps.Answers.{Answer, AreThere, AreTold, Gives, Inputs, ReadsCaptures, Yields, silent}
+use Rattle.timing_reach.specs.declared.steps.failure.Failure.{Failure}
+use Rattle.timing_top.specs.verify.Asked.{FollowsReport, FollowsVerify, HasReported, HasVerified, ReadsMedia, ReadsNeeded, ReadsReport, claim_of}
+use Rattle.timing_top.specs.verify.Findings.{Finds}
+use Rattle.timing_top.specs.verify.Verified.{verified}
+use Rattle.timing_reach.proofs.lemmas.steps.Classics.{told-classic}
+use Rattle.timing_reach.proofs.lemmas.steps.Seeing.{Sees, follows-session, yields-on}
+use Rattle.timing_top.proofs.lemmas.verify.Seeing.{media-seen, needed-seen, report-seen}
+
+-- a report that was read leads on to what follows for its fails
+pub follows-report : (i : Inputs) (outcome : Result Answer Failure) (name : List ℕ) (claims : List ReportProof) (next : List ReportProof → Type 0)
+    → ¬ i.lacks name
+    → ((text : List ℕ) → i.texts name ≡ Some text → IsReport text claims) → Yields outcome (next claims) → Yields outcome (ReadsReport i outcome name next)
+follows-report i outcome name claims next there told (inl memory) = inl memory
+follows-report i outcome name claims next there told (inr follows) = inr (inr (there, λ text t. inr (claims, told text t, follows)))
+
+-- or is none
+pub follows-none : (i : Inputs) (answer : Answer) (asked name : List ℕ) (next : List ReportProof → Type 0) → asked ≡ name → ¬ i.lacks asked
+    → ((text : List ℕ) → i.texts asked ≡ Some text → (claims : List ReportProof) → ¬ IsReport text claims) → answer ≡ silent status.ReportRefused
+    → Yields (Ok answer) (ReadsReport i (Ok answer) name next)
+follows-none i answer asked name next named there told is =
+    inr (inr (subst (λ (n : List ℕ). ¬ i.lacks n) named there, λ text t. inl (told text (ap i.texts named ∙ t), (answer, refl, is))))
+
+-- of an option that is known
+pub matched : {X : Type 0} (o : Option X) (x : X) (P : Type 0) (Q : X → Type 0) → o ≡ Some x → MatchOption o P Q → Q x
+matched o x P Q e h = subst (λ y. MatchOption y P Q) e h
+
+pub unmatched : {X : Type 0} (o : Option X) (P : Type 0) (Q : X → Type 0) → o ≡ None → MatchOption o P Q → P
+unmatched o P Q e h = subst (λ y. MatchOption y P Q) e h
+
+-- a description was read, and what follows for its media was seen later
+pub verify-session : (i j : Inputs) (job : VerifyJob) (outcome : Result Answer Failure) (asked : List ℕ) (all media : List Media) → Sees i j → asked ≡ job.sdp
+    → all ≡ media → ¬ i.lacks asked
+    → ((text : List ℕ) → i.texts asked ≡ Some text → session text ≡ Ok media) → Yields outcome (ReadsMedia j outcome job (slice_get all job.media))
+    → FollowsVerify job i outcome
+verify-session i j job outcome asked all media s named same there told h =
+    follows-session i outcome job.sdp media (λ m. ReadsMedia i outcome job (slice_get m job.media)) (subst (λ (n : List ℕ). ¬ i.lacks n) named there)
+    (λ text t. told text (ap i.texts named ∙ t))
+    (yields-on outcome (ReadsMedia j outcome job (slice_get all job.media)) (ReadsMedia i outcome job (slice_get media job.media))
+    (λ r. subst (λ (m : List Media). ReadsMedia i outcome job (slice_get m job.media)) same (media-seen i j outcome job (slice_get all job.media) s r)) h)
+
+pub report-session : (i j : Inputs) (job : ReportJob) (outcome : Result Answer Failure) (asked : List ℕ) (all media : List Media) → Sees i j → asked ≡ job.sdp
+    → all ≡ media → ¬ i.lacks asked
+    → ((text : List ℕ) → i.texts asked ≡ Some text → session text ≡ Ok media)
+    → Yields outcome (ReadsReport j outcome job.report
+    (λ claims. ReadsNeeded j outcome job all claims (λ text. Gives outcome (HasReported job all claims text)))) → FollowsReport job i outcome
+report-session i j job outcome asked all media s named same there told h =
+    follows-session i outcome job.sdp media
+    (λ m. ReadsReport i outcome job.report (λ claims. ReadsNeeded i outcome job m claims (λ text. Gives outcome (HasReported job m claims text))))
+    (subst (λ (n : List ℕ). ¬ i.lacks n) named there) (λ text t. told text (ap i.texts named ∙ t))
+    (yields-on outcome _ _ (λ r.
+    subst (λ (m : List Media).
+    ReadsReport i outcome job.report (λ claims. ReadsNeeded i outcome job m claims (λ text. Gives outcome (HasReported job m claims text)))) same
+    (report-seen i j outcome job.report (λ claims. ReadsNeeded j outcome job all claims (λ text. Gives outcome (HasReported job all claims text)))
+    (λ claims. ReadsNeeded i outcome job all claims (λ text. Gives outcome (HasReported job all claims text))) s
+    (λ claims n. needed-seen i j outcome job all claims (λ text. Gives outcome (HasReported job all claims text)) s n) r)) h)
+
+-- a report was read, and what follows for its fails was seen later
+pub report-read : (i j : Inputs) (job : ReportJob) (media : List Media) (outcome : Result Answer Failure) (asked : List ℕ) (all claims : List ReportProof)
+    → Sees i j → asked ≡ job.report → all ≡ claims → ¬ i.lacks asked
+    → ((text : List ℕ) → i.texts asked ≡ Some text → IsReport text claims)
+    → Yields outcome (ReadsNeeded j outcome job media all (λ text. Gives outcome (HasReported job media all text)))
+    → Yields outcome (ReadsReport i outcome job.report (λ c. ReadsNeeded i outcome job media c (λ text. Gives outcome (HasReported job media c text))))
+report-read i j job media outcome asked all claims s named same there told h =
+    follows-report i outcome job.report claims (λ c. ReadsNeeded i outcome job media c (λ text. Gives outcome (HasReported job media c text)))
+    (subst (λ (n : List ℕ). ¬ i.lacks n) named there) (λ text t. told text (ap i.texts named ∙ t))
+    (yields-on outcome _ _ (λ n.
+    subst (λ (c : List ReportProof). ReadsNeeded i outcome job media c (λ text. Gives outcome (HasReported job media c text))) same
+    (needed-seen i j outcome job media all (λ text. Gives outcome (HasReported job media all text)) s n)) h)
+
+-- what was found in the captures, as classic ones, is the answer of `verify`
+pub follows-found : (i : Inputs) (job : VerifyJob) (media : Media) (names : List (List ℕ)) (claim : ReportProof) (tai : ℕ) (finding : Result Bool Unjudged)
+    (answer : Answer)
+    → names ≡ job.captures → claim ≡ claim_of job → tai ≡ job.tai → AreThere i.lacks names
+    → ((texts : List (List ℕ)) → AreTold (classic_texts i.texts) names texts → Finds media claim tai texts finding) → answer ≡ verified finding
+    → Yields (Ok answer) (ReadsCaptures i (Ok answer) job.captures (λ texts. Gives (Ok answer) (HasVerified job media texts)))
+follows-found i job media names claim tai finding answer named asked late there h is =
+    let by_names : (texts : List (List ℕ)) → AreTold (classic_texts i.texts) job.captures texts → Finds media claim tai texts finding =
+    subst (λ (n : List (List ℕ)). (texts : List (List ℕ)) → AreTold (classic_texts i.texts) n texts → Finds media claim tai texts finding) named h in
+    let by_claim : (texts : List (List ℕ)) → AreTold (classic_texts i.texts) job.captures texts → Finds media (claim_of job) tai texts finding =
+    subst (λ (x : ReportProof). (texts : List (List ℕ)) → AreTold (classic_texts i.texts) job.captures texts → Finds media x tai texts finding) asked by_names
+    in
+    let found : (texts : List (List ℕ)) → AreTold (classic_texts i.texts) job.captures texts → Finds media (claim_of job) job.tai texts finding =
+    subst (λ (t : ℕ). (texts : List (List ℕ)) → AreTold (classic_texts i.texts) job.captures texts → Finds media (claim_of job) t texts finding) late by_claim
+    in
+    inr (inr (
+      subst (λ (n : List (List ℕ)). AreThere i.lacks n) named there,
+      λ texts told. (
+        answer,
+        refl,
+        record {
+          finding = finding;
+          finds = found (map classic texts) (told-classic i.texts job.captures texts told);
+          answer_is = is;
+        },
+      ),
+    ))
