@@ -1,8 +1,9 @@
-//! Tests of whole calls: the words that the program is given, the files that it reads, and what it prints.
+//! Tests of whole calls: the words that the program is given, the files that it reads, and what it prints; and of claims and threads.
 #![tactic(auto)]
 
 #[cfg(test)]
-pub mod inner;
 mod call;
+#[cfg(test)]
+mod inner;
 #[cfg(test)]
 mod rows;

@@ -5,7 +5,6 @@
 //! Records count from 1; stamps are nanoseconds since 1970-01-01 00:00:00; lengths are bytes.
 #![tactic(auto)]
 
-pub mod report;
 mod class;
 mod counter;
 mod found;
@@ -13,6 +12,7 @@ mod key;
 pub mod laws;
 mod mark;
 mod packet;
+pub mod report;
 mod scan;
 mod stream;
 mod streams;

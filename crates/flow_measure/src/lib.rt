@@ -7,8 +7,6 @@
 //! and groups are counted from 0.
 #![tactic(auto)]
 
-pub mod rows;
-pub mod report;
 mod bins;
 mod broken;
 mod bucket_meter;
@@ -29,6 +27,8 @@ mod named;
 mod numbers;
 mod occupancy;
 mod reader;
+pub mod report;
+pub mod rows;
 mod run;
 mod steps;
 mod summary;

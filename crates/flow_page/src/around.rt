@@ -5,9 +5,9 @@ ghost use Rattle.std.specs.List.{flat_map};
 ghost use Rattle.timing_report.specs.Outcomes.{place_of};
 ghost use Rattle.flow_page.specs.Around.{around_detail, around_figure, around_figures, around_if, around_scene, around_title, broken_line};
 
+use crate::chart::{Across, Limit, LineName, Scene, Shade, Unit, UnitAcross, add_curve_figure};
 use crate::levels::{line_name, one_line};
 use crate::shown::{Region, TypeShown};
-use crate::chart::{Across, Limit, LineName, Scene, Shade, Unit, UnitAcross, add_curve_figure};
 use std::alloc::{AllocError as OutOfMemory, Global};
 use timing_base::{Broken, FailProof, Kind};
 use timing_report::{kind_name, model_name};

@@ -4,10 +4,10 @@ ghost use Rattle.std.specs.Prelude.{◌≡◌, ◌≤◌, ◌^◌, ◌++◌, ◌
 ghost use Rattle.std.specs.List.{flat_map};
 ghost use Rattle.flow_page.specs.Levels.{across_of, base_lines, bucket_limit, buffer_limit, eye_columns, eye_scene, eye_title, is_near, level_columns, level_detail, level_figure, level_figures, level_lines, level_scene, level_summary, level_title, level_words, limit_on, limit_words, line_name, run_columns, run_scene, run_title, type_line};
 
+use crate::chart::{Across, Limit, LineName, Scene, Unit, UnitAcross, add_curve_figure};
 use crate::shown::{Curves, ShownRun, TypeShown};
 use crate::words::Counted;
 use flow_measure::{Extremes, RunNumbers, Summary};
-use crate::chart::{Across, Limit, LineName, Scene, Unit, UnitAcross, add_curve_figure};
 use std::alloc::{AllocError as OutOfMemory, Global};
 use std::fmt;
 use timing_base::{Judged, Kind};

@@ -4,9 +4,9 @@
 //! and pictures show it; what a text holds of a name is escaped.
 #![tactic(auto)]
 
-pub mod drawing;
-pub mod chart;
 mod around;
+pub mod chart;
+pub mod drawing;
 mod head;
 pub mod laws;
 mod levels;

@@ -6,9 +6,9 @@ ghost use Rattle.flow_page.specs.Shown.{types_shown};
 ghost use Rattle.flow_page.specs.chart.Figures.{told};
 ghost use Rattle.flow_page.specs.Media.{AreOfMedia, flow_media, media_open, media_row, media_table, row_open, run_cells, shown_cells, table_close, type_cells, verdict_open, verdict_told};
 
+use crate::chart::add_told;
 use crate::shown::{FlowPage, ShownRun, TypeShown, types_shown};
 use crate::words::Sign;
-use crate::chart::add_told;
 use std::alloc::{AllocError as OutOfMemory, Global};
 use std::fmt;
 use timing_base::{FlowKey, Judged, Media, Session, Target, Verdict};

@@ -10,6 +10,7 @@ ghost use Rattle.flow_page.specs.Page.{contents_part, contents_told, flow_headin
 ghost use Rattle.flow_page.specs.Words.{utc};
 
 use crate::around::add_around_figures;
+use crate::chart::add_told;
 use crate::head::{add_legend, add_note_line, add_page_end, add_page_start};
 use crate::levels::{View, add_level_figures};
 use crate::media::{add_media_table, flow_media};
@@ -20,7 +21,6 @@ use crate::timings::{add_steps_line, add_timing_figures, period_of};
 use crate::words::{Clock, add_words, utc};
 use capture_scan::Found;
 use flow_measure::{MeasuredFlow, MeasuredRun};
-use crate::chart::add_told;
 use std::alloc::{AllocError as OutOfMemory, Global};
 use timing_base::{FileNote, Media, Session, Target};
 use timing_report::group_name;

@@ -4,11 +4,11 @@ ghost use Rattle.std.specs.Prelude.{◌≡◌, ◌<◌, ◌≤◌, ◌^◌, ◌+
 ghost use Rattle.sender_params.specs.Times.{groups_of};
 ghost use Rattle.flow_page.specs.Timings.{drift_of, least_step, misfits, most_step, period_of, span_of, steps_line, steps_seen, steps_wanted, steps_words, timing_columns, timing_detail, timing_figure, timing_figures, timing_lines, timing_scene, timing_summary, timing_title, timing_unit, wanted_text};
 
+use crate::chart::{Limit, LineName, Scene, Tenths, Unit, UnitAcross, add_curve_figure};
 use crate::levels::{across_of, one_line};
 use crate::shown::{Curves, ShownRun};
 use crate::words::Counted;
 use flow_measure::{Extremes, RunNumbers, Summary};
-use crate::chart::{Limit, LineName, Scene, Tenths, Unit, UnitAcross, add_curve_figure};
 use sender_params::Params;
 use std::alloc::{AllocError as OutOfMemory, Global};
 use std::fmt;

@@ -6,8 +6,8 @@
 //! both as a machine, with what is proved of it. Files, media, lanes and workers count from 0, records from 1.
 #![tactic(auto)]
 
-pub mod crew;
 mod apart_files;
+pub mod crew;
 mod intakes;
 mod joined_files;
 mod judges;

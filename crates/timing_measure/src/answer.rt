@@ -10,8 +10,8 @@ use flow_measure::MeasuredFlow;
 use flow_measure::report::json_of;
 use std::alloc::{AllocError as OutOfMemory, Global};
 use timing_base::{CaptureJob, FileNote, Session};
-use timing_report::{Status, any_refused};
 use timing_reach::steps::Answer;
+use timing_report::{Status, any_refused};
 
 /// Whether the flow has a judged run, which was measured.
 fn has_run(flow: &MeasuredFlow) -> bool

@@ -22,8 +22,8 @@ use flow_measure::{MeasuredFlow, RunMeter};
 use std::alloc::Global;
 use timing_base::{CaptureJob, Media, Session};
 use timing_outside::{Shelf, Sink};
-use timing_report::{Input, Status};
 use timing_reach::steps::{Answer, Failure, conclude, fetch_session};
+use timing_report::{Input, Status};
 
 /// The flows of these media in the capture of a job, which is read a second time where a run is judged.
 fn read_flows<H: Shelf>(

@@ -27,8 +27,8 @@ use timing_base::{CaptureJob, FileNote, Media};
 use timing_outside::Shelf;
 use timing_reach::judged::captures::take_capture;
 use timing_reach::judged::flows::FlowOf;
-use timing_report::Input;
 use timing_reach::steps::Failure;
+use timing_report::Input;
 
 /// What a reading of a capture came to.
 #[derive(Drop)]

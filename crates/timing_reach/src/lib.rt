@@ -7,12 +7,12 @@
 //! are nanoseconds.
 #![tactic(auto)]
 
-pub mod steps;
 pub mod judged;
 pub mod laws;
 mod scan;
 mod shape;
 mod skew;
+pub mod steps;
 mod window;
 
 pub use scan::scan_one;

@@ -15,12 +15,12 @@ ghost use Rattle.timing_reach.specs.scan.Scanning.{IsScannedIn};
 
 use crate::judged::captures::take_capture;
 use crate::scan::words::scanned;
+use crate::steps::{Answer, Failure, conclude};
 use capture_scan::{Found, Scan};
 use std::alloc::Global;
 use timing_base::{FileNote, ScanJob};
 use timing_outside::{Shelf, Sink};
 use timing_report::{Input, Status};
-use crate::steps::{Answer, Failure, conclude};
 
 /// What a capture holds, and how it ends.
 #[derive(Drop)]

@@ -17,11 +17,11 @@ ghost use Rattle.timing_reach.specs.Shaped.{FollowsShape};
 use crate::judged::{Look, answer_twice, find_media};
 use crate::shape::leaver::Leaver;
 use crate::shape::shaping::Shaping;
+use crate::steps::{Answer, Failure, conclude};
 use std::alloc::{AllocError as OutOfMemory, Global};
 use timing_base::{Judged, Kind, Media, ShapeJob};
 use timing_outside::{Shelf, Sink};
 use timing_report::Status;
-use crate::steps::{Answer, Failure, conclude};
 
 /// A flow is shaped.
 #[derive(Clone, Copy, Debug, PartialEq, Eq)]

@@ -14,11 +14,11 @@ ghost use Rattle.timing_reach.specs.Skewed.{FollowsSkew, HasSkew, ReadsPair, Ske
 use crate::judged::words::no_such_media;
 use crate::skew::compare::compare;
 use crate::skew::words::skewed;
+use crate::steps::{Answer, Failure, conclude, fetch_session};
 use std::alloc::Global;
 use timing_base::{Media, SkewJob};
 use timing_outside::{Shelf, Sink};
 use timing_report::Status;
-use crate::steps::{Answer, Failure, conclude, fetch_session};
 
 /// The answer on the flows of these media.
 fn answer_pair<H: Shelf>(

@@ -21,13 +21,13 @@ ghost use Rattle.timing_reach.specs.window.Readings.{HasWindows, IsMeasured, IsM
 use crate::judged::find_media;
 use crate::judged::flows::take_flow;
 use crate::judged::words::not_judged;
+use crate::steps::{Answer, Failure, conclude};
 use crate::window::reading::{Measured, Reading};
 use crate::window::windows::windowed;
 use std::alloc::{AllocError as OutOfMemory, Global};
 use timing_base::{FlowJob, Media, Verdict};
 use timing_outside::{Shelf, Sink};
 use timing_report::{Input, Status};
-use crate::steps::{Answer, Failure, conclude};
 
 /// The lines of a flow that is judged in one run, or the verdict on another.
 fn told_of(alloc: Global, media: &Media, measured: &Measured) -> Result<Answer, OutOfMemory>

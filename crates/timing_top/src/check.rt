@@ -19,10 +19,10 @@ use std::alloc::{AllocError as OutOfMemory, Global};
 use std::sync::Wait;
 use std::thread::Threads;
 use timing_base::{CheckJob, Session};
-use timing_report::json_report::json_of;
 use timing_outside::{Gate, Shelf, Sink, Source};
-use timing_report::{Status, status_of, text_of};
 use timing_reach::steps::{Answer, Failure, conclude, fetch_captures, fetch_session};
+use timing_report::json_report::json_of;
+use timing_report::{Status, status_of, text_of};
 
 /// The text of what was found, or its JSON.
 fn text_on(

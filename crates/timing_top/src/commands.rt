@@ -11,6 +11,7 @@ ghost use Rattle.timing_top.specs.Runs.{RanAs};
 use crate::check::{check_many, check_one};
 use crate::help::print_help;
 use crate::self_tests::self_test;
+use crate::verify::{verify_all, verify_one};
 use std::alloc::Global;
 use std::sync::Wait;
 use std::thread::Threads;
@@ -18,10 +19,9 @@ use timing_measure::measure_one;
 use timing_measure::page::page_one;
 use timing_measure::series::series_one;
 use timing_outside::{Gate, Shelf, Sink};
+use timing_reach::steps::{Answer, Failure, conclude};
 use timing_reach::{scan_one, shape_one, skew_one, window_one};
 use timing_report::Status;
-use timing_reach::steps::{Answer, Failure, conclude};
-use crate::verify::{verify_all, verify_one};
 use timing_words::{Request, WordFault, read_words};
 
 /// Does what a request asks for, by the call of its command: `check` on this thread where the job has no workers.

@@ -4,7 +4,6 @@
 //! printed, and why there is nothing, is its contract.
 #![tactic(auto)]
 
-pub mod verify;
 mod alone;
 mod captures;
 mod check;
@@ -14,6 +13,7 @@ mod joined;
 pub mod laws;
 mod many;
 mod self_tests;
+pub mod verify;
 
 pub use check::{check_many, check_one};
 pub use commands::run;

@@ -17,8 +17,8 @@ use std::sync::Wait;
 use std::thread::Threads;
 use timing_base::{FileNote, Media, PcapFault};
 use timing_outside::{Gate, Shelf};
-use timing_report::Input;
 use timing_reach::steps::{Failure, give_back_all};
+use timing_report::Input;
 
 /// The first capture that couldn't be read, counted from 0, where memory served for those before it.
 fn first_unread(notes: &[Option<FileNote>]) -> Option<u32>

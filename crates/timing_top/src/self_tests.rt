@@ -27,8 +27,8 @@ use std::sync::Wait;
 use std::thread::Threads;
 use timing_base::{FileName, Media, SelfTestJob, Session};
 use timing_outside::{Gate, MemorySink, Shelf, Sink, SteadyShelf};
-use timing_report::{Status, status_of, verdict_of};
 use timing_reach::steps::{Answer, Failure, conclude, fetch_captures, fetch_session};
+use timing_report::{Status, status_of, verdict_of};
 
 /// The flaws that a made capture can have, none among them.
 const FLAWS: u32 = 5;

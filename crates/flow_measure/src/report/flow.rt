@@ -13,8 +13,8 @@ use serde_json::Value;
 use std::alloc::{AllocError as OutOfMemory, Global};
 use std::fmt;
 use timing_base::{Media, Unjudged, Verdict};
-use timing_report::json_report::{Object, add_value, comma_if, put_unjudged};
 use timing_report::SsrcText;
+use timing_report::json_report::{Object, add_value, comma_if, put_unjudged};
 
 /// Adds a flow of this media.
 pub(crate) fn add_flow(

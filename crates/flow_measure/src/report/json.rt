@@ -5,9 +5,9 @@ ghost use Rattle.timing_report.specs.Words.{note_text};
 ghost use Rattle.flow_measure.specs.report.Json.{AreOfMedia, flow_text, items_text, measure_json, quoted_text};
 ghost use Rattle.flow_measure.specs.report.Told.{flow_told};
 
+use crate::MeasuredFlow;
 use crate::report::flow::add_flow;
 use crate::report::pieces::quoted;
-use crate::MeasuredFlow;
 use std::alloc::{AllocError as OutOfMemory, Global};
 use timing_base::{FileNote, FlowKey, Session};
 use timing_report::json_report::comma_if;

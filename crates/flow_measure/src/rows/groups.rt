@@ -11,9 +11,9 @@ ghost use Rattle.timing_base.specs.declared.packet.FlowPacket.{FlowPacket as Pac
 ghost use Rattle.flow_measure.specs.rows.Packets.{stamps_of};
 ghost use Rattle.flow_measure.specs.rows.Rows.{IsGroupRow, ends_group, step_from};
 
+use crate::report::GroupRow;
 use crate::rows::levels::{Level, LevelMeter};
 use crate::{latency_of, offset_of, since_start, step_of};
-use crate::report::GroupRow;
 use sender_params::Params;
 
 /// The ticks from the RTP timestamp of the group before, where there is one.

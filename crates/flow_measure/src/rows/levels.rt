@@ -7,8 +7,8 @@ ghost use Rattle.flow_measure.specs.Filled.{IsNext};
 ghost use Rattle.flow_measure.specs.Occupancy.{IsOccupancy};
 ghost use Rattle.flow_measure.specs.RunStands.{IsLatest};
 
-use drain_bucket::Bucket;
 use crate::occupancy_of;
+use drain_bucket::Bucket;
 use read_schedule::Schedule;
 use sender_params::Params;
 

@@ -8,8 +8,8 @@ ghost use Rattle.timing_base.specs.declared.packet.FlowPacket.{FlowPacket as Pac
 ghost use Rattle.flow_measure.specs.rows.Packets.{stamps_of};
 ghost use Rattle.flow_measure.specs.rows.Rows.{IsPacketRow};
 
-use crate::rows::levels::LevelMeter;
 use crate::report::PacketRow;
+use crate::rows::levels::LevelMeter;
 use sender_params::Params;
 
 /// Makes a row of each judged packet of a run.

@@ -3,9 +3,9 @@
 ghost use Rattle.std.specs.Prelude.{◌≡◌, ◌<◌, ◌+◌, ◌^◌, [], ℕ, IfOk};
 ghost use Rattle.flow_measure.specs.rows.Rows.{header_text};
 
+use crate::report::{RowText, group_header, packet_header};
 use crate::rows::groups::GroupRows;
 use crate::rows::packets::PacketRows;
-use crate::report::{RowText, group_header, packet_header};
 use sender_params::Params;
 use std::alloc::AllocError as OutOfMemory;
 use timing_base::{Judged, Media};

@@ -6,8 +6,8 @@ ghost use Rattle.timing_base.specs.Media.{Media};
 ghost use Rattle.flow_measure.specs.Columns.{AreCurve, AreEye};
 ghost use Rattle.flow_measure.specs.Stands.{Draws};
 
-use flow_measure::{Columns, Extremes};
 use flow_measure::rows::Level;
+use flow_measure::{Columns, Extremes};
 use std::alloc::{AllocError as OutOfMemory, Global};
 use timing_base::Items;
 

@@ -8,9 +8,9 @@ ghost use Rattle.timing_base.specs.declared.media.Kind.{Kind as KindValue};
 ghost use Rattle.flow_page.specs.drawing.Drawn.{IsRegion, count_around, start_around};
 ghost use Rattle.flow_page.specs.drawing.drawing.Held.{Holds, buffer_of, held_by};
 
+use crate::Region;
 use crate::drawing::packets::listed;
 use flow_measure::Columns;
-use crate::Region;
 use flow_measure::rows::Level;
 use std::alloc::{AllocError as OutOfMemory, Global};
 use timing_base::{Broken, FailProof, Kind};

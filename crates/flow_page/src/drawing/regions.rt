@@ -7,8 +7,8 @@ ghost use Rattle.timing_base.specs.declared.row.KindVerdict.{KindVerdict as Verd
 ghost use Rattle.flow_page.specs.drawing.drawing.Held.{Holds};
 ghost use Rattle.flow_page.specs.drawing.drawing.Regions.{DrawsKind, PutsKind};
 
-use crate::drawing::region::RegionMeter;
 use crate::Region;
+use crate::drawing::region::RegionMeter;
 use flow_measure::rows::Level;
 use std::alloc::{AllocError as OutOfMemory, Global};
 use timing_base::{Kind, KindVerdict};

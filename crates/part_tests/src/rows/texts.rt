@@ -1,11 +1,11 @@
 //! The numbers of two frames as JSON, and as rows.
 
 use super::compare::same;
+use flow_measure::report::{GroupRow, PacketRow, RowText, json_of};
 use flow_measure::{
     Bins, Buffer, Classes, Gaps, KindNumbers, Margins, MeasuredFlow, MeasuredRun, RunNumbers,
     Summary,
 };
-use flow_measure::report::{GroupRow, PacketRow, RowText, json_of};
 use std::alloc::{AllocError, Global};
 use std::process::Abort;
 use std::test::Fail;

@@ -10,8 +10,8 @@ use crate::page::readings::PageReading;
 use flow_page::{FlowPage, page_text};
 use std::alloc::{AllocError as OutOfMemory, Global};
 use timing_base::{CaptureJob, FileNote, Session};
-use timing_report::{Status, any_refused};
 use timing_reach::steps::Answer;
+use timing_report::{Status, any_refused};
 
 /// Whether a run of the flow is judged.
 fn is_judged(page: &FlowPage) -> bool

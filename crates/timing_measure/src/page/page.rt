@@ -16,8 +16,8 @@ use crate::page::readings::{PageReading, read_pages};
 use std::alloc::Global;
 use timing_base::{CaptureJob, Session};
 use timing_outside::{Shelf, Sink};
-use timing_report::Status;
 use timing_reach::steps::{Answer, Failure, conclude, fetch_session};
+use timing_report::Status;
 
 /// The answer on a capture of which both readings came to this.
 fn answer_read(

@@ -17,8 +17,8 @@ use flow_page::FlowPage;
 use std::alloc::Global;
 use timing_base::{CaptureJob, Media};
 use timing_outside::Shelf;
-use timing_report::Input;
 use timing_reach::steps::Failure;
+use timing_report::Input;
 
 /// What the readings of a capture came to.
 #[derive(Drop)]

@@ -9,9 +9,9 @@ ghost use Rattle.timing_measure.specs.declared.page.longest.LongestRun.{LongestR
 
 use crate::metering::walk::timestamp_of;
 use crate::page::longest::LongestRun;
-use flow_page::drawing::RunDrawing;
 use flow_measure::MeasuredRun;
 use flow_page::ShownRun;
+use flow_page::drawing::RunDrawing;
 use std::alloc::{AllocError as OutOfMemory, Global};
 use timing_base::{FlowPacket, Media};
 

@@ -5,8 +5,8 @@ ghost use Rattle.timing_base.specs.Captures.{IsStamp};
 ghost use Rattle.timing_base.specs.declared.packet.FlowPacket.{FlowPacket as PacketValue};
 
 use crate::metering::walk::timestamp_of;
-use flow_measure::rows::RunRows;
 use flow_measure::report::RowText;
+use flow_measure::rows::RunRows;
 use std::alloc::AllocError as OutOfMemory;
 use timing_base::{FlowPacket, Judged, Media};
 

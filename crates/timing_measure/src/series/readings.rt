@@ -31,8 +31,8 @@ use timing_base::{FileNote, Items, Media, PcapFault, SeriesJob, Verdict};
 use timing_outside::{Shelf, Sink};
 use timing_reach::judged::captures::take_capture;
 use timing_reach::judged::flows::FlowOf;
-use timing_report::{Input, Status, any_refused};
 use timing_reach::steps::{Answer, Failure, fetch_classic, give_back};
+use timing_report::{Input, Status, any_refused};
 
 /// What a first reading of a flow came to.
 #[derive(Drop)]

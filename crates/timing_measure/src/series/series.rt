@@ -20,8 +20,8 @@ use timing_base::{Media, SeriesJob};
 use timing_outside::{Shelf, Sink};
 use timing_reach::judged::find_media;
 use timing_reach::judged::words::not_judged;
-use timing_report::{Input, Status};
 use timing_reach::steps::{Answer, Failure, conclude};
+use timing_report::{Input, Status};
 
 /// The answer on the flow of this media, or what of it isn't written yet.
 fn answer_flow<H: Shelf, K: Sink>(

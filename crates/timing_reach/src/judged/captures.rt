@@ -8,11 +8,11 @@ ghost use Rattle.pcapng_reader.specs.Classic.{classic_texts};
 ghost use Rattle.timing_reach.specs.steps.Answers.{OnReadFault};
 ghost use Rattle.timing_reach.specs.steps.Taken.{TakesText};
 
+use crate::steps::{Failure, fetch_classic, take_source};
 use pcap_reader::{Taken, Taker};
 use std::alloc::{AllocError as OutOfMemory, Global};
 use timing_outside::Shelf;
 use timing_report::Input;
-use crate::steps::{Failure, fetch_classic, take_source};
 
 /// Takes the records of the one capture of a job, under this name: it is fetched for that, and goes back
 /// to the shelf.

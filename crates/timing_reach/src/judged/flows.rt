@@ -18,12 +18,12 @@ ghost use Rattle.udp_rtp.specs.Flow.{flow_packet};
 ghost use Rattle.timing_reach.specs.judged.Flows.{TakesIn, next_of};
 
 use crate::judged::captures::take_capture;
+use crate::steps::Failure;
 use pcap_reader::Taker;
 use std::alloc::{AllocError as OutOfMemory, Global};
 use timing_base::{FlowPacket, Media, Rtp};
 use timing_outside::Shelf;
 use timing_report::Input;
-use crate::steps::Failure;
 use udp_rtp::{carries, packet_of};
 
 /// What takes the packets of a flow, one after the other.

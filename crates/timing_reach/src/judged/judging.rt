@@ -12,12 +12,12 @@ ghost use Rattle.timing_reach.specs.steps.Answers.{OnReadFault};
 use crate::judged::flows::{FlowTaker, take_flow};
 use crate::judged::judgment::Judgment;
 use crate::judged::opening::{Opening, last_marked};
+use crate::steps::Failure;
 use fail_interval::FlowJudge;
 use std::alloc::{AllocError as OutOfMemory, Global};
 use timing_base::{FlowJob, FlowKey, FlowPacket, Media};
 use timing_outside::Shelf;
 use timing_report::Input;
-use crate::steps::Failure;
 
 /// The judge of a flow, and how its judged part opens and ends.
 #[derive(Drop)]

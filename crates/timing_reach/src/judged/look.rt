@@ -10,9 +10,9 @@ ghost use Rattle.timing_reach.specs.steps.Ends.{HasStatus, look_ends};
 ghost use Rattle.timing_reach.specs.judged.Runs.{IsRunOf};
 
 use crate::judged::flows::FlowTaker;
+use crate::steps::Answer;
 use std::alloc::{AllocError as OutOfMemory, Global};
 use timing_base::{Judged, Media};
-use crate::steps::Answer;
 
 /// How a command looks into a flow that is judged in one run: a meter takes its packets, one after the other.
 pub trait Look {

@@ -9,11 +9,11 @@ ghost use Rattle.timing_reach.specs.steps.Ends.{HasStatus, look_ends};
 ghost use Rattle.timing_reach.specs.judged.Found.{IsFound};
 
 use crate::judged::words::no_such_media;
+use crate::steps::{Answer, Failure, fetch_session};
 use std::alloc::{AllocError as OutOfMemory, Global};
 use timing_base::{FlowJob, Media};
 use timing_outside::Shelf;
 use timing_report::{Input, Status};
-use crate::steps::{Answer, Failure, fetch_session};
 
 /// The media of this number, counted from 0, or the answer that it isn't there.
 fn find_in(

@@ -23,11 +23,11 @@ use crate::judged::judgment::Judgment;
 use crate::judged::look::Look;
 use crate::judged::second::SecondReading;
 use crate::judged::words::not_judged;
+use crate::steps::{Answer, Failure};
 use std::alloc::Global;
 use timing_base::{FlowJob, Judged, Media, Verdict};
 use timing_outside::Shelf;
 use timing_report::Input;
-use crate::steps::{Answer, Failure};
 
 /// Reads the capture of a flow again that was judged so in one run. Where the second reading finds another number
 /// of packets, or another first or last stamp, the capture is another one now: that is a read fault, which the

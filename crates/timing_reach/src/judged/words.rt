@@ -3,10 +3,10 @@
 ghost use Rattle.std.specs.Prelude.{◌≡◌, IfOk};
 ghost use Rattle.timing_reach.specs.Asked.{no_such_media, not_judged};
 
+use crate::steps::Answer;
 use std::alloc::{AllocError as OutOfMemory, Global};
 use timing_base::{Media, Verdict};
 use timing_report::{Status, verdict_of};
-use crate::steps::Answer;
 
 /// The answer on a media that the description hasn't.
 pub fn no_such_media(alloc: Global) -> Result<Answer, OutOfMemory>

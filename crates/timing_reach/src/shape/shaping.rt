@@ -12,11 +12,11 @@ use crate::shape::copy::{add_record, begin};
 use crate::shape::delays::Delays;
 use crate::shape::leaver::{Leaver, Turn};
 use crate::shape::words::not_shaped;
+use crate::steps::Answer;
 use flow_shaper::{Departure, Late};
 use std::alloc::{AllocError as OutOfMemory, Global};
 use timing_base::FlowPacket;
 use timing_report::Status;
-use crate::steps::Answer;
 
 /// What is made of a flow that is shaped, as far as the flow has come.
 #[derive(Drop)]

@@ -11,13 +11,13 @@ ghost use Rattle.timing_reach.specs.skew.Comparing.{ComparesNext, IsComparedIn};
 ghost use Rattle.timing_reach.specs.skew.Pairs.{pair_given};
 
 use crate::skew::pairing::Pairing;
+use crate::steps::{Failure, fetch_captures, give_back, take_source};
 use path_skew::SkewRow;
 use pcapng_reader::Classic;
 use std::alloc::Global;
 use timing_base::{FileNote, Media, SkewJob};
 use timing_outside::{Shelf, Source};
 use timing_report::Input;
-use crate::steps::{Failure, fetch_captures, give_back, take_source};
 
 /// How the captures of a job end, and what is told of two flows in them.
 #[derive(Drop)]

@@ -11,16 +11,16 @@ ghost use Rattle.timing_report.specs.Status.{code_of};
 ghost use Rattle.timing_report.specs.json_report.Json.{list_of, proof_data, outcome_members, type_data, types_data, interlaced_members, judged_numbers, judged_words, judged_members, no_whole_frame_members, unjudged_members, run_verdict_members, expected_members, run_members, run_data, verdict_members, key_members, flow_data, row_data, file_data, files_data, json_text};
 
 use crate::json_report::object::Object;
+use crate::{
+    NoteText, PacketFaultText, Status, buffer_peak, class_name, declared_name, first_passing,
+    kind_name, media_of, model_name, status_of, verdict_on,
+};
 use sender_params::Params;
 use serde_json::Value;
 use std::alloc::{AllocError as OutOfMemory, Global};
 use timing_base::{
     CheckJob, FailProof, FileName, FileNote, FlowKey, Judged, Kind, KindVerdict, Media,
     PacketFault, Row, Run, RunVerdict, Session, Unjudged, Verdict,
-};
-use crate::{
-    NoteText, PacketFaultText, Status, buffer_peak, class_name, declared_name, first_passing,
-    kind_name, media_of, model_name, status_of, verdict_on,
 };
 
 /// A fail.

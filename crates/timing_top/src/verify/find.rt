@@ -12,9 +12,9 @@ use crate::verify::read::{answer_of, read_captures};
 use interval_checker::{Asked, Reading};
 use std::alloc::Global;
 use timing_base::{FileName, Media};
-use timing_report::json_report::ReportProof;
 use timing_outside::Shelf;
 use timing_reach::steps::Failure;
+use timing_report::json_report::ReportProof;
 
 /// What the captures of these names, as one classic capture, say of a claim. Each is fetched for it, in
 /// order, and goes back to the shelf; one that couldn't be read is named by its number among them,

@@ -15,10 +15,10 @@ use crate::verify::checked::{Checked, Finding};
 use crate::verify::read::{FileRead, answer_of, read_file};
 use std::alloc::Global;
 use timing_base::{FlowKey, Media, ReportJob};
-use timing_report::json_report::ReportProof;
 use timing_outside::Shelf;
-use timing_report::Input;
 use timing_reach::steps::Failure;
+use timing_report::Input;
+use timing_report::json_report::ReportProof;
 
 /// How many files the flows of a job may be of: joined captures are one.
 fn file_count(job: &ReportJob) -> usize

@@ -17,10 +17,10 @@ use crate::verify::checked::Finding;
 use interval_checker::{CheckFault, Reading, read_sources};
 use std::alloc::Global;
 use timing_base::{FileName, Media, ReportJob};
-use timing_report::json_report::ReportProof;
 use timing_outside::Shelf;
-use timing_report::Input;
 use timing_reach::steps::{Failure, fetch_captures, give_back_all};
+use timing_report::Input;
+use timing_report::json_report::ReportProof;
 
 /// Why captures weren't read; one that couldn't be is named by its number among them.
 fn failure_of(fault: CheckFault) -> Failure

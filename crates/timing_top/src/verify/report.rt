@@ -14,10 +14,10 @@ use crate::verify::needs::check_each;
 use crate::verify::words::reported;
 use std::alloc::Global;
 use timing_base::{Media, ReportJob};
-use timing_report::json_report::{ReportError, ReportProof, read_json};
 use timing_outside::{Shelf, Sink};
-use timing_report::{Input, Status};
 use timing_reach::steps::{Answer, Failure, conclude, fetch_front, fetch_session};
+use timing_report::json_report::{ReportError, ReportProof, read_json};
+use timing_report::{Input, Status};
 
 /// The bytes of a report that are read: one more than it may have.
 const REPORT_MOST: usize = 16_777_217;

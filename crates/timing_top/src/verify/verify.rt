@@ -11,10 +11,10 @@ use crate::verify::find::find;
 use crate::verify::words::{unconfirmed, verified};
 use std::alloc::Global;
 use timing_base::{FlowKey, Media, VerifyJob};
-use timing_report::json_report::ReportProof;
 use timing_outside::{Shelf, Sink};
-use timing_report::Status;
 use timing_reach::steps::{Answer, Failure, conclude, fetch_session};
+use timing_report::Status;
+use timing_report::json_report::ReportProof;
 
 /// The fail that a job asks about: one of run 0 of its media.
 fn claim_of(job: &VerifyJob) -> ReportProof
