@@ -13,7 +13,7 @@ ghost use Rattle.capture_scan.specs.report.Text.{contents_text};
 ghost use Rattle.capture_scan.specs.report.Rates.{denominator, exact, faster, nearest, numerator, rate_text, slowed, slowest};
 
 /// The whole JSON of a capture with one stream.
-#[tactic(auto, unfolding(crate::report::proofs::Numerals::scan_texts))]
+#[tactic(auto, unfolding(crate::proofs::lemmas::report::Numerals::scan_texts))]
 pub fn plain_json_by_hand()
     ensures { json_text (codes "a.pcap") note.End plain_contents
         ≡ codes "{\"end\":\"end\",\"first\":1599999999999000000,\"last\":1600000000039004000,"
@@ -29,7 +29,7 @@ pub fn plain_json_by_hand()
 {}
 
 /// The whole JSON of a capture without a record.
-#[tactic(auto, unfolding(crate::report::proofs::Numerals::scan_texts))]
+#[tactic(auto, unfolding(crate::proofs::lemmas::report::Numerals::scan_texts))]
 pub fn empty_json_by_hand()
     ensures { json_text (codes "e.pcap") (note.Cut 24) empty_contents
         ≡ codes "{\"end\":\"cut at 24\",\"more\":0,\"name\":\"e.pcap\",\"passed_over\":{\"broken\":0,"
@@ -54,7 +54,7 @@ pub fn nearest_by_hand()
 {}
 
 /// Rates as people say them.
-#[tactic(auto, unfolding(crate::report::proofs::Numerals::scan_texts))]
+#[tactic(auto, unfolding(crate::proofs::lemmas::report::Numerals::scan_texts))]
 pub fn rates_by_hand()
     ensures film { rate_text (slowed 24 30030) ≡ codes "23.98 frames per second (24000/1001)" }
     ensures video { rate_text (slowed 60 12012) ≡ codes "59.94 frames per second (60000/1001)" }
@@ -74,7 +74,7 @@ pub fn heights_by_hand()
 {}
 
 /// The whole draft of a stream.
-#[tactic(auto, unfolding(crate::report::proofs::Numerals::scan_texts))]
+#[tactic(auto, unfolding(crate::proofs::lemmas::report::Numerals::scan_texts))]
 pub fn plain_draft_by_hand()
     ensures { draft_text (videos_of plain_contents.streams)
         ≡ codes "v=0\no=- 0 0 IN IP4 0.0.0.0\ns=draft\nt=0 0\n"
@@ -83,7 +83,7 @@ pub fn plain_draft_by_hand()
 {}
 
 /// The draft of a stream of fields, and of a second one to the same target, which has no video.
-#[tactic(auto, unfolding(crate::report::proofs::Numerals::scan_texts))]
+#[tactic(auto, unfolding(crate::proofs::lemmas::report::Numerals::scan_texts))]
 pub fn fields_draft_by_hand()
     ensures { draft_text (videos_of (stream_of_fields ∷ plain_stream ∷ []))
         ≡ codes "v=0\no=- 0 0 IN IP4 0.0.0.0\ns=draft\nt=0 0\n"
@@ -92,7 +92,7 @@ pub fn fields_draft_by_hand()
 {}
 
 /// The whole text of a capture with one stream.
-#[tactic(auto, unfolding(crate::report::proofs::Numerals::scan_texts))]
+#[tactic(auto, unfolding(crate::proofs::lemmas::report::Numerals::scan_texts))]
 pub fn plain_text_by_hand()
     ensures { contents_text (codes "a.pcap") note.End plain_contents
         ≡ codes "capture a.pcap: end, 41 records, 1 streams\n"
@@ -108,7 +108,7 @@ pub fn plain_text_by_hand()
 
 /// The whole text of a capture with frames that were passed over, unread packets, further streams, and a stream of
 /// fields with a loss.
-#[tactic(auto, unfolding(crate::report::proofs::Numerals::scan_texts))]
+#[tactic(auto, unfolding(crate::proofs::lemmas::report::Numerals::scan_texts))]
 pub fn mixed_text_by_hand()
     ensures { contents_text (codes "b.pcap") (note.Cut 2904) mixed_contents
         ≡ codes "capture b.pcap: cut at 2904, 51 records, 1 streams\n"

@@ -12,7 +12,7 @@ ghost use Rattle.flow_measure.specs.report.Rows.{group_row_text, packet_row_text
 ghost use Rattle.flow_measure.specs.report.Told.{ToldRun};
 
 /// The whole JSON of a capture with one flow, which is judged.
-#[tactic(auto, unfolding(crate::report::proofs::Numerals::measure_texts))]
+#[tactic(auto, unfolding(crate::proofs::lemmas::report::Numerals::measure_texts))]
 pub fn plain_json_by_hand()
     ensures { measure_json (codes "a.pcap") note.End plain_session (plain_flow ∷ [])
         ≡ codes "{\"end\":\"end\",\"flows\":[{\"media\":1,\"packets\":41,\"runs\":["
@@ -49,7 +49,7 @@ pub fn plain_json_by_hand()
 {}
 
 /// The type N of a flow with five packets at once in the second frame: the last of them breaks the bucket.
-#[tactic(auto, unfolding(crate::report::proofs::Numerals::measure_texts))]
+#[tactic(auto, unfolding(crate::proofs::lemmas::report::Numerals::measure_texts))]
 pub fn burst_by_hand()
     ensures { kind_text kind.N burst_fail burst_kind
         ≡ codes "{\"bucket\":{\"above\":1,\"counts\":[0,36,1,1,1],\"limit\":4,\"width\":1},"
@@ -60,7 +60,7 @@ pub fn burst_by_hand()
 {}
 
 /// The type N of a flow that a linear sender paces: packet 1 of each frame comes after its read.
-#[tactic(auto, unfolding(crate::report::proofs::Numerals::measure_texts))]
+#[tactic(auto, unfolding(crate::proofs::lemmas::report::Numerals::measure_texts))]
 pub fn linear_by_hand()
     ensures { kind_text kind.N linear_fail linear_kind
         ≡ codes "{\"bucket\":{\"above\":0,\"counts\":[0,40,0,0,0],\"limit\":4,\"width\":1},"
@@ -71,7 +71,7 @@ pub fn linear_by_hand()
 {}
 
 /// A flow that isn't judged has the keys of its verdict, and no runs.
-#[tactic(auto, unfolding(crate::report::proofs::Numerals::measure_texts))]
+#[tactic(auto, unfolding(crate::proofs::lemmas::report::Numerals::measure_texts))]
 pub fn unjudged_by_hand()
     ensures refused { flow_text plain_session refused_flow
         ≡ codes "{\"fault\":\"FrameSize want 20 got 19\",\"media\":1,\"packets\":40,\"record\":40,"
@@ -81,7 +81,7 @@ pub fn unjudged_by_hand()
 {}
 
 /// A flow with a gap has those of its runs that are judged, and no key for them where none is.
-#[tactic(auto, unfolding(crate::report::proofs::Numerals::measure_texts))]
+#[tactic(auto, unfolding(crate::proofs::lemmas::report::Numerals::measure_texts))]
 pub fn runs_by_hand()
     ensures one { (r : ToldRun) → flow_text plain_session (flow_of 40 (two_runs narrow 32) (r ∷ []))
         ≡ codes "{\"media\":1,\"packets\":40,\"runs\":[" ++ (run_text plain_media r
@@ -92,7 +92,7 @@ pub fn runs_by_hand()
 {}
 
 /// Numbers of more than 64 bits are written in digits.
-#[tactic(auto, unfolding(crate::report::proofs::Numerals::measure_texts))]
+#[tactic(auto, unfolding(crate::proofs::lemmas::report::Numerals::measure_texts))]
 pub fn wide_numbers_by_hand()
     ensures { level_text (summary (neg_ℤ (pos (2 ^ 64))) (pos (2 ^ 64)) (pos (2 ^ 100)) (pos 0) (pos 0))
         ≡ codes "{\"greatest\":18446744073709551616,\"least\":-18446744073709551616,"
@@ -100,7 +100,7 @@ pub fn wide_numbers_by_hand()
 {}
 
 /// The rows of the first packet and of two groups.
-#[tactic(auto, unfolding(crate::report::proofs::Numerals::measure_texts))]
+#[tactic(auto, unfolding(crate::proofs::lemmas::report::Numerals::measure_texts))]
 pub fn rows_by_hand()
     ensures packet { packet_row_text plain_packet ≡ codes "1,0,2,1600000000000764000,0,0,1,1,1\n" }
     ensures group { group_row_text (plain_group 0 2 1600000000000764000 1800 None)

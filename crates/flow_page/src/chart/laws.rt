@@ -21,7 +21,7 @@ ghost use Rattle.flow_page.specs.declared.chart.plot.Plot.{Plot};
 ghost use Rattle.flow_page.specs.chart.Worked.{bar, bars_plot, burst_bars, burst_columns, burst_plot, eight_plot, limit_of_4, nothing, wide_plot};
 
 /// Axes: with a tick at each number, below 0 in fives, of one number alone, and far from 0.
-#[tactic(auto, unfolding(crate::chart::proofs::Numerals::numerals, crate::chart::proofs::Numerals::places))]
+#[tactic(auto, unfolding(crate::proofs::lemmas::chart::Numerals::numerals, crate::proofs::lemmas::chart::Numerals::places))]
 pub fn axes_by_hand()
     ensures burst { axis_of (pos 1) (pos 5) ≡ record { low = pos 1; step = 1; steps = 4 } }
     ensures below { axis_of (neg_ℤ (pos 11)) (pos 8) ≡ record { low = neg_ℤ (pos 15); step = 5; steps = 5 } }
@@ -30,7 +30,7 @@ pub fn axes_by_hand()
 {}
 
 /// Tenths in digits.
-#[tactic(auto, unfolding(crate::chart::proofs::Numerals::numerals, crate::chart::proofs::Numerals::places))]
+#[tactic(auto, unfolding(crate::proofs::lemmas::chart::Numerals::numerals, crate::proofs::lemmas::chart::Numerals::places))]
 pub fn tenths_by_hand()
     ensures whole { tenths_text 1740 ≡ codes "174" }
     ensures part { tenths_text 1745 ≡ codes "174.5" }
@@ -39,7 +39,7 @@ pub fn tenths_by_hand()
 
 /// Marks: the ends of the axis are the ends of the picture, places are rounded down, and what is above or below the
 /// axis stands at its end.
-#[tactic(auto, unfolding(crate::chart::proofs::Numerals::numerals, crate::chart::proofs::Numerals::places))]
+#[tactic(auto, unfolding(crate::proofs::lemmas::chart::Numerals::numerals, crate::proofs::lemmas::chart::Numerals::places))]
 pub fn marks_by_hand()
     ensures low { y_of burst_plot (pos 0) ≡ 1200 }
     ensures high { y_of burst_plot (pos 5) ≡ 200 }
@@ -78,14 +78,14 @@ pub fn no_peak_is_hidden()
 {}
 
 /// The band of a burst: along the greatest numbers to the last column's end, and along the least ones back.
-#[tactic(auto, unfolding(crate::chart::proofs::Numerals::numerals, crate::chart::proofs::Numerals::places))]
+#[tactic(auto, unfolding(crate::proofs::lemmas::chart::Numerals::numerals, crate::proofs::lemmas::chart::Numerals::places))]
 pub fn band_by_hand()
     ensures { band_text burst_plot burst_columns
         ≡ codes "<path class=\"band\" d=\"M30 100H66V40H78V20H90V100H110H30Z\"/>" }
 {}
 
 /// The lines of its limits, each with its name beside it.
-#[tactic(auto, unfolding(crate::chart::proofs::Numerals::numerals, crate::chart::proofs::Numerals::places))]
+#[tactic(auto, unfolding(crate::proofs::lemmas::chart::Numerals::numerals, crate::proofs::lemmas::chart::Numerals::places))]
 pub fn lines_by_hand()
     ensures { lines_text burst_plot (limit_of_4 ∷ nothing ∷ [])
         ≡ codes "<path class=\"lim\" d=\"M30 40H110\"/><text class=\"lim\" x=\"116\" y=\"44\">N, NL 4</text>"
@@ -95,7 +95,7 @@ pub fn lines_by_hand()
 /// Names of lines 13.9 units apart or nearer stand 14 units apart, the later one above; others
 /// stand at their lines. A third one that would touch the first, of which the second stands clear,
 /// stands above both.
-#[tactic(auto, unfolding(crate::chart::proofs::Numerals::places))]
+#[tactic(auto, unfolding(crate::proofs::lemmas::chart::Numerals::places))]
 pub fn names_by_hand()
     ensures near_above { free_of 440 (with_name 579 None) ≡ 439 }
     ensures near_below { free_of 700 (with_name 579 None) ≡ 439 }
@@ -107,7 +107,7 @@ pub fn names_by_hand()
 
 /// The bars of how often its bucket holds each number: nothing is drawn of 0, the limit stands before what is above it,
 /// and the first and the last bar have their names, with no room between for a third one's.
-#[tactic(auto, unfolding(crate::chart::proofs::Numerals::numerals, crate::chart::proofs::Numerals::places, crate::chart::proofs::Numerals::names))]
+#[tactic(auto, unfolding(crate::proofs::lemmas::chart::Numerals::numerals, crate::proofs::lemmas::chart::Numerals::places, crate::proofs::lemmas::chart::Numerals::names))]
 pub fn bars_by_hand()
     ensures { bars_text bars_plot 40 0 burst_bars
         ≡ codes "<text x=\"40\" y=\"136\" text-anchor=\"middle\">0</text>"
@@ -123,7 +123,7 @@ pub fn bars_by_hand()
 
 /// Of eight bars twenty units apart the first and the last one have their names, and each third one that isn't
 /// nearer than sixty units to the last.
-#[tactic(auto, unfolding(crate::chart::proofs::Numerals::numerals, crate::chart::proofs::Numerals::places, crate::chart::proofs::Numerals::names))]
+#[tactic(auto, unfolding(crate::proofs::lemmas::chart::Numerals::numerals, crate::proofs::lemmas::chart::Numerals::places, crate::proofs::lemmas::chart::Numerals::names))]
 pub fn bar_names_by_hand()
     ensures first { has_name eight_plot 0 ≡ true }
     ensures second { has_name eight_plot 1 ≡ false }
@@ -134,7 +134,7 @@ pub fn bar_names_by_hand()
 
 /// The name of what is shaded: at the left end it begins behind the unit of the axis, in the left half where that
 /// begins, and in the right half it ends where that ends.
-#[tactic(auto, unfolding(crate::chart::proofs::Numerals::numerals, crate::chart::proofs::Numerals::places, crate::chart::proofs::Numerals::names))]
+#[tactic(auto, unfolding(crate::proofs::lemmas::chart::Numerals::numerals, crate::proofs::lemmas::chart::Numerals::places, crate::proofs::lemmas::chart::Numerals::names))]
 pub fn shade_names_by_hand()
     ensures left { shade_named burst_plot Packets (record { from = 0; to = 0 })
         ≡ codes "<text class=\"lim\" x=\"60.6\" y=\"16\" text-anchor=\"start\">from 0 to 0</text>" }
@@ -146,7 +146,7 @@ pub fn shade_names_by_hand()
 
 /// Where bars are sixty units apart, each has its name and its share: 36 of 40, and 1 of 2,000, which is less than a
 /// tenth of a percent.
-#[tactic(auto, unfolding(crate::chart::proofs::Numerals::numerals, crate::chart::proofs::Numerals::places))]
+#[tactic(auto, unfolding(crate::proofs::lemmas::chart::Numerals::numerals, crate::proofs::lemmas::chart::Numerals::places))]
 pub fn shares_by_hand()
     ensures most { some_share wide_plot 40 1 (bar (From 1) 36)
         ≡ codes "<text x=\"120\" y=\"26\" text-anchor=\"middle\">90 %</text>" }
@@ -163,7 +163,7 @@ pub fn escaped_reads_back()
 {}
 
 /// A name that HTML would read as markup, and how it is read.
-#[tactic(auto, unfolding(crate::chart::proofs::Numerals::numerals, crate::chart::proofs::Numerals::places))]
+#[tactic(auto, unfolding(crate::proofs::lemmas::chart::Numerals::numerals, crate::proofs::lemmas::chart::Numerals::places))]
 pub fn escapes_by_hand()
     ensures read { unescaped (codes "&lt;b&gt;&amp;lt;&#39;&quot;&") ≡ codes "<b>&lt;'\"&" }
     ensures written { escaped (codes "<b>&'\"") ≡ codes "&lt;b&gt;&amp;&#39;&quot;" }

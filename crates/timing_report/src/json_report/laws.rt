@@ -22,7 +22,7 @@ ghost use Rattle.timing_base.specs.Examples.{plain_media as plain, video};
 ghost use Rattle.timing_report.specs.json_report.Json.{file_data, flow_data, json_text, object_of, type_data, unjudged_members};
 
 /// The entry of a type that fails in JSON.
-#[tactic(auto, unfolding(crate::json_report::proofs::Numerals::json_texts))]
+#[tactic(auto, unfolding(crate::proofs::lemmas::json_report::Numerals::json_texts))]
 pub fn failing_type_by_hand()
     ensures { compact_text (type_data plain (two_frames 1 1 1 (fail model.Empty 1 1 1 2)
         kind_verdict.Pass kind_verdict.Pass) kind.N)
@@ -32,7 +32,7 @@ pub fn failing_type_by_hand()
 {}
 
 /// A whole report in JSON, of a capture without packets.
-#[tactic(auto, unfolding(crate::json_report::proofs::Numerals::json_texts))]
+#[tactic(auto, unfolding(crate::proofs::lemmas::json_report::Numerals::json_texts))]
 pub fn json_absent_by_hand()
     ensures { json_text (check_of (codes "e.pcap")) (plain ∷ []) (note.End ∷ [])
         (first_flow (verdict.Unjudged unjudged.Absent) ∷ [])
@@ -42,7 +42,7 @@ pub fn json_absent_by_hand()
 {}
 
 /// Flows without a verdict in JSON.
-#[tactic(auto, unfolding(crate::json_report::proofs::Numerals::json_texts))]
+#[tactic(auto, unfolding(crate::proofs::lemmas::json_report::Numerals::json_texts))]
 pub fn unjudged_json_by_hand()
     ensures no_frame { compact_text (object_of (unjudged_members (unjudged.NoWholeFrame 5)))
         ≡ codes "{\"head\":5,\"verdict\":\"no whole frame\"}" }
@@ -54,7 +54,7 @@ pub fn unjudged_json_by_hand()
 {}
 
 /// Names in JSON: quotes and backslashes.
-#[tactic(auto, unfolding(crate::json_report::proofs::Numerals::json_texts))]
+#[tactic(auto, unfolding(crate::proofs::lemmas::json_report::Numerals::json_texts))]
 pub fn names_by_hand()
     ensures { compact_text (file_data (codes "a \"b\" \\ c") (note.Cut 2904))
         ≡ codes "{\"end\":\"cut at 2904\",\"name\":\"a \\\"b\\\" \\\\ c\"}" }
@@ -62,7 +62,7 @@ pub fn names_by_hand()
 
 /// A flow of an interlaced video in JSON, in two runs: its keys are in byte order, and so are those of
 /// its runs.
-#[tactic(auto, unfolding(crate::json_report::proofs::Numerals::json_texts))]
+#[tactic(auto, unfolding(crate::proofs::lemmas::json_report::Numerals::json_texts))]
 pub fn runs_json_by_hand()
     ensures { compact_text (flow_data (video true 25 None None) (first_flow
         (two_runs (record narrow { n = 10; packets = 20; tail = 3; gapped_peak = 0 }) 25)))

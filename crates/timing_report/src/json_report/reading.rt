@@ -235,7 +235,7 @@ fn add_runs(proofs: &mut Vec<ReportProof>, key: FlowKey, runs: &[Value]) -> Resu
 }
 
 /// Adds what a list of runs tells, where there are not too many.
-#[tactic(auto, using(crate::json_report::proofs::Items::items_counted))]
+#[tactic(auto, using(crate::proofs::lemmas::json_report::Items::items_counted))]
 fn add_runs_of(
     proofs: &mut Vec<ReportProof>,
     key: FlowKey,
