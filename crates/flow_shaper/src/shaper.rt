@@ -168,6 +168,24 @@ impl Shaper {
             meters.pass(params, packet, at);
             return;
         }
+        self.begin(params, at);
+    }
+
+    /// Both models begin with the first packet, which leaves at `at`.
+    #[cold]
+    #[inline(never)]
+    fn begin(&mut self, params: &Params, at: u64)
+        requires in_time { at < self.old.end }
+        requires seen { 1 ≤ self.old.seen }
+        ensures kind { self.new.kind ≡ self.old.kind }
+        ensures n0 { self.new.n0 ≡ self.old.n0 }
+        ensures origin { self.new.origin ≡ self.old.origin }
+        ensures end { self.new.end ≡ self.old.end }
+        ensures seen { self.new.seen ≡ self.old.seen }
+        ensures late { self.new.late ≡ self.old.late }
+        ensures starts { (meters : Meters) × (self.new.meters ≡ Some meters)
+            × HaveStarted params.now self.old.kind self.old.n0 at meters }
+    {
         self.meters = Some(Meters::start(params, self.kind, self.n0, at));
     }
 }
