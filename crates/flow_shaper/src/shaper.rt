@@ -160,12 +160,13 @@ impl Shaper {
             × HaveStarted params.now self.old.kind self.old.n0 at meters }
         ensures later { (before : Meters) → self.old.meters ≡ Some before
             → (meters : Meters) × (self.new.meters ≡ Some meters)
-            × HavePassed params.now before meters self.old.seen at }
+            × HavePassed params.now (vrx_full_of params.now.media params.now.n self.old.kind) before meters
+            self.old.seen at }
     {
         let packet = self.seen;
         self.seen = packet + 1;
         if let Some(meters) = &mut self.meters {
-            meters.pass(params, packet, at);
+            meters.pass(params, self.kind, packet, at);
             return;
         }
         self.begin(params, at);
