@@ -22,7 +22,8 @@ pub record IsCount (w : Models) (departures : List ℕ) (i count begin : ℕ) : 
   pub latest : (j : ℕ) → j ≤ i → load w departures j i (slice_index departures i) ≡ count → j ≤ begin
 
 -- the reads were looked for when the last packet left, or before, and then the packet of this number finds room
-pub record HasLooked (m : Media) (n : ℕ) (anchor : ℤ) (gapped : Bool) (full : ℕ) (meters : Meters) (packet : ℕ) : Type 0 where
+pub record HasLooked (m : Media) (n : ℕ) (anchor : ℤ) (gapped : Bool) (full : ℕ) (meters : Meters) (packet : ℕ)
+    : Type 0 where
   pub looked : ℕ
   pub order : looked ≤ meters.last
   -- `read` was the first read after that

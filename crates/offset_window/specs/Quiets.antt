@@ -39,4 +39,5 @@ pub record IsQuiet (g : Grid) (late early seen : ℕ) (q : Quiet) : Type 0 where
   pub step_low : q.step * g.den ≤ g.step * 2 ^ 64
   pub step_high : g.step * 2 ^ 64 ≤ q.step * g.den + g.den
   pub late_is : q.front * g.den < (parts_with g late seen + 1) * 2 ^ 64
-  pub early_is : (parts_with g early (seen - q.back) + (q.width + 1) * g.den) * 2 ^ 64 + (q.until - seen) * g.den ≤ q.front * g.den
+  pub early_is : (parts_with g early (seen - q.back) + (q.width + 1) * g.den) * 2 ^ 64 + (q.until - seen) * g.den
+      ≤ q.front * g.den

@@ -13,7 +13,8 @@ returns-clause-quiet c = λ some.
     let number : freeing.result.number ≡ seen - q.back = omega (arith, freeing.ensures.number, back) in
     quiet-from g c.args.late c.args.early seen c.left.result c.left-2.result c.min-left.result q
     (omega (arith, back, c.if-seen-full.false))
-    (between-same g _ _ _ _ q (with-same g freeing.result.grid c.args.early (seen - q.back) freeing.result.number _ freeing.ensures.grid number c.with.ensures.value)
+    (between-same g _ _ _ _ q
+    (with-same g freeing.result.grid c.args.early (seen - q.back) freeing.result.number _ freeing.ensures.grid number c.with.ensures.value)
     (with-same g own.result.grid c.args.late seen own.result.number _ own.ensures.grid own.ensures.number c.with-2.ensures.value)
     (c.between.ensures.between (omega (arith, some))))
     c.between.ensures.until some
