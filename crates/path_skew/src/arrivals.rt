@@ -1,6 +1,6 @@
 //! The arrivals of a page.
 
-ghost use Rattle.std.specs.Prelude.{◌≡◌, ◌≢◌, ◌≤◌, ◌<◌, ℕ, None, Some, OnOk};
+ghost use Rattle.std.specs.Prelude.{◌≡◌, ◌≢◌, ◌≤◌, ◌<◌, ◌+◌, ◌^◌, ℕ, None, Some, OnOk};
 
 use crate::arrival::Arrival;
 use std::alloc::{AllocError as OutOfMemory, Global};
@@ -39,6 +39,25 @@ impl Arrivals {
         self.items.get((place - self.from) as usize).copied()
     }
 
+    /// Keeps the arrival of this index, which is not the next one.
+    ///
+    /// `Err` is want of memory.
+    #[cold]
+    #[inline(never)]
+    fn keep_apart(&mut self, index: usize, arrival: Arrival) -> Result<(), OutOfMemory>
+        requires { index < 2 ^ 32 }
+        ensures here { OnOk result (arrival_at self.new (self.old.from + index) ≡ Some arrival) }
+        ensures others { OnOk result ((i : ℕ) (x : Arrival) → i ≢ self.old.from + index
+            → arrival_at self.old i ≡ Some x → arrival_at self.new i ≡ Some x) }
+    {
+        if index < self.items.len() {
+            self.items[index] = arrival;
+            Ok(())
+        } else {
+            self.items.resize(index + 1, arrival)
+        }
+    }
+
     /// Keeps an arrival at a place that is not below the least.
     ///
     /// `Err` is want of memory.
@@ -50,12 +69,11 @@ impl Arrivals {
             → arrival_at self.old i ≡ Some x → arrival_at self.new i ≡ Some x) }
     {
         let index = (place - self.from) as usize;
-        if index < self.items.len() {
-            self.items[index] = arrival;
-            Ok(())
-        } else {
-            self.items.resize(index + 1, arrival)
+        if index == self.items.len() {
+            self.items.push(arrival)?;
+            return Ok(());
         }
+        self.keep_apart(index, arrival)
     }
 
     /// Keeps an arrival at a place below the least.
