@@ -1,6 +1,6 @@
 //! The arrivals of a page.
 
-ghost use Rattle.std.specs.Prelude.{◌≡◌, ◌≢◌, ◌≤◌, ◌<◌, ◌+◌, ◌^◌, ℕ, None, Some, OnOk};
+ghost use Rattle.std.specs.Prelude.{◌≡◌, ◌≢◌, ◌≤◌, ◌<◌, ◌+◌, ◌^◌, ℕ, None, Some, IfOk, OnOk};
 
 use crate::arrival::Arrival;
 use std::alloc::{AllocError as OutOfMemory, Global};
@@ -26,6 +26,18 @@ impl Arrivals {
             from: 0,
             items: Vec::new(alloc),
         }
+    }
+
+    /// No arrival, and room for so many.
+    ///
+    /// `Err` is want of memory.
+    pub fn with_room(alloc: Global, count: usize) -> Result<Arrivals, OutOfMemory>
+        ensures none { IfOk result (λ arrivals. (place : ℕ) → arrival_at arrivals place ≡ None) }
+    {
+        Ok(Arrivals {
+            from: 0,
+            items: Vec::with_capacity(alloc, count)?,
+        })
     }
 
     /// The arrival at a place.
