@@ -13,6 +13,7 @@ pub mod TwoFiles
 pub mod SmallRun
 -- these only serve proofs
 pub mod Targeted
+pub mod Expecting
 pub mod Sending
 pub mod Sorting
 pub mod Judging

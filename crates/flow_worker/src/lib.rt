@@ -20,6 +20,7 @@ mod open_batch;
 mod outboxes;
 mod routing;
 mod setting;
+mod upcoming;
 mod workers;
 
 pub use intakes::{IntakeDone, intake};
