@@ -26,5 +26,6 @@ pub mod Worked
 pub mod Places
 pub mod Parts
 pub mod Own
+-- what is promised of these modules
 pub mod report
 pub mod rows

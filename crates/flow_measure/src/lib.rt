@@ -1,10 +1,14 @@
-//! The numbers of one flow, packet by packet and group by group, and what a picture of them has.
+//! The numbers of one flow, packet by packet and group by group, what a picture of them has, and both in writing.
 //!
 //! A [`SummaryMeter`], [`Columns`], [`Bins`] and [`Classes`] are fed whole numbers, one by one and in
 //! order. A [`ScheduleMeter`] and a [`MarginMeter`] are fed the stamps of the judged packets, and
 //! [`BrokenGroups`] whether each is broken. A [`RunMeter`] has all numbers of a judged run. None keeps a
 //! history: their size doesn't grow with what they are fed. Stamps are nanoseconds of TAI; numbers, packets
 //! and groups are counted from 0.
+//!
+//! - `laws`: what follows of the definitions, and numbers worked by hand.
+//! - `report`: the numbers of a capture's flows as JSON, and the line of a packet or a group.
+//! - `rows`: these lines of a judged run, made while its packets go by.
 #![tactic(auto)]
 
 mod bins;

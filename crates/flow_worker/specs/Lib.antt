@@ -17,4 +17,5 @@ pub mod Sending
 pub mod Sorting
 pub mod Judging
 pub mod Standing
+-- what is promised of this module
 pub mod crew
