@@ -13,6 +13,7 @@ pub mod Stands
 pub mod Followed
 pub mod Gaps
 pub mod Groups
+pub mod Begun
 pub mod Kinds
 pub mod Fed
 pub mod Filled
