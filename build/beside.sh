@@ -46,26 +46,36 @@ measure_chains() {
     done
 }
 
-# prints the crate with the longest chain that isn't begun and uses none that isn't built, if there is one
+# puts into `ready` the crates that aren't begun and use none that isn't built
 declare -A state=()
-find_next() {
-    local name below best=''
+ready=()
+list_ready() {
+    local name below
+    ready=()
     for name in "${order[@]}"; do
         [ -z "${state[$name]-}" ] || continue
         for below in ${uses[$name]}; do
             [ -z "${uses[$below]+listed}" ] || [ "${state[$below]-}" = built ] || continue 2
         done
-        [ -n "$best" ] && [ "${chain[$name]-0}" -le "${chain[$best]-0}" ] || best=$name
+        ready+=("$name")
+    done
+}
+
+# prints the crate of `ready` with the longest chain
+find_next() {
+    local name best=${ready[0]}
+    for name in "${ready[@]}"; do
+        [ "${chain[$name]}" -le "${chain[$best]}" ] || best=$name
     done
     echo "$best"
 }
 
-# prints with how many jobs to build a crate. Each job reads the libraries below anew: with more of them `timing_top` took as
-# long, and `timing_base`, which stands on no crate of this repository, half as long; few crates can be built when those are.
+# prints with how many jobs to build a crate: with so many processors as are idle, but three at most, if no other crate can be
+# begun. Each job reads the libraries below anew, and where there are none two jobs take half as long as one.
 jobs_for() {
-    local below
+    local below jobs=$((${#free[@]} / ${#ready[@]}))
     for below in ${uses[$1]}; do
-        [ -z "${uses[$below]+listed}" ] || { echo 1; return; }
+        [ -z "${uses[$below]+listed}" ] || { echo $((jobs < 1 ? 1 : jobs > 3 ? 3 : jobs)); return; }
     done
     echo 2
 }
@@ -86,9 +96,10 @@ done
 declare -A copy_of=() crate_of=()
 trap 'kill $(jobs -p) 2>/dev/null; exit 130' INT TERM
 while :; do
-    while [ ${#free[@]} -gt 0 ] && name=$(find_next) && [ -n "$name" ]; do
+    while list_ready && [ ${#free[@]} -gt 0 ] && [ ${#ready[@]} -gt 0 ]; do
+        name=$(find_next) && jobs=$(jobs_for "$name")
         copy=${free[0]} free=("${free[@]:1}")
-        (cd "$copies/$copy/crates/$name" && exec rt lib --jobs "$(jobs_for "$name")") >"$copies/$name.log" 2>&1 </dev/null &
+        (cd "$copies/$copy/crates/$name" && exec rt lib --jobs "$jobs") >"$copies/$name.log" 2>&1 </dev/null &
         state[$name]=begun copy_of[$name]=$copy crate_of[$!]=$name
         echo "begins $name"
     done

@@ -11,4 +11,5 @@ pub mod Examples
 pub mod Counting
 pub mod Few
 pub mod Places
+-- what is promised of this module
 pub mod report

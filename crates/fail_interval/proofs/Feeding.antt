@@ -6,6 +6,7 @@ use Rattle.std.proofs.Props.{props}
 use Rattle.std.proofs.Math.Logic.{∥∥₁_elim, ∥∥₁_map}
 use Rattle.std.proofs.lemmas.List.Elements.{All-push}
 use Rattle.frame_group.specs.Cuts.{answer_at, cut_at}
+use Rattle.frame_group.specs.Expected.{going_on, next_packet}
 use Rattle.frame_group.specs.Stands.{StandsFor as GrouperStandsFor, count_fed}
 use Rattle.frame_group.specs.declared.grouper.Grouper.{Grouper}
 use Rattle.timing_base.specs.Captures.{IsStamp}
@@ -254,14 +255,16 @@ pub take-known : (flow : Flow) (rec_number at : ℕ) (seen : Rtp) (cut : Option 
 take-known flow rec_number at seen cut open_run e none answer known =
     ∥∥₁_map known (λ (packets, c). (c.stands.so_far, can_take flow packets rec_number at seen cut open_run c e none (answer packets c.stands.grouper)))
 
-pub whole-known : (flow : Flow) (rec_number at : ℕ) (seen : Rtp) (cut : Option ℕ) (open_run : OpenRun) → flow.open ≡ Some open_run → cut ≡ None
+-- or the one expected
+pub expected-known : (flow : Flow) (at : ℕ) (open_run : OpenRun) → flow.open ≡ Some open_run
     → ((packets : List FlowPacket) → GrouperStandsFor flow.media.pt flow.grouper packets
-    → IsAnswered packets (read_packet rec_number at seen) flow.media.pt cut)
+    → IsAnswered packets (next_packet packets flow.media.pt 0 at) flow.media.pt None)
     → Known flow at
-    → ∥ ((m : Media) × (so_far : SoFar) × CanTake m open_run.judge so_far (at + flow.tai * 1000000000) seen.marker) ∥₁
-whole-known flow rec_number at seen cut open_run e none answer known =
+    → ∥ ((m : Media) × (so_far : SoFar) × CanTake m open_run.judge so_far (at + flow.tai * 1000000000) false) ∥₁
+expected-known flow at open_run e answer known =
     ∥∥₁_map known (λ (packets, c).
-    (flow.media, c.stands.so_far, can_take flow packets rec_number at seen cut open_run c e none (answer packets c.stands.grouper)))
+    let seen : Rtp = going_on packets flow.media.pt (length packets) in
+    (flow.media, c.stands.so_far, can_take flow packets 0 at seen None open_run c e refl (answer packets c.stands.grouper)))
 
 -- a packet that is answered with a fault has the first one
 pub ends : (flow : Flow) (packets rest : List FlowPacket) (rec_number at : ℕ) (seen : Rtp) (fault : PacketFault) → CanGoOn flow packets at

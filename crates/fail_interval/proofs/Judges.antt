@@ -1,5 +1,5 @@
 -- What one record more does to the judge of a media.
-use Rattle.std.proofs.Common.{◌≡◌, ℕ, Bool, true, false, if◌then◌else◌, List, [], ◌∷◌, ◌++◌, Some, None, sym, ap, ◌∙◌, subst}
+use Rattle.std.proofs.Common.{◌≡◌, ℕ, Bool, true, false, if◌then◌else◌, List, [], ◌∷◌, ◌++◌, length, Option, Some, None, sym, ap, ◌∙◌, subst}
 use Rattle.std.specs.Prelude.{Result, Ok, Err, IfOk, OnOk}
 use Rattle.timing_base.specs.Captures.{Record}
 use Rattle.timing_base.specs.Media.{Media}
@@ -15,9 +15,11 @@ use Rattle.udp_rtp.specs.Reading.{reading}
 use Rattle.udp_rtp.specs.Carried.{carries}
 use Rattle.udp_rtp.proofs.PlainFrames.{carried, packet-carried}
 use Rattle.udp_rtp.proofs.Flows.{flow-append_none, flow-append_some}
-use Rattle.fail_interval.specs.Stands.{StandsFor}
+use Rattle.fail_interval.specs.Stands.{StandsFor, TakesExpected}
 use Rattle.timing_base.specs.Keys.{key_of}
-use Rattle.fail_interval.specs.Taken.{TakesRecord}
+use Rattle.fail_interval.specs.Taken.{IsExpected, TakesRecord}
+use Rattle.frame_group.specs.Expected.{going_on}
+use Rattle.fail_interval.specs.declared.judge.FlowJudge.{FlowJudge}
 use Rattle.fail_interval.specs.declared.media_judge.MediaJudge.{MediaJudge}
 
 -- the packet of a record
@@ -82,6 +84,16 @@ takes_carried old new n stamp p bytes target feeds plain = λ m file number tai 
       judge = subst (StandsFor m (key_of file number) tai new.judge) (sym (flow-append_some m items r packet kept))
           (feeds m (key_of file number) tai (flow items m) h.judge);
     }
+
+-- the packet expected is fed, where the judge took that one
+pub takes_expected : (old new : FlowJudge) (stamp : ℕ) (p : Rtp) → IsExpected old p → TakesExpected old new stamp
+    → (n : ℕ) (m : Media) (key : FlowKey) (tai : ℕ) (packets : List FlowPacket) → StandsFor m key tai old packets
+    → StandsFor m key tai new (packets ++ record { rec = n; at = stamp; rtp = Ok p } ∷ [])
+takes_expected old new stamp p is took n m key tai packets s =
+    let both : ◌≡◌ {A = Option Rtp} (Some p) (Some (going_on packets m.pt (length packets))) =
+    is m key tai packets s ∙ took.expects m key tai packets s in
+    let same : going_on packets m.pt (length packets) ≡ p = cc in
+    subst (λ (r : Rtp). StandsFor m key tai new (packets ++ record { rec = n; at = stamp; rtp = Ok r } ∷ [])) same (took.stands m key tai packets n s)
 
 -- a packet that the frame carries to the media is fed, where memory is there
 pub takes_carried_if : {T E : Type 0} (result : Result T E) (old new : MediaJudge) (n stamp : ℕ) (p : Rtp) → new.target ≡ old.target

@@ -13,8 +13,9 @@ use Rattle.timing_base.specs.declared.packet.Rtp.{Rtp}
 use Rattle.timing_base.specs.declared.row.Row.{Row}
 use Rattle.timing_base.specs.declared.row.Verdict.{Verdict}
 use Rattle.timing_base.proofs.FirstFaults.{fault-kept}
+use Rattle.frame_group.specs.Expected.{expected_after, going_on, next_packet}
 use Rattle.fail_interval.specs.Flowing.{CanGoOn, EndsBy, StandsFor as FlowStandsFor, Took, has_fault}
-use Rattle.fail_interval.specs.Goings.{GoesOn, Refuses}
+use Rattle.fail_interval.specs.Goings.{GoesAsExpected, GoesOn, Refuses}
 use Rattle.fail_interval.specs.Row.{row, verdict_of}
 use Rattle.fail_interval.specs.Stands.{StandsFor, Takes}
 use Rattle.fail_interval.specs.States.{IsAt, IsFedTo, IsKnown, IsRefused}
@@ -40,6 +41,15 @@ flow-known fed at state flow e known few stamp =
     let of_flow : ∥ IsKnown fed (Going flow) ∥₁ = subst (λ s. ∥ IsKnown fed s ∥₁) e known in
     ∥∥₁_map of_flow (λ (packets, f). (packets, can_go_on flow fed at packets f few stamp))
 
+fed-more : (flow new : Flow) (fed at : ℕ) (packets : List FlowPacket) (p : FlowPacket) → IsFedTo flow fed packets → IsStamp p.at
+    → FlowStandsFor new (packets ++ p ∷ [])
+    → IsFedTo new (fed + 1) (packets ++ p ∷ [])
+fed-more flow new fed at packets p f stamp stands = record {
+  count = omega (arith, length-append packets (p ∷ []), f.count);
+  stamped = stamped-more packets p f.stamped stamp;
+  stands = stands;
+}
+
 -- it knows so of the flow with one packet more
 pub known-more : (fed rec at : ℕ) (rtp : Result Rtp PacketFault) (state : State) (flow new : Flow) → state ≡ Going flow → ∥ IsKnown fed state ∥₁ → fed < 2 ^ 41
     → IsStamp at
@@ -48,12 +58,20 @@ known-more fed rec at rtp state flow new e known few stamp goes =
     let of_flow : ∥ IsKnown fed (Going flow) ∥₁ = subst (λ s. ∥ IsKnown fed s ∥₁) e known in
     ∥∥₁_map of_flow (λ (packets, f). (
       packets ++ fed_packet rec at rtp ∷ [],
-      record {
-        count = omega (arith, length-append packets (fed_packet rec at rtp ∷ []), f.count);
-        stamped = stamped-more packets (fed_packet rec at rtp) f.stamped stamp;
-        stands = goes packets (can_go_on flow fed at packets f few stamp);
-      },
+      fed-more flow new fed at packets (fed_packet rec at rtp) f stamp (goes packets (can_go_on flow fed at packets f few stamp)),
     ))
+
+-- what is known of a flow that went on with the packet expected
+pub known-expected : (fed at : ℕ) (old new : State) → GoesAsExpected old new at → ∥ IsKnown fed old ∥₁ → fed < 2 ^ 41 → IsStamp at
+    → ∥ IsKnown (fed + 1) new ∥₁
+known-expected fed at old new went known few stamp =
+    let of_flow : ∥ IsKnown fed (Going went.flow) ∥₁ = subst (λ s. ∥ IsKnown fed s ∥₁) went.is known in
+    let more : ∥ IsKnown (fed + 1) (Going went.later) ∥₁ = ∥∥₁_map of_flow (λ (packets, f).
+    let p = next_packet packets went.flow.media.pt 0 at in (
+      packets ++ p ∷ [],
+      fed-more went.flow went.later fed at packets p f stamp (went.goes.stands packets 0 (can_go_on went.flow fed at packets f few stamp)),
+    )) in
+    subst (λ s. ∥ IsKnown (fed + 1) s ∥₁) (sym went.becomes) more
 
 -- a judge by its parts
 abbrev judge_by : FlowKey → (fed : ℕ) (state : State) → ∥ IsKnown fed state ∥₁ → FlowJudge
@@ -124,17 +142,29 @@ went-known fed rec at rtp old new went known few stamp =
     subst (λ s. ∥ IsKnown (fed + 1) s ∥₁) (sym went.becomes)
     (known-more fed rec at (Ok rtp) old went.flow went.later went.is known few stamp (went.goes rec))
 
--- its judge stands for one packet more
-pub went-on : (m : Media) (key : FlowKey) (tai rec at : ℕ) (rtp : Rtp) (judge : FlowJudge) (new : State) (known : ∥ IsKnown (judge.fed + 1) new ∥₁)
-    (packets : List FlowPacket)
-    → GoesOn judge.state new at rtp → judge.fed < 2 ^ 41 → IsStamp at
+-- the packet that its judge took is the one expected
+pub took-expected : (m : Media) (key : FlowKey) (tai at : ℕ) (judge : FlowJudge) (new : State) (packets : List FlowPacket)
+    → GoesAsExpected judge.state new at → judge.fed < 2 ^ 41 → IsStamp at
     → StandsFor m key tai judge packets
-    → StandsFor m key tai (judge_by judge.key (judge.fed + 1) new known) (packets ++ fed_packet rec at (Ok rtp) ∷ [])
-went-on m key tai rec at rtp judge new known packets went few stamp s =
+    → expected_after packets m.pt ≡ Some (going_on packets m.pt (length packets))
+took-expected m key tai at judge new packets went few stamp s =
     let is = at-flow m tai at judge.state went.flow packets went.is s.state in
     let c : CanGoOn went.flow packets at = record { stands = is.2; stamped = s.stamped; stamp = stamp; few = omega (arith, s.fed, few) } in
-    more m key tai rec at (Ok rtp) judge new known packets stamp s
-    (subst (IsAt m tai (packets ++ fed_packet rec at (Ok rtp) ∷ [])) (sym went.becomes) (went.media ∙ is.0, went.tai ∙ is.1, went.goes rec packets c))
+    subst (λ (k : Media). expected_after packets k.pt ≡ Some (going_on packets k.pt (length packets))) is.0 (went.goes.expects packets c)
+
+-- and the judge stands for one packet more
+pub stands-expected : (m : Media) (key : FlowKey) (tai rec at : ℕ) (judge : FlowJudge) (new : State) (known : ∥ IsKnown (judge.fed + 1) new ∥₁)
+    (packets : List FlowPacket)
+    → GoesAsExpected judge.state new at → judge.fed < 2 ^ 41 → IsStamp at
+    → StandsFor m key tai judge packets
+    → StandsFor m key tai (judge_by judge.key (judge.fed + 1) new known) (packets ++ next_packet packets m.pt rec at ∷ [])
+stands-expected m key tai rec at judge new known packets went few stamp s =
+    let is = at-flow m tai at judge.state went.flow packets went.is s.state in
+    let c : CanGoOn went.flow packets at = record { stands = is.2; stamped = s.stamped; stamp = stamp; few = omega (arith, s.fed, few) } in
+    let stands : FlowStandsFor went.later (packets ++ next_packet packets m.pt rec at ∷ []) =
+    subst (λ (k : Media). FlowStandsFor went.later (packets ++ next_packet packets k.pt rec at ∷ [])) is.0 (went.goes.stands packets rec c) in
+    more m key tai rec at (Ok (going_on packets m.pt (length packets))) judge new known packets stamp s
+    (subst (IsAt m tai (packets ++ next_packet packets m.pt rec at ∷ [])) (sym went.becomes) (went.media ∙ is.0, went.tai ∙ is.1, stands))
 
 -- the first fault of a flow stays the first
 refused-more : (m : Media) (packets : List FlowPacket) (p : FlowPacket) (rec : ℕ) (fault : PacketFault) → IsRefused m packets rec fault

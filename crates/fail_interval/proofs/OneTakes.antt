@@ -128,6 +128,19 @@ order-one o later x k js old new e next at target h =
     map-set_same (λ (j : MediaJudge). j.target) js k new old (target ∙ ap (λ (j : MediaJudge). j.target) (sym at)) in
     (rw (same, next, length-set js k new) h.0, subst AreApart (sym kept) h.1)
 
+-- and where nothing of it changed
+pub order-kept : (o : Option Order) (k : ℕ) (js : List MediaJudge) (old new : MediaJudge) → get_or js k old ≡ old
+    → new.target ≡ old.target
+    → ForSome o (λ (x : Order). IsOrderOf x js)
+    → ForSome o (λ (x : Order). IsOrderOf x (set js k new))
+order-kept o k js old new at target h = λ x e. order-one x x x k js old new refl refl at target (h x e)
+
+-- one media has a target of its own
+pub apart-one : (js : List MediaJudge) → length js ≡ 1 → AreApart (targets js)
+apart-one js one = λ i k d within also same.
+    let size : length (targets js) ≡ length js = length-map js (λ (j : MediaJudge). j.target) in
+    omega (arith, within, also, size, one)
+
 order-learned : (o later : Option Order) (js news : List MediaJudge) → is_some later ≡ is_some o
     → ((n : ℕ) → ForSome o (λ (x : Order). count x ≡ n) → ForSome later (λ (x : Order). count x ≡ n))
     → length news ≡ length js

@@ -1,6 +1,7 @@
 -- What a `Flow` says of the packets that it was fed. Packets count from 0.
 use Rattle.std.specs.Prelude.{◌≡◌, ◌≤◌, ◌<◌, ◌+◌, ◌^◌, ℕ, List, [], ◌∷◌, ◌++◌, length, map, vec_len, vec_capacity, ⊤}
 use Rattle.std.specs.Prelude.{Bool, true, false, Option, Some, None, Ok}
+use Rattle.frame_group.specs.Expected.{expected_after, going_on, next_packet}
 use Rattle.frame_group.specs.Stands.{StandsFor as GrouperStandsFor}
 use Rattle.timing_base.specs.Captures.{IsStamp}
 use Rattle.timing_base.specs.Flows.{AreStamped, cuts, first_fault_below, is_cut, last_place, packet, rtp}
@@ -85,6 +86,13 @@ has_fault packets pt i fault = first_fault_below packets pt (i + 1) ≡ Some rec
 -- the flow took this packet: whatever packets it was fed, it now was fed those and this one
 abbrev pub Took : (old new : Flow) → FlowPacket → Type 0
 Took old new next = (packets : List FlowPacket) → CanGoOn old packets next.at → StandsFor new (packets ++ next ∷ [])
+
+-- the flow took the packet that goes on after those that it was fed, which is then the one expected, at this instant
+pub record TookExpected (old new : Flow) (at : ℕ) : Type 0 where
+  pub expects : (packets : List FlowPacket) → CanGoOn old packets at
+      → expected_after packets old.media.pt ≡ Some (going_on packets old.media.pt (length packets))
+  pub stands : (packets : List FlowPacket) (rec_number : ℕ) → CanGoOn old packets at
+      → StandsFor new (packets ++ next_packet packets old.media.pt rec_number at ∷ [])
 
 -- the flow ends with this packet, which has this fault
 abbrev pub EndsBy : Flow → FlowPacket → PacketFault → Type 0

@@ -2,7 +2,7 @@
 use Rattle.std.specs.Prelude.{◌≡◌, ℕ, IsErr, IsOk, Ok, Result}
 use Rattle.timing_base.specs.declared.packet.PacketFault.{PacketFault}
 use Rattle.timing_base.specs.declared.packet.Rtp.{Rtp}
-use Rattle.fail_interval.specs.Flowing.{Took}
+use Rattle.fail_interval.specs.Flowing.{Took, TookExpected}
 use Rattle.fail_interval.specs.declared.flow.Flow.{Flow}
 use Rattle.fail_interval.specs.declared.judge.State.{State}
 use Rattle.fail_interval.specs.declared.judge.State.TheVariants.{Going, Refused, Spent}
@@ -16,6 +16,16 @@ pub record GoesOn (old new : State) (at : ℕ) (rtp : Rtp) : Type 0 where
   pub media : later.media ≡ flow.media
   pub tai : later.tai ≡ flow.tai
   pub goes : (rec_number : ℕ) → Took flow later (record { rec = rec_number; at = at; rtp = Ok rtp })
+
+-- a flow without a fault went on with the packet expected
+pub record GoesAsExpected (old new : State) (at : ℕ) : Type 0 where
+  pub flow : Flow
+  pub later : Flow
+  pub is : old ≡ Going flow
+  pub becomes : new ≡ Going later
+  pub media : later.media ≡ flow.media
+  pub tai : later.tai ≡ flow.tai
+  pub goes : TookExpected flow later at
 
 -- a packet with this fault came: the flow's first is kept with its record
 pub record Refuses {T E : Type 0} (old new : State) (rec : ℕ) (fault : PacketFault) (result : Result T E) : Type 0 where

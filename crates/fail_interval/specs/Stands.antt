@@ -1,5 +1,6 @@
 -- What a `FlowJudge` says of the packets that it was fed. Packets count from 0.
-use Rattle.std.specs.Prelude.{◌≡◌, ℕ, ⊤, ◌+◌, List, [], ◌∷◌, ◌++◌, length, Result, Ok, IsErr, OnErr, OnOk}
+use Rattle.std.specs.Prelude.{◌≡◌, ℕ, ◌+◌, List, [], ◌∷◌, ◌++◌, length, Some, Result, IsErr, OnErr, OnOk}
+use Rattle.frame_group.specs.Expected.{expected_after, going_on, next_packet}
 use Rattle.timing_base.specs.Flows.{AreStamped}
 use Rattle.timing_base.specs.Media.{Media}
 use Rattle.timing_base.specs.declared.key.FlowKey.{FlowKey}
@@ -34,6 +35,13 @@ pub record Takes {T E : Type 0} (old new : FlowJudge) (next : FlowPacket) (resul
   pub spends : OnErr result (IsSpent new)
   pub stays : IsSpent old → IsErr result
 
--- a call that needs no memory took this packet
-abbrev pub TakesOn : (old new : FlowJudge) → FlowPacket → Type 0
-TakesOn old new next = Takes {T = ⊤} {E = ⊥} old new next (Ok tt)
+-- a call took the packet that goes on after those fed, which is then the one expected, captured at this instant:
+-- whatever packets the judge stood for, it now stands for those and this one, of whatever record; and it isn't spent
+pub record TakesExpected (old new : FlowJudge) (at : ℕ) : Type 0 where
+  pub fed : count_fed new ≡ count_fed old + 1
+  pub expects : (m : Media) (key : FlowKey) (tai : ℕ) (packets : List FlowPacket) → StandsFor m key tai old packets
+      → expected_after packets m.pt ≡ Some (going_on packets m.pt (length packets))
+  pub stands : (m : Media) (key : FlowKey) (tai : ℕ) (packets : List FlowPacket) (rec_number : ℕ)
+      → StandsFor m key tai old packets
+      → StandsFor m key tai new (packets ++ next_packet packets m.pt rec_number at ∷ [])
+  pub going : IsSpent old → ⊥

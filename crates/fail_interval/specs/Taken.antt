@@ -1,6 +1,11 @@
 -- What the crate's own functions promise each other: what one record more does to a judge, and to all judges one after
 -- the other, and the rows that come of them.
-use Rattle.std.specs.Prelude.{◌≡◌, ℕ, zero, suc, true, List, [], ◌∷◌, ◌++◌}
+use Rattle.std.specs.Prelude.{◌≡◌, ℕ, zero, suc, true, List, [], ◌∷◌, ◌++◌, Some}
+use Rattle.frame_group.specs.Expected.{expected_after}
+use Rattle.timing_base.specs.declared.key.FlowKey.{FlowKey}
+use Rattle.timing_base.specs.declared.packet.FlowPacket.{FlowPacket}
+use Rattle.fail_interval.specs.Stands.{StandsFor}
+use Rattle.fail_interval.specs.declared.judge.FlowJudge.{FlowJudge}
 use Rattle.timing_base.specs.Captures.{Record}
 use Rattle.timing_base.specs.Media.{Media}
 use Rattle.timing_base.specs.declared.packet.Rtp.{Rtp}
@@ -20,6 +25,11 @@ pub record TakesCarried (at : ℕ) (bytes : List ℕ) (old new : MediaJudge) : T
   pub packet : Rtp
   pub carried : carries old.target packet bytes ≡ true
   pub takes : (number : ℕ) → TakesRecord (record { number = number; stamp = at; bytes = bytes }) old new
+
+-- whatever packets the judge was fed, this is the one expected after them
+abbrev pub IsExpected : FlowJudge → Rtp → Type 0
+IsExpected judge p = (m : Media) (key : FlowKey) (tai : ℕ) (packets : List FlowPacket) → StandsFor m key tai judge packets
+    → Some p ≡ expected_after packets m.pt
 
 -- so many judges have taken it, and the others are as they were
 abbrev pub TakesUpTo : Record → ℕ → (olds news : List MediaJudge) → Type 0

@@ -97,8 +97,14 @@ impl Bank {
         ensures stands { IfOk result (λ _. Feeds self.old self.new
             (record { number = number; stamp = at; bytes = frame.now } ∷ [])) }
     {
-        // Most frames carry the packet that goes on in the flow whose turn it is: these are compared alone.
-        if let Some(order) = &mut self.order {
+        // Most frames carry the packet that goes on in the flow whose turn it is: these are compared alone. With one
+        // media it is always its turn.
+        if self.judges.len() == 1 {
+            if self.judges[0].take_judged(at, frame) {
+                self.records += 1;
+                return Ok(());
+            }
+        } else if let Some(order) = &mut self.order {
             let ahead = order.ahead();
             if self.judges[ahead].take_judged(at, frame) {
                 self.records += 1;

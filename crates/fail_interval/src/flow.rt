@@ -74,7 +74,7 @@ pub struct Flow {
 }
 
 impl Flow {
-    ghost use Rattle.fail_interval.specs.Flowing.{CanGoOn, ComesNext, EndsBy, HasRoom, StandsFor, Took};
+    ghost use Rattle.fail_interval.specs.Flowing.{CanGoOn, ComesNext, EndsBy, HasRoom, StandsFor, Took, TookExpected};
     ghost use Rattle.fail_interval.specs.Flowing.{IsClosed, OpensAt, StartsAt, flow_has_groups};
 
     /// Before the first packet.
@@ -166,27 +166,26 @@ impl Flow {
         }
     }
 
-    /// Takes the next packet, which was read, where it goes on in a judged run with the timestamp of the packet before
-    /// and no marker, as most do, and answers whether it does. Else nothing changes.
+    /// Takes the packet that is expected, captured at `at`, where it goes on in a judged run and has no fault, and
+    /// answers whether it does. Else nothing changes.
     #[inline(always)]
-    pub fn feed_judged(&mut self, at: u64, rtp: Rtp) -> bool
+    pub fn feed_judged(&mut self, at: u64) -> bool
         requires { ∥ ((packets : List FlowPacket) × CanGoOn self.old packets at) ∥₁ }
         ensures media { self.new.media ≡ self.old.media }
         ensures tai { self.new.tai ≡ self.old.tai }
         ensures other { result ≡ false → self.new ≡ self.old }
-        ensures goes_on { result ≡ true
-            → (rec : ℕ) → Took self.old self.new (record { rec = rec; at = at; rtp = Ok rtp }) }
+        ensures goes_on { result ≡ true → TookExpected self.old self.new at }
     {
         match &mut self.open {
             Some(open) => {
                 if !open.judge.has_groups() {
                     return false;
                 }
-                if !self.grouper.feed_on(at, rtp) {
+                if !self.grouper.feed_expected(at) {
                     return false;
                 }
                 let came = at + self.tai * 1_000_000_000;
-                open.judge.feed_whole(came, rtp.marker);
+                open.judge.feed_whole(came);
                 true
             }
             None => false,

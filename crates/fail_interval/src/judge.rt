@@ -25,22 +25,22 @@ enum State {
 
 impl State {
     ghost use Rattle.fail_interval.specs.Flowing.{CanGoOn};
-    ghost use Rattle.fail_interval.specs.Goings.{GoesOn, Refuses};
+    ghost use Rattle.fail_interval.specs.Goings.{GoesAsExpected, GoesOn, Refuses};
     ghost use Rattle.fail_interval.specs.declared.flow.Flow.{Flow as FlowValue};
     ghost use Rattle.fail_interval.specs.declared.judge.State.TheVariants.{Going, Spent};
 
-    /// Takes the next packet, where it goes on in a judged run as most do, and answers whether it does. Else nothing
-    /// changes.
+    /// Takes the packet that is expected, captured at `at`, where it goes on in a judged run and has no fault, and
+    /// answers whether it does. Else nothing changes.
     #[inline(always)]
-    fn feed_judged(&mut self, at: u64, rtp: Rtp) -> bool
+    fn feed_judged(&mut self, at: u64) -> bool
         requires { (flow : FlowValue) → self.old ≡ Going flow
             → ∥ ((packets : List FlowPacket) × CanGoOn flow packets at) ∥₁ }
         ensures other { result ≡ false → self.new ≡ self.old }
-        ensures goes_on { result ≡ true → GoesOn self.old self.new at rtp }
+        ensures goes_on { result ≡ true → GoesAsExpected self.old self.new at }
         ensures spent { self.old ≡ Spent → result ≡ false }
     {
         match self {
-            State::Going(flow) => flow.feed_judged(at, rtp),
+            State::Going(flow) => flow.feed_judged(at),
             _ => false,
         }
     }
@@ -98,7 +98,7 @@ pub struct FlowJudge {
 }
 
 impl FlowJudge {
-    ghost use Rattle.fail_interval.specs.Stands.{StandsFor, Takes, TakesOn, count_fed};
+    ghost use Rattle.fail_interval.specs.Stands.{StandsFor, Takes, TakesExpected, count_fed};
 
     /// The judge of the flow with this key, of packets of this media. `tai` seconds are added to the stamps of its
     /// judged packets, but not to those that a fault tells.
@@ -114,10 +114,11 @@ impl FlowJudge {
         }
     }
 
-    /// The next packet, if it goes on in its frame or field as most do. `None` before the first packet, after one
-    /// with the marker, and after a fault.
+    /// The next packet of the flow, if it goes on in its frame or field as most do: with the number after the last
+    /// one's, its timestamp and no marker. `None` before the first packet, after one with the marker, and after a
+    /// fault.
     #[inline(always)]
-    pub(crate) fn expected(&self) -> Option<Rtp>
+    pub fn expected(&self) -> Option<Rtp>
         ensures { (media : MediaValue) (key : KeyValue) (tai : ℕ) (packets : List FlowPacket)
             → StandsFor media key tai self.now packets → result ≡ expected_after packets media.pt }
     {
@@ -138,19 +139,20 @@ impl FlowJudge {
         }
     }
 
-    /// Takes the next packet of the flow, which was read, where it goes on in a judged run as most do, and answers
-    /// whether it does. Else nothing changes.
+    /// Takes the packet that [`FlowJudge::expected`] answers, captured at `at` in nanoseconds, as [`FlowJudge::feed`]
+    /// does, whatever its record, and answers that it did, if the first group of its run is whole and the packet has
+    /// no fault. Else nothing changes, and the packet is one for `feed`: where none is expected, and of a judge that
+    /// is spent, too.
     #[inline(always)]
-    pub(crate) fn feed_judged(&mut self, at: u64, rtp: Rtp) -> bool
+    pub fn feed_judged(&mut self, at: u64) -> bool
         requires stamp { IsStamp at }
         requires few { count_fed self.old < 2 ^ 41 }
 
         ensures fed { count_fed self.new ≤ count_fed self.old + 1 }
         ensures other { result ≡ false → self.new ≡ self.old }
-        ensures took { result ≡ true → (rec : ℕ)
-            → TakesOn self.old self.new (record { rec = rec; at = at; rtp = Ok rtp }) }
+        ensures took { result ≡ true → TakesExpected self.old self.new at }
     {
-        if !self.state.feed_judged(at, rtp) {
+        if !self.state.feed_judged(at) {
             return false;
         }
         self.fed += 1;

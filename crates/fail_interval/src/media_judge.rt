@@ -24,7 +24,7 @@ pub struct MediaJudge {
 
 impl MediaJudge {
     ghost use Rattle.fail_interval.specs.BankStands.{IsJudgeOf};
-    ghost use Rattle.fail_interval.specs.Taken.{TakesCarried, TakesRecord};
+    ghost use Rattle.fail_interval.specs.Taken.{IsExpected, TakesCarried, TakesRecord};
 
     /// The judge of this media, which has this number, in a file.
     pub fn new(alloc: Global, media: &Media, file: u32, number: u32, tai: u64) -> MediaJudge
@@ -45,7 +45,8 @@ impl MediaJudge {
     /// The packet that is expected next of this media, where the frame carries it.
     #[inline(always)]
     pub fn expected_in(&self, frame: &[u8]) -> Option<Rtp>
-        ensures { IfSome result (λ p. carries self.now.target p frame.now ≡ true) }
+        ensures carried { IfSome result (λ p. carries self.now.target p frame.now ≡ true) }
+        ensures expected { IfSome result (λ p. IsExpected self.now.judge p) }
     {
         let expected = self.judge.expected()?;
         if !carries(frame, self.target, expected) {
@@ -68,10 +69,10 @@ impl MediaJudge {
         if !self.judge.has_groups() {
             return false;
         }
-        let Some(expected) = self.expected_in(frame) else {
+        let Some(_) = self.expected_in(frame) else {
             return false;
         };
-        self.judge.feed_judged(at, expected)
+        self.judge.feed_judged(at)
     }
 
     /// Takes the packet that the frame of a record carries to this media.

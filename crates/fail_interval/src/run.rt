@@ -1,6 +1,6 @@
 //! One run between gaps, as far as it has come.
 
-ghost use Rattle.std.specs.Prelude.{◌≡◌, ◌≤◌, ◌<◌, ◌+◌, ◌^◌, ◌++◌, ◌∷◌, [], ◌-◌, ℕ, List, length, OnOk, true};
+ghost use Rattle.std.specs.Prelude.{◌≡◌, ◌≤◌, ◌<◌, ◌+◌, ◌^◌, ◌++◌, ◌∷◌, [], ◌-◌, ℕ, List, length, OnOk, true, false};
 ghost use Rattle.timing_base.specs.Media.{Media as MediaValue};
 ghost use Rattle.fail_interval.specs.SoFar.{AreStamps, Groups, SoFar, groups_first, groups_next};
 ghost use Rattle.fail_interval.specs.SoFar.{in_first, in_groups, in_head, outcome_of, so_far_next};
@@ -140,16 +140,16 @@ impl RunJudge {
         }
     }
 
-    /// Takes the next packet, where the first group is whole.
+    /// Takes the next packet, which has no marker, where the first group is whole.
     #[inline(always)]
-    pub fn feed_whole(&mut self, at: u64, marker: bool)
+    pub fn feed_whole(&mut self, at: u64)
         requires whole { has_groups self.old ≡ true }
-        requires next { ∥ ((m : MediaValue) × (so_far : SoFar) × CanTake m self.old so_far at marker) ∥₁ }
-        ensures { (m : MediaValue) (so_far : SoFar) → CanTake m self.old so_far at marker
-            → StandsFor m self.new (so_far_next so_far at marker) }
+        requires next { ∥ ((m : MediaValue) × (so_far : SoFar) × CanTake m self.old so_far at false) ∥₁ }
+        ensures { (m : MediaValue) (so_far : SoFar) → CanTake m self.old so_far at false
+            → StandsFor m self.new (so_far_next so_far at false) }
     {
         if let RunJudge::Groups(groups) = self {
-            groups.feed(at, marker);
+            groups.feed(at, false);
         }
     }
 

@@ -30,29 +30,6 @@ none-left seen n d groups some same whole =
     let product : seen ≡ groups * d = whole ∙ ap (λ x. x * groups) (sym same) ∙ mul_comm d groups in
     omega (arith, all, product, div-add-mod' seen d)
 
--- the groups that have begun once a packet at this place came, where so many are whole
-ahead-is : (old new place whole : ℕ)
-    → (place ≡ 0 → new ≡ old + 1)
-    → (0 < place → new ≡ old)
-    → (place ≡ 0 → old ≡ whole)
-    → (0 < place → old ≡ whole + 1)
-    → new ≡ whole + 1
-ahead-is old new place whole begun kept are ahead = elim (cases_lt 0 place) as (λ _. new ≡ whole + 1) [
-  | inl more ↦ kept more ∙ ahead more
-  | inr none ↦ let zero : place ≡ 0 = omega (arith, none) in omega (arith, begun zero, are zero)
-]
-
--- they are no more than the packets
-pub groups-begun : (seen place whole old new : ℕ)
-    → (place ≡ 0 → new ≡ old + 1)
-    → (0 < place → new ≡ old)
-    → (place ≡ 0 → old ≡ whole)
-    → (0 < place → old ≡ whole + 1)
-    → whole ≤ seen
-    → (new ≡ whole + 1) × (new ≤ seen + 1)
-groups-begun seen place whole old new begun kept are ahead few =
-    let now = ahead-is old new place whole begun kept are ahead in (now, omega (arith, now, few))
-
 -- what was fed to the meter of the groups that have begun
 firsts-more : {F : Type 0} (fed : F → Type 0) (old new : F) (place : ℕ)
     → (0 < place → new ≡ old)

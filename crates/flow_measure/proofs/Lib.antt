@@ -12,6 +12,7 @@ pub mod Filled
 pub mod Floors
 pub mod Followed
 pub mod Grouped
+pub mod Begun
 pub mod Lateness
 pub mod Measured
 pub mod Packets

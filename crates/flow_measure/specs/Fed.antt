@@ -40,8 +40,8 @@ pub record MeasuresFirsts (m : Media) (anchor : ℤ) (meter : FirstMeter) (stamp
 -- the meter, of groups of n packets, was fed packets with these stamps and timestamps
 pub record MeasuresGroups (m : Media) (n : ℕ) (anchor : ℤ) (meter : GroupMeter) (stamp timestamp : ℕ → ℕ)
     : Type 0 where
-  pub n_is : meter.n ≡ n
-  pub anchor_is : meter.n0 ≡ anchor
+  pub n_is : meter.walk.n ≡ n
+  pub anchor_is : meter.walk.n0 ≡ anchor
   pub firsts : MeasuresFirsts m anchor meter.firsts (firsts_of n stamp) (firsts_of n timestamp)
   pub last : Summarizes meter.last (since_at m anchor (lasts_of n stamp))
 

@@ -13,6 +13,7 @@ pub mod Stands
 pub mod Followed
 pub mod Gaps
 pub mod Groups
+pub mod Begun
 pub mod Kinds
 pub mod Fed
 pub mod Filled
@@ -25,5 +26,6 @@ pub mod Worked
 pub mod Places
 pub mod Parts
 pub mod Own
+-- what is promised of these modules
 pub mod report
 pub mod rows

@@ -1,9 +1,10 @@
 //! The first packet and the RTP timestamp of each group.
 
-ghost use Rattle.std.specs.Prelude.{◌≡◌, ◌<◌, ◌≤◌, ◌+◌, ◌^◌, ℕ, ℤ, pos, negsuc, ◌≤ℤ◌};
+ghost use Rattle.std.specs.Prelude.{◌≡◌, ◌<◌, ◌+◌, ◌^◌, ℕ, ℤ};
 ghost use Rattle.timing_base.specs.Media.{Media};
 
 use crate::frames::{latency_of, offset_of, since_start};
+use crate::group_walk::GroupWalk;
 use crate::steps::StepMeter;
 use crate::summary::SummaryMeter;
 use sender_params::Params;
@@ -41,44 +42,40 @@ impl FirstMeter {
         }
     }
 
-    /// Takes in a packet at this place in its group, counted from 0, with its stamp in nanoseconds of TAI and
-    /// its timestamp: if it is the group's first, the next group begins. The first packet of all is of group
-    /// `n0`.
+    /// Takes in the next packet of a walk, with its stamp in nanoseconds of TAI and its timestamp: if it is the
+    /// first of its group, the next group begins.
     #[inline(always)]
-    pub fn feed_at(&mut self, place: u32, params: &Params, n0: i128, at: u64, ticks: u32)
-        requires low { negsuc 479 ≤ℤ n0 }
-        requires high { n0 ≤ℤ pos (2 ^ 42) }
+    pub fn feed_at(&mut self, walk: &GroupWalk, params: &Params, at: u64, ticks: u32)
         requires few { self.old.seen < 2 ^ 41 }
         requires in_time { at < 2 ^ 62 }
-        ensures kept { 0 < place → self.new ≡ self.old }
-        ensures seen { place ≡ 0 → self.new.seen ≡ self.old.seen + 1 }
-        ensures stands { (stamp timestamp : ℕ → ℕ) → place ≡ 0
-            → MeasuresFirsts params.now.media n0 self.old stamp timestamp
+        ensures kept { 0 < walk.now.place → self.new ≡ self.old }
+        ensures seen { walk.now.place ≡ 0 → self.new.seen ≡ self.old.seen + 1 }
+        ensures stands { (stamp timestamp : ℕ → ℕ) → walk.now.place ≡ 0
+            → MeasuresFirsts params.now.media walk.now.n0 self.old stamp timestamp
             → stamp self.old.seen ≡ at → timestamp self.old.seen ≡ ticks
-            → MeasuresFirsts params.now.media n0 self.new stamp timestamp }
+            → MeasuresFirsts params.now.media walk.now.n0 self.new stamp timestamp }
     {
-        if place == 0 {
-            self.feed(params, n0, at, ticks);
+        if walk.place == 0 {
+            self.feed(walk, params, at, ticks);
         }
     }
 
     /// Takes in the first packet of the next group.
     #[inline(never)]
-    fn feed(&mut self, params: &Params, n0: i128, at: u64, ticks: u32)
-        requires low { negsuc 479 ≤ℤ n0 }
-        requires high { n0 ≤ℤ pos (2 ^ 42) }
+    fn feed(&mut self, walk: &GroupWalk, params: &Params, at: u64, ticks: u32)
         requires few { self.old.seen < 2 ^ 41 }
         requires in_time { at < 2 ^ 62 }
         ensures seen { self.new.seen ≡ self.old.seen + 1 }
 
         // Whatever groups the meter was fed, it was now fed this one, too.
-        ensures stands { (stamp timestamp : ℕ → ℕ) → MeasuresFirsts params.now.media n0 self.old stamp timestamp
+        ensures stands { (stamp timestamp : ℕ → ℕ)
+            → MeasuresFirsts params.now.media walk.now.n0 self.old stamp timestamp
             → stamp self.old.seen ≡ at → timestamp self.old.seen ≡ ticks
-            → MeasuresFirsts params.now.media n0 self.new stamp timestamp }
+            → MeasuresFirsts params.now.media walk.now.n0 self.new stamp timestamp }
     {
         let group = self.seen;
-        self.first.feed(since_start(params, n0, group, at));
-        self.offset.feed(offset_of(params, n0, group, ticks));
+        self.first.feed(since_start(params, walk.n0, group, at));
+        self.offset.feed(offset_of(params, walk.n0, group, ticks));
         self.latency.feed(latency_of(at, ticks));
         self.step.feed(ticks);
         self.seen += 1;

@@ -1,10 +1,12 @@
 //! What the packets and RTP timestamps of groups say.
 
-ghost use Rattle.std.specs.Prelude.{◌≡◌, ◌<◌, ◌≤◌, ◌+◌, ◌*◌, ◌/◌, ◌%◌, ◌^◌, ℕ, ℤ, pos, negsuc, ◌≤ℤ◌, MatchOption};
+ghost use Rattle.std.specs.Prelude.{◌≡◌, ◌<◌, ◌≤◌, ◌+◌, ◌*◌, ◌^◌, ℕ, ℤ, pos, negsuc, ◌≤ℤ◌, MatchOption};
 ghost use Rattle.timing_base.specs.Media.{Media};
+ghost use Rattle.flow_measure.specs.Begun.{HaveBegun};
 
 use crate::firsts::FirstMeter;
 use crate::frames::since_start;
+use crate::group_walk::GroupWalk;
 use crate::summary::{Summary, SummaryMeter};
 use sender_params::Params;
 
@@ -21,28 +23,14 @@ pub struct GroupNumbers {
 /// What the packets and RTP timestamps of the groups so far say.
 #[derive(Clone, Copy, Debug, PartialEq, Eq)]
 pub struct GroupMeter {
-    /// The packets of a group.
-    n: u32,
     /// The packets fed.
-    pub seen: u64,
-    /// The place of the next packet in its group.
-    place: u32,
-    /// The number of the first group in the epoch.
-    n0: i128,
+    pub walk: GroupWalk,
     /// Of each group that has begun.
     firsts: FirstMeter,
     /// By how many nanoseconds the last packet of each whole group comes after the group begins.
     last: SummaryMeter,
-    ghost n0_low: { negsuc 479 ≤ℤ n0 },
-    ghost n0_high: { n0 ≤ℤ pos (2 ^ 42) },
-    ghost few: { seen ≤ 2 ^ 41 },
-    ghost place_is: { seen % n ≡ place },
-    ghost place_within: { place < n },
-    ghost last_is: { last.seen ≡ seen / n },
-    ghost last_few: { last.seen ≤ seen },
-    ghost firsts_few: { firsts.seen ≤ seen },
-    ghost firsts_are: { place ≡ 0 → firsts.seen ≡ last.seen },
-    ghost firsts_ahead: { 0 < place → firsts.seen ≡ last.seen + 1 },
+    ghost last_is: { last.seen ≡ walk.whole },
+    ghost firsts_are: { HaveBegun walk firsts.seen },
 }
 
 impl GroupMeter {
@@ -53,15 +41,12 @@ impl GroupMeter {
     pub fn new(params: &Params, n0: i128) -> GroupMeter
         requires low { negsuc 479 ≤ℤ n0 }
         requires high { n0 ≤ℤ pos (2 ^ 42) }
-        ensures seen { result.seen ≡ 0 }
+        ensures seen { result.walk.seen ≡ 0 }
         ensures stands { (stamp timestamp : ℕ → ℕ)
             → MeasuresGroups params.now.media params.now.n n0 result stamp timestamp }
     {
         GroupMeter {
-            n: params.n(),
-            seen: 0,
-            place: 0,
-            n0,
+            walk: GroupWalk::new(params, n0),
             firsts: FirstMeter::new(),
             last: SummaryMeter::new(),
         }
@@ -70,31 +55,27 @@ impl GroupMeter {
     /// Takes in the next packet, with its stamp in nanoseconds of TAI and its RTP timestamp.
     #[inline(always)]
     pub fn feed(&mut self, params: &Params, at: u64, ticks: u32)
-        requires few { self.old.seen < 2 ^ 41 }
+        requires few { self.old.walk.seen < 2 ^ 41 }
         requires in_time { at < 2 ^ 62 }
-        ensures seen { self.new.seen ≡ self.old.seen + 1 }
+        ensures seen { self.new.walk.seen ≡ self.old.walk.seen + 1 }
 
         // Whatever packets the meter was fed, it was now fed this one, too.
         ensures stands { (n : ℕ) (anchor : ℤ) (stamp timestamp : ℕ → ℕ)
             → MeasuresGroups params.now.media n anchor self.old stamp timestamp
-            → stamp self.old.seen ≡ at → timestamp self.old.seen ≡ ticks
+            → stamp self.old.walk.seen ≡ at → timestamp self.old.walk.seen ≡ ticks
             → MeasuresGroups params.now.media n anchor self.new stamp timestamp }
     {
-        self.firsts.feed_at(self.place, params, self.n0, at, ticks);
-        self.seen += 1;
-        if self.place + 1 < self.n {
-            self.place += 1;
-            return;
+        self.firsts.feed_at(&self.walk, params, at, ticks);
+        if self.walk.pass() {
+            let since = since_start(params, self.walk.n0, self.last.seen, at);
+            self.last.feed(since);
         }
-        let since = since_start(params, self.n0, self.last.seen, at);
-        self.last.feed(since);
-        self.place = 0;
     }
 
     /// The numbers of the groups, of which all are whole, if there is one.
     pub fn finish(&self) -> Option<GroupNumbers>
         ensures { (m : Media) (n : ℕ) (anchor : ℤ) (groups : ℕ) (stamp timestamp : ℕ → ℕ)
-            → MeasuresGroups m n anchor self.now stamp timestamp → self.now.seen ≡ n * groups
+            → MeasuresGroups m n anchor self.now stamp timestamp → self.now.walk.seen ≡ n * groups
             → MatchOption result (groups ≡ 0) (AreGroupNumbers m n anchor groups stamp timestamp) }
     {
         let first = self.firsts.first.finish()?;

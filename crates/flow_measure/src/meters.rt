@@ -32,7 +32,7 @@ pub struct RunMeters {
     ghost gapped_is: { gapped.seen ≡ seen },
     ghost linear_is: { linear.seen ≡ seen },
     ghost kinds_are: { kinds.seen ≡ seen },
-    ghost groups_are: { groups.seen ≡ seen },
+    ghost groups_are: { groups.walk.seen ≡ seen },
     ghost gaps_are: { gaps.seen ≡ seen },
 }
 

@@ -11,5 +11,6 @@ pub mod Around
 pub mod Page
 -- what is worked by hand
 pub mod Worked
+-- what is promised of these modules
 pub mod chart
 pub mod drawing

@@ -2,6 +2,10 @@
 //!
 //! Its text is made whole, as a value, of numbers that were measured. Tables tell what a judge says and what was measured,
 //! and pictures show it; what a text holds of a name is escaped.
+//!
+//! - `chart`: pictures of numbers, as SVG.
+//! - `drawing`: what is drawn of a judged run, made while its packets go by.
+//! - `laws`: words and numbers worked by hand.
 #![tactic(auto)]
 
 mod around;

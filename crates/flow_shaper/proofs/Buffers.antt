@@ -81,6 +81,23 @@ held-room m n kind a0 i last t full next is some after before order low =
       ],
     )
 
+-- a packet finds room in the buffer where it does with fewer reads
+pub held-free : (m : Media) (n : ℕ) (kind : Kind) (a0 i looked t full : ℕ) (next : NextRead)
+    → IsMedia m
+    → 1 ≤ n
+    → IsNextAfter m n (anchor_of m a0) (gapped_of kind) looked next
+    → looked ≤ t
+    → i < next.number + full
+    → (models_of m n kind a0).held i t ≤ full
+held-free m n kind a0 i looked t full next is some after order free =
+    let have = due-some m n (anchor_of m a0) (gapped_of kind) (whole t) is some (omega arith) in
+    omega (
+      arith,
+      held-is m n kind a0 i t have.0 have.1,
+      due-rises m n (anchor_of m a0) (gapped_of kind) looked t next.number have.0 order after.count have.1,
+      free,
+    )
+
 -- the read after the next one isn't due before the nanosecond after it
 pub number-most : (m : Media) (n : ℕ) (anchor : ℤ) (gapped : Bool) (last t : ℕ) (next then : NextRead)
     → IsNextAfter m n anchor gapped last next

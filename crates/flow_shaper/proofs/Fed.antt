@@ -1,6 +1,6 @@
 -- A shaper stands for one packet more after it is fed.
-use Rattle.std.proofs.Common.{◌≡◌, ◌≢◌, ◌≤◌, ◌<◌, ◌+◌, ◌-◌, ◌^◌, ℕ, ℤ, List, [], ◌∷◌, ◌++◌, length, slice_index, Some, None, refl, ap, subst, ◌∙◌, sym, inl}
-use Rattle.std.proofs.Common.{inr, arith, length-append}
+use Rattle.std.proofs.Common.{◌≡◌, ◌≢◌, ◌≤◌, ◌<◌, ◌+◌, ◌-◌, ◌^◌, ◌↔◌, ℕ, ℤ, List, [], ◌∷◌, ◌++◌, length, slice_index, Some, None, refl, ap, subst, ◌∙◌, sym}
+use Rattle.std.proofs.Common.{inl, inr, arith, length-append}
 use Rattle.std.proofs.lemmas.Bool.{cases_lt}
 use Rattle.fraction128.specs.Clocks.{StandsAt}
 use Rattle.timing_base.specs.declared.media.Kind.{Kind}
@@ -10,16 +10,18 @@ use Rattle.sender_params.specs.Ticks.{NeverFall}
 use Rattle.sender_params.specs.declared.params.Params.{Params}
 use Rattle.sender_params.proofs.Ticks.{ticks_of-rises}
 use Rattle.read_schedule.specs.Stands.{IsNextAfter, StandsBy}
+use Rattle.read_schedule.specs.declared.schedule.NextRead.{NextRead}
+use Rattle.read_schedule.specs.declared.schedule.Schedule.{Schedule}
 use Rattle.flow_shaper.specs.Bounds.{BoundAt, IsBound}
 use Rattle.flow_shaper.specs.Choice.{Chooses, HaveStarted, HavePassed}
 use Rattle.flow_shaper.specs.Plan.{IsLeast, IsPlan, Models, Shaped, models_of}
-use Rattle.flow_shaper.specs.Stands.{CanFollow, IsAfter, IsCount, NoneInTime, StandsFor}
+use Rattle.flow_shaper.specs.Stands.{CanFollow, HasLooked, IsAfter, IsCount, NoneInTime, StandsFor}
 use Rattle.flow_shaper.specs.declared.departure.Bound.{Bound}
 use Rattle.flow_shaper.specs.declared.departure.Bound.TheVariants.{Arrival, Order}
 use Rattle.flow_shaper.specs.declared.departure.Departure.{Departure}
 use Rattle.flow_shaper.specs.declared.meters.Meters.{Meters}
 use Rattle.flow_shaper.specs.declared.shaper.Shaper.{Shaper}
-use Rattle.flow_shaper.proofs.Buffers.{due-below, held-room, number-most}
+use Rattle.flow_shaper.proofs.Buffers.{due-below, held-free, held-room, number-most}
 use Rattle.flow_shaper.proofs.Counts.{count-append, count-first, count-most}
 use Rattle.flow_shaper.proofs.Greedy.{Rises, Serves, least-append, least-none, plan-serves}
 use Rattle.flow_shaper.proofs.Limits.{c_max-some, tick-due, tick-one, ticks-are, vrx_full-some}
@@ -43,7 +45,7 @@ pub record Moves (params : Params) (s t : Shaper) (at : ℕ) : Type 0 where
   pub first : s.meters ≡ None
       → (meters : Meters) × (t.meters ≡ Some meters) × HaveStarted params s.kind s.n0 at meters
   pub later : (old : Meters) → s.meters ≡ Some old
-      → (meters : Meters) × (t.meters ≡ Some meters) × HavePassed params old meters s.seen at
+      → (meters : Meters) × (t.meters ≡ Some meters) × HavePassed params (vrx_full_of params.media params.n s.kind) old meters s.seen at
 
 -- the flow's models
 abbrev models : Params → Shaper → Models
@@ -68,8 +70,10 @@ ready params s m arrivals departures i st a size =
     let least : IsLeast w arrivals departures = subst (λ o. IsLeast (models_of media n s.kind o) arrivals departures) a.first st.shaped in
     let left : length departures ≡ i + 1 = least.plan.each ∙ size in
     let stands : StandsAt params.drain m.tick s.origin d = subst (λ x. StandsAt params.drain m.tick s.origin x) a.last a.tick in
-    let at_last : IsNextAfter media n s.n0 g d m.read = subst (λ x. IsNextAfter media n s.n0 g x m.read) a.last a.read in
-    let after : IsNextAfter media n (anchor_of media s.origin) g d m.read = subst (λ (z : ℤ). IsNextAfter media n z g d m.read) st.anchor at_last in
+    let at_last : m.read.number + w.vrx_full ≤ i + 1 → IsNextAfter media n s.n0 g d m.read =
+    λ waits. subst (λ x. IsNextAfter media n s.n0 g x m.read) (a.read.lately waits ∙ a.last) a.read.read in
+    let looked : IsNextAfter media n (anchor_of media s.origin) g a.read.looked m.read =
+    subst (λ (z : ℤ). IsNextAfter media n z g a.read.looked m.read) st.anchor a.read.read in
     let low : d < 2 ^ 62 = omega (arith, st.in_time i (omega (arith, left)), s.ends) in
     let few : i < length departures = omega (arith, left) in
     record {
@@ -84,12 +88,22 @@ ready params s m arrivals departures i st a size =
       some = c_max-some media n s.kind params.media_is;
       tick = λ t. tick-due params m.tick s.origin d t stands;
       tick_one = tick-one params m.tick s.origin d stands;
-      room = λ t order small. held-room media n s.kind s.origin i d t w.vrx_full m.read params.media_is params.n_some after (least.plan.buffer i few) order
-          small;
-      ahead = elim (cases_lt d m.read.at) as (λ _. d < m.read.at) [
+      room = λ t order small. elim (cases_lt (i + 1) (m.read.number + w.vrx_full))
+          as (λ _. (w.held (i + 1) t ≤ w.vrx_full) ↔ (m.read.number + w.vrx_full ≤ i + 1 → m.read.at ≤ t)) [
+            | inl free ↦ (
+              λ _ waits. absurd (omega (arith, free, waits)),
+              λ _. held-free media n s.kind s.origin (i + 1) a.read.looked t w.vrx_full m.read params.media_is params.n_some looked
+                  (omega (arith, a.read.order, a.last, order)) free,
+            )
+            | inr waits ↦
+                let after : IsNextAfter media n (anchor_of media s.origin) g d m.read =
+                subst (λ (z : ℤ). IsNextAfter media n z g d m.read) st.anchor (at_last waits) in
+                held-room media n s.kind s.origin i d t w.vrx_full m.read params.media_is params.n_some after (least.plan.buffer i few) order small
+          ];
+      ahead = λ waits. elim (cases_lt d m.read.at) as (λ _. d < m.read.at) [
         | inl before ↦ before
         | inr come ↦
-            let none = due-below media n s.n0 g d m.read.number m.read.number at_last.count ((at_last.due d low).1 come) in
+            let none = due-below media n s.n0 g d m.read.number m.read.number (at_last waits).count (((at_last waits).due d low).1 come) in
             absurd (omega (arith, none))
       ];
       waits = a.waits;
@@ -110,7 +124,7 @@ pub after-later : (params : Params) (s : Shaper) (old new : Meters) (arrivals de
     → slice_index arrivals i ≤ a
     → Chooses old (models params s).c_max (models params s).vrx_full (i + 1) a d
     → d.at < s.end
-    → HavePassed params old new s.seen d.at
+    → HavePassed params (models params s).vrx_full old new s.seen d.at
     → IsAfter params s.kind s.n0 s.origin new (arrivals ++ a ∷ []) (departures ++ d.at ∷ []) (i + 1)
 after-later params s old new arrivals departures i a d st was size came h in_time p =
     let w = models params s in
@@ -124,18 +138,37 @@ after-later params s old new arrivals departures i a d st was size came h in_tim
     let drained = p.bucket s.origin old.last h.order was.tick in
     let ticks : w.ticks (slice_index departures i) + drained.drained ≡ w.ticks d.at =
     omega (arith, drained.ticks, ticks-are params s.origin old.last, ticks-are params s.origin d.at, ap w.ticks was.last) in
-    let read = p.read media n s.n0 g old.last h.order was.reads in
-    let reads = p.reads media n s.n0 g old.last h.order was.reads in
-    let number : d.at ≡ old.read.at → new.read.number ≤ old.read.number + 1 =
-    λ e. number-most media n s.n0 g old.last d.at old.read new.read was.read read low (omega (arith, e, r.ahead)) (omega (arith, e)) in
+    let x = was.read in
+    let order : x.looked ≤ d.at = omega (arith, x.order, h.order) in
+    let number : old.read.number + w.vrx_full ≤ i + 1 → d.at ≡ old.read.at → new.read.number ≤ old.read.number + 1 =
+    λ waits e.
+    let exact = subst (λ y. IsNextAfter media n s.n0 g y old.read) (x.lately waits) x.read in
+    let read = p.read (omega (arith, waits, st.seen, size)) media n s.n0 g x.looked order x.reads in
+    number-most media n s.n0 g old.last d.at old.read new.read exact read low (omega (arith, e, r.ahead waits)) (omega (arith, e)) in
     record {
       first = before arrivals a 0 (omega (arith, size)) ∙ was.first;
       last = p.last ∙ sym here;
       count = count-append w departures i old.count old.begin d.at drained.drained new.count new.begin r.rises was.count r.left r.falls ticks drained.count
           (λ one. drained.fresh one ∙ st.seen ∙ size) drained.kept;
       tick = subst (λ x. StandsAt params.drain new.tick s.origin x) (sym p.last) drained.tick;
-      read = subst (λ x. IsNextAfter media n s.n0 g x new.read) (sym p.last) read;
-      reads = subst (λ x. StandsBy media n s.n0 g new.schedule x) (sym p.last) reads;
+      read = elim (cases_lt (s.seen + 1) (old.read.number + w.vrx_full)) as (λ _. HasLooked media n s.n0 g w.vrx_full new (i + 1 + 1)) [
+        | inl free ↦
+            let same = p.room free in
+            record {
+              looked = x.looked;
+              order = omega (arith, order, p.last);
+              read = subst (λ (y : NextRead). IsNextAfter media n s.n0 g x.looked y) (sym same.0) x.read;
+              reads = subst (λ (y : Schedule). StandsBy media n s.n0 g y x.looked) (sym same.1) x.reads;
+              lately = λ waits. absurd (omega (arith, waits, ap (λ (y : NextRead). y.number) same.0, free, st.seen, size));
+            }
+        | inr waits ↦ record {
+          looked = d.at;
+          order = omega (arith, p.last);
+          read = p.read waits media n s.n0 g x.looked order x.reads;
+          reads = p.reads waits media n s.n0 g x.looked order x.reads;
+          lately = λ _. sym p.last;
+        }
+      ];
       waits = λ delayed. waits-next w old arrivals departures i a d.at drained.drained new.count new.read.number d.bound r came h.bucket h.buffer h.chosen ticks
           drained.count number (omega (arith, delayed, here, there));
     }
@@ -169,7 +202,7 @@ pub stands-later : (params : Params) (s t : Shaper) (old new : Meters) (arrivals
     → d.at < s.end
     → Moves params s t d.at
     → t.meters ≡ Some new
-    → HavePassed params old new s.seen d.at
+    → HavePassed params (models params s).vrx_full old new s.seen d.at
     → StandsFor params t (arrivals ++ a ∷ []) (departures ++ d.at ∷ [])
 stands-later params s t old new arrivals departures i a d st was size can h in_time move is p =
     let news = arrivals ++ a ∷ [] in
@@ -232,8 +265,7 @@ stands-first params s t new a d st first in_time move is p =
       last = p.last;
       count = subst (λ b. IsCount w (a ∷ []) 0 new.count b) (sym p.begin) (subst (λ c. IsCount w (a ∷ []) 0 c 0) (sym p.count) (count-first w a));
       tick = subst (λ x. StandsAt params.drain new.tick s.origin x) (sym p.last) (subst (λ o. StandsAt params.drain new.tick o a) first p.tick);
-      read = subst (λ x. IsNextAfter params.media params.n s.n0 (gapped_of s.kind) x new.read) (sym p.last) p.read;
-      reads = subst (λ x. StandsBy params.media params.n s.n0 (gapped_of s.kind) new.schedule x) (sym p.last) p.reads;
+      read = record { looked = a; order = omega (arith, p.last); read = p.read; reads = p.reads; lately = λ _. sym p.last };
       waits = λ delayed. absurd (omega (arith, delayed));
     } in
     let kind_is = subst (λ (k : Kind). IsAfter params k s.n0 s.origin new (a ∷ []) (a ∷ []) 0) (sym move.kind) after in

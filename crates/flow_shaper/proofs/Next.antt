@@ -28,7 +28,7 @@ pub record AreReady (w : Models) (m : Meters) (arrivals departures : List ℕ) (
   pub tick_one : w.ticks m.tick.due ≤ w.ticks (slice_index departures i) + 1
   pub room : (t : ℕ) → slice_index departures i ≤ t → t < 2 ^ 62
       → (w.held (i + 1) t ≤ w.vrx_full) ↔ (m.read.number + w.vrx_full ≤ i + 1 → m.read.at ≤ t)
-  pub ahead : slice_index departures i < m.read.at
+  pub ahead : m.read.number + w.vrx_full ≤ i + 1 → slice_index departures i < m.read.at
   pub waits : slice_index arrivals i < slice_index departures i
       → (w.c_max ≤ m.count) ⊎ (m.read.number + w.vrx_full ≤ i + 1)
 
@@ -104,7 +104,7 @@ pub never_with : (w : Models) (m : Meters) (arrivals departures : List ℕ) (i a
 never_with w m arrivals departures i a d r order tick read delayed same =
     elim (r.waits (omega (arith, order, delayed, same, r.last))) as (λ _. ⊥) [
       | inl full ↦ let come = (r.tick d).0 (tick full) in omega (arith, come, ap w.ticks (same ∙ r.last))
-      | inr full ↦ omega (arith, read full, r.ahead, same, r.last)
+      | inr full ↦ omega (arith, read full, r.ahead full, same, r.last)
     ]
 
 -- what holds it back
@@ -157,7 +157,7 @@ bound-is w m arrivals departures i a d (Buffer x) r came arrival order tick read
     let news = departures ++ d ∷ [] in
     let here : slice_index news (i + 1) ≡ d = last departures d (i + 1) (sym r.left) in
     let there : slice_index (arrivals ++ a ∷ []) (i + 1) ≡ a = last arrivals a (i + 1) (sym r.came) in
-    let after : slice_index departures i ≤ d - 1 = omega (arith, r.ahead, h.3) in
+    let after : slice_index departures i ≤ d - 1 = omega (arith, r.ahead h.2, h.3) in
     let earlier : slice_index news (i + 1) - 1 ≡ d - 1 = ap (λ k. k - 1) here in
     let ready : w.c_max ≤ m.count → m.tick.due ≤ d - 1 =
     λ full. let ne = h.1 full in omega (arith, tick full, ne) in (
@@ -172,7 +172,7 @@ bound-is w m arrivals departures i a d (Buffer x) r came arrival order tick read
       ),
       (elim (cases_lt w.vrx_full (w.held (i + 1) (d - 1))) as (λ _. Overfills w (i + 1) (slice_index news (i + 1) - 1)) [
         | inl over ↦ omega (arith, over, ap (w.held (i + 1)) earlier)
-        | inr room ↦ absurd (omega (arith, (r.room (d - 1) after (omega (arith, low))).0 room h.2, h.3, r.ahead))
+        | inr room ↦ absurd (omega (arith, (r.room (d - 1) after (omega (arith, low))).0 room h.2, h.3, r.ahead h.2))
       ]),
       h.4,
     )
@@ -189,14 +189,14 @@ pub waits-next : (w : Models) (m : Meters) (arrivals departures : List ℕ) (i a
     → IsChosen m w.c_max w.vrx_full (i + 1) a d bound
     → w.ticks (slice_index departures i) + drained ≡ w.ticks d
     → count ≡ (m.count - drained) + 1
-    → (d ≡ m.read.at → number ≤ m.read.number + 1)
+    → (m.read.number + w.vrx_full ≤ i + 1 → d ≡ m.read.at → number ≤ m.read.number + 1)
     → a < d
     → (w.c_max ≤ count) ⊎ (number + w.vrx_full ≤ (i + 1) + 1)
 waits-next w m arrivals departures i a d drained count number Arrival r came tick read h ticks is few delayed = absurd (omega (arith, h, delayed))
 waits-next w m arrivals departures i a d drained count number (Bucket from) r came tick read h ticks is few delayed =
     inl (omega (arith, ticks, is, r.tick_one, (r.tick d).0 (omega (arith, h.2)), ap w.ticks h.2, h.1, r.some))
 waits-next w m arrivals departures i a d drained count number (Buffer x) r came tick read h ticks is few delayed =
-    inr (omega (arith, few h.3, h.2))
+    inr (omega (arith, few h.2 h.3, h.2))
 waits-next w m arrivals departures i a d drained count number Order r came tick read h ticks is few delayed =
     absurd (never_with w m arrivals departures i a d r came tick read delayed h.3)
 

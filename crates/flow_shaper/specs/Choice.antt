@@ -1,11 +1,10 @@
 -- How the next departure follows from what is metered of those before it.
-use Rattle.std.specs.Prelude.{◌≡◌, ◌≢◌, ◌≤◌, ◌<◌, ◌+◌, ◌-◌, ℕ, ℤ, Bool}
+use Rattle.std.specs.Prelude.{◌≡◌, ◌≢◌, ◌≤◌, ◌<◌, ◌+◌, ◌-◌, ℕ, ℤ}
 use Rattle.fraction128.specs.Clocks.{StandsAt, passed_by}
-use Rattle.timing_base.specs.Media.{Media}
 use Rattle.timing_base.specs.declared.media.Kind.{Kind}
 use Rattle.sender_params.specs.declared.params.Params.{Params}
 use Rattle.sender_params.specs.Limits.{gapped_of}
-use Rattle.read_schedule.specs.Stands.{IsNextAfter, StandsBy}
+use Rattle.read_schedule.specs.Stands.{IsNextAfter, MovesTo, StandsBy, Tells}
 use Rattle.flow_shaper.specs.declared.departure.Bound.{Bound}
 use Rattle.flow_shaper.specs.declared.departure.Bound.TheVariants.{Arrival, Bucket, Buffer, Order}
 use Rattle.flow_shaper.specs.declared.departure.Departure.{Departure}
@@ -54,14 +53,12 @@ pub record HaveStarted (params : Params) (kind : Kind) (n0 : ℤ) (at : ℕ) (me
   pub read : IsNextAfter params.media params.n n0 (gapped_of kind) at meters.read
   pub reads : StandsBy params.media params.n n0 (gapped_of kind) meters.schedule at
 
--- the meters after a packet, which left at `at`, from those before it
-pub record HavePassed (params : Params) (old new : Meters) (packet at : ℕ) : Type 0 where
+-- the meters after a packet, which left at `at`, from those before it: the reads are looked for again where the packet
+-- behind it may have to wait for one
+pub record HavePassed (params : Params) (full : ℕ) (old new : Meters) (packet at : ℕ) : Type 0 where
   pub last : new.last ≡ at
   pub bucket : (origin before : ℕ) → before ≤ at → StandsAt params.drain old.tick origin before
       → HasDrained params old new packet origin before at
-  pub read : (m : Media) (n : ℕ) (anchor : ℤ) (gapped : Bool) (before : ℕ)
-      → before ≤ at → StandsBy m n anchor gapped old.schedule before
-      → IsNextAfter m n anchor gapped at new.read
-  pub reads : (m : Media) (n : ℕ) (anchor : ℤ) (gapped : Bool) (before : ℕ)
-      → before ≤ at → StandsBy m n anchor gapped old.schedule before
-      → StandsBy m n anchor gapped new.schedule at
+  pub room : packet + 1 < old.read.number + full → (new.read ≡ old.read) × (new.schedule ≡ old.schedule)
+  pub read : old.read.number + full ≤ packet + 1 → Tells IsNextAfter old.schedule at new.read
+  pub reads : old.read.number + full ≤ packet + 1 → MovesTo old.schedule new.schedule at

@@ -1,6 +1,7 @@
 -- What a `Shaper` says of the packets that it was fed.
-use Rattle.std.specs.Prelude.{◌≡◌, ◌≤◌, ◌<◌, ◌+◌, ◌⊎◌, ℕ, ℤ, List, length, slice_index, Some, None}
+use Rattle.std.specs.Prelude.{◌≡◌, ◌≤◌, ◌<◌, ◌+◌, ◌⊎◌, ℕ, ℤ, Bool, List, length, slice_index, Some, None}
 use Rattle.fraction128.specs.Clocks.{StandsAt}
+use Rattle.timing_base.specs.Media.{Media}
 use Rattle.timing_base.specs.declared.media.Kind.{Kind}
 use Rattle.sender_params.specs.declared.params.Params.{Params}
 use Rattle.sender_params.specs.Limits.{c_max_of, gapped_of, vrx_full_of}
@@ -20,6 +21,16 @@ pub record IsCount (w : Models) (departures : List ℕ) (i count begin : ℕ) : 
   pub begin_load : load w departures begin i (slice_index departures i) ≡ count
   pub latest : (j : ℕ) → j ≤ i → load w departures j i (slice_index departures i) ≡ count → j ≤ begin
 
+-- the reads were looked for when the last packet left, or before, and then the packet of this number finds room
+pub record HasLooked (m : Media) (n : ℕ) (anchor : ℤ) (gapped : Bool) (full : ℕ) (meters : Meters) (packet : ℕ)
+    : Type 0 where
+  pub looked : ℕ
+  pub order : looked ≤ meters.last
+  -- `read` was the first read after that
+  pub read : IsNextAfter m n anchor gapped looked meters.read
+  pub reads : StandsBy m n anchor gapped meters.schedule looked
+  pub lately : meters.read.number + full ≤ packet → looked ≡ meters.last
+
 -- packet i was the last one to leave, of a flow that is shaped for this sender type, whose first packet came at
 -- `origin` as one of group n0
 pub record IsAfter (params : Params) (kind : Kind) (n0 : ℤ) (origin : ℕ) (meters : Meters)
@@ -27,10 +38,9 @@ pub record IsAfter (params : Params) (kind : Kind) (n0 : ℤ) (origin : ℕ) (me
   pub first : slice_index arrivals 0 ≡ origin
   pub last : meters.last ≡ slice_index departures i
   pub count : IsCount (models_of params.media params.n kind origin) departures i meters.count meters.begin
-  -- `tick` is the first tick after it left, and `read` the first read
+  -- `tick` is the first tick after it left
   pub tick : StandsAt params.drain meters.tick origin meters.last
-  pub read : IsNextAfter params.media params.n n0 (gapped_of kind) meters.last meters.read
-  pub reads : StandsBy params.media params.n n0 (gapped_of kind) meters.schedule meters.last
+  pub read : HasLooked params.media params.n n0 (gapped_of kind) (vrx_full_of params.media params.n kind) meters (i + 1)
   -- where it was delayed, the next packet has to wait for one of them
   pub waits : slice_index arrivals i < slice_index departures i
       → (c_max_of params.media params.n kind ≤ meters.count)

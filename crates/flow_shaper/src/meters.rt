@@ -24,12 +24,13 @@ pub struct Meters {
     tick: Clock,
     /// The reads.
     schedule: Schedule,
-    /// The next read.
+    /// The next read after it left, or after a packet before it left, where no packet has to wait for one yet.
     read: NextRead,
 }
 
 impl Meters {
     ghost use Rattle.flow_shaper.specs.Choice.{Chooses, HasDrained, HavePassed, HaveStarted};
+    ghost use Rattle.read_schedule.specs.Stands.{IsNextAfter, MovesTo, Tells};
 
     /// After the first packet, which leaves when it comes, at `at`.
     pub fn start(params: &Params, kind: Kind, n0: i128, at: u64) -> Meters
@@ -102,16 +103,53 @@ impl Meters {
 
     /// The packet of this number leaves at `at`.
     #[inline(always)]
-    pub fn pass(&mut self, params: &Params, packet: u64, at: u64)
+    pub fn pass(&mut self, params: &Params, kind: Kind, packet: u64, at: u64)
         requires in_time { at < 2 ^ 62 }
         requires few { self.old.count ≤ packet }
         requires few_packets { packet < 2 ^ 41 }
         ensures few { self.new.count ≤ packet + 1 }
-        ensures passed { HavePassed params.now self.old self.new packet at }
+        ensures passed { HavePassed params.now (vrx_full_of params.now.media params.now.n kind) self.old self.new
+            packet at }
     {
         self.drain(params, packet, at);
-        self.read = self.schedule.next_after(at);
         self.last = at;
+        self.look(params.vrx_full(kind), packet + 1);
+    }
+
+    /// The reads up to the last departure pass, where the packet of this number may have to wait for the next of them.
+    /// Else it finds room whatever reads passed since they were looked for.
+    #[inline(always)]
+    fn look(&mut self, full: u64, packet: u64)
+        requires { self.old.last < 2 ^ 62 }
+        ensures last { self.new.last ≡ self.old.last }
+        ensures count { self.new.count ≡ self.old.count }
+        ensures begin { self.new.begin ≡ self.old.begin }
+        ensures tick { self.new.tick ≡ self.old.tick }
+        ensures room { packet < self.old.read.number + full
+            → (self.new.read ≡ self.old.read) × (self.new.schedule ≡ self.old.schedule) }
+        ensures read { self.old.read.number + full ≤ packet
+            → Tells IsNextAfter self.old.schedule self.old.last self.new.read }
+        ensures reads { self.old.read.number + full ≤ packet
+            → MovesTo self.old.schedule self.new.schedule self.old.last }
+    {
+        if packet >= full && packet - full >= self.read.number {
+            self.look_again();
+        }
+    }
+
+    /// The reads up to the last departure pass.
+    #[cold]
+    #[inline(never)]
+    fn look_again(&mut self)
+        requires { self.old.last < 2 ^ 62 }
+        ensures last { self.new.last ≡ self.old.last }
+        ensures count { self.new.count ≡ self.old.count }
+        ensures begin { self.new.begin ≡ self.old.begin }
+        ensures tick { self.new.tick ≡ self.old.tick }
+        ensures read { Tells IsNextAfter self.old.schedule self.old.last self.new.read }
+        ensures reads { MovesTo self.old.schedule self.new.schedule self.old.last }
+    {
+        self.read = self.schedule.next_after(self.last);
     }
 
     /// The bucket loses a packet for each tick up to `at`, and gets the packet of this number.
@@ -121,6 +159,7 @@ impl Meters {
         requires few { self.old.count ≤ packet }
         requires few_packets { packet < 2 ^ 41 }
         ensures few { self.new.count ≤ packet + 1 }
+        ensures read { self.new.read ≡ self.old.read }
         ensures schedule { self.new.schedule ≡ self.old.schedule }
         ensures drained { (origin before : ℕ) → before ≤ at
             → StandsAt params.now.drain self.old.tick origin before

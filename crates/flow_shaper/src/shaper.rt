@@ -160,14 +160,33 @@ impl Shaper {
             × HaveStarted params.now self.old.kind self.old.n0 at meters }
         ensures later { (before : Meters) → self.old.meters ≡ Some before
             → (meters : Meters) × (self.new.meters ≡ Some meters)
-            × HavePassed params.now before meters self.old.seen at }
+            × HavePassed params.now (vrx_full_of params.now.media params.now.n self.old.kind) before meters
+            self.old.seen at }
     {
         let packet = self.seen;
         self.seen = packet + 1;
         if let Some(meters) = &mut self.meters {
-            meters.pass(params, packet, at);
+            meters.pass(params, self.kind, packet, at);
             return;
         }
+        self.begin(params, at);
+    }
+
+    /// Both models begin with the first packet, which leaves at `at`.
+    #[cold]
+    #[inline(never)]
+    fn begin(&mut self, params: &Params, at: u64)
+        requires in_time { at < self.old.end }
+        requires seen { 1 ≤ self.old.seen }
+        ensures kind { self.new.kind ≡ self.old.kind }
+        ensures n0 { self.new.n0 ≡ self.old.n0 }
+        ensures origin { self.new.origin ≡ self.old.origin }
+        ensures end { self.new.end ≡ self.old.end }
+        ensures seen { self.new.seen ≡ self.old.seen }
+        ensures late { self.new.late ≡ self.old.late }
+        ensures starts { (meters : Meters) × (self.new.meters ≡ Some meters)
+            × HaveStarted params.now self.old.kind self.old.n0 at meters }
+    {
         self.meters = Some(Meters::start(params, self.kind, self.n0, at));
     }
 }

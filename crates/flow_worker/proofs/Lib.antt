@@ -8,6 +8,7 @@ pub mod Senders
 pub mod Passes
 pub mod Outgoing
 pub mod Targeting
+pub mod Expecting
 pub mod Sorting
 pub mod Told
 pub mod Dealt

@@ -13,8 +13,10 @@ pub mod TwoFiles
 pub mod SmallRun
 -- these only serve proofs
 pub mod Targeted
+pub mod Expecting
 pub mod Sending
 pub mod Sorting
 pub mod Judging
 pub mod Standing
+-- what is promised of this module
 pub mod crew

@@ -6,14 +6,16 @@ use Rattle.std.proofs.lemmas.List.Elements.{filter_map-append}
 use Rattle.timing_base.specs.Captures.{Record}
 use Rattle.timing_base.specs.Media.{Media}
 use Rattle.ruled_intake.specs.Packets.{Packet}
+use Rattle.flow_worker.specs.Expecting.{AreExpected}
 use Rattle.flow_worker.specs.Opening.{for_lane, full_batches, packet_from, session_packets}
 use Rattle.flow_worker.specs.Sending.{AreCut, AreOutboxes, AreSame, Cuts, HaveAllFew, IsRouting, route_of, sent_to}
 use Rattle.flow_worker.specs.declared.intakes.Sorter.{Sorter}
 use Rattle.flow_worker.specs.declared.routing.Routing.{Routing}
 
--- the routing is within its limits, and there are outboxes for its lanes
+-- the routing is within its limits, what is expected is of its media, and there are outboxes for its lanes
 pub record IsSorter {R : Type 0} (s : Sorter R) : Type 0 where
   pub routing : IsRouting s.routing
+  pub expected : AreExpected s.routing.media.now s.upcoming
   pub lanes : s.routing.lanes ≡ length s.outboxes.lanes.now
   pub are : AreOutboxes s.outboxes
 

@@ -1,7 +1,7 @@
 //! The intake of one file: it reads the file's records, and hands the packets of the session's media
 //! to the workers.
 
-ghost use Rattle.std.specs.Prelude.{◌≡◌, ◌≤◌, ◌<◌, ◌+◌, ◌*◌, ◌^◌, ◌∷◌, [], ℕ, List, None, Some, Bool, IfOk, MatchResult, if◌then◌else◌, length};
+ghost use Rattle.std.specs.Prelude.{◌≡◌, ◌≤◌, ◌<◌, ◌+◌, ◌*◌, ◌^◌, ◌∷◌, [], ℕ, List, None, Some, Bool, IfErr, IfOk, MatchResult, if◌then◌else◌, length};
 ghost use Rattle.timing_base.specs.Captures.{IsStamp, Record};
 ghost use Rattle.timing_base.specs.declared.capture.FileNote.{FileNote as NoteValue};
 ghost use Rattle.timing_base.specs.declared.capture.FileNote.TheVariants as file_note;
@@ -16,6 +16,7 @@ ghost use Rattle.flow_worker.specs.Settings.{IsIntake, setting_of};
 use crate::outboxes::Outboxes;
 use crate::routing::{Routing, deal, dealt_file};
 use crate::setting::RunSetting;
+use crate::upcoming::Upcoming;
 use pcap_reader::{MOST, PcapReader, Taker, take_records};
 use ruled_intake::{Halt, Lane, Raised, SendPass};
 use std::alloc::{AllocError as OutOfMemory, Global};
@@ -39,6 +40,7 @@ struct Sorter<'a, R: Wait> {
     rt: &'a R,
     alloc: Global,
     routing: Routing<'a>,
+    upcoming: Upcoming,
     outboxes: Outboxes<'a>,
 }
 
@@ -66,19 +68,45 @@ impl<R: Wait> Taker for Sorter<'_, R> {
 
     #[inline(always)]
     fn take(&mut self, number: u64, at: u64, frame: &[u8]) -> Result<(), OutOfMemory> {
-        let Some(packet) = self.routing.packet(number, at, frame) else {
+        // Most frames carry the packet that goes on in the flow whose turn it is: these aren't read.
+        if let Some(packet) = self.upcoming.take(number, at, frame) {
+            let lane = self.routing.lane(&packet);
+            return self.outboxes.put(self.rt, self.alloc, lane, packet);
+        }
+        self.take_other(number, at, frame)
+    }
+}
+
+impl<R: Wait> Sorter<'_, R> {
+    ghost use Rattle.flow_worker.specs.Expecting.{AreExpected};
+    ghost use Rattle.flow_worker.specs.Sorting.{HasRoom, LeavesOff, Sorts};
+
+    /// Takes a record, whatever its frame: it is read, and what goes on after its packet is then expected. `Err` is
+    /// want of memory.
+    #[cold]
+    #[inline(never)]
+    fn take_other(&mut self, number: u64, at: u64, frame: &[u8]) -> Result<(), OutOfMemory>
+        requires stamp { IsStamp at }
+        requires room { HasRoom number 1 self.old }
+        ensures room { (count : ℕ) → IfOk result (λ _. HasRoom number (count + 1) self.old
+            → HasRoom (number + 1) count self.new) }
+        ensures takes { IfOk result (λ _. Sorts self.old self.new
+            (record { number = number; stamp = at; bytes = frame.now } ∷ [])) }
+        ensures stops { IfErr result (λ _. LeavesOff self.old self.new
+            (record { number = number; stamp = at; bytes = frame.now } ∷ [])) }
+    {
+        let Some(packet) = self.routing.packet(number, at, frame, &mut self.upcoming) else {
             return Ok(());
         };
         let lane = self.routing.lane(&packet);
         self.outboxes.put(self.rt, self.alloc, lane, packet)
     }
-}
 
-impl<R: Wait> Sorter<'_, R> {
     /// Sends all of a reader that has answered no record: its packets, and the ends. Answers how the
     /// records end. `Err` is want of memory.
     fn send_file<S: Source>(&mut self, reader: &mut PcapReader<S>) -> Result<FileNote, OutOfMemory>
         requires begins { BeginsFile self.old.routing reader.old self.old.outboxes }
+        requires expected { AreExpected self.old.routing.media.now self.old.upcoming }
         ensures same { AreSame self.old.outboxes self.new.outboxes }
         ensures told { (items : List Record) (end : _) → WillGive S.left reader.old items end
             → MatchResult result
@@ -119,6 +147,8 @@ fn stop<'h, R: Wait, S: Source>(
     (done, Some(raised))
 }
 
+ghost use Rattle.flow_worker.specs.Expecting.{AreExpected};
+
 /// Sends all of a reader that has answered no record, and leaves what an intake leaves.
 fn take_file<'h, R: Wait, S: Source>(
     reader: PcapReader<S>,
@@ -126,6 +156,7 @@ fn take_file<'h, R: Wait, S: Source>(
     halt: &'h Halt,
 ) -> (IntakeDone<S>, Option<Raised<'h>>)
     requires begins { BeginsFile sorter.routing reader sorter.outboxes }
+    requires expected { AreExpected sorter.routing.media.now sorter.upcoming }
     ensures passes { AreOfFile sorter.entry.outboxes.file sorter.entry.outboxes.lanes.now result.0.passes.items }
     ensures told { (joined : Bool) (tai : ℕ) (items : List Record) (end : _)
         → sorter.entry.routing.file ≡ (if joined then 0 else sorter.entry.outboxes.file)
@@ -147,6 +178,7 @@ fn take_file<'h, R: Wait, S: Source>(
         rt,
         alloc: _,
         routing: _,
+        upcoming: _,
         outboxes,
     } = sorter;
     let source = reader.into_source();
@@ -223,6 +255,7 @@ pub fn intake<'h, R: Wait, S: Source, G: Gate>(
                 rt,
                 alloc,
                 routing,
+                upcoming: Upcoming::new(),
                 outboxes,
             };
             take_file(reader, sorter, halt)

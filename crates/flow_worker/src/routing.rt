@@ -6,6 +6,7 @@ ghost use Rattle.flow_worker.specs.Opening.{packet_from};
 ghost use Rattle.flow_worker.specs.Sending.{AreDealt};
 ghost use Rattle.flow_worker.specs.Targeted.{media_to};
 
+use crate::upcoming::Upcoming;
 use ruled_intake::Packet;
 use timing_base::{FlowKey, FlowPacket, Media, Target, route};
 use udp_rtp::{datagram, read_rtp};
@@ -63,25 +64,35 @@ fn find_media(media: &[Media], target: Target) -> Option<u32>
 }
 
 impl Routing<'_> {
+    ghost use Rattle.flow_worker.specs.Expecting.{AreExpected};
     ghost use Rattle.flow_worker.specs.Sending.{IsRouting, route_of};
 
     /// The packet that a record is of the first media that it goes to, if there is one: the record's
-    /// number from 1, its stamp in nanoseconds, and its frame.
-    #[inline(always)]
-    pub fn packet(&self, number: u64, at: u64, frame: &[u8]) -> Option<Packet>
+    /// number from 1, its stamp in nanoseconds, and its frame. It is learnt what is expected next of the media.
+    pub fn packet(
+        &self,
+        number: u64,
+        at: u64,
+        frame: &[u8],
+        upcoming: &mut Upcoming,
+    ) -> Option<Packet>
         requires media { length self.now.media.now ≤ 64 }
         requires number { number < 2 ^ 37 }
         requires at { IsStamp at }
         ensures packet { result ≡ packet_from 0 self.now.media.now
             (record { number = number; stamp = at; bytes = frame.now }) }
         ensures media { IfSome result (λ packet. packet.media < length self.now.media.now) }
+        ensures expected { AreExpected self.now.media.now upcoming.old
+            → AreExpected self.now.media.now upcoming.new }
     {
         let datagram = datagram(frame)?;
         let media = find_media(self.media, datagram.target)?;
+        let rtp = read_rtp(datagram.payload);
+        upcoming.learn(media, datagram.target, rtp);
         let packet = FlowPacket {
             rec: number,
             at,
-            rtp: read_rtp(datagram.payload),
+            rtp,
         };
         Some(Packet::new(media, packet))
     }

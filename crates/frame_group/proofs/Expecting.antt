@@ -6,7 +6,7 @@ use Rattle.timing_base.specs.Flows.{FirstFault, first_fault, has_marker}
 use Rattle.timing_base.specs.declared.packet.FlowPacket.{FlowPacket}
 use Rattle.timing_base.specs.declared.packet.PacketFault.{PacketFault}
 use Rattle.timing_base.specs.declared.packet.Rtp.{Rtp}
-use Rattle.frame_group.specs.Expected.{expected_after, going_on}
+use Rattle.frame_group.specs.Expected.{expected_after, going_on, is_nothing_expected}
 use Rattle.frame_group.specs.Reads.{ComesAfter, IsAfter}
 use Rattle.frame_group.specs.Stands.{StandsBefore, StandsFor, what}
 use Rattle.frame_group.specs.declared.before.Before.{Before}
@@ -86,3 +86,11 @@ pub some-after : (g : Grouper) (b : Before) (pt : ℕ) (packets : List FlowPacke
 some-after g b pt packets e m f s =
     let test : (b.marker || is_some g.fault) ≡ false = rw (m, f) refl in
     sym (ap (expects g.pt g.fault) e ∙ ap (λ (t : Bool). if t then None else Some (after g.pt b)) test) ∙ expected-is g pt packets s
+
+goes-so : (nothing : Bool) (p q : Rtp) → Some p ≡ (if nothing then None else Some q) → p ≡ q
+goes-so true p q e = cc
+goes-so false p q e = cc
+
+-- the packet that is expected goes on after the others
+pub expected-goes : (packets : List FlowPacket) (pt : ℕ) (p : Rtp) → Some p ≡ expected_after packets pt → p ≡ going_on packets pt (length packets)
+expected-goes packets pt p e = goes-so (is_nothing_expected packets pt) p (going_on packets pt (length packets)) e

@@ -1,5 +1,5 @@
 -- The packet that is expected after those of a flow: one that goes on in the frame or field of the last, as most do.
-use Rattle.std.specs.Prelude.{ℕ, ◌-◌, false, Bool, ◌==◌, ◌||◌, if◌then◌else◌, List, length, Option, Some, None, is_some}
+use Rattle.std.specs.Prelude.{ℕ, ◌-◌, false, Bool, ◌==◌, ◌||◌, if◌then◌else◌, List, length, Option, Some, None, Ok, is_some}
 use Rattle.timing_base.specs.Flows.{expected_number, first_fault, has_marker, rtp}
 use Rattle.timing_base.specs.declared.packet.FlowPacket.{FlowPacket}
 use Rattle.timing_base.specs.declared.packet.Rtp.{Rtp}
@@ -24,3 +24,7 @@ is_nothing_expected packets pt =
 abbrev pub expected_after : List FlowPacket → ℕ → Option Rtp
 expected_after packets pt =
     if is_nothing_expected packets pt then None else Some (going_on packets pt (length packets))
+
+-- the packet that goes on after these, of this record and captured at this instant
+abbrev pub next_packet : List FlowPacket → (pt rec at : ℕ) → FlowPacket
+next_packet packets pt rec at = record { rec = rec; at = at; rtp = Ok (going_on packets pt (length packets)) }

@@ -1,12 +1,12 @@
 //! The grouper.
 
-ghost use Rattle.std.specs.Prelude.{◌≡◌, ◌≤◌, ◌<◌, ◌+◌, ◌^◌, ◌++◌, ◌∷◌, [], ℕ, List, Ok, None, true, false, length, IfOk, IfSome};
+ghost use Rattle.std.specs.Prelude.{◌≡◌, ◌≤◌, ◌<◌, ◌+◌, ◌^◌, ◌++◌, ◌∷◌, [], ℕ, List, Ok, None, Some, true, false, length, IfOk, IfSome};
 ghost use Rattle.std.specs.Option.{ForSome};
 ghost use Rattle.timing_base.specs.declared.packet.FlowPacket.{FlowPacket};
 ghost use Rattle.timing_base.specs.Flows.{cuts, fault, fault_if, first_of, is_second_source, markers_before, order_fault};
 ghost use Rattle.timing_base.specs.declared.packet.PacketFault.TheVariants.{SecondSource};
 ghost use Rattle.frame_group.specs.Cuts.{answer_at, cut_at};
-ghost use Rattle.frame_group.specs.Expected.{expected_after};
+ghost use Rattle.frame_group.specs.Expected.{expected_after, going_on, next_packet};
 
 use crate::before::Before;
 use crate::group::Group;
@@ -255,6 +255,35 @@ impl Grouper {
         }
         self.go_on(at, rtp);
         true
+    }
+
+    /// Takes the packet that [`Grouper::expected`] answers, captured at `at` in nanoseconds, as [`Grouper::feed`] does,
+    /// and answers that it did, if that packet stands in a group and has no fault. Else nothing changes: where none is
+    /// expected, too.
+    #[inline(always)]
+    pub fn feed_expected(&mut self, at: u64) -> bool
+        requires few { count_fed self.old < 2 ^ 41 }
+
+        ensures other { result ≡ false → self.new ≡ self.old }
+        ensures fed { result ≡ true → count_fed self.new ≡ count_fed self.old + 1 }
+        ensures expects { result ≡ true → (pt : ℕ) (packets : List FlowPacket) → StandsFor pt self.old packets
+            → expected_after packets pt ≡ Some (going_on packets pt (length packets)) }
+
+        // No gap stands before the packet in any flow that begins with the packets before it and goes on
+        // so, and it has no fault.
+        ensures answer { result ≡ true → (pt : ℕ) (packets rest : List FlowPacket) (rec : ℕ)
+            → StandsFor pt self.old packets → Ok None ≡ answer_at
+            (packets ++ next_packet packets pt rec at ∷ rest) pt (length packets) }
+
+        // Whatever packets the grouper stood for, it now stands for those and the one expected.
+        ensures stands { result ≡ true → (pt : ℕ) (packets : List FlowPacket) (rec : ℕ)
+            → StandsFor pt self.old packets
+            → StandsFor pt self.new (packets ++ next_packet packets pt rec at ∷ []) }
+    {
+        let Some(expected) = self.expected() else {
+            return false;
+        };
+        self.feed_on(at, expected)
     }
 
     /// Takes the next packet of the flow, captured at `at` in nanoseconds. Where a gap in the packet

@@ -93,18 +93,3 @@ grid-same m n anchor gapped same g h eg eh is =
 -- the limit of a sender type under another name
 pub full-is : (m : Media) (n : ℕ) (kind same : Kind) (full : ℕ) → kind ≡ same → full ≡ vrx_full_of m n kind → full ≡ vrx_full_of m n same
 full-is m n kind same full e is = is ∙ ap (vrx_full_of m n) e
-
--- the number of the read that makes room, after one packet more
-pub freeing-number : (count long seen full most before after : ℕ)
-    → long ≡ count + 1
-    → before ≡ count - most
-    → seen ≡ count + 1
-    → full ≡ most
-    → (seen ≤ full → after ≡ before)
-    → (full < seen → after ≡ before + 1)
-    → after ≡ long - most
-freeing-number count long seen full most before after el eb es ef room more =
-    elim (cases_lt full seen) as (λ _. after ≡ long - most) [
-      | inl many ↦ omega (arith, el, eb, es, ef, many, more many)
-      | inr few ↦ omega (arith, el, eb, es, ef, few, room few)
-    ]

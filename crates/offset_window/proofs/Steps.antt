@@ -9,11 +9,17 @@ use Rattle.read_schedule.specs.Parts.{parts_at, parts_of}
 use Rattle.read_schedule.specs.declared.grid.Grid.{Grid}
 use Rattle.offset_window.specs.Parts.{comes_after, comes_before, parts_with}
 
--- the parts of 2^41 reads fit 116 bits
-pub parts_at-small : (g : Grid) (x : ℕ) → x < 2 ^ 41 → parts_at g x < 2 ^ 116
+-- the parts of 2^64 reads fit 116 bits
+pub parts_at-small : (g : Grid) (x : ℕ) → x < 2 ^ 64 → parts_at g x < 2 ^ 116
 parts_at-small g x few =
-    let whole = groups-small g.n g.group x g.group_small (omega (arith, few)) in
+    let whole = groups-small g.n g.group x g.group_small few in
     omega (arith, whole, place-small g.n g.step x g.n_some g.n_most g.step_small, g.start_small)
+
+-- and an offset fits 90
+pub offset-small : (micros den : ℕ) → micros < 2 ^ 32 → den < 2 ^ 48 → 1000 * micros * den ≤ 2 ^ 90
+offset-small micros den few small =
+    let scaled : micros * den ≤ 2 ^ 32 * den = mul-le-mul_right den (omega (arith, few)) in
+    omega (arith, scaled, small)
 
 -- an instant less so many microseconds, in parts
 pub reached-is : (micros at den before : ℕ)

@@ -5,3 +5,4 @@ pub mod Worked
 -- these only serve proofs
 pub mod Parts
 pub mod Moves
+pub mod Quiets

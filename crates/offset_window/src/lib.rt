@@ -7,6 +7,7 @@
 
 pub mod laws;
 mod meter;
+mod quiet;
 mod read;
 mod window;
 

@@ -7,7 +7,9 @@ ghost use Rattle.sender_params.specs.Reads.{anchor_of};
 ghost use Rattle.timing_base.specs.declared.media.Kind.{Kind};
 ghost use Rattle.offset_window.specs.Moves.{IsLowerBy, IsUpperBy, MovesBy};
 ghost use Rattle.offset_window.specs.Parts.{comes_after, comes_before};
+ghost use Rattle.offset_window.specs.Quiets.{IsQuiet, early_of, late_of};
 
+use crate::quiet::Quiet;
 use crate::read::{MOST, Read};
 use crate::window::{Window, WindowEnd};
 use read_schedule::Grid;
@@ -21,15 +23,15 @@ pub struct WindowMeter {
     pub kind: Kind,
     /// The packets fed.
     pub seen: u64,
-    /// The next packet's own read: it may not be before the packet.
-    own: Read,
-    /// The read VRX_FULL packets before it: it may not be after the packet.
-    freeing: Read,
+    /// The reads of the flow's packets, with the offset 0. A packet's own read may not be before it, and the read
+    /// VRX_FULL packets before that not after it.
+    grid: Grid,
     lower: WindowEnd,
     upper: WindowEnd,
+    /// The packets to come that move neither end.
+    quiet: Quiet,
     ghost few: { seen ≤ 2 ^ 40 },
-    ghost own_is: { own.number ≡ seen },
-    ghost freeing_most: { freeing.number ≤ seen },
+    ghost quiet_is: { seen < quiet.until → IsQuiet grid (late_of lower) (early_of upper) seen quiet },
 }
 
 impl WindowMeter {
@@ -45,12 +47,10 @@ impl WindowMeter {
         ensures seen { result.seen ≡ 0 }
         ensures stands { StandsFor params.now kind n0 result [] }
     {
-        let read = Read::first(Grid::without_offset(params, is_gapped(kind), n0));
         WindowMeter {
             kind,
             seen: 0,
-            own: read,
-            freeing: read,
+            grid: Grid::without_offset(params, is_gapped(kind), n0),
             lower: WindowEnd::At {
                 micros: 0,
                 binding: None,
@@ -59,6 +59,7 @@ impl WindowMeter {
                 micros: MOST,
                 binding: None,
             },
+            quiet: Quiet::over(),
         }
     }
 
@@ -66,6 +67,7 @@ impl WindowMeter {
     /// come and the read is done (SMPTE ST 2110-21, virtual receiver buffer; this project's profile).
     ///
     /// Feed one meter with one `Params` alone, that of `new`: `stands` says nothing of others.
+    #[inline(always)]
     pub fn feed(&mut self, params: &Params, at: u64)
         requires in_time { at < 2 ^ 62 }
         requires few { self.old.seen < 2 ^ 40 }
@@ -77,10 +79,12 @@ impl WindowMeter {
             → StandsFor params.now kind anchor self.old stamps
             → StandsFor params.now kind anchor self.new (stamps ++ at ∷ []) }
     {
-        raise(&mut self.lower, &self.own, self.seen, at);
-        self.own.advance();
-        self.seen += 1;
-        self.fill(params.vrx_full(self.kind), at);
+        if self.quiet.has(self.seen, at) {
+            self.seen += 1;
+            self.quiet.go_on();
+        } else {
+            self.measure(params.vrx_full(self.kind), at);
+        }
     }
 
     /// The window of the packets that were fed, where the first of them is of the group that `new` was
@@ -96,29 +100,69 @@ impl WindowMeter {
         }
     }
 
-    /// The last packet came at `at` to a buffer that may hold so many: the upper end goes down where it
-    /// held more.
-    #[inline(always)]
-    fn fill(&mut self, full: u64, at: u64)
+    /// Puts in the packet that came at `at`, to a buffer that may hold so many, and looks how far the packets to come
+    /// move neither end.
+    #[cold]
+    #[inline(never)]
+    fn measure(&mut self, full: u64, at: u64)
         requires in_time { at < 2 ^ 62 }
-        requires behind { self.old.freeing.number < self.old.seen }
+        requires few { self.old.seen < 2 ^ 40 }
         ensures kind { self.new.kind ≡ self.old.kind }
-        ensures seen { self.new.seen ≡ self.old.seen }
-        ensures own { self.new.own ≡ self.old.own }
-        ensures lower { self.new.lower ≡ self.old.lower }
-        ensures grid { self.new.freeing.grid ≡ self.old.freeing.grid }
-        ensures room { self.old.seen ≤ full → (self.new.freeing ≡ self.old.freeing)
-            × (self.new.upper ≡ self.old.upper) }
-        ensures number { full < self.old.seen → self.new.freeing.number ≡ self.old.freeing.number + 1 }
-        ensures moves { full < self.old.seen
-            → let broken = comes_before self.old.freeing.grid self.old.freeing.number at in
-            MovesBy (IsUpperBy broken (self.old.seen - 1)) broken self.old.upper self.new.upper }
+        ensures grid { self.new.grid ≡ self.old.grid }
+        ensures seen { self.new.seen ≡ self.old.seen + 1 }
+        ensures back { self.new.seen < self.new.quiet.until → self.new.quiet.back ≡ full }
+        ensures lower { let broken = comes_after self.old.grid self.old.seen at in
+            MovesBy (IsLowerBy broken self.old.seen) broken self.old.lower self.new.lower }
+        ensures room { self.old.seen < full → self.new.upper ≡ self.old.upper }
+        ensures moves { full ≤ self.old.seen → let broken = comes_before self.old.grid (self.old.seen - full) at in
+            MovesBy (IsUpperBy broken self.old.seen) broken self.old.upper self.new.upper }
     {
-        if self.seen <= full {
-            return;
-        }
-        sink(&mut self.upper, &self.freeing, self.seen - 1, at);
-        self.freeing.advance();
+        let mut lower = self.lower;
+        raise(&mut lower, &Read::of(self.grid, self.seen), self.seen, at);
+        let mut upper = self.upper;
+        fill(&mut upper, &self.grid, full, self.seen, at);
+        let seen = self.seen + 1;
+        let quiet = Quiet::after(&self.grid, late_of(&lower), early_of(&upper), full, seen);
+        *self = WindowMeter {
+            kind: self.kind,
+            seen,
+            grid: self.grid,
+            lower,
+            upper,
+            quiet,
+        };
+    }
+}
+
+/// The upper end goes down for this packet, which came at `at` to a buffer that may hold so many, where it held more.
+fn fill(end: &mut WindowEnd, grid: &Grid, full: u64, packet: u64, at: u64)
+    requires { at < 2 ^ 62 }
+    ensures room { packet < full → end.new ≡ end.old }
+    ensures moves { full ≤ packet → let broken = comes_before grid.now (packet - full) at in
+        MovesBy (IsUpperBy broken packet) broken end.old end.new }
+{
+    if full <= packet {
+        sink(end, &Read::of(*grid, packet - full), packet, at);
+    }
+}
+
+/// The offset with which no packet may come after its own read, for the lower end to stay.
+fn late_of(end: &WindowEnd) -> u32
+    ensures { result ≡ late_of end.now }
+{
+    match *end {
+        WindowEnd::Absent => MOST,
+        WindowEnd::At { micros, .. } => micros,
+    }
+}
+
+/// The offset with which no packet may come before the read that makes room for it, for the upper end to stay.
+fn early_of(end: &WindowEnd) -> u32
+    ensures { result ≡ early_of end.now }
+{
+    match *end {
+        WindowEnd::Absent => 0,
+        WindowEnd::At { micros, .. } => micros,
     }
 }
 

@@ -8,7 +8,7 @@ use read_schedule::{BEFORE, Grid};
 /// The greatest offset, in microseconds.
 pub const MOST: u32 = 1_000_000;
 
-/// A read of a schedule, which goes on from one to the next.
+/// A read of a schedule.
 #[derive(Clone, Copy, Debug, PartialEq, Eq)]
 pub struct Read {
     /// The reads of the schedule.
@@ -25,48 +25,37 @@ pub struct Read {
 
 impl Read {
     ghost use Rattle.read_schedule.specs.Parts.{parts_of};
-    ghost use Rattle.offset_window.specs.Parts.{comes_after, comes_before};
+    ghost use Rattle.offset_window.specs.Parts.{comes_after, comes_before, parts_with};
 
-    /// Read 0.
-    pub fn first(grid: Grid) -> Read
+    /// The read of this number.
+    pub fn of(grid: Grid, number: u64) -> Read
         ensures grid { result.grid ≡ grid }
-        ensures number { result.number ≡ 0 }
+        ensures number { result.number ≡ number }
     {
+        let place = number % grid.n;
+        let group = u128::from(number / grid.n) * grid.group;
+        let within = u128::from(place) * u128::from(grid.step);
         Read {
             grid,
-            number: 0,
-            place: 0,
-            at: grid.start,
+            number,
+            place,
+            at: grid.start + group + within,
         }
     }
 
-    /// Goes on to the next read.
-    #[inline(always)]
-    pub fn advance(&mut self)
-        requires { self.old.number < 2 ^ 41 }
-        ensures grid { self.new.grid ≡ self.old.grid }
-        ensures number { self.new.number ≡ self.old.number + 1 }
+    /// Where it is with this offset, in parts.
+    pub fn with(&self, micros: u32) -> u128
+        ensures value { result ≡ parts_with self.now.grid micros self.now.number }
+        ensures small { result < 2 ^ 117 }
     {
-        if self.place + 1 == self.grid.n {
-            return self.advance_group();
-        }
-        self.at += u128::from(self.grid.step);
-        self.place += 1;
-        self.number += 1;
+        self.at + 1000 * u128::from(micros) * u128::from(self.grid.den)
     }
 
-    /// Goes on from the last read of a group to the first of the next.
-    #[cold]
-    #[inline(never)]
-    fn advance_group(&mut self)
-        requires few { self.old.number < 2 ^ 41 }
-        requires last { self.old.place + 1 ≡ self.old.grid.n }
-        ensures grid { self.new.grid ≡ self.old.grid }
-        ensures number { self.new.number ≡ self.old.number + 1 }
+    /// The packets for which the next reads are of its group.
+    pub fn left(&self) -> u64
+        ensures { self.now.number % self.now.grid.n + result + 1 ≡ self.now.grid.n }
     {
-        self.at += self.grid.turn();
-        self.place = 0;
-        self.number += 1;
+        self.grid.n - 1 - self.place
     }
 
     /// The instant so many microseconds before `at`, in parts.

@@ -1,6 +1,6 @@
 //! The arrivals of a page.
 
-ghost use Rattle.std.specs.Prelude.{◌≡◌, ◌≢◌, ◌≤◌, ◌<◌, ℕ, None, Some, OnOk};
+ghost use Rattle.std.specs.Prelude.{◌≡◌, ◌≢◌, ◌≤◌, ◌<◌, ◌+◌, ◌^◌, ℕ, None, Some, IfOk, OnOk};
 
 use crate::arrival::Arrival;
 use std::alloc::{AllocError as OutOfMemory, Global};
@@ -28,6 +28,18 @@ impl Arrivals {
         }
     }
 
+    /// No arrival, and room for so many.
+    ///
+    /// `Err` is want of memory.
+    pub fn with_room(alloc: Global, count: usize) -> Result<Arrivals, OutOfMemory>
+        ensures none { IfOk result (λ arrivals. (place : ℕ) → arrival_at arrivals place ≡ None) }
+    {
+        Ok(Arrivals {
+            from: 0,
+            items: Vec::with_capacity(alloc, count)?,
+        })
+    }
+
     /// The arrival at a place.
     #[inline(always)]
     pub fn get(&self, place: u32) -> Option<Arrival>
@@ -37,6 +49,25 @@ impl Arrivals {
             return None;
         }
         self.items.get((place - self.from) as usize).copied()
+    }
+
+    /// Keeps the arrival of this index, which is not the next one.
+    ///
+    /// `Err` is want of memory.
+    #[cold]
+    #[inline(never)]
+    fn keep_apart(&mut self, index: usize, arrival: Arrival) -> Result<(), OutOfMemory>
+        requires { index < 2 ^ 32 }
+        ensures here { OnOk result (arrival_at self.new (self.old.from + index) ≡ Some arrival) }
+        ensures others { OnOk result ((i : ℕ) (x : Arrival) → i ≢ self.old.from + index
+            → arrival_at self.old i ≡ Some x → arrival_at self.new i ≡ Some x) }
+    {
+        if index < self.items.len() {
+            self.items[index] = arrival;
+            Ok(())
+        } else {
+            self.items.resize(index + 1, arrival)
+        }
     }
 
     /// Keeps an arrival at a place that is not below the least.
@@ -50,12 +81,11 @@ impl Arrivals {
             → arrival_at self.old i ≡ Some x → arrival_at self.new i ≡ Some x) }
     {
         let index = (place - self.from) as usize;
-        if index < self.items.len() {
-            self.items[index] = arrival;
-            Ok(())
-        } else {
-            self.items.resize(index + 1, arrival)
+        if index == self.items.len() {
+            self.items.push(arrival)?;
+            return Ok(());
         }
+        self.keep_apart(index, arrival)
     }
 
     /// Keeps an arrival at a place below the least.

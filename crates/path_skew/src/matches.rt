@@ -1,14 +1,12 @@
 //! The numbers that stand in both flows.
 
-ghost use Rattle.std.specs.Prelude.{◌≡◌, ◌<◌, ◌+◌, ◌^◌, ◌-ℤ◌, pos, ◌++◌, ◌∷◌, List, None, if◌then◌else◌};
-ghost use Rattle.path_skew.specs.Pair as orders;
-ghost use Rattle.path_skew.specs.Pair.{earlier_of, record_cmp};
+ghost use Rattle.std.specs.Prelude.{◌≡◌, ◌<◌, ◌+◌, ◌^◌, ◌-ℤ◌, pos, ◌++◌, ◌∷◌, List, None, Some};
+ghost use Rattle.path_skew.specs.Pair.{earlier_of, falling, record_cmp, rising};
 ghost use Rattle.std.specs.Ordering.{is_gt};
 ghost use Rattle.path_skew.specs.declared.row.Extreme.{Extreme};
 
 use crate::arrival::Arrival;
 use crate::row::Extreme;
-use std::cmp::Ordering;
 
 /// The skews of the matched numbers so far: how many there are, and the extreme ones.
 #[derive(Clone, Copy, Debug)]
@@ -53,8 +51,8 @@ impl Matches {
     {
         let extreme = extreme_of(first, second);
         self.matched += 1;
-        self.least = Some(least(extreme, self.least));
-        self.greatest = Some(greatest(extreme, self.greatest));
+        keep_least(extreme, &mut self.least);
+        keep_greatest(extreme, &mut self.greatest);
     }
 }
 
@@ -74,61 +72,53 @@ fn extreme_of(first: Arrival, second: Arrival) -> Extreme
     }
 }
 
-/// The order of two extremes of equal skew.
+/// Whether an extreme comes after another of equal skew, by their records.
 #[inline(always)]
-fn by_records(extreme: &Extreme, other: &Extreme) -> Ordering
-    ensures { result ≡ record_cmp extreme.now other.now }
+fn is_later(extreme: &Extreme, other: &Extreme) -> bool
+    ensures { result ≡ is_gt (record_cmp extreme.now other.now) }
 {
-    extreme
-        .first_rec
-        .cmp(&other.first_rec)
-        .then(extreme.second_rec.cmp(&other.second_rec))
+    extreme.first_rec > other.first_rec
+        || extreme.first_rec == other.first_rec && extreme.second_rec > other.second_rec
 }
 
-/// The order of skews by which the least comes first.
+/// Whether an extreme comes after another in the order in which the least skew comes first.
 #[inline(always)]
-fn rising(extreme: &Extreme, other: &Extreme) -> Ordering
-    ensures { result ≡ orders.rising extreme.now other.now }
+fn is_above(extreme: &Extreme, other: &Extreme) -> bool
+    ensures { result ≡ is_gt (rising extreme.now other.now) }
 {
-    let records = by_records(extreme, other);
-    extreme.skew.cmp(&other.skew).then(records)
+    extreme.skew > other.skew || extreme.skew == other.skew && is_later(extreme, other)
 }
 
-/// The order of skews by which the greatest comes first.
+/// Whether an extreme comes after another in the order in which the greatest skew comes first.
 #[inline(always)]
-fn falling(extreme: &Extreme, other: &Extreme) -> Ordering
-    ensures { result ≡ orders.falling extreme.now other.now }
+fn is_below(extreme: &Extreme, other: &Extreme) -> bool
+    ensures { result ≡ is_gt (falling extreme.now other.now) }
 {
-    let records = by_records(extreme, other);
-    other.skew.cmp(&extreme.skew).then(records)
+    extreme.skew < other.skew || extreme.skew == other.skew && is_later(extreme, other)
 }
 
-/// The one of two that comes first, where `order` is theirs.
+/// Keeps the least skew of one more and those before, and of equal ones that of the least record.
 #[inline(always)]
-fn earlier(extreme: Extreme, other: Extreme, order: Ordering) -> Extreme
-    ensures { result ≡ (if is_gt order then other else extreme) }
+fn keep_least(extreme: Extreme, least: &mut Option<Extreme>)
+    ensures { least.new ≡ Some (earlier_of rising extreme least.old) }
 {
-    if order.is_gt() { other } else { extreme }
-}
-
-/// The least skew of one more and those before, and of equal ones that of the least record.
-#[inline(always)]
-fn least(extreme: Extreme, before: Option<Extreme>) -> Extreme
-    ensures { result ≡ earlier_of orders.rising extreme before }
-{
-    match before {
-        Some(before) => earlier(extreme, before, rising(&extreme, &before)),
-        None => extreme,
+    if let Some(before) = least
+        && is_above(&extreme, before)
+    {
+        return;
     }
+    *least = Some(extreme);
 }
 
-/// The greatest skew of one more and those before, and of equal ones that of the least record.
+/// Keeps the greatest skew of one more and those before, and of equal ones that of the least record.
 #[inline(always)]
-fn greatest(extreme: Extreme, before: Option<Extreme>) -> Extreme
-    ensures { result ≡ earlier_of orders.falling extreme before }
+fn keep_greatest(extreme: Extreme, greatest: &mut Option<Extreme>)
+    ensures { greatest.new ≡ Some (earlier_of falling extreme greatest.old) }
 {
-    match before {
-        Some(before) => earlier(extreme, before, falling(&extreme, &before)),
-        None => extreme,
+    if let Some(before) = greatest
+        && is_below(&extreme, before)
+    {
+        return;
     }
+    *greatest = Some(extreme);
 }

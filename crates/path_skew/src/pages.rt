@@ -183,21 +183,35 @@ impl Pages {
         }
     }
 
-    /// Opens a page that isn't there, and answers its place.
+    /// Whether a flow had all numbers of the page at this place.
+    fn is_full(&self, place: usize) -> bool {
+        match self.pages.get_index(place) {
+            Some((_, page)) => page.first == u64::MAX || page.second == u64::MAX,
+            None => false,
+        }
+    }
+
+    /// Opens a page that isn't there, and answers its place. Where `room` is said, it has room for the
+    /// arrivals of all its numbers.
     ///
     /// `Err` is want of memory.
     #[cold]
     #[inline(never)]
-    fn open(&mut self, page: u32) -> Result<usize, OutOfMemory>
+    fn open(&mut self, page: u32, room: bool) -> Result<usize, OutOfMemory>
         requires { get nat_eq self.old.pages page ≡ None }
         ensures at { IfOk result (HasPage self.new page) }
         ensures same { OnOk result ((side : Side) → IsSame (view side self.old) (view side self.new)) }
     {
         let place = self.pages.len();
+        let arrivals = if room {
+            Arrivals::with_room(self.alloc, NUMBERS as usize)?
+        } else {
+            Arrivals::new(self.alloc)
+        };
         let empty = Page {
             first: 0,
             second: 0,
-            arrivals: Arrivals::new(self.alloc),
+            arrivals,
         };
         self.pages.insert(page, empty)?;
         Ok(place)
@@ -217,11 +231,13 @@ impl Pages {
     /// Leaves the page at the place `near` for this one, and answers its place.
     ///
     /// `Err` is want of memory.
+    #[cold]
     #[inline(never)]
     fn turn(&mut self, near: usize, page: u32) -> Result<usize, OutOfMemory>
         ensures at { IfOk result (HasPage self.new page) }
         ensures same { OnOk result ((side : Side) → IsSame (view side self.old) (view side self.new)) }
     {
+        let full = self.is_full(near);
         self.release(near);
         let next = near.saturating_add(1);
         if self.is_at(next, page) {
@@ -229,22 +245,22 @@ impl Pages {
         }
         match self.pages.get_index_of(&page) {
             Some(place) => Ok(place),
-            None => self.open(page),
+            None => self.open(page, full),
         }
     }
 
-    /// The place of this page, which is looked for first at the place `near`.
+    /// Comes to the page of a number, which is looked for first at the place `near`. That becomes its own.
     ///
     /// `Err` is want of memory.
     #[inline(always)]
-    fn place_of(&mut self, near: usize, page: u32) -> Result<usize, OutOfMemory>
-        ensures at { IfOk result (HasPage self.new page) }
+    fn come_to(&mut self, near: &mut usize, page: u32) -> Result<(), OutOfMemory>
+        ensures at { OnOk result (HasPage self.new page near.new) }
         ensures same { OnOk result ((side : Side) → IsSame (view side self.old) (view side self.new)) }
     {
-        if self.is_at(near, page) {
-            return Ok(near);
+        if !self.is_at(*near, page) {
+            *near = self.turn(*near, page)?;
         }
-        self.turn(near, page)
+        Ok(())
     }
 
     /// Takes a packet of this side with this number. The page of the number is looked for first at the
@@ -261,9 +277,8 @@ impl Pages {
     ) -> Result<Found, OutOfMemory>
         ensures meets { IfOk result (Meets (view side self.old) (view side self.new) number arrival) }
     {
-        let place = self.place_of(*near, number / NUMBERS)?;
-        *near = place;
-        let (_, page) = self.pages.pair_mut(place);
+        self.come_to(near, number / NUMBERS)?;
+        let (_, page) = self.pages.pair_mut(*near);
         page.meet(side, number % NUMBERS, arrival)
     }
 }

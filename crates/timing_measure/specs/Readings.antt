@@ -58,8 +58,8 @@ SecondEnds stands ends f end = Comes stands ends f.taker end
 
 -- what is told of a flow, where none of its runs is judged
 abbrev pub IsToldOf : {E : Type 0} → Ending E → Seen → E → Type 0
-IsToldOf ends seen end = (m : Media) (number tai : ℕ) (packets : List FlowPacket) → IsFirst m number tai packets seen.flow
-    → judged_parts m packets tai ≡ [] → ends m number tai packets end
+IsToldOf ends seen end = (m : Media) (number tai : ℕ) (packets : List FlowPacket)
+    → IsFirst m number tai packets seen.flow → judged_parts m packets tai ≡ [] → ends m number tai packets end
 
 -- some flow isn't as it was found
 pub record AreChanged {T : Type 0} (stands : Taking T) (flows : List (FlowOf (Again T))) : Type 0 where

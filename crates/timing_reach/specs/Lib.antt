@@ -15,4 +15,5 @@ pub mod window
 pub mod shape
 pub mod skew
 pub mod scan
+-- what is promised of this module
 pub mod steps

@@ -5,6 +5,11 @@
 //! `window` measures a flow while it is judged. For `shape` a flow is judged first, and where that comes to one run
 //! its capture is read a second time. Captures, media and judged packets count from 0, and records from 1; stamps
 //! are nanoseconds.
+//!
+//! - `judged`: what commands over one flow share.
+//! - `laws`: texts have one answer; what `shape` writes is read back; answers worked by hand.
+//! - `scan`, `shape`, `skew`, `window`: these commands.
+//! - `steps`: what every command of the analyser does: it fetches, takes records and prints.
 #![tactic(auto)]
 
 pub mod judged;

@@ -1,5 +1,8 @@
 //! What the analyser prints, and how a run ends: texts and statuses as values, made whole before
-//! they are written.
+//! they are written. Here are the report as lines, verdicts, and statuses with their lines.
+//!
+//! - `json_report`: the report as JSON, and the fails that are read of one.
+//! - `laws`: what follows of the definitions, and rows worked by hand.
 //!
 //! Captures, media and runs count from 0 in values and from 1 in texts; the records of a capture
 //! count from 1 everywhere, and the packets of a judged run from 0.

@@ -11,4 +11,5 @@ pub mod Exact
 pub mod ReadBack
 -- what judging and reporting say to each other
 pub mod Found
+-- what is promised of this module
 pub mod verify

@@ -2,6 +2,9 @@
 //!
 //! [`run`] reads the words and does what they ask for, over a shelf of texts and two sinks. What is
 //! printed, and why there is nothing, is its contract.
+//!
+//! - `laws`: the headline, and what else follows of that contract.
+//! - `verify`: `verify` and `verify-report`, which check fails that are claimed.
 #![tactic(auto)]
 
 mod alone;

@@ -5,5 +5,5 @@ mod Cutting
 mod Decimals
 mod DraftLines
 mod DraftParts
-mod DraftFaults
-mod Drafted
+pub mod DraftFaults
+pub mod Drafted

@@ -1,4 +1,4 @@
-mod Filling
-mod Numbering
-mod Grouping
-mod Rowing
+pub mod Filling
+pub mod Numbering
+pub mod Grouping
+pub mod Rowing

@@ -1,4 +1,4 @@
-mod Feeding
-mod Around
-mod Finishing
-mod ByHand
+pub mod Feeding
+pub mod Around
+pub mod Finishing
+pub mod ByHand

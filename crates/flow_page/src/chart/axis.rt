@@ -41,7 +41,7 @@ pub(crate) fn round_up(wanted: u64) -> u64
 }
 
 /// The greatest multiple of the step that isn't above the least number.
-#[tactic(auto, unfolding(crate::chart::specs::Axes::low_at))]
+#[tactic(auto, unfolding(crate::specs::chart::Axes::low_at))]
 fn low_at(least: i64, step: u64) -> i64
     requires low { neg_ℤ (pos (2 ^ 61)) ≤ℤ least }
     requires high { least ≤ℤ pos (2 ^ 61) }
@@ -55,7 +55,7 @@ fn low_at(least: i64, step: u64) -> i64
 }
 
 /// The steps from the low end up to the greatest number, three at least and eight at most.
-#[tactic(auto, unfolding(crate::chart::specs::Axes::steps_at))]
+#[tactic(auto, unfolding(crate::specs::chart::Axes::steps_at))]
 fn steps_at(low: i64, greatest: i64, step: u64) -> u32
     requires { 1 ≤ step }
     ensures value { result ≡ steps_at low greatest step }
@@ -66,7 +66,7 @@ fn steps_at(low: i64, greatest: i64, step: u64) -> u32
 
 impl Axis {
     /// From one tick to the next, for numbers from the least to the greatest.
-    #[tactic(auto, unfolding(crate::chart::specs::Axes::step_of))]
+    #[tactic(auto, unfolding(crate::specs::chart::Axes::step_of))]
     fn step_of(least: i64, greatest: i64) -> u64
         requires low { neg_ℤ (pos (2 ^ 61)) ≤ℤ least }
         requires ordered { least ≤ℤ greatest }

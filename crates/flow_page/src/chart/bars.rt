@@ -84,7 +84,7 @@ fn bar_style(name: BarName) -> &'static str
 }
 
 /// The x that is so many tenths of a bar's place from its left end; bars count from 0.
-#[tactic(auto, unfolding(crate::chart::specs::Bars::bar_x))]
+#[tactic(auto, unfolding(crate::specs::chart::Bars::bar_x))]
 fn bar_x(plot: Plot, bar: usize, tenth: u32) -> Tenths
     ensures { result ≡ tenths (bar_x plot bar tenth) }
 {
@@ -95,7 +95,7 @@ fn bar_x(plot: Plot, bar: usize, tenth: u32) -> Tenths
 }
 
 /// Writes a bar from the bottom up to its count, with both in words.
-#[tactic(auto, unfolding(crate::chart::specs::Bars::bar_piece))]
+#[tactic(auto, unfolding(crate::specs::chart::Bars::bar_piece))]
 fn write_bar(
     text: &mut String,
     left: Tenths,
@@ -128,7 +128,7 @@ fn add_shape(text: &mut String, plot: Plot, k: usize, bar: Bar) -> Result<(), Ou
 }
 
 /// So many bars take sixty units, as eight digits do.
-#[tactic(auto, unfolding(crate::chart::specs::Bars::label_step))]
+#[tactic(auto, unfolding(crate::specs::chart::Bars::label_step))]
 fn label_step(plot: Plot) -> u128
     ensures value { result ≡ label_step plot }
     ensures some { 1 ≤ result }
@@ -138,7 +138,7 @@ fn label_step(plot: Plot) -> u128
 }
 
 /// Writes what is told in the middle of a bar.
-#[tactic(auto, unfolding(crate::chart::specs::Bars::bar_label))]
+#[tactic(auto, unfolding(crate::specs::chart::Bars::bar_label))]
 fn write_label(
     text: &mut String,
     middle: Tenths,
@@ -156,7 +156,7 @@ fn write_label(
 
 /// Whether a bar has its name below it: the first and the last one do, and each of so many that isn't nearer than
 /// that to the last one.
-#[tactic(auto, unfolding(crate::chart::specs::Bars::has_name))]
+#[tactic(auto, unfolding(crate::specs::chart::Bars::has_name))]
 fn has_name(plot: Plot, k: usize) -> bool
     ensures { result ≡ has_name plot k }
 {
@@ -178,7 +178,7 @@ fn add_some_label(text: &mut String, plot: Plot, k: usize, bar: Bar) -> Result<(
 }
 
 /// How many tenths of a percent of all a bar counts, rounded down.
-#[tactic(auto, unfolding(crate::chart::specs::Bars::share_of))]
+#[tactic(auto, unfolding(crate::specs::chart::Bars::share_of))]
 fn share_of(total: u64, count: u64) -> u128
     ensures { result ≡ share_of total count }
 {
@@ -212,7 +212,7 @@ fn add_some_share(
 }
 
 /// Writes the line of a limit.
-#[tactic(auto, unfolding(crate::chart::specs::Bars::limit_line))]
+#[tactic(auto, unfolding(crate::specs::chart::Bars::limit_line))]
 fn write_limit_line(
     text: &mut String,
     x: Tenths,
@@ -226,7 +226,7 @@ fn write_limit_line(
 }
 
 /// Writes the number of a limit to the left of its line.
-#[tactic(auto, unfolding(crate::chart::specs::Bars::limit_number))]
+#[tactic(auto, unfolding(crate::specs::chart::Bars::limit_number))]
 fn write_limit_number(
     text: &mut String,
     before: Tenths,

@@ -26,7 +26,7 @@ fn figure_open(wide: bool) -> &'static str
 }
 
 /// The size of a picture, in its units.
-#[tactic(auto, unfolding(crate::chart::specs::Figures::svg_open))]
+#[tactic(auto, unfolding(crate::specs::chart::Figures::svg_open))]
 fn svg_open(wide: bool) -> &'static str
     ensures { result.now ≡ svg_open wide }
 {

@@ -98,7 +98,7 @@ impl UnitAcross {
 }
 
 /// The number of a tick as it is told.
-#[tactic(auto, unfolding(crate::chart::specs::Grid::shown))]
+#[tactic(auto, unfolding(crate::specs::chart::Grid::shown))]
 pub(crate) fn shown(unit: Unit, axis: Axis, k: u32) -> i128
     ensures { result ≡ shown unit axis k }
 {
@@ -106,7 +106,7 @@ pub(crate) fn shown(unit: Unit, axis: Axis, k: u32) -> i128
 }
 
 /// Writes a line across the panel.
-#[tactic(auto, unfolding(crate::chart::specs::Grid::rule_piece))]
+#[tactic(auto, unfolding(crate::specs::chart::Grid::rule_piece))]
 fn write_rule(text: &mut String, left: Tenths, y: Tenths, right: Tenths) -> Result<(), OutOfMemory>
     ensures { IfOk result (λ _. string_bytes text.new
         ≡ string_bytes text.old ++ rule_piece left.tenths y.tenths right.tenths) }
@@ -115,7 +115,7 @@ fn write_rule(text: &mut String, left: Tenths, y: Tenths, right: Tenths) -> Resu
 }
 
 /// Writes a number to the left of its line.
-#[tactic(auto, unfolding(crate::chart::specs::Grid::number_piece))]
+#[tactic(auto, unfolding(crate::specs::chart::Grid::number_piece))]
 fn write_number(
     text: &mut String,
     beside: Tenths,
@@ -154,7 +154,7 @@ pub fn add_grid(text: &mut String, plot: Plot, unit: Unit) -> Result<(), OutOfMe
 
 impl Across {
     /// From one tick to the next.
-    #[tactic(auto, unfolding(crate::chart::specs::Grid::step_across))]
+    #[tactic(auto, unfolding(crate::specs::chart::Grid::step_across))]
     fn step(self) -> u64
         requires { self.count ≤ 2 ^ 60 }
         ensures value { result ≡ step_across self }
@@ -164,7 +164,7 @@ impl Across {
     }
 
     /// How far a tick is from the left end; ticks count from 0 at the first multiple of the step.
-    #[tactic(auto, unfolding(crate::chart::specs::Grid::tick_across))]
+    #[tactic(auto, unfolding(crate::specs::chart::Grid::tick_across))]
     fn tick(self, k: u32) -> u128
         requires { self.count ≤ 2 ^ 60 }
         ensures { result ≡ tick_across self k }
@@ -176,7 +176,7 @@ impl Across {
 }
 
 /// Writes the mark of a place with its number.
-#[tactic(auto, unfolding(crate::chart::specs::Grid::mark_piece))]
+#[tactic(auto, unfolding(crate::specs::chart::Grid::mark_piece))]
 fn write_mark(
     text: &mut String,
     x: Tenths,
@@ -227,7 +227,7 @@ pub fn add_marks_across(text: &mut String, plot: Plot) -> Result<(), OutOfMemory
 }
 
 /// Writes the units.
-#[tactic(auto, unfolding(crate::chart::specs::Grid::units_piece))]
+#[tactic(auto, unfolding(crate::specs::chart::Grid::units_piece))]
 fn write_units(
     text: &mut String,
     up: &str,

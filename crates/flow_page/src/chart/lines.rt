@@ -66,7 +66,7 @@ fn style_of(name: LineName) -> &'static str
 }
 
 /// Writes a line across the panel.
-#[tactic(auto, unfolding(crate::chart::specs::Lines::stroke_piece))]
+#[tactic(auto, unfolding(crate::specs::chart::Lines::stroke_piece))]
 fn write_stroke(
     text: &mut String,
     style: &str,
@@ -81,7 +81,7 @@ fn write_stroke(
 }
 
 /// Writes the name of a line beside it.
-#[tactic(auto, unfolding(crate::chart::specs::Lines::name_piece))]
+#[tactic(auto, unfolding(crate::specs::chart::Lines::name_piece))]
 fn write_name(
     text: &mut String,
     style: &str,
@@ -128,7 +128,7 @@ const APART: u128 = 140;
 
 /// The height of a name: that of its line where this is far enough above all these names, or below
 /// all of them; else above all.
-#[tactic(auto, unfolding(crate::chart::specs::Lines::free_of))]
+#[tactic(auto, unfolding(crate::specs::chart::Lines::free_of))]
 fn free_of(own: Tenths, names: Names) -> Tenths
     ensures { result.tenths ≡ free_of own.tenths names }
 {

@@ -18,7 +18,7 @@ impl fmt::Display for Tenths {
 
     ghost output = { λ t. Some (tenths_text t.tenths) };
 
-    #[tactic(auto, unfolding(crate::chart::specs::Marks::tenths_text))]
+    #[tactic(auto, unfolding(crate::specs::chart::Marks::tenths_text))]
     fn fmt<W: fmt::Write>(&self, f: &mut fmt::Formatter<W>) -> fmt::Result {
         let (whole, part) = (self.tenths / 10, self.tenths % 10);
         if part == 0 {
@@ -75,7 +75,7 @@ impl Axis {
     }
 
     /// The y of a number in a picture of this height, from the high end down, in tenths of a unit, rounded down.
-    #[tactic(auto, unfolding(crate::chart::specs::Marks::mark))]
+    #[tactic(auto, unfolding(crate::specs::chart::Marks::mark))]
     pub fn mark(self, height: u32, number: i128) -> u128
         ensures { result ≡ mark height self number }
     {
@@ -102,7 +102,7 @@ impl Panel {
     }
 
     /// The x of the right end.
-    #[tactic(auto, unfolding(crate::chart::specs::Marks::right_of))]
+    #[tactic(auto, unfolding(crate::specs::chart::Marks::right_of))]
     pub fn right(self) -> Tenths
         ensures { result ≡ tenths (right_of self) }
     {
@@ -111,7 +111,7 @@ impl Panel {
     }
 
     /// The y of the bottom.
-    #[tactic(auto, unfolding(crate::chart::specs::Marks::bottom_of))]
+    #[tactic(auto, unfolding(crate::specs::chart::Marks::bottom_of))]
     pub fn bottom(self) -> Tenths
         ensures { result ≡ tenths (bottom_of self) }
     {
@@ -120,7 +120,7 @@ impl Panel {
     }
 
     /// The y that is so far below the bottom.
-    #[tactic(auto, unfolding(crate::chart::specs::Marks::below))]
+    #[tactic(auto, unfolding(crate::specs::chart::Marks::below))]
     pub fn below(self, by: u32) -> Tenths
         ensures { result ≡ tenths (below self by) }
     {
@@ -129,7 +129,7 @@ impl Panel {
     }
 
     /// The x where the numbers of the axis end.
-    #[tactic(auto, unfolding(crate::chart::specs::Marks::beside))]
+    #[tactic(auto, unfolding(crate::specs::chart::Marks::beside))]
     pub fn beside(self) -> Tenths
         ensures { result ≡ tenths (beside self) }
     {
@@ -138,7 +138,7 @@ impl Panel {
     }
 
     /// The x where the name of a line begins, to the right of it.
-    #[tactic(auto, unfolding(crate::chart::specs::Marks::name_x))]
+    #[tactic(auto, unfolding(crate::specs::chart::Marks::name_x))]
     pub fn name_x(self) -> Tenths
         ensures { result ≡ tenths (name_x self) }
     {
@@ -148,7 +148,7 @@ impl Panel {
 }
 
 /// The x of a place, of so many side by side, in a picture of this width, in tenths of a unit, rounded down.
-#[tactic(auto, unfolding(crate::chart::specs::Marks::place))]
+#[tactic(auto, unfolding(crate::specs::chart::Marks::place))]
 fn place(width: u32, count: u64, at: u128) -> u128
     ensures { result ≡ place width count at }
 {
@@ -158,7 +158,7 @@ fn place(width: u32, count: u64, at: u128) -> u128
 
 impl Plot {
     /// The y of a number.
-    #[tactic(auto, unfolding(crate::chart::specs::Marks::y_of, crate::chart::specs::Marks::mark))]
+    #[tactic(auto, unfolding(crate::specs::chart::Marks::y_of, crate::specs::chart::Marks::mark))]
     pub fn y(self, number: i128) -> Tenths
         ensures { result ≡ tenths (y_of self number) }
     {
@@ -167,7 +167,7 @@ impl Plot {
     }
 
     /// The baseline of a number beside its line.
-    #[tactic(auto, unfolding(crate::chart::specs::Marks::base_of, crate::chart::specs::Marks::mark))]
+    #[tactic(auto, unfolding(crate::specs::chart::Marks::base_of, crate::specs::chart::Marks::mark))]
     pub fn base(self, number: i128) -> Tenths
         ensures { result ≡ tenths (base_of self number) }
     {
@@ -176,7 +176,7 @@ impl Plot {
     }
 
     /// The baseline of what is told of a number, above it.
-    #[tactic(auto, unfolding(crate::chart::specs::Marks::above, crate::chart::specs::Marks::mark))]
+    #[tactic(auto, unfolding(crate::specs::chart::Marks::above, crate::specs::chart::Marks::mark))]
     pub fn above(self, number: i128) -> Tenths
         ensures { result ≡ tenths (above self number) }
     {
@@ -186,7 +186,7 @@ impl Plot {
     }
 
     /// The x of a place, counted from the first that stands here.
-    #[tactic(auto, unfolding(crate::chart::specs::Marks::x_of, crate::chart::specs::Marks::place))]
+    #[tactic(auto, unfolding(crate::specs::chart::Marks::x_of, crate::specs::chart::Marks::place))]
     pub fn x(self, at: u128) -> Tenths
         ensures { result ≡ tenths (x_of self at) }
     {
@@ -195,7 +195,7 @@ impl Plot {
     }
 
     /// The x of the left end of a column, which is the right end of the column before.
-    #[tactic(auto, unfolding(crate::chart::specs::Marks::edge))]
+    #[tactic(auto, unfolding(crate::specs::chart::Marks::edge))]
     pub fn edge(self, column: usize) -> Tenths
         ensures { result ≡ tenths (edge self column) }
     {

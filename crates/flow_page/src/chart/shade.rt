@@ -18,7 +18,7 @@ pub struct Shade {
 
 impl Shade {
     /// The x where it begins.
-    #[tactic(auto, unfolding(crate::chart::specs::Shades::shade_left))]
+    #[tactic(auto, unfolding(crate::specs::chart::Shades::shade_left))]
     fn left(self, plot: Plot) -> Tenths
         ensures { result ≡ tenths (shade_left plot self) }
     {
@@ -26,7 +26,7 @@ impl Shade {
     }
 
     /// The x where it ends.
-    #[tactic(auto, unfolding(crate::chart::specs::Shades::shade_right))]
+    #[tactic(auto, unfolding(crate::specs::chart::Shades::shade_right))]
     fn right(self, plot: Plot) -> Tenths
         ensures { result ≡ tenths (shade_right plot self) }
     {
@@ -35,7 +35,7 @@ impl Shade {
 }
 
 /// Writes what is shaded.
-#[tactic(auto, unfolding(crate::chart::specs::Shades::shade_piece))]
+#[tactic(auto, unfolding(crate::specs::chart::Shades::shade_piece))]
 fn write_shade(
     text: &mut String,
     left: Tenths,
@@ -53,7 +53,7 @@ fn write_shade(
 }
 
 /// Writes which places they are.
-#[tactic(auto, unfolding(crate::chart::specs::Shades::shade_name))]
+#[tactic(auto, unfolding(crate::specs::chart::Shades::shade_name))]
 fn write_shade_name(
     text: &mut String,
     x: Tenths,
@@ -80,7 +80,7 @@ fn above_top(panel: Panel) -> Tenths
 }
 
 /// Where there is room behind the unit of the axis.
-#[tactic(auto, unfolding(crate::chart::specs::Shades::behind_unit))]
+#[tactic(auto, unfolding(crate::specs::chart::Shades::behind_unit))]
 fn behind_unit(plot: Plot, unit: Unit) -> u128
     ensures { result ≡ behind_unit plot unit }
 {
@@ -96,7 +96,7 @@ fn clear_of_unit(plot: Plot, unit: Unit, x: Tenths) -> Tenths
 }
 
 /// Adds which places they are, above them and clear of the unit of the axis.
-#[tactic(auto, unfolding(crate::chart::specs::Shades::shade_named))]
+#[tactic(auto, unfolding(crate::specs::chart::Shades::shade_named))]
 fn add_shade_name(
     text: &mut String,
     plot: Plot,

@@ -43,7 +43,7 @@ pub struct RunDrawing {
     pub first_at: u64,
     pub last_at: u64,
     ghost packets_are: { packets.seen ≡ levels.seen },
-    ghost groups_are: { groups.seen ≡ levels.seen },
+    ghost groups_are: { groups.walk.seen ≡ levels.seen },
 }
 
 impl RunDrawing {

@@ -1,7 +1,7 @@
-mod Fetches
-mod Sessions
+pub mod Fetches
+pub mod Sessions
 pub mod Classics
 pub mod Readings
 pub mod Seeing
 pub mod Endings
-mod Takings
+pub mod Takings

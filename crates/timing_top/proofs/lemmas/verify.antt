@@ -1,8 +1,8 @@
 pub mod Answered
-mod Confirming
-mod Following
-mod Needing
-mod Reports
+pub mod Confirming
+pub mod Following
+pub mod Needing
+pub mod Reports
 mod Seeing
-mod Served
+pub mod Served
 pub mod Unique

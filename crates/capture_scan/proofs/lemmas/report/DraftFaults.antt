@@ -33,7 +33,8 @@ use Rattle.capture_scan.specs.declared.report.draft.DraftVideo.{DraftVideo}
 use Rattle.capture_scan.specs.declared.report.rate.FrameRate.{FrameRate}
 use Rattle.capture_scan.proofs.lemmas.report.Cutting.{both_true}
 use Rattle.capture_scan.proofs.lemmas.report.Decimals.{at_most}
-use Rattle.capture_scan.proofs.lemmas.report.DraftLines.{body_lines, connection_text, inner-parameter, is_inner, line_at, lines-draft, list_text, map_text, media_text}
+use Rattle.capture_scan.proofs.lemmas.report.DraftLines.{body_lines, connection_text, inner-parameter, is_inner, line_at, lines-draft, list_text, map_text}
+use Rattle.capture_scan.proofs.lemmas.report.DraftLines.{media_text}
 use Rattle.capture_scan.proofs.lemmas.report.DraftLines.{parameter_text, reads-connection, reads-map, reads-media, session_lines, video_lines}
 use Rattle.capture_scan.proofs.lemmas.report.DraftParts.{ExactFrameRate, Given, Height, Interlace, Rate, Video, Width, fields_text, interlace_items, item_with}
 use Rattle.capture_scan.proofs.lemmas.report.DraftParts.{items_found, parameters-are, rate_found, read-address, read-video}

@@ -9,7 +9,8 @@ use Rattle.capture_scan.specs.declared.stream.Lines.{Lines}
 use Rattle.capture_scan.specs.declared.stream.Pace.{Pace}
 use Rattle.capture_scan.specs.declared.stream.Rate.{Rate}
 use Rattle.capture_scan.specs.declared.stream.Stream.{Stream}
-use Rattle.capture_scan.specs.report.Draft.{can_be_drafted, has_target, height_of, is_added, is_of_frames, lines_of, rate_of, video_of, videos_of, width_of, with_stream}
+use Rattle.capture_scan.specs.report.Draft.{can_be_drafted, has_target, height_of, is_added, is_of_frames, lines_of, rate_of, video_of, videos_of, width_of}
+use Rattle.capture_scan.specs.report.Draft.{with_stream}
 use Rattle.capture_scan.specs.report.Rates.{exact, faster, is_slow, nearest_from, slowed, slowest}
 use Rattle.capture_scan.specs.report.ReadBack.{HasBits, HaveOwnTargets, IsDrafted}
 use Rattle.capture_scan.specs.declared.report.draft.DraftVideo.{DraftVideo}

@@ -147,19 +147,25 @@ front-split n k count i p = elim (cases_lt i count) as (λ _. OfFront n k count 
   | inr same ↦ inr (omega (arith, p.1, same))
 ]
 
-greatest-more : (old new : ℕ → ℤ) (n k count : ℕ) (at x y : ℤ) → k * n ≤ count → Extends count old new at
-    → IsGreatest old (OfFront n k count) x → y ≡ int_max x at → IsGreatest new (OfFront n k (count + 1)) y
-greatest-more old new n k count at x y from e h is =
-    IsGreatest-more new (OfFront n k count) (OfFront n k (count + 1)) count x y
-    (IsGreatest-same old new (OfFront n k count) x (λ i p. e.front i p.1) h)
-    (λ i p. (p.0, omega (arith, p.1))) (from, omega arith) (front-split n k count) (is ∙ ap (int_max x) (sym e.last))
+abbrev Grows : (IsExtreme : (ℕ → ℤ) → (ℕ → Type 0) → ℤ → Type 0) → (extreme : ℤ → ℤ → ℤ) → Type 0
+Grows IsExtreme extreme = (old new : ℕ → ℤ) (n k count : ℕ) (at x y : ℤ) → k * n ≤ count → Extends count old new at
+    → IsExtreme old (OfFront n k count) x → y ≡ extreme x at → IsExtreme new (OfFront n k (count + 1)) y
 
-least-more : (old new : ℕ → ℤ) (n k count : ℕ) (at x y : ℤ) → k * n ≤ count → Extends count old new at
-    → IsLeast old (OfFront n k count) x → y ≡ int_min x at → IsLeast new (OfFront n k (count + 1)) y
-least-more old new n k count at x y from e h is =
-    IsLeast-more new (OfFront n k count) (OfFront n k (count + 1)) count x y
-    (IsLeast-same old new (OfFront n k count) x (λ i p. e.front i p.1) h)
-    (λ i p. (p.0, omega (arith, p.1))) (from, omega arith) (front-split n k count) (is ∙ ap (int_min x) (sym e.last))
+grows : (IsExtreme : (ℕ → ℤ) → (ℕ → Type 0) → ℤ → Type 0) (extreme : ℤ → ℤ → ℤ)
+    → ((numbers others : ℕ → ℤ) (places : ℕ → Type 0) (x : ℤ) → ((i : ℕ) → places i → others i ≡ numbers i) → IsExtreme numbers places x
+    → IsExtreme others places x)
+    → ((numbers : ℕ → ℤ) (before after : ℕ → Type 0) (new : ℕ) (x y : ℤ) → IsExtreme numbers before x → ((i : ℕ) → before i → after i) → after new
+    → ((i : ℕ) → after i → before i ⊎ (i ≡ new)) → y ≡ extreme x (numbers new) → IsExtreme numbers after y)
+    → Grows IsExtreme extreme
+grows IsExtreme extreme same more old new n k count at x y from e h is =
+    more new (OfFront n k count) (OfFront n k (count + 1)) count x y (same old new (OfFront n k count) x (λ i p. e.front i p.1) h)
+    (λ i p. (p.0, omega (arith, p.1))) (from, omega arith) (front-split n k count) (is ∙ ap (extreme x) (sym e.last))
+
+greatest-more : Grows IsGreatest int_max
+greatest-more = grows IsGreatest int_max IsGreatest-same IsGreatest-more
+
+least-more : Grows IsLeast int_min
+least-more = grows IsLeast int_min IsLeast-same IsLeast-more
 
 -- a group before another one begins before it
 times-below : (j k n : ℕ) → j < k → 1 ≤ n → j * n < k * n

@@ -15,6 +15,7 @@ use Rattle.flow_measure.specs.Occupancy.{AreOccupancies, buckets_of}
 use Rattle.flow_measure.specs.RunStands.{IsLatest}
 use Rattle.flow_measure.specs.Stands.{Draws}
 use Rattle.flow_measure.specs.declared.columns.Columns.{Columns}
+use Rattle.flow_measure.specs.declared.group_walk.GroupWalk.{GroupWalk}
 use Rattle.flow_measure.proofs.Filled.{buckets-front}
 use Rattle.flow_measure.proofs.Followed.{front-is, last-is, occupancies-front}
 use Rattle.flow_measure.proofs.Grouped.{firsts-next}
@@ -119,37 +120,39 @@ pub first-more : (stamps : List ℕ) (at seen old new : ℕ)
 first-more [] at seen old new is first later known = first is
 first-more (x ∷ xs) at seen old new is first later known = later (omega (arith, is)) ∙ known (omega arith)
 
--- the columns of groups were fed a packet: so they are drawn, if those of the last packets are
-pub groups-fed : (m : Media) (n groups : ℕ) (s new : GroupColumns) (n0 : ℤ) (stamps timestamps : List ℕ) (at ticks : ℕ)
+-- the columns of groups were fed a packet: so they are drawn, if those of the last packets are; `walk` has the group of the first packet
+pub groups-fed : (m : Media) (n groups : ℕ) (s new : GroupColumns) (walk : GroupWalk) (stamps timestamps : List ℕ) (at ticks : ℕ)
     → DrawsGroups m n groups s stamps timestamps
-    → new.n ≡ s.n → new.seen ≡ s.seen + 1 → new.n0 ≡ n0
-    → (s.seen ≡ 0 → n0 ≡ anchor_of m at)
-    → (0 < s.seen → n0 ≡ s.n0)
-    → (s.place ≡ 0 → s.firsts.seen ≡ s.seen / s.n)
-    → s.seen % s.n ≡ s.place
-    → (0 < s.place → new.firsts ≡ s.firsts)
-    → ((k : ℕ) (stamp timestamp : ℕ → ℕ) → s.place ≡ 0 → DrawsFirsts m n0 k s.firsts stamp timestamp → stamp s.firsts.seen ≡ at
-    → timestamp s.firsts.seen ≡ ticks → DrawsFirsts m n0 k new.firsts stamp timestamp)
-    → ((anchor : ℤ) (stamp : ℕ → ℕ) → n0 ≡ anchor → stamp s.seen ≡ at → DrawsIn groups 1000 s.last (since_at m anchor (lasts_of n stamp))
+    → (s.walk.seen ≡ 0 → walk.n0 ≡ anchor_of m at)
+    → (0 < s.walk.seen → walk.n0 ≡ s.walk.n0)
+    → walk.n ≡ s.walk.n → walk.seen ≡ s.walk.seen → walk.place ≡ s.walk.place → walk.whole ≡ s.walk.whole
+    → new.walk.n ≡ walk.n → new.walk.n0 ≡ walk.n0 → new.walk.seen ≡ walk.seen + 1
+    → (0 < walk.place → new.firsts ≡ s.firsts)
+    → ((k : ℕ) (stamp timestamp : ℕ → ℕ) → walk.place ≡ 0 → DrawsFirsts m walk.n0 k s.firsts stamp timestamp → stamp s.firsts.seen ≡ at
+    → timestamp s.firsts.seen ≡ ticks → DrawsFirsts m walk.n0 k new.firsts stamp timestamp)
+    → ((anchor : ℤ) (stamp : ℕ → ℕ) → walk.n0 ≡ anchor → stamp walk.seen ≡ at → DrawsIn groups 1000 s.last (since_at m anchor (lasts_of n stamp))
     → DrawsIn groups 1000 new.last (since_at m anchor (lasts_of n stamp)))
     → DrawsGroups m n groups new (stamps ++ at ∷ []) (timestamps ++ ticks ∷ [])
-groups-fed m n groups s new n0 stamps timestamps at ticks h size count here first later begun place kept begins last =
+groups-fed m n groups s new walk stamps timestamps at ticks h first later n_is seen_is place_is whole_is n_kept here count kept begins last =
     let long : length (stamps ++ at ∷ []) ≡ length stamps + 1 = length-append stamps (at ∷ []) in
     let ticks_long : length (timestamps ++ ticks ∷ []) ≡ length timestamps + 1 = length-append timestamps (ticks ∷ []) in
-    let same = λ (anchor : ℤ) (is : 0 < length (stamps ++ at ∷ []) → new.n0 ≡ anchor). sym here ∙ is (omega (arith, long)) in
-    let before = λ (anchor : ℤ) (is : n0 ≡ anchor) (few : 0 < length stamps). sym (later (omega (arith, h.seen_is, few))) ∙ is in
+    let seen = seen_is ∙ h.seen_is in
+    let same = λ (anchor : ℤ) (is : 0 < length (stamps ++ at ∷ []) → new.walk.n0 ≡ anchor). sym here ∙ is (omega (arith, long)) in
+    let before = λ (anchor : ℤ) (is : walk.n0 ≡ anchor) (few : 0 < length stamps). sym (later (omega (arith, h.seen_is, few))) ∙ is in
     record {
-      n_is = size ∙ h.n_is;
-      seen_is = omega (arith, count, h.seen_is, long);
+      n_is = n_kept ∙ n_is ∙ h.n_is;
+      seen_is = omega (arith, count, seen, long);
       same = omega (arith, h.same, long, ticks_long);
-      anchor_is = λ _. here ∙ anchor-more m stamps at s.seen s.n0 n0 h.seen_is first later h.anchor_is;
+      anchor_is = λ _. here ∙ anchor-more m stamps at s.walk.seen s.walk.n0 walk.n0 h.seen_is first later h.anchor_is;
       firsts_draw = λ anchor stamp timestamp is listed ticks_listed.
-          firsts-next (λ a c s t. DrawsFirsts m a groups c s t) n s.n s.seen s.place s.firsts.seen n0 anchor s.firsts new.firsts stamp timestamp at ticks
-          (same anchor is) h.n_is place begun kept (begins groups) (listed-last stamps at s.seen stamp h.seen_is listed)
-          (listed-last timestamps ticks s.seen timestamp (h.seen_is ∙ sym h.same) ticks_listed)
+          firsts-next (λ a c s t. DrawsFirsts m a groups c s t) n walk.n walk.seen walk.place s.firsts.seen walk.n0 anchor s.firsts new.firsts stamp
+          timestamp at ticks (same anchor is) (n_is ∙ h.n_is) walk.place_is
+          (λ none. s.firsts_are.between (sym place_is ∙ none) ∙ sym whole_is ∙ walk.whole_is) kept (begins groups)
+          (listed-last stamps at walk.seen stamp seen listed)
+          (listed-last timestamps ticks walk.seen timestamp (seen ∙ sym h.same) ticks_listed)
           (h.firsts_draw anchor stamp timestamp (before anchor (same anchor is)) (listed-front stamps at stamp listed)
           (listed-front timestamps ticks timestamp ticks_listed));
       last_draws = λ anchor stamp is listed.
-          last anchor stamp (same anchor is) (listed-last stamps at s.seen stamp h.seen_is listed)
+          last anchor stamp (same anchor is) (listed-last stamps at walk.seen stamp seen listed)
           (h.last_draws anchor stamp (before anchor (same anchor is)) (listed-front stamps at stamp listed));
     }

@@ -8,7 +8,7 @@ use Rattle.flow_measure.specs.Columns.{AreColumns, AreCurve, AreEye, width_of}
 use Rattle.flow_measure.specs.Stands.{Draws as DrawsNumbers}
 use Rattle.flow_measure.specs.declared.columns.Columns.{Columns}
 use Rattle.flow_measure.specs.declared.columns.Extremes.{Extremes}
-use Rattle.flow_measure.proofs.Grouped.{groups-are, none-left}
+use Rattle.flow_measure.proofs.Begun.{all-begun}
 use Rattle.flow_page.specs.drawing.Drawn.{AreLevels}
 use Rattle.flow_page.specs.drawing.Stands.{Draws}
 use Rattle.flow_page.specs.declared.drawing.drawing.RunDrawing.{RunDrawing}
@@ -84,10 +84,7 @@ levels-are n packets count c level curve eye is_curve is_eye h seen whole = reco
 }
 
 -- the groups that have come, where all are whole
-pub groups-came : (n groups : ℕ) (g : GroupColumns) → g.n ≡ n → g.seen ≡ n * groups
+pub groups-came : (n groups : ℕ) (g : GroupColumns) → g.walk.n ≡ n → g.walk.seen ≡ n * groups
     → (g.last.seen ≡ groups) × (g.firsts.seen ≡ groups)
 groups-came n groups g same whole =
-    let some : 0 < g.n = omega (arith, g.place_within) in
-    let lasts = g.last_is ∙ groups-are g.seen n g.n groups some same whole in
-    let begun = g.firsts_are (sym g.place_is ∙ none-left g.seen n g.n groups some same whole) in
-    (lasts, begun ∙ lasts)
+    let all = all-begun g.walk g.firsts.seen n groups g.firsts_are same whole in (g.last_is ∙ all.0, all.1)

@@ -41,12 +41,13 @@ pub record DrawsFirsts (m : Media) (anchor : ℤ) (groups : ℕ) (c : FirstColum
 -- the columns of so many groups were fed the packets with these stamps and timestamps; before the first of them the
 -- number of its group is free
 pub record DrawsGroups (m : Media) (n groups : ℕ) (c : GroupColumns) (stamps timestamps : List ℕ) : Type 0 where
-  pub n_is : c.n ≡ n
-  pub seen_is : c.seen ≡ length stamps
+  pub n_is : c.walk.n ≡ n
+  pub seen_is : c.walk.seen ≡ length stamps
   pub same : length timestamps ≡ length stamps
-  pub anchor_is : 0 < length stamps → c.n0 ≡ anchor_of m (slice_index stamps 0)
-  pub firsts_draw : (anchor : ℤ) (stamp timestamp : ℕ → ℕ) → (0 < length stamps → c.n0 ≡ anchor)
+  pub anchor_is : 0 < length stamps → c.walk.n0 ≡ anchor_of m (slice_index stamps 0)
+  pub firsts_draw : (anchor : ℤ) (stamp timestamp : ℕ → ℕ) → (0 < length stamps → c.walk.n0 ≡ anchor)
       → AreListed stamps stamp → AreListed timestamps timestamp
       → DrawsFirsts m anchor groups c.firsts (firsts_of n stamp) (firsts_of n timestamp)
-  pub last_draws : (anchor : ℤ) (stamp : ℕ → ℕ) → (0 < length stamps → c.n0 ≡ anchor) → AreListed stamps stamp
+  pub last_draws : (anchor : ℤ) (stamp : ℕ → ℕ) → (0 < length stamps → c.walk.n0 ≡ anchor)
+      → AreListed stamps stamp
       → DrawsIn groups 1000 c.last (since_at m anchor (lasts_of n stamp))

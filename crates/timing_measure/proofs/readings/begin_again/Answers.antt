@@ -16,7 +16,8 @@ pub loop-number-init : goal.loop-number-init
 loop-number-init g c =
     let room = g.T.SecondTaker.room in
     record {
-      stands = λ items h. subst (λ (l : List (FlowOf (Again _))). AreSeconds g.T.SecondTaker.stands c.args.tai items [] [] l) (sym c.new-flows.ensures.items) tt;
+      stands = λ items h. subst (λ (l : List (FlowOf (Again _))). AreSeconds g.T.SecondTaker.stands c.args.tai items [] [] l)
+          (sym c.new-flows.ensures.items) tt;
       room = All-same (λ (f : FlowOf (Again _)). HasRoom room (2 ^ 41) f.taker) c.new-flows.result.items [] c.new-flows.ensures.items
           (All-nil (λ (f : FlowOf (Again _)). HasRoom room (2 ^ 41) f.taker));
     }

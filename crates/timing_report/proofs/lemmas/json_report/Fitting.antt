@@ -33,12 +33,16 @@ use Rattle.timing_base.specs.Keys.{media_of, no_media}
 use Rattle.timing_base.specs.Targets.{target_of, target_text}
 use Rattle.timing_report.specs.Words.{kind_name, class_name, declared_name, model_name, packet_fault_text, note_text}
 use Rattle.timing_report.specs.json_report.Fails.{IsWord, AreWords, FitsKind, FitsJudged, FitsRunVerdict, FitsRun, FitsUnjudged, FitsVerdict}
-use Rattle.timing_report.specs.json_report.Json.{Member, with_members, object_of, list_of, count, proof_members, proof_data, outcome_members, type_members, type_data}
-use Rattle.timing_report.specs.json_report.Json.{types_data, interlaced_members, judged_numbers, judged_words, judged_members, no_whole_frame_members, unjudged_members}
-use Rattle.timing_report.specs.json_report.Json.{expected_members, run_verdict_members, run_members, whole_run_members, run_data, verdict_members, flow_members, flow_data}
+use Rattle.timing_report.specs.json_report.Json.{Member, with_members, object_of, list_of, count, proof_members, proof_data, outcome_members, type_members}
+use Rattle.timing_report.specs.json_report.Json.{type_data}
+use Rattle.timing_report.specs.json_report.Json.{types_data, interlaced_members, judged_numbers, judged_words, judged_members, no_whole_frame_members}
+use Rattle.timing_report.specs.json_report.Json.{unjudged_members}
+use Rattle.timing_report.specs.json_report.Json.{expected_members, run_verdict_members, run_members, whole_run_members, run_data, verdict_members, flow_members}
+use Rattle.timing_report.specs.json_report.Json.{flow_data}
 use Rattle.timing_report.specs.json_report.Json.{row_data, file_members, file_data, files_data, report_members, report_data}
 use Rattle.timing_report.proofs.lemmas.json_report.Kept.{Kept, ItemsKept, AllKept, object-kept}
-use Rattle.timing_report.proofs.lemmas.json_report.Texts.{HasTexts, ItemsHaveTexts, MembersHaveTexts, ascii, class_utf8, declared_utf8, kind_utf8, model_utf8, note_utf8}
+use Rattle.timing_report.proofs.lemmas.json_report.Texts.{HasTexts, ItemsHaveTexts, MembersHaveTexts, ascii, class_utf8, declared_utf8, kind_utf8, model_utf8}
+use Rattle.timing_report.proofs.lemmas.json_report.Texts.{note_utf8}
 use Rattle.timing_report.proofs.lemmas.json_report.Texts.{packet_fault_utf8, put_texts, target_utf8}
 use Rattle.timing_report.proofs.lemmas.json_report.Limits.{c_max_small, vrx_full_small, code_small}
 

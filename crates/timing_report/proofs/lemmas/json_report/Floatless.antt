@@ -23,8 +23,10 @@ use Rattle.timing_base.specs.declared.row.Unjudged.TheVariants as unjudged
 use Rattle.timing_base.specs.declared.row.Verdict.{Verdict}
 use Rattle.timing_base.specs.declared.row.Verdict.TheVariants as verdict
 use Rattle.timing_report.specs.Outcomes.{verdict_on}
-use Rattle.timing_report.specs.json_report.Json.{Member, with_members, list_of, type_members, outcome_members, interlaced_members, judged_members, unjudged_members}
-use Rattle.timing_report.specs.json_report.Json.{expected_members, run_verdict_members, run_members, whole_run_members, run_data, verdict_members, flow_members, flow_data}
+use Rattle.timing_report.specs.json_report.Json.{Member, with_members, list_of, type_members, outcome_members, interlaced_members, judged_members}
+use Rattle.timing_report.specs.json_report.Json.{unjudged_members}
+use Rattle.timing_report.specs.json_report.Json.{expected_members, run_verdict_members, run_members, whole_run_members, run_data, verdict_members, flow_members}
+use Rattle.timing_report.specs.json_report.Json.{flow_data}
 use Rattle.timing_report.specs.json_report.Json.{files_data, type_data, types_data}
 
 -- neither of two

@@ -30,10 +30,13 @@ use Rattle.timing_report.specs.Outcomes.{verdict_on, first_passing}
 use Rattle.timing_base.specs.Keys.{media_of}
 use Rattle.timing_report.specs.Words.{model_name, kind_name, class_name, declared_name}
 use Rattle.timing_report.specs.json_report.Fails.{fail_of, judged_fails, run_fails, runs_fails, verdict_fails, fails_of, FitsVerdict}
-use Rattle.timing_report.specs.json_report.Json.{Member, object_of, list_of, count, proof_data, type_members, type_data, types_data, judged_numbers, interlaced_members}
-use Rattle.timing_report.specs.json_report.Json.{expected_members, no_whole_frame_members, run_members, run_verdict_members, run_data, key_members, flow_members, row_data}
+use Rattle.timing_report.specs.json_report.Json.{Member, object_of, list_of, count, proof_data, type_members, type_data, types_data, judged_numbers}
+use Rattle.timing_report.specs.json_report.Json.{interlaced_members}
+use Rattle.timing_report.specs.json_report.Json.{expected_members, no_whole_frame_members, run_members, run_verdict_members, run_data, key_members}
+use Rattle.timing_report.specs.json_report.Json.{flow_members, row_data}
 use Rattle.timing_report.specs.json_report.Json.{report_data}
-use Rattle.timing_report.specs.json_report.Reading.{place_up_to, place_in, model_named, kind_named, where_present, proof_of, proof_in, type_of, told, types_from, types_in}
+use Rattle.timing_report.specs.json_report.Reading.{place_up_to, place_in, model_named, kind_named, where_present, proof_of, proof_in, type_of, told}
+use Rattle.timing_report.specs.json_report.Reading.{types_from, types_in}
 use Rattle.timing_report.specs.json_report.Reading.{run_of, runs_from, runs_of, runs_in, key_of, flow_of, flows_from, report_of}
 use Rattle.timing_report.specs.declared.json_report.reading.ReportProof.{ReportProof}
 use Rattle.timing_report.proofs.lemmas.json_report.Fitting.{Tellable}

@@ -22,4 +22,4 @@ returns-in-Some-expected_in-clause-stands c =
     let within : c.ahead-ahead.result < length c.args.self.now.judges.items = omega (arith, c.ahead-ahead.ensures.within, order.0) in
     carried-feeds_if c.take_carried-taken.result record { number = c.args.number; stamp = c.args.at; bytes = c.args.frame.now } c.in-Some-expected_in.expected
     c.args.self.now.judges.items _ c.ahead-ahead.result c.index_mut-judge.result.now c.take_carried-taken.new.self refl within
-    (sym c.index_mut-judge.ensures.value) order.1 c.in-Some-expected_in.ensures c.take_carried-taken.ensures.stands
+    (sym c.index_mut-judge.ensures.value) order.1 c.in-Some-expected_in.ensures.carried c.take_carried-taken.ensures.stands

@@ -19,13 +19,14 @@ pub returns-clause-stands : goal.returns-clause-stands
 returns-clause-stands c = λ stamp timestamp h at_is ticks_is.
     let s = c.args.self.now in
     let m = c.args.params.now.media in
-    let anchor = to_z-of_z w128 c.args.n0 (search rules) in
+    let n0 = c.args.walk.now.n0 in
+    let anchor = to_z-of_z w128 n0 (search rules) in
     record {
-      first = c.feed.ensures.stands (since_at m c.args.n0 stamp) h.first
-          (since-first m c.args.n0 _ stamp s.first.seen s.seen c.args.at c.since_start.result _ s.first_is at_is anchor c.since_start.ensures.value
+      first = c.feed.ensures.stands (since_at m n0 stamp) h.first
+          (since-first m n0 _ stamp s.first.seen s.seen c.args.at c.since_start.result _ s.first_is at_is anchor c.since_start.ensures.value
           (to_z-of_z w128 c.since_start.result (search rules)));
-      offset = c.feed-2.ensures.stands (offset_at m c.args.n0 timestamp) h.offset
-          (offset-first m c.args.n0 _ timestamp s.offset.seen s.seen c.args.ticks c.offset_of.result _ s.offset_is ticks_is anchor
+      offset = c.feed-2.ensures.stands (offset_at m n0 timestamp) h.offset
+          (offset-first m n0 _ timestamp s.offset.seen s.seen c.args.ticks c.offset_of.result _ s.offset_is ticks_is anchor
           c.offset_of.ensures.value (to_z-of_z w128 c.offset_of.result (search rules)));
       latency = c.feed-3.ensures.stands (latency_at stamp timestamp) h.latency
           (latency-first stamp timestamp s.latency.seen s.seen c.args.at c.args.ticks c.latency_of.result _ s.latency_is at_is ticks_is

@@ -1,46 +1,40 @@
-use Rattle.std.proofs.Common.{◌≡◌, ◌<◌, ◌-◌, ◌/◌, MatchOption, ◌∙◌, ap, sym, subst, arith}
+use Rattle.std.proofs.Common.{◌≡◌, ◌-◌, MatchOption, ◌∙◌, ap, sym, subst, arith}
 use Rattle.flow_measure.specs.Groups.{AreGroupNumbers, firsts_of, lasts_of, latency_at, offset_at, since_at, step_after}
 use Rattle.flow_measure.specs.Summary.{IsSummary}
-use Rattle.flow_measure.proofs.Grouped.{groups-are, none-left}
+use Rattle.flow_measure.proofs.Begun.{all-begun}
 use Rattle.flow_measure.proofs.group_meter.GroupMeter.finish.Goals as goal
 
 pub returns-in_err-last : goal.returns-in_err-last
 returns-in_err-last c = λ m n anchor groups stamp timestamp h whole.
     let s = c.args.self.now in
-    let all : s.seen / s.n ≡ groups = groups-are s.seen n s.n groups (omega (arith, s.place_within)) h.n_is whole in
+    let all = all-begun s.walk s.firsts.seen n groups s.firsts_are h.n_is whole in
     let none : s.last.seen ≡ 0 = c.in_err-last.ensures (since_at m anchor (lasts_of n stamp)) h.last in
-    let empty : groups ≡ 0 = omega (arith, none, all, s.last_is) in
+    let empty : groups ≡ 0 = omega (arith, none, all.0, s.last_is) in
     subst (λ o. MatchOption o (groups ≡ 0) (AreGroupNumbers m n anchor groups stamp timestamp)) (sym c.from_residual-in_err-last.ensures) empty
 
 pub returns-in_err-offset : goal.returns-in_err-offset
 returns-in_err-offset c = λ m n anchor groups stamp timestamp h whole.
     let s = c.args.self.now in
-    let some : 0 < s.n = omega (arith, s.place_within) in
-    let all : s.seen / s.n ≡ groups = groups-are s.seen n s.n groups some h.n_is whole in
-    let begun : s.firsts.seen ≡ s.last.seen = s.firsts_are (sym s.place_is ∙ none-left s.seen n s.n groups some h.n_is whole) in
+    let all = all-begun s.walk s.firsts.seen n groups s.firsts_are h.n_is whole in
     let none : s.firsts.offset.seen ≡ 0 = c.in_err-offset.ensures (offset_at m anchor (firsts_of n timestamp)) h.firsts.offset in
-    let empty : groups ≡ 0 = omega (arith, none, all, begun, s.last_is, s.firsts.offset_is) in
+    let empty : groups ≡ 0 = omega (arith, none, all.1, s.firsts.offset_is) in
     subst (λ o. MatchOption o (groups ≡ 0) (AreGroupNumbers m n anchor groups stamp timestamp)) (sym c.from_residual-in_err-offset.ensures) empty
 
 pub returns-in_err-latency : goal.returns-in_err-latency
 returns-in_err-latency c = λ m n anchor groups stamp timestamp h whole.
     let s = c.args.self.now in
-    let some : 0 < s.n = omega (arith, s.place_within) in
-    let all : s.seen / s.n ≡ groups = groups-are s.seen n s.n groups some h.n_is whole in
-    let begun : s.firsts.seen ≡ s.last.seen = s.firsts_are (sym s.place_is ∙ none-left s.seen n s.n groups some h.n_is whole) in
+    let all = all-begun s.walk s.firsts.seen n groups s.firsts_are h.n_is whole in
     let none : s.firsts.latency.seen ≡ 0 =
     c.in_err-latency.ensures (latency_at (firsts_of n stamp) (firsts_of n timestamp)) h.firsts.latency in
-    let empty : groups ≡ 0 = omega (arith, none, all, begun, s.last_is, s.firsts.latency_is) in
+    let empty : groups ≡ 0 = omega (arith, none, all.1, s.firsts.latency_is) in
     subst (λ o. MatchOption o (groups ≡ 0) (AreGroupNumbers m n anchor groups stamp timestamp)) (sym c.from_residual-in_err-latency.ensures) empty
 
 pub returns : goal.returns
 returns c = λ m n anchor groups stamp timestamp h whole.
     let s = c.args.self.now in
-    let some : 0 < s.n = omega (arith, s.place_within) in
-    let all : s.seen / s.n ≡ groups = groups-are s.seen n s.n groups some h.n_is whole in
-    let begun : s.firsts.seen ≡ s.last.seen = s.firsts_are (sym s.place_is ∙ none-left s.seen n s.n groups some h.n_is whole) in
-    let lasts : s.last.seen ≡ groups = s.last_is ∙ all in
-    let firsts : s.firsts.seen ≡ groups = begun ∙ lasts in
+    let all = all-begun s.walk s.firsts.seen n groups s.firsts_are h.n_is whole in
+    let lasts : s.last.seen ≡ groups = s.last_is ∙ all.0 in
+    let firsts : s.firsts.seen ≡ groups = all.1 in
     let steps : s.firsts.step.seen - 1 ≡ groups - 1 = ap (λ k. k - 1) (s.firsts.step_is ∙ firsts) in
     let first = since_at m anchor (firsts_of n stamp) in
     let last = since_at m anchor (lasts_of n stamp) in

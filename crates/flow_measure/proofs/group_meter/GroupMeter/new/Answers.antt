@@ -1,4 +1,4 @@
-use Rattle.std.proofs.Common.{FitsSigned, rules}
+use Rattle.std.proofs.Common.{FitsSigned, ◌∙◌, rules}
 use Rattle.std.proofs.lemmas.Int.{to_z-of_z}
 use Rattle.std.specs.Int.{w128}
 use Rattle.flow_measure.specs.Groups.{firsts_of, lasts_of, since_at}
@@ -10,8 +10,8 @@ returns-clause-stands c = λ stamp timestamp.
     let n = c.args.params.now.n in
     let fits : FitsSigned w128 c.args.n0 = search rules in
     record {
-      n_is = c.n.ensures.value;
-      anchor_is = to_z-of_z w128 c.args.n0 fits;
-      firsts = c.new.ensures.stands m c.args.n0 (firsts_of n stamp) (firsts_of n timestamp);
-      last = c.new-2.ensures.stands (since_at m c.args.n0 (lasts_of n stamp));
+      n_is = c.new.ensures.n;
+      anchor_is = c.new.ensures.n0 ∙ to_z-of_z w128 c.args.n0 fits;
+      firsts = c.new-2.ensures.stands m c.args.n0 (firsts_of n stamp) (firsts_of n timestamp);
+      last = c.new-3.ensures.stands (since_at m c.args.n0 (lasts_of n stamp));
     }

@@ -49,8 +49,8 @@ returns-clause-stands c =
           c.feed-4.ensures h.wide;
       groups = λ stamp timestamp a b. c.feed-5.ensures.stands n anchor stamp timestamp
           (h.groups stamp timestamp (listed-front stamps at stamp a) (listed-front timestamps c.args.ticks timestamp b))
-          (listed-last stamps at s.groups.seen stamp (s.groups_are ∙ h.seen) a)
-          (listed-last timestamps c.args.ticks s.groups.seen timestamp (s.groups_are ∙ h.seen ∙ sym h.timestamps_are) b);
+          (listed-last stamps at s.groups.walk.seen stamp (s.groups_are ∙ h.seen) a)
+          (listed-last timestamps c.args.ticks s.groups.walk.seen timestamp (s.groups_are ∙ h.seen ∙ sym h.timestamps_are) b);
       gaps = λ stamp a. c.feed-6.ensures.stands stamp (h.gaps stamp (listed-front stamps at stamp a))
           (listed-last stamps at s.gaps.seen stamp (s.gaps_are ∙ h.seen) a);
     }

@@ -9,7 +9,7 @@ pub take_records-requires-clause-room : goal.take_records-requires-clause-room
 take_records-requires-clause-room g c = λ κs outlives.
     let b = c.requires.begins in
     record {
-      is = record { routing = b.routing; lanes = b.lanes; are = b.are };
+      is = record { routing = b.routing; expected = c.requires.expected; lanes = b.lanes; are = b.are };
       before = 0;
       number_is = refl;
       limit = omega arith;
@@ -25,7 +25,7 @@ finish-requires-clause-few g c =
     let count = c.in_ok-taken.taken.records in
     let first : HasRoom (0 + 1) (count + 0) c.args.self.now =
     record {
-      is = record { routing = b.routing; lanes = b.lanes; are = b.are };
+      is = record { routing = b.routing; expected = c.requires.expected; lanes = b.lanes; are = b.are };
       before = 0;
       number_is = refl;
       limit = omega (arith, c.in_ok-taken.ensures.few);

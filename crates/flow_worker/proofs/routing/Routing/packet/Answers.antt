@@ -32,3 +32,13 @@ returns-clause-media c =
     (sym c.in_ok-media.ensures) in
     let same : c.new.result.media ≡ c.in_ok-media.media = ap (λ (p : Packet). p.media) c.new.ensures.value in
     omega (arith, below, same)
+
+pub learn-requires : goal.learn-requires
+learn-requires c =
+    let d : Datagram = record { target = c.datagram-2.inside.target; payload = c.datagram-2.inside.payload.now } in
+    let below : c.in_ok-media.media < 0 + length c.args.self.now.media.now = media_to-below d.target 0 c.in_ok-media.media c.args.self.now.media.now
+    (sym c.in_ok-media.ensures) in
+    omega (arith, below, c.requires.media)
+
+pub returns-clause-expected : goal.returns-clause-expected
+returns-clause-expected c = λ h. c.learn.ensures.expected c.args.self.now.media.now (sym c.in_ok-media.ensures) h

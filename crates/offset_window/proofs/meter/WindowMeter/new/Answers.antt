@@ -7,14 +7,11 @@ use Rattle.offset_window.proofs.meter.WindowMeter.new.Goals as goal
 pub returns-clause-stands : goal.returns-clause-stands
 returns-clause-stands c =
     let fits = c.ranges.n0 in
-    let grid = grid-same _ _ _ _ _ c.without_offset.result c.first-read.result.grid c.is_gapped.ensures c.first-read.ensures.grid
-    (simp to_z-of_z at c.without_offset.ensures) in
     record {
       kind_is = refl;
       seen = refl;
-      own = grid;
-      freeing = grid;
-      freeing_number = omega (arith, c.first-read.ensures.number);
+      grid = grid-same _ _ _ _ _ c.without_offset.result c.without_offset.result c.is_gapped.ensures refl (simp to_z-of_z at c.without_offset.ensures);
+      back = λ more. absurd (omega (arith, more, c.over.ensures));
       lower = lower-none _;
       upper = upper-none _;
     }

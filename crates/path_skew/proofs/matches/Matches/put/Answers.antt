@@ -11,9 +11,11 @@ returns-clause-holds c = λ before after held.
     record {
       matched = grind (arith, common_steps);
       least =
-          ap Some (c.least.ensures ∙ ap (earlier_of rising e) held.least) ∙ sym (earliest-insert rising rising_total rising_exact before after e)
+          c.keep_least.ensures ∙ ap (λ o. Some (earlier_of rising e o)) held.least
+          ∙ sym (earliest-insert rising rising_total rising_exact before after e)
           ∙ ap (λ x. earliest rising (before ++ x ∷ after)) c.extreme_of-extreme.ensures;
       greatest =
-          ap Some (c.greatest.ensures ∙ ap (earlier_of falling e) held.greatest) ∙ sym (earliest-insert falling falling_total falling_exact before after e)
+          c.keep_greatest.ensures ∙ ap (λ o. Some (earlier_of falling e o)) held.greatest
+          ∙ sym (earliest-insert falling falling_total falling_exact before after e)
           ∙ ap (λ x. earliest falling (before ++ x ∷ after)) c.extreme_of-extreme.ensures;
     }

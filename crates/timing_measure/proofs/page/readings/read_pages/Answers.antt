@@ -10,5 +10,5 @@ read_rest-requires-clause-known g c = λ lifetimes lives text whole.
 
 pub returns-clause-told : goal.returns-clause-told
 returns-clause-told g c = λ text whole.
-    page-in c.args.job.now.tai c.args.media.now text _ c.in_ok-first.first _ c.new.ensures.stands (c.in_ok-found.ensures) (c.in_ok-first.ensures.told text whole)
-    (c.in_ok-reading.ensures.told text (search rules))
+    page-in c.args.job.now.tai c.args.media.now text _ c.in_ok-first.first _ c.new.ensures.stands (c.in_ok-found.ensures)
+    (c.in_ok-first.ensures.told text whole) (c.in_ok-reading.ensures.told text (search rules))

@@ -10,7 +10,7 @@ pub returns-clause-draws : goal.returns-clause-draws
 returns-clause-draws c = λ groups stamp timestamp h at_is ticks_is.
     let s = c.args.self.now in
     let m = c.args.params.now.media in
-    let n0 = c.args.n0 in
+    let n0 = c.args.walk.now.n0 in
     let anchor = to_z-of_z w128 n0 (search rules) in
     let first = c.feed.ensures in
     let offset = c.feed-2.ensures in

@@ -7,8 +7,8 @@ returns-clause-draws c =
     let m = c.args.params.now.media in
     let n = c.args.params.now.n in
     record {
-      n_is = c.n.ensures.value;
-      seen_is = refl;
+      n_is = c.new.ensures.n;
+      seen_is = c.new.ensures.seen;
       same = refl;
       anchor_is = λ some. absurd (omega (arith, some));
       firsts_draw = λ anchor stamp timestamp is listed ticks.
