@@ -58,291 +58,323 @@ fn is_read(rt: &impl Abort, alloc: Global, bytes: &[u8]) -> bool {
     }
 }
 
+/// Whole texts, and whether each is read.
+static WHOLE_TEXTS: [(&[u8], bool); 20] = [
+    (b"{\"flows\":[]}", true),
+    (b" \t\r\n{ \"flows\" : [ ] }\n", true),
+    (
+        b"{\"flows\":[],\"other\":[1.5,null,\"\\ud83d\\ude00\"]}",
+        true,
+    ),
+    (b"", false),
+    (b"[]", false),
+    (b"\"flows\"", false),
+    (b"{}", false),
+    (b"{\"flows\":[]}x", false),
+    (b"{\"flows\":[]}{}", false),
+    (b"{\"flows\":[],}", false),
+    (b"\xef\xbb\xbf{\"flows\":[]}", false),
+    (b"{\"flows\":[],\"a\":\"\xff\"}", false),
+    (b"{\"flows\":[],\"a\":\"\x01\"}", false),
+    (b"{\"flows\":[],\"a\":\"\\ud800\"}", false),
+    (b"{\"flows\":[],\"a\":1e400}", false),
+    (b"{\"flows\":null}", false),
+    (b"{\"flows\":{}}", false),
+    (b"{\"flows\":[1]}", false),
+    // Of equal keys the last counts.
+    (b"{\"flows\":1,\"flows\":[]}", true),
+    (b"{\"flows\":[],\"flows\":1}", false),
+];
+
+/// Asserts that a text is read, or that it isn't.
+fn text_is_read(rt: &impl Abort, alloc: Global, text: &[u8], read: bool) {
+    assert!(rt; is_read(rt, alloc, text) == read, "{text:?}");
+}
+
 #[test]
 fn whole_texts(rt: HostRuntime) {
-    let rows: [(&[u8], bool); 20] = [
-        (b"{\"flows\":[]}", true),
-        (b" \t\r\n{ \"flows\" : [ ] }\n", true),
-        (
-            b"{\"flows\":[],\"other\":[1.5,null,\"\\ud83d\\ude00\"]}",
-            true,
-        ),
-        (b"", false),
-        (b"[]", false),
-        (b"\"flows\"", false),
-        (b"{}", false),
-        (b"{\"flows\":[]}x", false),
-        (b"{\"flows\":[]}{}", false),
-        (b"{\"flows\":[],}", false),
-        (b"\xef\xbb\xbf{\"flows\":[]}", false),
-        (b"{\"flows\":[],\"a\":\"\xff\"}", false),
-        (b"{\"flows\":[],\"a\":\"\x01\"}", false),
-        (b"{\"flows\":[],\"a\":\"\\ud800\"}", false),
-        (b"{\"flows\":[],\"a\":1e400}", false),
-        (b"{\"flows\":null}", false),
-        (b"{\"flows\":{}}", false),
-        (b"{\"flows\":[1]}", false),
-        // Of equal keys the last counts.
-        (b"{\"flows\":1,\"flows\":[]}", true),
-        (b"{\"flows\":[],\"flows\":1}", false),
-    ];
-    for (at, (text, read)) in rows.iter().enumerate() {
-        assert_eq!(rt; is_read(&rt, rt.alloc(), text), *read, "row {at}");
+    for (text, read) in &WHOLE_TEXTS {
+        text_is_read(&rt, rt.alloc(), text, *read);
     }
 }
 
-// A report of one flow with these members.
-fn one_flow(alloc: Global, members: &str) -> Result<String, AllocError> {
-    format!(in alloc; "{{\"flows\":[{{{members}}}]}}")
+/// Asserts that the text of these parts is read, or that it isn't.
+fn parts_are_read(
+    rt: &impl Abort,
+    alloc: Global,
+    parts: &[&str],
+    read: bool,
+) -> Result<(), AllocError> {
+    let mut text = String::new(alloc);
+    for part in parts {
+        text.push_str(part)?;
+    }
+    text_is_read(rt, alloc, text.as_bytes(), read);
+    Ok(())
 }
+
+/// What comes before the members of a report's one flow, and before all but the first two of them.
+const MEMBERS: &str = "{\"flows\":[{";
+
+const FLOW: &str = "{\"flows\":[{\"file\":1,\"media\":1,";
+
+/// What ends a report of one flow.
+const END: &str = "}]}";
+
+/// Members of a flow, and whether a report of such a flow is read.
+static KEYS: [(&str, bool); 16] = [
+    ("\"file\":1,\"media\":1", true),
+    ("\"file\":16,\"media\":64", true),
+    ("\"file\":0,\"media\":1", false),
+    ("\"file\":17,\"media\":1", false),
+    ("\"file\":1,\"media\":0", false),
+    ("\"file\":1,\"media\":65", false),
+    ("\"file\":1", false),
+    ("\"media\":1", false),
+    ("\"file\":\"1\",\"media\":1", false),
+    ("\"file\":1.0,\"media\":1", false),
+    ("\"file\":1e0,\"media\":1", false),
+    ("\"file\":+1,\"media\":1", false),
+    ("\"file\":01,\"media\":1", false),
+    ("\"file\":-1,\"media\":1", false),
+    ("\"file\":17,\"file\":1,\"media\":1", true),
+    ("\"file\":1,\"file\":17,\"media\":1", false),
+];
 
 #[test]
 fn keys(rt: HostRuntime) -> Result<(), Fail> {
-    let rows = [
-        ("\"file\":1,\"media\":1", true),
-        ("\"file\":16,\"media\":64", true),
-        ("\"file\":0,\"media\":1", false),
-        ("\"file\":17,\"media\":1", false),
-        ("\"file\":1,\"media\":0", false),
-        ("\"file\":1,\"media\":65", false),
-        ("\"file\":1", false),
-        ("\"media\":1", false),
-        ("\"file\":\"1\",\"media\":1", false),
-        ("\"file\":1.0,\"media\":1", false),
-        ("\"file\":1e0,\"media\":1", false),
-        ("\"file\":+1,\"media\":1", false),
-        ("\"file\":01,\"media\":1", false),
-        ("\"file\":-1,\"media\":1", false),
-        ("\"file\":17,\"file\":1,\"media\":1", true),
-        ("\"file\":1,\"file\":17,\"media\":1", false),
-    ];
-    for (members, read) in rows {
-        let text = one_flow(rt.alloc(), members)?;
-        assert_eq!(rt;
-            is_read(&rt, rt.alloc(), text.as_bytes()),
-            read,
-            "{members}"
-        );
+    for (members, read) in &KEYS {
+        parts_are_read(&rt, rt.alloc(), &[MEMBERS, members, END], *read)?;
     }
     Ok(())
 }
 
-// Whether these types are in the form of a report, of a flow and of a run alike.
+/// Asserts that types of these three parts are read, of a flow and of a run alike, or that they aren't.
 fn types_are_read(
     rt: &impl Abort,
     alloc: Global,
-    types: &str,
+    (front, middle, end): (&str, &str, &str),
     read: bool,
 ) -> Result<(), AllocError> {
-    let members = format!(in alloc; "\"file\":1,\"media\":1,\"types\":{types}")?;
-    let text = one_flow(alloc, members.as_str())?;
-    assert_eq!(rt; is_read(rt, alloc, text.as_bytes()), read, "{types}");
-    let members = format!(in alloc; "\"file\":1,\"media\":1,\"runs\":[{{\"types\":{types}}}]")?;
-    let text = one_flow(alloc, members.as_str())?;
-    assert_eq!(rt;
-        is_read(rt, alloc, text.as_bytes()),
-        read,
-        "{types} of a run"
-    );
-    Ok(())
+    let of_flow = [FLOW, "\"types\":", front, middle, end, END];
+    parts_are_read(rt, alloc, &of_flow, read)?;
+    let of_run = [FLOW, "\"runs\":[{\"types\":", front, middle, end, "}]", END];
+    parts_are_read(rt, alloc, &of_run, read)
 }
+
+/// Types, and whether each is read.
+static TYPES: [(&str, bool); 9] = [
+    ("[]", true),
+    (
+        "[{\"type\":\"N\"},{\"type\":\"NL\"},{\"type\":\"W\"}]",
+        true,
+    ),
+    ("null", false),
+    ("{}", false),
+    ("[1]", false),
+    ("[{}]", false),
+    ("[{\"type\":\"n\"}]", false),
+    ("[{\"type\":\"\"}]", false),
+    ("[{\"type\":1}]", false),
+];
 
 #[test]
 fn types(rt: HostRuntime) -> Result<(), Fail> {
-    let rows = [
-        ("[]", true),
-        (
-            "[{\"type\":\"N\"},{\"type\":\"NL\"},{\"type\":\"W\"}]",
-            true,
-        ),
-        ("null", false),
-        ("{}", false),
-        ("[1]", false),
-        ("[{}]", false),
-        ("[{\"type\":\"n\"}]", false),
-        ("[{\"type\":\"\"}]", false),
-        ("[{\"type\":1}]", false),
-    ];
-    for (types, read) in rows {
-        types_are_read(&rt, rt.alloc(), types, read)?;
+    for (types, read) in &TYPES {
+        types_are_read(&rt, rt.alloc(), ("", types, ""), *read)?;
     }
     Ok(())
 }
+
+/// Proofs, and whether each is read.
+static PROOFS: [(&str, bool); 14] = [
+    ("null", false),
+    ("[]", false),
+    (
+        "{\"model\":\"Over\",\"from\":0,\"to\":18446744073709551615,\"count\":1,\"limit\":2}",
+        true,
+    ),
+    (
+        "{\"model\":\"Over\",\"from\":0,\"to\":18446744073709551616,\"count\":1,\"limit\":2}",
+        false,
+    ),
+    (
+        "{\"model\":\"over\",\"from\":0,\"to\":1,\"count\":1,\"limit\":2}",
+        false,
+    ),
+    ("{\"from\":0,\"to\":1,\"count\":1,\"limit\":2}", false),
+    (
+        "{\"model\":\"Over\",\"to\":1,\"count\":1,\"limit\":2}",
+        false,
+    ),
+    (
+        "{\"model\":\"Over\",\"from\":0,\"count\":1,\"limit\":2}",
+        false,
+    ),
+    (
+        "{\"model\":\"Over\",\"from\":0,\"to\":1,\"limit\":2}",
+        false,
+    ),
+    (
+        "{\"model\":\"Over\",\"from\":0,\"to\":1,\"count\":1}",
+        false,
+    ),
+    (
+        "{\"model\":\"Over\",\"from\":5.0,\"to\":9,\"count\":1,\"limit\":2}",
+        false,
+    ),
+    (
+        "{\"model\":\"Over\",\"from\":5e0,\"to\":9,\"count\":1,\"limit\":2}",
+        false,
+    ),
+    (
+        "{\"model\":\"Over\",\"from\":-0,\"to\":9,\"count\":1,\"limit\":2}",
+        false,
+    ),
+    (
+        "{\"model\":\"Over\",\"from\":0,\"to\":1,\"count\":\"1\",\"limit\":2}",
+        false,
+    ),
+];
 
 #[test]
 fn proofs(rt: HostRuntime) -> Result<(), Fail> {
-    let rows = [
-        ("null", false),
-        ("[]", false),
-        (
-            "{\"model\":\"Over\",\"from\":0,\"to\":18446744073709551615,\"count\":1,\"limit\":2}",
-            true,
-        ),
-        (
-            "{\"model\":\"Over\",\"from\":0,\"to\":18446744073709551616,\"count\":1,\"limit\":2}",
-            false,
-        ),
-        (
-            "{\"model\":\"over\",\"from\":0,\"to\":1,\"count\":1,\"limit\":2}",
-            false,
-        ),
-        ("{\"from\":0,\"to\":1,\"count\":1,\"limit\":2}", false),
-        (
-            "{\"model\":\"Over\",\"to\":1,\"count\":1,\"limit\":2}",
-            false,
-        ),
-        (
-            "{\"model\":\"Over\",\"from\":0,\"count\":1,\"limit\":2}",
-            false,
-        ),
-        (
-            "{\"model\":\"Over\",\"from\":0,\"to\":1,\"limit\":2}",
-            false,
-        ),
-        (
-            "{\"model\":\"Over\",\"from\":0,\"to\":1,\"count\":1}",
-            false,
-        ),
-        (
-            "{\"model\":\"Over\",\"from\":5.0,\"to\":9,\"count\":1,\"limit\":2}",
-            false,
-        ),
-        (
-            "{\"model\":\"Over\",\"from\":5e0,\"to\":9,\"count\":1,\"limit\":2}",
-            false,
-        ),
-        (
-            "{\"model\":\"Over\",\"from\":-0,\"to\":9,\"count\":1,\"limit\":2}",
-            false,
-        ),
-        (
-            "{\"model\":\"Over\",\"from\":0,\"to\":1,\"count\":\"1\",\"limit\":2}",
-            false,
-        ),
-    ];
-    for (proof, read) in rows {
-        let types = format!(in rt.alloc(); "[{{\"type\":\"N\",\"proof\":{proof}}}]")?;
-        types_are_read(&rt, rt.alloc(), types.as_str(), read)?;
+    for (proof, read) in &PROOFS {
+        let types = ("[{\"type\":\"N\",\"proof\":", *proof, "}]");
+        types_are_read(&rt, rt.alloc(), types, *read)?;
     }
     Ok(())
 }
+
+/// Lists of runs, and whether each is read.
+static LISTS_OF_RUNS: [(&str, bool); 7] = [
+    ("[]", true),
+    ("[{}]", true),
+    ("null", false),
+    ("{}", false),
+    ("[1]", false),
+    ("[[]]", false),
+    ("[{},null]", false),
+];
 
 #[test]
 fn lists_of_runs(rt: HostRuntime) -> Result<(), Fail> {
-    let rows = [
-        ("[]", true),
-        ("[{}]", true),
-        ("null", false),
-        ("{}", false),
-        ("[1]", false),
-        ("[[]]", false),
-        ("[{},null]", false),
-    ];
-    for (runs, read) in rows {
-        let members = format!(in rt.alloc(); "\"file\":1,\"media\":1,\"runs\":{runs}")?;
-        let text = one_flow(rt.alloc(), members.as_str())?;
-        assert_eq!(rt; is_read(&rt, rt.alloc(), text.as_bytes()), read, "{runs}");
+    for (runs, read) in &LISTS_OF_RUNS {
+        parts_are_read(&rt, rt.alloc(), &[FLOW, "\"runs\":", runs, END], *read)?;
     }
     Ok(())
 }
 
-// The front, so many pieces with commas between, and the end.
-fn repeated(
-    alloc: Global,
-    front: &str,
-    piece: &str,
-    comma: &str,
-    count: u32,
-    end: &str,
-) -> Result<String, AllocError> {
+/// A text with so many pieces behind it.
+fn repeated(alloc: Global, front: &str, piece: &str, count: u32) -> Result<String, AllocError> {
     let mut text = String::from_str(alloc, front)?;
-    for at in 0..count {
-        if at > 0 {
-            text.push_str(comma)?;
-        }
+    for _ in 0..count {
         text.push_str(piece)?;
     }
-    text.push_str(end)?;
     Ok(text)
 }
 
-#[test]
-fn limits(rt: HostRuntime) -> Result<(), Fail> {
-    let alloc = rt.alloc();
-    let flow = "{\"flows\":[{\"file\":1,\"media\":1,\"runs\":[";
-    let most_runs = repeated(alloc, flow, "{}", ",", 1025, "]}]}")?;
-    assert!(rt; is_read(&rt, alloc, most_runs.as_bytes()));
-    let more_runs = repeated(alloc, flow, "{}", ",", 1026, "]}]}")?;
-    assert!(rt; !is_read(&rt, alloc, more_runs.as_bytes()));
+/// Asserts that a report of so many runs, of which each but the first has a comma before it, is read, or that it isn't.
+fn runs_are_read(
+    rt: &impl Abort,
+    alloc: Global,
+    commas: u32,
+    read: bool,
+) -> Result<(), AllocError> {
+    let runs = repeated(alloc, "\"runs\":[{}", ",{}", commas)?;
+    parts_are_read(rt, alloc, &[FLOW, runs.as_str(), "]", END], read)
+}
 
-    // The object and the lists in it are 127 and 128 in one another.
-    let other = "{\"flows\":[],\"other\":";
-    let deepest = repeated(alloc, other, "[", "", 126, "")?;
-    let deepest = repeated(alloc, deepest.as_str(), "]", "", 126, "}")?;
-    assert!(rt; is_read(&rt, alloc, deepest.as_bytes()));
-    let deeper = repeated(alloc, other, "[", "", 127, "")?;
-    let deeper = repeated(alloc, deeper.as_str(), "]", "", 127, "}")?;
-    assert!(rt; !is_read(&rt, alloc, deeper.as_bytes()));
+/// Asserts that a report with so many lists in one another is read, or that it isn't.
+fn depth_is_read(rt: &impl Abort, alloc: Global, lists: u32, read: bool) -> Result<(), AllocError> {
+    let begins = repeated(alloc, "{\"flows\":[],\"other\":", "[", lists)?;
+    let ends = repeated(alloc, "", "]", lists)?;
+    parts_are_read(rt, alloc, &[begins.as_str(), ends.as_str(), "}"], read)
+}
 
-    assert!(rt; is_read(&rt, alloc, &padded(alloc, 16_777_216)?));
-    assert!(rt; !is_read(&rt, alloc, &padded(alloc, 16_777_217)?));
+/// Asserts that a report of this length is read, or that it isn't.
+fn length_is_read(
+    rt: &impl Abort,
+    alloc: Global,
+    length: usize,
+    read: bool,
+) -> Result<(), AllocError> {
+    let text = padded(alloc, length)?;
+    text_is_read(rt, alloc, &text, read);
     Ok(())
 }
 
-// A report of no flows, and blanks up to this length.
+// The object and the lists in it are 127 and 128 in one another.
+#[test]
+fn limits(rt: HostRuntime) -> Result<(), Fail> {
+    runs_are_read(&rt, rt.alloc(), 1024, true)?;
+    runs_are_read(&rt, rt.alloc(), 1025, false)?;
+    depth_is_read(&rt, rt.alloc(), 126, true)?;
+    depth_is_read(&rt, rt.alloc(), 127, false)?;
+    length_is_read(&rt, rt.alloc(), 16_777_216, true)?;
+    length_is_read(&rt, rt.alloc(), 16_777_217, false)?;
+    Ok(())
+}
+
+/// A report of no flows, and blanks up to this length.
 fn padded(alloc: Global, len: usize) -> Result<Vec<u8>, AllocError> {
     let mut bytes = Vec::from_slice(alloc, b"{\"flows\":[]}")?;
     bytes.resize(len, b' ')?;
     Ok(bytes)
 }
 
-// The entry of a type that fails at packet `from`.
-fn failing(alloc: Global, kind: &str, from: u32) -> Result<String, AllocError> {
-    format!(in alloc;
-        "{{\"type\":\"{kind}\",\"proof\":{{\"model\":\"Bucket\",\"from\":{from},\"to\":{from},\"count\":5,\"limit\":4}}}}"
-    )
+/// A report of two runs with fails, one without, and fails of the flow itself.
+static ORDERED: &str = concat!(
+    "{\"flows\":[{\"runs\":[{\"types\":[{\"type\":\"NL\",\"proof\":{\"model\":\"Bucket\",\"from\":3,\"to\":3,\"count\":5,\"limit\":4}}]},",
+    "{},{\"types\":[{\"type\":\"N\",\"proof\":{\"model\":\"Bucket\",\"from\":4,\"to\":4,\"count\":5,\"limit\":4}}]}],",
+    "\"media\":64,\"file\":16,",
+    "\"types\":[{\"type\":\"W\",\"proof\":{\"model\":\"Bucket\",\"from\":1,\"to\":1,\"count\":5,\"limit\":4}},{\"type\":\"NL\"},",
+    "{\"type\":\"N\",\"proof\":{\"model\":\"Bucket\",\"from\":2,\"to\":2,\"count\":5,\"limit\":4}}]}]}"
+);
+
+/// The run, the type and the packet of each of its fails.
+static ORDER: [(u32, Kind, u64); 4] = [
+    (0, Kind::W, 1),
+    (0, Kind::N, 2),
+    (0, Kind::NL, 3),
+    (2, Kind::N, 4),
+];
+
+/// Asserts that a fail is that of this run, type and packet.
+fn is_told(rt: &impl Abort, told: &ReportProof, (run, kind, from): (u32, Kind, u64)) {
+    let proof = FailProof {
+        model: Broken::Bucket,
+        from,
+        to: from,
+        count: 5,
+        limit: 4,
+    };
+    let key = FlowKey {
+        file: 15,
+        media: 63,
+    };
+    let want = ReportProof {
+        key,
+        run,
+        kind,
+        proof,
+    };
+    assert!(rt; *told == want, "{told:?}, not {want:?}");
+}
+
+/// Asserts that these fails are told, in this order.
+fn are_told(rt: &impl Abort, told: &[ReportProof], want: &[(u32, Kind, u64)]) {
+    assert!(rt; told.len() == want.len());
+    for (told, want) in told.iter().zip(want) {
+        is_told(rt, told, *want);
+    }
 }
 
 #[test]
-fn order_of_proofs(rt: HostRuntime) -> Result<(), Fail> {
-    let alloc = rt.alloc();
-    let (own, other) = (failing(alloc, "W", 1)?, failing(alloc, "N", 2)?);
-    let (first, second) = (failing(alloc, "NL", 3)?, failing(alloc, "N", 4)?);
-    let text = format!(in alloc;
-        "{{\"flows\":[{{\"runs\":[{{\"types\":[{first}]}},{{}},{{\"types\":[{second}]}}],\"media\":64,\"file\":16,\"types\":[{own},{{\"type\":\"NL\"}},{other}]}}]}}"
-    )?;
-    let expected = [
-        (0, Kind::W, 1),
-        (0, Kind::N, 2),
-        (0, Kind::NL, 3),
-        (2, Kind::N, 4),
-    ];
-    let Ok(proofs) = read_json(alloc, text.as_bytes()) else {
+fn order_of_proofs(rt: HostRuntime) {
+    let Ok(proofs) = read_json(rt.alloc(), ORDERED.as_bytes()) else {
         assert!(rt; false, "the report is not read");
-        return Ok(());
+        return;
     };
-    assert_eq!(rt; proofs.len(), 4);
-    for (told, (run, kind, from)) in proofs.iter().zip(expected) {
-        let proof = FailProof {
-            model: Broken::Bucket,
-            from,
-            to: from,
-            count: 5,
-            limit: 4,
-        };
-        let key = FlowKey {
-            file: 15,
-            media: 63,
-        };
-        assert_eq!(rt;
-            *told,
-            ReportProof {
-                key,
-                run,
-                kind,
-                proof
-            }
-        );
-    }
-    Ok(())
+    are_told(&rt, &proofs, &ORDER);
 }
