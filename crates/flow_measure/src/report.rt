@@ -13,4 +13,5 @@ mod rows;
 mod run;
 
 pub use json::json_of;
-pub use rows::{GroupRow, PacketRow, RowText, group_header, packet_header};
+pub use rows::{GroupRow, PacketRow, RowText};
+pub(crate) use rows::{group_header, packet_header};

@@ -65,14 +65,14 @@ pub struct GroupRow {
 }
 
 /// The line above the rows of packets, with its end.
-pub fn packet_header() -> &'static str
+pub(crate) fn packet_header() -> &'static str
     ensures { result.now ≡ packet_header_text }
 {
     "run,packet,record,stamp,group,place,bucket,gapped,linear\n"
 }
 
 /// The line above the rows of groups, with its end.
-pub fn group_header() -> &'static str
+pub(crate) fn group_header() -> &'static str
     ensures { result.now ≡ group_header_text }
 {
     "run,group,record,stamp,first,last,timestamp,step,offset,latency,bucket,gapped_least,gapped,linear_least,linear\n"

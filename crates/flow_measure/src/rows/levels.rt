@@ -7,7 +7,7 @@ ghost use Rattle.flow_measure.specs.Filled.{IsNext};
 ghost use Rattle.flow_measure.specs.Occupancy.{IsOccupancy};
 ghost use Rattle.flow_measure.specs.RunStands.{IsLatest};
 
-use crate::occupancy_of;
+use crate::occupancy::occupancy_of;
 use drain_bucket::Bucket;
 use read_schedule::Schedule;
 use sender_params::Params;
