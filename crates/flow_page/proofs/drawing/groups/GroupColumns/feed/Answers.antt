@@ -1,11 +1,55 @@
-use Rattle.std.proofs.Common.{◌≡◌, ◌+◌, FitsSigned, ap, ◌∙◌, sym, rules}
+use Rattle.std.proofs.Common.{◌≡◌, ◌<◌, ◌+◌, ℕ, FitsSigned, inl, inr, ap, ◌∙◌, sym, rules, arith}
+use Rattle.std.proofs.lemmas.Bool.{cases_lt}
 use Rattle.std.proofs.lemmas.Int.{to_z-of_z}
 use Rattle.std.specs.Int.{w128}
+use Rattle.flow_measure.specs.Begun.{HaveBegun}
 use Rattle.flow_measure.specs.Frames.{after_start}
 use Rattle.flow_measure.specs.Groups.{lasts_of, since_at}
+use Rattle.flow_measure.specs.declared.group_walk.GroupWalk.{GroupWalk}
 use Rattle.flow_measure.proofs.Grouped.{last-is}
+use Rattle.flow_page.specs.declared.drawing.groups.FirstColumns.{FirstColumns}
 use Rattle.flow_page.proofs.lemmas.drawing.Feeding.{draws-more, groups-fed}
 use Rattle.flow_page.proofs.drawing.groups.GroupColumns.feed.Goals as goal
+
+-- how many groups have begun, with this packet
+begun : (old mid : GroupWalk) (before after : ℕ) → HaveBegun old before → mid.place ≡ old.place → (mid.place ≡ 0 → after ≡ before + 1)
+    → (0 < mid.place → after ≡ before) → after ≡ old.whole + 1
+begun old mid before after h same begins kept = elim (cases_lt 0 mid.place) as (λ _. after ≡ old.whole + 1) [
+  | inl more ↦ kept more ∙ h.inside (omega (arith, more, same))
+  | inr none ↦ let zero : mid.place ≡ 0 = omega (arith, none) in omega (arith, begins zero, h.between (omega (arith, zero, same)))
+]
+
+pub invariant_of-self-else-pass : goal.invariant_of-self-else-pass
+invariant_of-self-else-pass c =
+    let s = c.args.self.now in
+    let first = c.begin_at.ensures in
+    let within = c.pass.ensures.within c.if-pass.false in
+    let now = begun s.walk c.begin_at.new.self s.firsts.seen c.feed_at.new.self.seen s.firsts_are first.place c.feed_at.ensures.seen
+    (λ more. ap (λ (x : FirstColumns). x.seen) (c.feed_at.ensures.kept more)) in
+    record {
+      last_is = s.last_is ∙ sym first.whole ∙ sym within.1;
+      firsts_are = record {
+        few = omega (arith, now, c.pass.ensures.seen, first.seen, s.walk.whole_few);
+        between = λ none. absurd (omega (arith, none, within.0));
+        inside = λ _. omega (arith, now, within.1, first.whole);
+      };
+    }
+
+pub invariant_of-self : goal.invariant_of-self
+invariant_of-self c =
+    let s = c.args.self.now in
+    let first = c.begin_at.ensures in
+    let over = c.pass.ensures.over c.if-pass.true in
+    let now = begun s.walk c.begin_at.new.self s.firsts.seen c.feed_at.new.self.seen s.firsts_are first.place c.feed_at.ensures.seen
+    (λ more. ap (λ (x : FirstColumns). x.seen) (c.feed_at.ensures.kept more)) in
+    record {
+      last_is = omega (arith, c.feed.ensures.seen, s.last_is, first.whole, over.2);
+      firsts_are = record {
+        few = omega (arith, now, c.pass.ensures.seen, first.seen, s.walk.whole_few);
+        between = λ _. omega (arith, now, over.2, first.whole);
+        inside = λ more. absurd (omega (arith, more, over.1));
+      };
+    }
 
 pub returns-else-pass-clause-draws : goal.returns-else-pass-clause-draws
 returns-else-pass-clause-draws c =
