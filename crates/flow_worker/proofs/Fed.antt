@@ -1,8 +1,10 @@
 -- What the judges of a file are fed: when they are made, when a packet comes, and packets.
 use Rattle.std.proofs.Common.{◌≡◌, ◌≤◌, ◌<◌, ◌+◌, ℕ, Bool, true, false, if◌then◌else◌, eqb, List, [], ◌∷◌, ◌++◌, length, map, get_or, set, take, Some, None}
 use Rattle.std.proofs.Common.{refl, sym, ap, ◌∙◌, subst, eq-eqb, ne_eqb, append_assoc, append-nil, length-set, arith, ◌^◌, drop, length-append}
-use Rattle.std.specs.Prelude.{Option, Result, Ok, Err, IfOk, IfSome, IfNone, OnOk, IsTrue}
+use Rattle.std.specs.Prelude.{⊤, ◌==◌, ◌&&◌, Option, Result, Ok, Err, IfOk, IfSome, IfNone, OnOk, IsTrue}
 use Rattle.std.specs.List.{cons_option}
+use Rattle.std.proofs.Math.Bool.{beq}
+use Rattle.std.proofs.lemmas.Bool.{and_parts, eqb-true}
 use Rattle.std.proofs.lemmas.List.{drop_more, get_or_default, map-append, take_more}
 use Rattle.std.proofs.lemmas.List.Concat.{flat_map-append}
 use Rattle.std.proofs.lemmas.List.Elements.{All-weaker, filter_map-append}
@@ -11,14 +13,17 @@ use Rattle.timing_base.specs.Keys.{key_of, media_of, no_media}
 use Rattle.timing_base.specs.Routes.{route}
 use Rattle.timing_base.specs.declared.key.FlowKey.{FlowKey}
 use Rattle.timing_base.specs.declared.packet.FlowPacket.{FlowPacket}
-use Rattle.fail_interval.specs.Stands.{StandsFor}
+use Rattle.timing_base.specs.declared.packet.PacketFault.{PacketFault}
+use Rattle.timing_base.specs.declared.packet.Rtp.{Rtp}
+use Rattle.fail_interval.specs.Stands.{StandsFor, Takes, TakesExpected}
+use Rattle.fail_interval.specs.Taken.{IsExpected}
 use Rattle.fail_interval.specs.declared.judge.FlowJudge.{FlowJudge}
 use Rattle.ruled_intake.specs.Messages.{Batch}
 use Rattle.ruled_intake.specs.Packets.{Packet, flow_packet}
 use Rattle.flow_worker.specs.Messages.{media_packet, media_packets}
 use Rattle.flow_worker.specs.Opening.{Setting}
 use Rattle.flow_worker.specs.Posting.{raised_packet}
-use Rattle.flow_worker.specs.Judging.{AreFed, EachFrom, Feeds, HaveRoom, IsPlace, batched, fed_at, is_own, with_packets}
+use Rattle.flow_worker.specs.Judging.{AreFed, EachFrom, Expects, Feeds, HaveRoom, IsPlace, batched, fed_at, is_own, with_packets}
 use Rattle.flow_worker.specs.declared.judges.Judges.{Judges}
 use Rattle.flow_worker.proofs.Each.{each-at, each-set, each-weaker}
 
@@ -132,6 +137,57 @@ feeds-some_if (Ok x) before p old new i d judge next q at within some written sa
     (subst (λ (y : FlowPacket). (m : Media) (key : FlowKey) (tai : ℕ) (packets : List FlowPacket) → StandsFor m key tai judge packets
     → StandsFor m key tai next (packets ++ raised_packet before y ∷ [])) same feeds)
 feeds-some_if (Err e) before p old new i d judge next q at within some written same feeds = tt
+
+-- two truths that are the same
+same-bool : (a b : Bool) → beq a b ≡ true → a ≡ b
+same-bool true true h = refl
+same-bool false false h = refl
+same-bool true false h = absurd (cc)
+same-bool false true h = absurd (cc)
+
+-- whether the fields of two packets are the same
+abbrev same_fields : Rtp → Rtp → Bool
+same_fields a b =
+    (a.number == b.number) && ((a.timestamp == b.timestamp) && (beq a.marker b.marker && ((a.pt == b.pt) && (a.ssrc == b.ssrc))))
+
+same-fields : (a b : Rtp) → same_fields a b ≡ true → a ≡ b
+same-fields a b h =
+    let (number, four) =
+    and_parts (a.number == b.number) ((a.timestamp == b.timestamp) && (beq a.marker b.marker && ((a.pt == b.pt) && (a.ssrc == b.ssrc)))) h in
+    let (timestamp, three) = and_parts (a.timestamp == b.timestamp) (beq a.marker b.marker && ((a.pt == b.pt) && (a.ssrc == b.ssrc))) four in
+    let (marker, two) = and_parts (beq a.marker b.marker) ((a.pt == b.pt) && (a.ssrc == b.ssrc)) three in
+    let (pt, ssrc) = and_parts (a.pt == b.pt) (a.ssrc == b.ssrc) two in
+    let same : a.marker ≡ b.marker = same-bool a.marker b.marker marker in
+    λ i. record {
+      number = eqb-true a.number b.number number i;
+      timestamp = eqb-true a.timestamp b.timestamp timestamp i;
+      marker = same i;
+      pt = eqb-true a.pt b.pt pt i;
+      ssrc = eqb-true a.ssrc b.ssrc ssrc i;
+    }
+
+-- a packet that is the one expected
+pub expects-same : (judge : FlowJudge) (expected came : Rtp) (rtp : Result Rtp PacketFault) → rtp ≡ Ok came → same_fields came expected ≡ true
+    → IsExpected judge expected → Expects judge rtp
+expects-same judge expected came rtp is same h =
+    subst (Expects judge) (sym is) (subst (IsExpected judge) (sym (same-fields came expected same)) h)
+
+-- two that are one
+same-packet : (a b : Rtp) (o : Option Rtp) → Some a ≡ o → o ≡ Some b → b ≡ a
+same-packet a b o first second = cc
+
+-- a judge that took the packet that it expects was fed that one
+pub takes-expected : {E : Type 0} (old new : FlowJudge) (rec_number at : ℕ) (rtp : Result Rtp PacketFault) → Expects old rtp → TakesExpected old new at
+    → Takes {T = ⊤} {E = E} old new (record { rec = rec_number; at = at; rtp = rtp }) (Ok tt)
+takes-expected old new rec_number at (Err fault) expects takes = absurd expects
+takes-expected old new rec_number at (Ok rtp) expects takes = record {
+  fed = takes.fed;
+  stands = λ m key tai packets h.
+      subst (λ (p : Rtp). StandsFor m key tai new (packets ++ record { rec = rec_number; at = at; rtp = Ok p } ∷ []))
+      (same-packet rtp _ _ (expects m key tai packets h) (takes.expects m key tai packets h)) (takes.stands m key tai packets rec_number h);
+  spends = tt;
+  stays = λ spent. absurd (takes.going spent);
+}
 
 -- packets, and then more
 pub feeds-append : (before : ℕ) (xs ys : List Packet) (old mid new : Judges) → Feeds before xs old mid → Feeds before ys mid new

@@ -1,10 +1,13 @@
 -- What the judges of a worker were fed of what it took. Files, media and workers count from 0.
 use Rattle.std.specs.Prelude.{◌≡◌, ◌≤◌, ◌+◌, ◌^◌, ◌==◌, ℕ, Bool, true, false, ⊤, List, [], ◌∷◌, ◌++◌, All}
-use Rattle.std.specs.Prelude.{if◌then◌else◌, flat_map, length, map, Option, Some, None}
+use Rattle.std.specs.Prelude.{if◌then◌else◌, flat_map, length, map, Option, Some, None, Result, Ok, Err}
 use Rattle.timing_base.specs.declared.key.FlowKey.{FlowKey}
 use Rattle.timing_base.specs.declared.packet.FlowPacket.{FlowPacket}
+use Rattle.timing_base.specs.declared.packet.PacketFault.{PacketFault}
+use Rattle.timing_base.specs.declared.packet.Rtp.{Rtp}
 use Rattle.timing_base.specs.Keys.{key_of, media_of}
 use Rattle.fail_interval.specs.Stands.{StandsFor, count_fed}
+use Rattle.fail_interval.specs.Taken.{IsExpected}
 use Rattle.fail_interval.specs.declared.judge.FlowJudge.{FlowJudge}
 use Rattle.ruled_intake.specs.Messages.{Batch}
 use Rattle.ruled_intake.specs.Packets.{Packet}
@@ -51,6 +54,11 @@ fed_at (Some judge) = count_fed judge
 -- each judge may be fed so many packets more
 abbrev pub HaveRoom : ℕ → Judges → Type 0
 HaveRoom more judges = All (λ place. fed_at place + more ≤ 2 ^ 41) judges.places.items
+
+-- what was read is the packet that the judge expects
+abbrev pub Expects : FlowJudge → Result Rtp PacketFault → Type 0
+Expects judge (Ok rtp) = IsExpected judge rtp
+Expects judge (Err fault) = ⊥
 
 -- the flows of the file are dealt out under its own number: where files are joined, it is the first
 abbrev pub IsDealt : (joined : Bool) → (file : ℕ) → Type 0

@@ -1,11 +1,14 @@
 //! The judges of a worker for one file, or for files that are joined.
 
-ghost use Rattle.std.specs.Prelude.{◌≡◌, ◌≤◌, ◌<◌, ◌+◌, ◌^◌, ◌++◌, ◌∷◌, [], ℕ, Bool, List, All, IfOk, IfNone, IfSome, IsTrue, filter, length, map};
+ghost use Rattle.std.specs.Prelude.{◌≡◌, ◌≤◌, ◌<◌, ◌+◌, ◌^◌, ◌++◌, ◌∷◌, [], ℕ, Bool, List, All, IfOk, IfNone, IfSome, IsTrue, filter, length, map, true};
 ghost use Rattle.timing_base.specs.declared.key.FlowKey.{FlowKey as KeyValue};
 ghost use Rattle.timing_base.specs.declared.packet.FlowPacket.{FlowPacket as PacketValue};
 ghost use Rattle.timing_base.specs.Keys.{keys_of_file};
 ghost use Rattle.timing_base.specs.Routes.{route};
-ghost use Rattle.fail_interval.specs.Stands.{StandsFor};
+ghost use Rattle.fail_interval.specs.Stands.{StandsFor, Takes, count_fed};
+ghost use Rattle.fail_interval.specs.States.{IsReading};
+ghost use Rattle.timing_base.specs.Captures.{IsStamp};
+ghost use Rattle.flow_worker.specs.Judging.{Expects};
 ghost use Rattle.verdict_book.specs.Receipts.{IsOf, row_of};
 ghost use Rattle.flow_worker.specs.Opening.{Setting};
 ghost use Rattle.flow_worker.specs.Posting.{row_over};
@@ -16,7 +19,7 @@ use fail_interval::FlowJudge;
 use ruled_intake::{Batch, Packet};
 use std::alloc::{AllocError as OutOfMemory, Global};
 use std::sync::Wait;
-use timing_base::{FlowKey, FlowPacket, Media, Row, route};
+use timing_base::{FlowKey, FlowPacket, Media, PacketFault, Row, Rtp, route};
 use verdict_book::{Book, Receipt};
 
 /// A place for each media of the session, in order. It has a judge where the flow of the media is
@@ -98,7 +101,7 @@ impl Judges {
         }
         let FlowPacket { rec, at, rtp } = packet.flow_packet();
         match &mut self.places[media] {
-            Some(judge) => judge.feed(before + rec, at, rtp),
+            Some(judge) => feed_next(judge, before + rec, at, rtp),
             None => Ok(()),
         }
     }
@@ -140,6 +143,40 @@ fn own_judge(alloc: Global, media: &Media, key: FlowKey, tai: u64, own: bool) ->
     } else {
         None
     }
+}
+
+/// Whether this is the packet that goes on in the judge's flow as most do.
+#[inline(always)]
+fn is_expected(judge: &FlowJudge, rtp: Result<Rtp, PacketFault>) -> bool
+    ensures { result ≡ true → Expects judge.now rtp }
+{
+    let Some(expected) = judge.expected() else {
+        return false;
+    };
+    match rtp {
+        Ok(rtp) => rtp == expected,
+        Err(_) => false,
+    }
+}
+
+/// Feeds a judge the next packet of its flow. In a judged run most go on as is expected: these are compared once, and
+/// then only their stamps are fed. `Err` is want of memory.
+#[inline(always)]
+fn feed_next(
+    judge: &mut FlowJudge,
+    rec: u64,
+    at: u64,
+    rtp: Result<Rtp, PacketFault>,
+) -> Result<(), OutOfMemory>
+    requires stamp { IsStamp at }
+    requires reading { IsReading rtp }
+    requires few { count_fed judge.old < 2 ^ 41 }
+    ensures { Takes judge.old judge.new (record { rec = rec; at = at; rtp = rtp }) result }
+{
+    if is_expected(judge, rtp) && judge.feed_judged(at) {
+        return Ok(());
+    }
+    judge.feed(rec, at, rtp)
 }
 
 /// Posts a row, and puts its receipt at the end of a list.

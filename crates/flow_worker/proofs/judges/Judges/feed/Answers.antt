@@ -11,10 +11,10 @@ returns-then-media-len-clause-feeds c =
 pub returns-in-Some-clause-feeds : goal.returns-in-Some-clause-feeds
 returns-in-Some-clause-feeds c =
     let within : c.media-media.result < length c.args.self.now.places.items = search rules in
-    feeds-some_if c.feed.result c.args.before c.args.packet.now c.args.self.now record
-    { places = with_item c.args.self.now.places c.media-media.result (Some c.feed.new.self) } c.media-media.result _
-    c.in-Some.judge c.feed.new.self c.flow_packet-rec.result c.media-media.ensures.value within (sym c.index_mut.ensures.value ∙ c.in-Some.is) refl
-    c.flow_packet-rec.ensures.value c.feed.ensures.stands
+    feeds-some_if c.feed_next.result c.args.before c.args.packet.now c.args.self.now record
+    { places = with_item c.args.self.now.places c.media-media.result (Some c.feed_next.new.judge) } c.media-media.result _
+    c.in-Some.judge c.feed_next.new.judge c.flow_packet-rec.result c.media-media.ensures.value within (sym c.index_mut.ensures.value ∙ c.in-Some.is) refl
+    c.flow_packet-rec.ensures.value c.feed_next.ensures.stands
 
 pub returns-in-None-clause-feeds : goal.returns-in-None-clause-feeds
 returns-in-None-clause-feeds c =
