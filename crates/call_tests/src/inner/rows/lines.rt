@@ -3,8 +3,11 @@
 use std::alloc::{AllocError, Global};
 use std::process::Abort;
 use std::test::Fail;
-use timing_base::{FileName, Items};
-use timing_words::{Request, WordFault, read_words};
+use timing_base::{
+    CaptureJob, CheckJob, FailProof, FileName, FlowJob, Items, ReportJob, ScanJob, SelfTestJob,
+    SeriesJob, ShapeJob, SkewJob, VerifyJob,
+};
+use timing_words::{Command, Request, WordFault, read_words};
 
 // The words of a line, which bars part.
 fn words_of(alloc: Global, line: &str) -> Result<Vec<String>, AllocError> {
@@ -25,72 +28,107 @@ fn files(alloc: Global, items: &Items<FileName>) -> Result<String, AllocError> {
     Ok(text)
 }
 
-// The fields of a request: file names, then numbers, then flags, then captures.
+/// The fields of a check.
+fn shown_check(alloc: Global, job: &CheckJob) -> Result<String, AllocError> {
+    let captures = files(alloc, &job.captures)?;
+    let sdp = job.sdp.as_str();
+    let (workers, tai) = (job.workers, job.tai);
+    let (json, joined) = (job.json, job.joined);
+    format!(in alloc; "check {sdp} {workers} {tai} {json} {joined}:{captures}")
+}
+
+/// The numbers of a fail.
+fn shown_proof(alloc: Global, proof: &FailProof) -> Result<String, AllocError> {
+    let (model, from, to) = (proof.model, proof.from, proof.to);
+    let (count, limit) = (proof.count, proof.limit);
+    format!(in alloc; "{model:?} {from} {to} {count} {limit}")
+}
+
+/// The fields of the claim of one fail.
+fn shown_verify(alloc: Global, job: &VerifyJob) -> Result<String, AllocError> {
+    let captures = files(alloc, &job.captures)?;
+    let proof = shown_proof(alloc, &job.proof)?;
+    let sdp = job.sdp.as_str();
+    let (media, kind, tai, joined) = (job.media, job.kind, job.tai, job.joined);
+    format!(in alloc; "verify {sdp} {media} {kind:?} {proof} {tai} {joined}:{captures}")
+}
+
+/// The fields of the claims of a report.
+fn shown_report(alloc: Global, job: &ReportJob) -> Result<String, AllocError> {
+    let captures = files(alloc, &job.captures)?;
+    let (sdp, report) = (job.sdp.as_str(), job.report.as_str());
+    let (tai, joined) = (job.tai, job.joined);
+    format!(in alloc; "report {sdp} {report} {tai} {joined}:{captures}")
+}
+
+/// The fields of a self-test.
+fn shown_self_test(alloc: Global, job: &SelfTestJob) -> Result<String, AllocError> {
+    let (frames, workers) = (job.frames, job.workers);
+    format!(in alloc; "selftest {frames} {workers}")
+}
+
+/// The fields of a window.
+fn shown_window(alloc: Global, job: &FlowJob) -> Result<String, AllocError> {
+    let (sdp, capture) = (job.sdp.as_str(), job.capture.as_str());
+    let (media, tai) = (job.media, job.tai);
+    format!(in alloc; "window {sdp} {media} {tai}: {capture}")
+}
+
+/// The fields of a shape.
+fn shown_shape(alloc: Global, job: &ShapeJob) -> Result<String, AllocError> {
+    let (sdp, capture) = (job.flow.sdp.as_str(), job.flow.capture.as_str());
+    let (media, tai) = (job.flow.media, job.flow.tai);
+    let (kind, list) = (job.kind, job.list);
+    format!(in alloc; "shape {sdp} {media} {kind:?} {tai} {list}: {capture}")
+}
+
+/// The fields of a skew.
+fn shown_skew(alloc: Global, job: &SkewJob) -> Result<String, AllocError> {
+    let captures = files(alloc, &job.captures)?;
+    let sdp = job.sdp.as_str();
+    let (media, pair) = (job.media, job.pair);
+    format!(in alloc; "skew {sdp} {media} {pair}:{captures}")
+}
+
+/// The fields of a scan.
+fn shown_scan(alloc: Global, job: &ScanJob) -> Result<String, AllocError> {
+    let (capture, form) = (job.capture.as_str(), job.form);
+    format!(in alloc; "scan {form:?}: {capture}")
+}
+
+/// The fields of a list of packets or frames.
+fn shown_series(alloc: Global, job: &SeriesJob) -> Result<String, AllocError> {
+    let (sdp, capture) = (job.flow.sdp.as_str(), job.flow.capture.as_str());
+    let (media, tai, frames) = (job.flow.media, job.flow.tai, job.frames);
+    format!(in alloc; "series {sdp} {media} {tai} {frames}: {capture}")
+}
+
+/// The fields of a command that measures the flows of one capture.
+fn shown_capture(alloc: Global, command: &str, job: &CaptureJob) -> Result<String, AllocError> {
+    let (sdp, tai, capture) = (job.sdp.as_str(), job.tai, job.capture.as_str());
+    format!(in alloc; "{command} {sdp} {tai}: {capture}")
+}
+
+/// The command whose words are asked for.
+fn shown_help(alloc: Global, command: Option<Command>) -> Result<String, AllocError> {
+    format!(in alloc; "help {command:?}")
+}
+
+/// The fields of a request: file names, then numbers, then flags, then captures.
 fn shown(alloc: Global, request: &Request) -> Result<String, AllocError> {
     match request {
-        Request::Check(job) => {
-            let captures = files(alloc, &job.captures)?;
-            let sdp = job.sdp.as_str();
-            let (workers, tai) = (job.workers, job.tai);
-            let (json, joined) = (job.json, job.joined);
-            format!(in alloc; "check {sdp} {workers} {tai} {json} {joined}:{captures}")
-        }
-        Request::Verify(job) => {
-            let captures = files(alloc, &job.captures)?;
-            let sdp = job.sdp.as_str();
-            let (media, kind, tai, joined) = (job.media, job.kind, job.tai, job.joined);
-            let proof = job.proof;
-            let (model, from, to) = (proof.model, proof.from, proof.to);
-            let (count, limit) = (proof.count, proof.limit);
-            format!(in alloc;
-                "verify {sdp} {media} {kind:?} {model:?} {from} {to} {count} {limit} {tai} {joined}:{captures}"
-            )
-        }
-        Request::VerifyReport(job) => {
-            let captures = files(alloc, &job.captures)?;
-            let (sdp, report) = (job.sdp.as_str(), job.report.as_str());
-            let (tai, joined) = (job.tai, job.joined);
-            format!(in alloc; "report {sdp} {report} {tai} {joined}:{captures}")
-        }
-        Request::SelfTest(job) => {
-            let (frames, workers) = (job.frames, job.workers);
-            format!(in alloc; "selftest {frames} {workers}")
-        }
-        Request::Window(job) => {
-            let (sdp, capture) = (job.sdp.as_str(), job.capture.as_str());
-            let (media, tai) = (job.media, job.tai);
-            format!(in alloc; "window {sdp} {media} {tai}: {capture}")
-        }
-        Request::Shape(job) => {
-            let (sdp, capture) = (job.flow.sdp.as_str(), job.flow.capture.as_str());
-            let (media, tai) = (job.flow.media, job.flow.tai);
-            let (kind, list) = (job.kind, job.list);
-            format!(in alloc; "shape {sdp} {media} {kind:?} {tai} {list}: {capture}")
-        }
-        Request::Skew(job) => {
-            let captures = files(alloc, &job.captures)?;
-            let sdp = job.sdp.as_str();
-            let (media, pair) = (job.media, job.pair);
-            format!(in alloc; "skew {sdp} {media} {pair}:{captures}")
-        }
-        Request::Scan(job) => {
-            let (capture, form) = (job.capture.as_str(), job.form);
-            format!(in alloc; "scan {form:?}: {capture}")
-        }
-        Request::Measure(job) => {
-            let (sdp, tai, capture) = (job.sdp.as_str(), job.tai, job.capture.as_str());
-            format!(in alloc; "measure {sdp} {tai}: {capture}")
-        }
-        Request::Series(job) => {
-            let (sdp, capture) = (job.flow.sdp.as_str(), job.flow.capture.as_str());
-            let (media, tai, frames) = (job.flow.media, job.flow.tai, job.frames);
-            format!(in alloc; "series {sdp} {media} {tai} {frames}: {capture}")
-        }
-        Request::Page(job) => {
-            let (sdp, tai, capture) = (job.sdp.as_str(), job.tai, job.capture.as_str());
-            format!(in alloc; "page {sdp} {tai}: {capture}")
-        }
-        Request::Help(command) => format!(in alloc; "help {command:?}"),
+        Request::Check(job) => shown_check(alloc, job),
+        Request::Verify(job) => shown_verify(alloc, job),
+        Request::VerifyReport(job) => shown_report(alloc, job),
+        Request::SelfTest(job) => shown_self_test(alloc, job),
+        Request::Window(job) => shown_window(alloc, job),
+        Request::Shape(job) => shown_shape(alloc, job),
+        Request::Skew(job) => shown_skew(alloc, job),
+        Request::Scan(job) => shown_scan(alloc, job),
+        Request::Measure(job) => shown_capture(alloc, "measure", job),
+        Request::Series(job) => shown_series(alloc, job),
+        Request::Page(job) => shown_capture(alloc, "page", job),
+        Request::Help(command) => shown_help(alloc, *command),
     }
 }
 
