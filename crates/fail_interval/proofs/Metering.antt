@@ -306,11 +306,11 @@ pub fresh : (params : Params) (origin : ℕ) (n0 : ℤ) (bucket : Bucket) (gappe
     → KindStandsFor params narrow_linear []
     → wide.vrx.kind ≡ W
     → KindStandsFor params wide []
-    → lull.left ≡ 0
+    → lull.until ≡ 0
     → lull.brim ≡ 0
     → StandsFor params (meters_by bucket gapped linear narrow narrow_linear wide lull) []
 fresh params origin n0 bucket gapped linear narrow narrow_linear wide lull e anchor stands by_gapped by_linear n_kind n_stands nl_kind nl_stands w_kind w_stands
-    left brim =
+    until brim =
     let is : n0 ≡ anchor_of params.media bucket.origin = anchor ∙ ap (anchor_of params.media) (sym e) in
     record {
       fed = record {
@@ -326,9 +326,9 @@ fresh params origin n0 bucket gapped linear narrow narrow_linear wide lull e anc
         wide = w_stands;
       };
       lull = record {
-        narrow = calm-over params bucket.origin 0 narrow lull.left lull.brim lull.gapped left brim;
-        narrow_linear = calm-over params bucket.origin 0 narrow_linear lull.left lull.brim lull.linear left brim;
-        wide = calm-over params bucket.origin 0 wide lull.left lull.brim lull.linear left brim;
+        narrow = calm-over params bucket.origin 0 narrow (lull.until - 0) lull.brim lull.gapped (omega (arith, until)) brim;
+        narrow_linear = calm-over params bucket.origin 0 narrow_linear (lull.until - 0) lull.brim lull.linear (omega (arith, until)) brim;
+        wide = calm-over params bucket.origin 0 wide (lull.until - 0) lull.brim lull.linear (omega (arith, until)) brim;
       };
     }
 

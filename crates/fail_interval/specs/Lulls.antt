@@ -9,9 +9,9 @@ use Rattle.timing_base.specs.declared.row.KindVerdict.TheVariants.{Pass}
 use Rattle.fail_interval.specs.declared.kind.KindMeter.{KindMeter}
 use Rattle.fail_interval.specs.declared.lull.Lull.{Lull}
 
--- the lull holds for a packet at this instant, after which the bucket holds so many
-pub record Holds (lull : Lull) (count at : ℕ) : Type 0 where
-  pub lasts : 1 ≤ lull.left
+-- the lull holds for a packet of this number, counted from 1, at this instant, after which the bucket holds so many
+pub record Holds (lull : Lull) (number count at : ℕ) : Type 0 where
+  pub lasts : number ≤ lull.until
   pub within : count ≤ lull.brim
   pub gapped : HoldsBetween lull.gapped at
   pub linear : HoldsBetween lull.linear at
@@ -28,6 +28,6 @@ pub record IsCalm (params : Params) (origin seen : ℕ) (meter : KindMeter) (lef
 
 -- so of each sender type: narrow, narrow linear and wide
 pub record IsLull (params : Params) (origin seen : ℕ) (first second third : KindMeter) (lull : Lull) : Type 0 where
-  pub narrow : IsCalm params origin seen first lull.left lull.brim lull.gapped
-  pub narrow_linear : IsCalm params origin seen second lull.left lull.brim lull.linear
-  pub wide : IsCalm params origin seen third lull.left lull.brim lull.linear
+  pub narrow : IsCalm params origin seen first (lull.until - seen) lull.brim lull.gapped
+  pub narrow_linear : IsCalm params origin seen second (lull.until - seen) lull.brim lull.linear
+  pub wide : IsCalm params origin seen third (lull.until - seen) lull.brim lull.linear

@@ -8,15 +8,15 @@ use read_schedule::Between;
 /// holds no more than its brim. Then their reads needn't be counted.
 #[derive(Clone, Copy)]
 pub struct Lull {
-    /// The packets for which it lasts.
-    pub left: u64,
+    /// The packets of the run up to which it lasts; 0 where it is over.
+    pub until: u64,
     /// The most packets that the bucket may hold.
     pub brim: u64,
     /// The instants at which it holds, by the gapped reads.
     pub gapped: Between,
     /// The instants at which it holds, by the linear reads.
     pub linear: Between,
-    ghost some: { 1 ≤ left → 1 ≤ brim },
+    ghost some: { 1 ≤ until → 1 ≤ brim },
 }
 
 impl Lull {
@@ -24,24 +24,26 @@ impl Lull {
 
     /// A lull that is over.
     pub fn over() -> Lull
-        ensures left { result.left ≡ 0 }
+        ensures until { result.until ≡ 0 }
         ensures brim { result.brim ≡ 0 }
     {
         Lull {
-            left: 0,
+            until: 0,
             brim: 0,
             gapped: Between::nothing(),
             linear: Between::nothing(),
         }
     }
 
-    /// Whether it holds for a packet at this instant, after which the bucket holds so many.
+    /// Whether it holds for packet `number` of the run, counted from 1, at this instant, after which the bucket holds
+    /// so many.
     #[inline(always)]
-    pub fn holds(&self, count: u64, at: u64) -> bool
-        ensures { IsTrue result ↔ Holds self.now count at }
+    pub fn holds(&self, number: u64, count: u64, at: u64) -> bool
+        requires { 1 ≤ number }
+        ensures { IsTrue result ↔ Holds self.now number count at }
     {
         // One packet is always within the brim.
-        self.left > 0
+        number <= self.until
             && (count == 1 || count <= self.brim)
             && self.gapped.holds(at)
             && self.linear.holds(at)

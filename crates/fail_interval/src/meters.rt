@@ -69,7 +69,7 @@ impl RunMeters {
             → StandsFor params.now self.new (stamps ++ at ∷ []) }
     {
         self.bucket.feed(params, at);
-        if self.lull.holds(self.bucket.count, at) {
+        if self.lull.holds(self.bucket.seen, self.bucket.count, at) {
             self.pass(at);
         } else {
             self.tell(params, at);
@@ -79,12 +79,11 @@ impl RunMeters {
     /// Takes the next judged packet, which went into the bucket, in a lull. No other meter changes.
     #[inline(always)]
     fn pass(&mut self, at: u64)
-        requires lull { Holds self.old.lull self.old.bucket.count at }
+        requires lull { Holds self.old.lull self.old.bucket.seen self.old.bucket.count at }
         requires in_time { at < 2 ^ 62 }
         ensures bucket { self.new.bucket ≡ self.old.bucket }
         ensures takes { (params : ParamsValue) → TakesNext params self.old self.new at }
     {
-        self.lull.left -= 1;
         self.lull.gapped.go_on(at);
         self.lull.linear.go_on(at);
     }
@@ -123,7 +122,7 @@ impl RunMeters {
             self.narrow.vrx.fault.is_some(),
         );
         let linear = calm(&self.linear, linear_read, seen, last, breaks);
-        let left = gapped.lasts.min(linear.lasts);
+        let until = seen.saturating_add(gapped.lasts.min(linear.lasts));
         let brim = self
             .narrow
             .brim()
@@ -133,7 +132,7 @@ impl RunMeters {
             return Lull::over();
         }
         Lull {
-            left,
+            until,
             brim,
             gapped,
             linear,

@@ -11,5 +11,5 @@ returns-clause-stands c =
     let same = to_z-of_z w128 c.anchor-n0.result fits in
     fresh c.args.params.now c.args.origin _ _ _ _ _ _ _ _ c.new.ensures.origin (same ∙ c.anchor-n0.ensures.value)
     c.new.ensures.stands c.new-2.ensures c.new-3.ensures
-    c.new-4.ensures.kind c.new-4.ensures.stands c.new-5.ensures.kind c.new-5.ensures.stands c.new-6.ensures.kind c.new-6.ensures.stands c.over.ensures.left
+    c.new-4.ensures.kind c.new-4.ensures.stands c.new-5.ensures.kind c.new-5.ensures.stands c.new-6.ensures.kind c.new-6.ensures.stands c.over.ensures.until
     c.over.ensures.brim
