@@ -33,7 +33,7 @@ use Rattle.timing_reach.specs.declared.scan.Scanned.{Scanned}
 use Rattle.timing_reach.proofs.Takings.{fed-alone}
 
 -- what was found is what is told
-found-contents : (items : List Record) (found : Found) → IsFound items found → contents_of found ≡ contents items
+pub found-contents : (items : List Record) (found : Found) → IsFound items found → contents_of found ≡ contents items
 found-contents items found h = λ i. record {
   records = h.records_are i;
   span = h.span_is i;

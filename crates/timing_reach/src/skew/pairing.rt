@@ -5,13 +5,14 @@ ghost use Rattle.std.specs.List.{cons_option};
 ghost use Rattle.std.specs.Option.{ForSome};
 ghost use Rattle.timing_base.specs.Captures.{IsStamp};
 ghost use Rattle.path_skew.specs.Stands.{count_first, count_second};
+ghost use Rattle.udp_rtp.specs.Flow.{flow_packet};
 ghost use Rattle.timing_reach.specs.skew.Added.{Adds, taken_of};
 
 use path_skew::{Skew, SkewRow};
 use pcap_reader::Taker;
 use std::alloc::{AllocError as OutOfMemory, Global};
-use timing_base::{FlowPacket, Media};
-use udp_rtp::packet_of;
+use timing_base::{FlowPacket, Media, Rtp};
+use udp_rtp::{carries, packet_of};
 
 /// Two flows, and which of them is in the capture that is read.
 #[derive(Drop)]
@@ -24,6 +25,10 @@ pub struct Pairing {
     pub takes_first: bool,
     /// Whether the second flow is in it.
     pub takes_second: bool,
+    /// The packet that follows the last one that was read of the first flow.
+    next_first: Rtp,
+    /// The packet that follows the last one that was read of the second flow.
+    next_second: Rtp,
     pub skew: Skew,
 }
 
@@ -45,6 +50,8 @@ impl Pairing {
             second: *second,
             takes_first: false,
             takes_second: false,
+            next_first: none_yet(),
+            next_second: none_yet(),
             skew: Skew::new(alloc),
         }
     }
@@ -97,16 +104,104 @@ impl Taker for Pairing {
 
     #[inline(always)]
     fn take(&mut self, number: u64, at: u64, frame: &[u8]) -> Result<(), OutOfMemory> {
-        let first = packet_in(self.takes_first, &self.first, number, at, frame);
+        let first = packet_in(
+            self.takes_first,
+            &self.first,
+            &mut self.next_first,
+            number,
+            at,
+            frame,
+        );
         put_first(&mut self.skew, first)?;
-        let second = packet_in(self.takes_second, &self.second, number, at, frame);
+        let second = packet_in(
+            self.takes_second,
+            &self.second,
+            &mut self.next_second,
+            number,
+            at,
+            frame,
+        );
         put_second(&mut self.skew, second)
     }
 }
 
+/// A packet that no frame carries.
+fn none_yet() -> Rtp {
+    Rtp {
+        number: 0,
+        timestamp: 0,
+        marker: true,
+        pt: 0,
+        ssrc: 0,
+    }
+}
+
+/// The packet that is expected after this one in its frame or field.
+#[inline(always)]
+fn packet_after(rtp: Rtp) -> Rtp {
+    Rtp {
+        number: rtp.number.wrapping_add(1),
+        marker: false,
+        ..rtp
+    }
+}
+
+/// The packet that a record is of the flow of this media, read from its frame. What is expected next
+/// goes on from there.
+#[cold]
+#[inline(never)]
+fn read_packet(
+    media: &Media,
+    next: &mut Rtp,
+    number: u64,
+    at: u64,
+    frame: &[u8],
+) -> Option<FlowPacket>
+    ensures { result
+        ≡ flow_packet media.now (record { number = number; stamp = at; bytes = frame.now }) }
+{
+    let packet = packet_of(media, number, at, frame);
+    if let Some(FlowPacket { rtp: Ok(rtp), .. }) = packet {
+        *next = packet_after(rtp);
+    }
+    packet
+}
+
+/// The packet that a record is of the flow of this media. Where its frame carries the packet that is
+/// expected next, as most do, it is not read anew.
+#[inline(always)]
+fn next_packet(
+    media: &Media,
+    next: &mut Rtp,
+    number: u64,
+    at: u64,
+    frame: &[u8],
+) -> Option<FlowPacket>
+    ensures { result
+        ≡ flow_packet media.now (record { number = number; stamp = at; bytes = frame.now }) }
+{
+    let expected = *next;
+    if !carries(frame, media.target(), expected) {
+        return read_packet(media, next, number, at, frame);
+    }
+    next.number = expected.number.wrapping_add(1);
+    Some(FlowPacket {
+        rec: number,
+        at,
+        rtp: Ok(expected),
+    })
+}
+
 /// The packet that a record is of the flow of this media, where that is in its capture.
 #[inline(always)]
-fn packet_in(takes: bool, media: &Media, number: u64, at: u64, frame: &[u8]) -> Option<FlowPacket>
+fn packet_in(
+    takes: bool,
+    media: &Media,
+    next: &mut Rtp,
+    number: u64,
+    at: u64,
+    frame: &[u8],
+) -> Option<FlowPacket>
     requires stamp { IsStamp at }
     ensures packet { cons_option result []
         ≡ taken_of takes media.now
@@ -114,7 +209,7 @@ fn packet_in(takes: bool, media: &Media, number: u64, at: u64, frame: &[u8]) -> 
     ensures stamp { ForSome result (λ packet. IsStamp packet.at) }
 {
     if takes {
-        packet_of(media, number, at, frame)
+        next_packet(media, next, number, at, frame)
     } else {
         None
     }

@@ -7,8 +7,6 @@ use Rattle.timing_base.specs.Captures.{Record}
 use Rattle.timing_base.specs.Jobs.{CaptureJob}
 use Rattle.timing_base.specs.Media.{Media}
 use Rattle.timing_base.specs.declared.capture.FileNote.{FileNote}
-use Rattle.capture_scan.specs.Scans.{IsFound}
-use Rattle.capture_scan.specs.declared.found.Found.{Found}
 use Rattle.flow_page.specs.Media.{AreOfMedia}
 use Rattle.flow_page.specs.declared.shown.FlowPage.{FlowPage}
 use Rattle.capture_scan.specs.report.Contents.{Contents, contents_of}
@@ -20,8 +18,8 @@ use Rattle.timing_reach.specs.steps.Ends.{HasStatus}
 use Rattle.timing_reach.specs.declared.steps.failure.Failure.{Failure}
 use Rattle.timing_reach.proofs.lemmas.steps.Seeing.{Sees, follows-session, yields-on}
 use Rattle.timing_reach.specs.Asked.{ReadsCapture}
-use Rattle.timing_reach.specs.Scanned.{contents}
 use Rattle.timing_reach.proofs.Following.{capture-seen}
+use Rattle.timing_reach.proofs.Scannings.{found-contents}
 use Rattle.udp_rtp.specs.Flow.{flow}
 use Rattle.timing_measure.specs.Each.{EachOf}
 use Rattle.timing_measure.specs.page.Shown.{IsFlowPage}
@@ -48,17 +46,6 @@ pub of-media : (tai : ℕ) (media : List Media) (r : Reading FlowPage) → IsRea
 of-media tai media r h =
     All-weaker (λ (p : FlowPage). p.flow.media < 0 + length media) (λ (p : FlowPage). p.flow.media < length media) (λ p few. omega (arith, few)) r.flows.items
     (pages-of tai h.items 0 media r.flows.items h.are)
-
--- what is found of the records of a capture is what the page says of them
-found-contents : (items : List Record) (found : Found) → IsFound items found → contents_of found ≡ contents items
-found-contents items found h = λ i. record {
-  records = h.records_are i;
-  span = h.span_is i;
-  passed_over = h.passed_over_are i;
-  streams = h.streams_are i;
-  unread = h.unread_are i;
-  more = h.more_is i;
-}
 
 -- the answer on what was read
 pub has-page : (job : CaptureJob) (media : List Media) (text : List ℕ) (r : PageReading) (answer : Answer) → IsPageIn job.tai media text r

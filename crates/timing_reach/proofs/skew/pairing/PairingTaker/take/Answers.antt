@@ -14,6 +14,8 @@ returns-clause-takes c =
       second = old.second;
       takes_first = old.takes_first;
       takes_second = old.takes_second;
+      next_first = c.packet_in-first.new.next;
+      next_second = c.packet_in-second.new.next;
       skew = c.put_second.new.skew;
     } in
     pairs-on c.put_second.result old new r (cons_option c.packet_in-first.result []) (cons_option c.packet_in-second.result [])
