@@ -1,4 +1,5 @@
-use Rattle.std.proofs.Common.{rules, refl, ◌≡◌}
+use Rattle.std.proofs.Common.{rules, refl, ◌≡◌, subst, sym, List}
+use Rattle.std.specs.Prelude.{All}
 use Rattle.pcapng_reader.specs.Sources.{faults_of, left_of, name_of}
 use Rattle.timing_reach.proofs.lemmas.steps.Readings.{fresh-tail, none-left, reading-all, reading-at, reading-next, reading-start, reading-stopped}
 use Rattle.timing_reach.specs.skew.Comparing.{AreCompared}
@@ -13,7 +14,8 @@ loop-source-init g c = record {
       (faults_of g.H.Source.Source.faults) texts (g.H.Shelf.faults c.args.shelf.now) names c.args.sources.items
       c.into_iter-source-iterator.result.rest.items _ _ c.into_iter-source-iterator.ensures.into_iter_gives.0 (search rules)
       (compared-none c.args.first.now c.args.second.now c.len-count.result _ c.new.ensures.items (search rules) (search rules) (search rules)) fetched;
-  fresh = search rules;
+  fresh = subst (λ (l : List _). All (λ source. (faults_of g.H.Source.Source.faults) source ≡ 0) l)
+      (sym c.into_iter-source-iterator.ensures.into_iter_gives.0) c.requires.fresh;
   count = search rules;
   given = search rules;
   stays = search rules;
