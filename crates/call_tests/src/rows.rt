@@ -1,6 +1,7 @@
 //! The rows, by what is called and what is shown.
 
 mod captures;
+mod claims;
 mod descriptions;
 mod faults;
 mod joined;

@@ -24,10 +24,18 @@ mod shaper;
 mod skew;
 mod window;
 
-// Flows, claims, what a capture holds, and texts.
+// Flows, claims, what a capture holds, words and texts.
 mod bank;
 mod checker;
+mod json;
 mod judge;
+mod lines;
 mod report;
 mod scan;
 mod texts;
+
+// What runs beside each other.
+mod books;
+mod intakes;
+mod lanes;
+mod workers;
