@@ -93,7 +93,7 @@ impl Upcoming {
     }
 
     /// The packet of a record whose frame carries what is expected of the media whose turn it is, which isn't read
-    /// anew. `None` where it doesn't, and then nothing changes.
+    /// anew. `None` where it doesn't.
     #[inline(always)]
     pub fn take(&mut self, number: u64, at: u64, frame: &[u8]) -> Option<Packet>
         requires number { number < 2 ^ 37 }

@@ -32,8 +32,8 @@ invariant_of-self-then-take_judged-2 c =
       few = few-one c.args.self.now.records c.ahead-ahead.result c.args.self.now.judges.items c.index_mut-in-Some.result.now c.take_judged-in-Some.new.self
           within at c.args.self.now.few c.take_judged-in-Some.ensures.fed;
       ordered = λ x e.
-          order-one c.in-Some.order c.pass.new.self x c.ahead-ahead.result c.args.self.now.judges.items c.index_mut-in-Some.result.now c.take_judged-in-Some.new.self
-          e c.pass.ensures.next at c.take_judged-in-Some.ensures.target order;
+          order-one c.in-Some.order c.pass.new.self x c.ahead-ahead.result c.args.self.now.judges.items c.index_mut-in-Some.result.now
+          c.take_judged-in-Some.new.self e c.pass.ensures.next at c.take_judged-in-Some.ensures.target order;
     }
 
 pub returns-then-take_judged-2-clause-stands : goal.returns-then-take_judged-2-clause-stands
