@@ -1,20 +1,21 @@
 -- The packet that a judge expects next.
-use Rattle.std.proofs.Common.{◌≡◌, ◌-◌, ℕ, Bool, true, false, List, [], length, Some, None, Option, ap, ◌∙◌, refl, subst, append-nil}
+use Rattle.std.proofs.Common.{◌≡◌, ◌-◌, ℕ, Bool, true, false, List, [], length, Some, None, Option, ap, sym, ◌∙◌, refl, subst, append-nil}
 use Rattle.std.specs.Prelude.{is_some, ◌||◌, ◌==◌, if◌then◌else◌}
 use Rattle.timing_base.specs.Flows.{FirstFault, first_fault, first_fault_below, has_marker}
 use Rattle.timing_base.specs.Media.{Media}
 use Rattle.timing_base.specs.declared.key.FlowKey.{FlowKey}
 use Rattle.timing_base.specs.declared.packet.FlowPacket.{FlowPacket}
 use Rattle.timing_base.specs.declared.packet.Rtp.{Rtp}
-use Rattle.frame_group.specs.Expected.{expected_after, going_on}
-use Rattle.fail_interval.specs.Flowing.{StandsFor as FlowStandsFor}
-use Rattle.fail_interval.specs.Stands.{StandsFor}
-use Rattle.fail_interval.specs.States.{IsAt}
+use Rattle.frame_group.specs.Expected.{after, expected_after, going_on}
+use Rattle.frame_group.proofs.Expecting.{expected-is}
+use Rattle.fail_interval.specs.Flowing.{flow_expects}
+use Rattle.fail_interval.specs.Goings.{GoesAsExpected}
+use Rattle.fail_interval.specs.Stands.{StandsFor, expected_of}
+use Rattle.fail_interval.specs.States.{IsAt, state_expects}
 use Rattle.fail_interval.specs.declared.flow.Flow.{Flow}
 use Rattle.fail_interval.specs.declared.judge.FlowJudge.{FlowJudge}
 use Rattle.fail_interval.specs.declared.judge.State.{State}
 use Rattle.fail_interval.specs.declared.judge.State.TheVariants.{Going, Refused, Spent}
-use Rattle.fail_interval.proofs.Judging.{at-flow}
 
 fault-there : (packets : List FlowPacket) (pt n : ℕ) (a : Bool) (first : Option FirstFault) (f : FirstFault) → first ≡ Some f
     → None ≡ (if a || is_some first then None else Some (going_on packets pt n))
@@ -25,28 +26,32 @@ expected-refused : (packets : List FlowPacket) (pt : ℕ) (f : FirstFault) → f
 expected-refused packets pt f e =
     fault-there packets pt (length packets) ((length packets == 0) || has_marker packets (length packets - 1)) (first_fault packets pt) f e
 
-expected-at : (m : Media) (tai : ℕ) (packets : List FlowPacket) (state : State) → ((flow : Flow) → state ≡ Going flow → ⊥) → IsAt m tai packets state
-    → None ≡ expected_after packets m.pt
-expected-at m tai packets (Going flow) not at = absurd (not flow refl)
-expected-at m tai packets (Refused rec fault) not at =
+expected-state : (m : Media) (tai : ℕ) (packets : List FlowPacket) (state : State) → IsAt m tai packets state
+    → state_expects state ≡ expected_after packets m.pt
+expected-state m tai packets (Going flow) at =
+    expected-is flow.grouper flow.media.pt packets at.2.grouper ∙ ap (λ (k : Media). expected_after packets k.pt) at.0
+expected-state m tai packets (Refused rec fault) at =
     expected-refused packets m.pt _
     (subst (λ (l : List FlowPacket). first_fault_below l m.pt (length packets) ≡ Some record { index = at.index; fault = fault })
     (append-nil packets) (at.first []))
-expected-at m tai packets Spent not at = absurd at
+expected-state m tai packets Spent at = absurd at
+
+-- what a judge expects by what it keeps is what is expected after the packets that it was fed
+pub expected-stands : (m : Media) (key : FlowKey) (tai : ℕ) (judge : FlowJudge) (packets : List FlowPacket) → StandsFor m key tai judge packets
+    → expected_of judge ≡ expected_after packets m.pt
+expected-stands m key tai judge packets s = expected-state m tai packets judge.state s.state
 
 -- nothing is expected of a flow with a fault
-pub expected-none : (m : Media) (key : FlowKey) (tai : ℕ) (judge : FlowJudge) (packets : List FlowPacket)
-    → ((flow : Flow) → judge.state ≡ Going flow → ⊥)
-    → StandsFor m key tai judge packets
-    → None ≡ expected_after packets m.pt
-expected-none m key tai judge packets not s = expected-at m tai packets judge.state not s.state
+pub expected-none : (state : State) → ((flow : Flow) → state ≡ Going flow → ⊥) → None ≡ state_expects state
+expected-none (Going flow) not = absurd (not flow refl)
+expected-none (Refused rec fault) not = refl
+expected-none Spent not = refl
 
 -- the packet that goes on in a flow without one
-pub expected-going : (m : Media) (key : FlowKey) (tai : ℕ) (judge : FlowJudge) (flow : Flow) (expected : Option Rtp) (packets : List FlowPacket)
-    → judge.state ≡ Going flow
-    → ((packets : List FlowPacket) → FlowStandsFor flow packets → expected ≡ expected_after packets flow.media.pt)
-    → StandsFor m key tai judge packets
-    → expected ≡ expected_after packets m.pt
-expected-going m key tai judge flow expected packets e says s =
-    let at = at-flow m tai 0 judge.state flow packets e s.state in
-    says packets at.2 ∙ ap (λ (k : Media). expected_after packets k.pt) at.0
+pub expected-going : (state : State) (flow : Flow) (expected : Option Rtp) → state ≡ Going flow → expected ≡ flow_expects flow → expected ≡ state_expects state
+expected-going state flow expected e is = is ∙ sym (ap state_expects e)
+
+-- after it the next one
+pub expected-next : (at : ℕ) (old new : State) → GoesAsExpected old new at → state_expects new ≡ after (state_expects old)
+expected-next at old new went =
+    ap state_expects went.becomes ∙ went.goes.next ∙ sym (ap (λ (s : State). after (state_expects s)) went.is)

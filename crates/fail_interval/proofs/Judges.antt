@@ -1,6 +1,6 @@
 -- What one record more does to the judge of a media.
-use Rattle.std.proofs.Common.{◌≡◌, ℕ, Bool, true, false, if◌then◌else◌, List, [], ◌∷◌, ◌++◌, length, Option, Some, None, sym, ap, ◌∙◌, subst}
-use Rattle.std.specs.Prelude.{Result, Ok, Err, IfOk, OnOk}
+use Rattle.std.proofs.Common.{◌≡◌, ℕ, Bool, true, false, if◌then◌else◌, List, [], ◌∷◌, ◌++◌, length, Option, Some, None, refl, sym, ap, ◌∙◌, subst}
+use Rattle.std.specs.Prelude.{Result, Ok, Err, IfOk, OnOk, not}
 use Rattle.timing_base.specs.Captures.{Record}
 use Rattle.timing_base.specs.Media.{Media}
 use Rattle.timing_base.specs.Targets.{target_of}
@@ -67,6 +67,16 @@ takes_packet old new r d rtp is same target read feeds m file number tai items h
       judge = subst (StandsFor m (key_of file number) tai new.judge) (sym (flow-append_some m items r packet kept))
           (feeds m (key_of file number) tai (flow items m) h.judge);
     }
+
+-- what holds of a result that is Ok
+pub of-ok : {T E P : Type 0} (result : Result T E) (value : T) → result ≡ Ok value → OnOk result P → P
+of-ok (Ok x) value e p = p
+of-ok (Err x) value e p = cc
+
+-- a test that a test is false
+pub not-false : (b : Bool) → false ≡ not b → b ≡ true
+not-false true e = refl
+not-false false e = cc
 
 -- a packet that the frame carries to the media is fed
 pub takes_carried : (old new : MediaJudge) (n stamp : ℕ) (p : Rtp) (bytes : List ℕ) → new.target ≡ old.target

@@ -2,6 +2,7 @@
 pub mod Confirmed
 pub mod Runs
 -- of this crate alone
+mod Awaiting
 mod Banks
 mod Expecting
 mod Feeding

@@ -1,8 +1,8 @@
 -- What a `Flow` says of the packets that it was fed. Packets count from 0.
 use Rattle.std.specs.Prelude.{◌≡◌, ◌≤◌, ◌<◌, ◌+◌, ◌^◌, ℕ, List, [], ◌∷◌, ◌++◌, length, map, vec_len, vec_capacity, ⊤}
-use Rattle.std.specs.Prelude.{Bool, true, false, Option, Some, None, Ok}
-use Rattle.frame_group.specs.Expected.{expected_after, going_on, next_packet}
-use Rattle.frame_group.specs.Stands.{StandsFor as GrouperStandsFor}
+use Rattle.std.specs.Prelude.{true, Option, Some, None, Ok}
+use Rattle.frame_group.specs.Expected.{after, expected_after, going_on, next_packet}
+use Rattle.frame_group.specs.Stands.{StandsFor as GrouperStandsFor, expected_of}
 use Rattle.timing_base.specs.Captures.{IsStamp}
 use Rattle.timing_base.specs.Flows.{AreStamped, cuts, first_fault_below, is_cut, last_place, packet, rtp}
 use Rattle.timing_base.specs.Judged.{expected_at, run_at, runs_between, stamp_of}
@@ -12,7 +12,7 @@ use Rattle.timing_base.specs.declared.packet.PacketFault.{PacketFault}
 use Rattle.timing_base.specs.declared.packet.Rtp.{Rtp}
 use Rattle.timing_base.specs.declared.row.Run.{Run}
 use Rattle.fail_interval.specs.Row.{run_of, run_verdict_of}
-use Rattle.fail_interval.specs.Runs.{StandsFor as RunStandsFor, has_groups}
+use Rattle.fail_interval.specs.Runs.{StandsFor as RunStandsFor}
 use Rattle.fail_interval.specs.SoFar.{SoFar, outcome_of, so_far_at}
 use Rattle.fail_interval.specs.declared.flow.Flow.{Flow}
 use Rattle.fail_interval.specs.declared.flow.OpenRun.{OpenRun}
@@ -87,22 +87,19 @@ has_fault packets pt i fault = first_fault_below packets pt (i + 1) ≡ Some rec
 abbrev pub Took : (old new : Flow) → FlowPacket → Type 0
 Took old new next = (packets : List FlowPacket) → CanGoOn old packets next.at → StandsFor new (packets ++ next ∷ [])
 
+-- the packet that is expected next, by what the flow keeps
+abbrev pub flow_expects : Flow → Option Rtp
+flow_expects flow = expected_of flow.grouper
+
 -- the flow took the packet that goes on after those that it was fed, which is then the one expected, at this instant
 pub record TookExpected (old new : Flow) (at : ℕ) : Type 0 where
   pub expects : (packets : List FlowPacket) → CanGoOn old packets at
       → expected_after packets old.media.pt ≡ Some (going_on packets old.media.pt (length packets))
   pub stands : (packets : List FlowPacket) (rec_number : ℕ) → CanGoOn old packets at
       → StandsFor new (packets ++ next_packet packets old.media.pt rec_number at ∷ [])
+  pub next : flow_expects new ≡ after (flow_expects old)
 
 -- the flow ends with this packet, which has this fault
 abbrev pub EndsBy : Flow → FlowPacket → PacketFault → Type 0
 EndsBy flow next fault = (packets rest : List FlowPacket) → CanGoOn flow packets next.at
     → has_fault (packets ++ next ∷ rest) flow.media.pt (length packets) fault
-
--- the open run has a whole group
-abbrev pub open_has_groups : Option OpenRun → Bool
-open_has_groups None = false
-open_has_groups (Some open_run) = has_groups open_run.judge
-
-abbrev pub flow_has_groups : Flow → Bool
-flow_has_groups flow = open_has_groups flow.open

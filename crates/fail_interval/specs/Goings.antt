@@ -7,25 +7,24 @@ use Rattle.fail_interval.specs.declared.flow.Flow.{Flow}
 use Rattle.fail_interval.specs.declared.judge.State.{State}
 use Rattle.fail_interval.specs.declared.judge.State.TheVariants.{Going, Refused, Spent}
 
--- a flow without a fault went on with this packet, whatever its record
-pub record GoesOn (old new : State) (at : ℕ) (rtp : Rtp) : Type 0 where
+-- a flow without a fault went on by this step
+pub record GoesBy (step : Flow → Flow → Type 0) (old new : State) : Type 0 where
   pub flow : Flow
   pub later : Flow
   pub is : old ≡ Going flow
   pub becomes : new ≡ Going later
   pub media : later.media ≡ flow.media
   pub tai : later.tai ≡ flow.tai
-  pub goes : (rec_number : ℕ) → Took flow later (record { rec = rec_number; at = at; rtp = Ok rtp })
+  pub goes : step flow later
 
--- a flow without a fault went on with the packet expected
-pub record GoesAsExpected (old new : State) (at : ℕ) : Type 0 where
-  pub flow : Flow
-  pub later : Flow
-  pub is : old ≡ Going flow
-  pub becomes : new ≡ Going later
-  pub media : later.media ≡ flow.media
-  pub tai : later.tai ≡ flow.tai
-  pub goes : TookExpected flow later at
+-- it went on with this packet, whatever its record
+abbrev pub GoesOn : (old new : State) → (at : ℕ) → Rtp → Type 0
+GoesOn old new at rtp =
+    GoesBy (λ flow later. (rec : ℕ) → Took flow later (record { rec = rec; at = at; rtp = Ok rtp })) old new
+
+-- or with the packet expected
+abbrev pub GoesAsExpected : (old new : State) → (at : ℕ) → Type 0
+GoesAsExpected old new at = GoesBy (λ flow later. TookExpected flow later at) old new
 
 -- a packet with this fault came: the flow's first is kept with its record
 pub record Refuses {T E : Type 0} (old new : State) (rec : ℕ) (fault : PacketFault) (result : Result T E) : Type 0 where

@@ -1,5 +1,5 @@
 -- What `WholeGroups` say of the packets of a run that has a whole group.
-use Rattle.std.specs.Prelude.{◌≡◌, ◌≤◌, ℕ, ◌-◌, Bool, length}
+use Rattle.std.specs.Prelude.{◌≡◌, ◌≤◌, ℕ, Bool, length}
 use Rattle.timing_base.specs.Media.{Media}
 use Rattle.fail_interval.specs.Meters.{StandsFor as MetersStandFor}
 use Rattle.fail_interval.specs.Row.{judged_values}
@@ -22,7 +22,6 @@ pub record IsWhole (m : Media) (judge : WholeGroups) (so_far : Groups) : Type 0 
   })
   pub some : 1 ≤ length so_far.stamps
   pub within : length so_far.whole ≤ length so_far.stamps
-  pub tail : judge.tail ≡ length so_far.stamps - length so_far.whole
 
 -- and a packet at this instant may be the next one
 pub record CanGoOn (m : Media) (judge : WholeGroups) (so_far : Groups) (at : ℕ) (marker : Bool) : Type 0 where

@@ -8,6 +8,7 @@ pub mod Found
 -- flows that are worked by hand
 pub mod Worked
 -- these only serve proofs
+pub mod Awaits
 pub mod Early
 pub mod Few
 pub mod Flowing

@@ -1,5 +1,5 @@
 -- What a `RunJudge` says of the packets of its run.
-use Rattle.std.specs.Prelude.{◌≡◌, ◌≤◌, ℕ, ⊤, Bool, true, false, List, length}
+use Rattle.std.specs.Prelude.{◌≡◌, ◌≤◌, ℕ, ⊤, Bool, true, false, List, length, OnOk, Result}
 use Rattle.timing_base.specs.Media.{Media}
 use Rattle.fail_interval.specs.Groups.{IsWhole}
 use Rattle.fail_interval.specs.SoFar.{AreStamps, Fits, SoFar, in_first, in_groups, in_head, so_far_next}
@@ -23,6 +23,15 @@ has_groups (Groups judge) = true
 pub record CanGoOn (m : Media) (judge : RunJudge) (so_far : SoFar) (at : ℕ) (marker : Bool) : Type 0 where
   pub stands : StandsFor m judge so_far
   pub fits : Fits (so_far_next so_far at marker)
+
+-- after some packets or others
+abbrev pub IsOpenTo : Media → RunJudge → (at : ℕ) → (marker : Bool) → Type 0
+IsOpenTo m judge at marker = ∥ ((so_far : SoFar) × CanGoOn m judge so_far at marker) ∥₁
+
+-- a call took it: whatever the run had come to, it has come to this packet too, where memory was there
+abbrev pub TakesNext : {T E : Type 0} → Media → (old new : RunJudge) → (at : ℕ) → (marker : Bool) → Result T E → Type 0
+TakesNext m old new at marker result =
+    (so_far : SoFar) → CanGoOn m old so_far at marker → OnOk result (StandsFor m new (so_far_next so_far at marker))
 
 -- a first group that is whole is within the limits
 pub record FitsWhole (stamps : List ℕ) : Type 0 where

@@ -1,17 +1,23 @@
 -- What a `FlowJudge` says of the packets that it was fed. Packets count from 0.
-use Rattle.std.specs.Prelude.{◌≡◌, ℕ, ◌+◌, List, [], ◌∷◌, ◌++◌, length, Some, Result, IsErr, OnErr, OnOk}
-use Rattle.frame_group.specs.Expected.{expected_after, going_on, next_packet}
+use Rattle.std.specs.Prelude.{◌≡◌, ℕ, ◌+◌, List, [], ◌∷◌, ◌++◌, length, Option, Some, Result, IsErr, OnErr}
+use Rattle.std.specs.Prelude.{OnOk}
+use Rattle.frame_group.specs.Expected.{after, expected_after, going_on, next_packet}
 use Rattle.timing_base.specs.Flows.{AreStamped}
 use Rattle.timing_base.specs.Media.{Media}
 use Rattle.timing_base.specs.declared.key.FlowKey.{FlowKey}
 use Rattle.timing_base.specs.declared.packet.FlowPacket.{FlowPacket}
-use Rattle.fail_interval.specs.States.{IsAt}
+use Rattle.timing_base.specs.declared.packet.Rtp.{Rtp}
+use Rattle.fail_interval.specs.States.{IsAt, state_expects}
 use Rattle.fail_interval.specs.declared.judge.FlowJudge.{FlowJudge}
 use Rattle.fail_interval.specs.declared.judge.State.TheVariants.{Spent}
 
 -- how many packets were fed
 abbrev pub count_fed : FlowJudge → ℕ
 count_fed judge = judge.fed
+
+-- the packet that is expected next, by what the judge keeps
+abbrev pub expected_of : FlowJudge → Option Rtp
+expected_of judge = state_expects judge.state
 
 -- memory was refused
 abbrev pub IsSpent : FlowJudge → Type 0
@@ -36,7 +42,8 @@ pub record Takes {T E : Type 0} (old new : FlowJudge) (next : FlowPacket) (resul
   pub stays : IsSpent old → IsErr result
 
 -- a call took the packet that goes on after those fed, which is then the one expected, captured at this instant:
--- whatever packets the judge stood for, it now stands for those and this one, of whatever record; and it isn't spent
+-- whatever packets the judge stood for, it now stands for those and this one, of whatever record; it isn't spent, and
+-- then expects the next one
 pub record TakesExpected (old new : FlowJudge) (at : ℕ) : Type 0 where
   pub fed : count_fed new ≡ count_fed old + 1
   pub expects : (m : Media) (key : FlowKey) (tai : ℕ) (packets : List FlowPacket) → StandsFor m key tai old packets
@@ -45,3 +52,4 @@ pub record TakesExpected (old new : FlowJudge) (at : ℕ) : Type 0 where
       → StandsFor m key tai old packets
       → StandsFor m key tai new (packets ++ next_packet packets m.pt rec_number at ∷ [])
   pub going : IsSpent old → ⊥
+  pub next : expected_of new ≡ after (expected_of old)

@@ -1,12 +1,12 @@
 -- What a `FlowJudge` keeps of the packets that it was fed. Packets count from 0.
-use Rattle.std.specs.Prelude.{◌≡◌, ℕ, ⊤, Bool, false, List, ◌++◌, length, Some, Result, Ok, Err, ◌⊎◌}
+use Rattle.std.specs.Prelude.{◌≡◌, ℕ, ⊤, List, ◌++◌, length, Option, Some, None, Result, Ok, Err, ◌⊎◌}
 use Rattle.timing_base.specs.Flows.{AreStamped, first_fault_below, packet}
 use Rattle.timing_base.specs.Media.{Media}
 use Rattle.timing_base.specs.declared.packet.FlowPacket.{FlowPacket}
 use Rattle.timing_base.specs.declared.packet.PacketFault.{PacketFault}
 use Rattle.timing_base.specs.declared.packet.PacketFault.TheVariants.{Short, Version}
 use Rattle.timing_base.specs.declared.packet.Rtp.{Rtp}
-use Rattle.fail_interval.specs.Flowing.{StandsFor as FlowStandsFor, flow_has_groups}
+use Rattle.fail_interval.specs.Flowing.{StandsFor as FlowStandsFor, flow_expects}
 use Rattle.fail_interval.specs.declared.flow.Flow.{Flow}
 use Rattle.fail_interval.specs.declared.judge.State.{State}
 use Rattle.fail_interval.specs.declared.judge.State.TheVariants.{Going, Refused, Spent}
@@ -41,8 +41,8 @@ IsKnown fed (Going flow) = (packets : List FlowPacket) × IsFedTo flow fed packe
 IsKnown fed (Refused rec fault) = ⊤
 IsKnown fed Spent = ⊤
 
--- a flow without a fault whose open run has a whole group
-abbrev pub state_has_groups : State → Bool
-state_has_groups (Going flow) = flow_has_groups flow
-state_has_groups (Refused rec fault) = false
-state_has_groups Spent = false
+-- the packet that is expected next, by what the state keeps: none after a fault
+abbrev pub state_expects : State → Option Rtp
+state_expects (Going flow) = flow_expects flow
+state_expects (Refused rec fault) = None
+state_expects Spent = None

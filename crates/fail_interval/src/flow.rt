@@ -75,7 +75,7 @@ pub struct Flow {
 
 impl Flow {
     ghost use Rattle.fail_interval.specs.Flowing.{CanGoOn, ComesNext, EndsBy, HasRoom, StandsFor, Took, TookExpected};
-    ghost use Rattle.fail_interval.specs.Flowing.{IsClosed, OpensAt, StartsAt, flow_has_groups};
+    ghost use Rattle.fail_interval.specs.Flowing.{IsClosed, OpensAt, StartsAt, flow_expects};
 
     /// Before the first packet.
     pub fn new(alloc: Global, media: &Media, tai: u64) -> Flow
@@ -149,21 +149,11 @@ impl Flow {
     /// The next packet, if it goes on as most do.
     #[inline(always)]
     pub fn expected(&self) -> Option<Rtp>
-        ensures { (packets : List FlowPacket) → StandsFor self.now packets
+        ensures follows { (packets : List FlowPacket) → StandsFor self.now packets
             → result ≡ expected_after packets self.now.media.pt }
+        ensures is { result ≡ flow_expects self.now }
     {
         self.grouper.expected()
-    }
-
-    /// Whether the open run has a whole group.
-    #[inline(always)]
-    pub fn has_groups(&self) -> bool
-        ensures { result ≡ flow_has_groups self.now }
-    {
-        match &self.open {
-            Some(open) => open.judge.has_groups(),
-            None => false,
-        }
     }
 
     /// Takes the packet that is expected, captured at `at`, where it goes on in a judged run and has no fault, and

@@ -7,7 +7,7 @@ ghost use Rattle.timing_base.specs.declared.packet.FlowPacket.{FlowPacket};
 ghost use Rattle.timing_base.specs.declared.key.FlowKey.{FlowKey as KeyValue};
 ghost use Rattle.timing_base.specs.Media.{Media as MediaValue};
 ghost use Rattle.fail_interval.specs.Row.{row};
-ghost use Rattle.fail_interval.specs.States.{IsKnown, IsReading, state_has_groups};
+ghost use Rattle.fail_interval.specs.States.{IsKnown, IsReading};
 
 use crate::flow::Flow;
 use std::alloc::{AllocError as OutOfMemory, Global};
@@ -98,7 +98,7 @@ pub struct FlowJudge {
 }
 
 impl FlowJudge {
-    ghost use Rattle.fail_interval.specs.Stands.{StandsFor, Takes, TakesExpected, count_fed};
+    ghost use Rattle.fail_interval.specs.Stands.{StandsFor, Takes, TakesExpected, count_fed, expected_of};
 
     /// The judge of the flow with this key, of packets of this media. `tai` seconds are added to the stamps of its
     /// judged packets, but not to those that a fault tells.
@@ -119,23 +119,13 @@ impl FlowJudge {
     /// fault.
     #[inline(always)]
     pub fn expected(&self) -> Option<Rtp>
-        ensures { (media : MediaValue) (key : KeyValue) (tai : ℕ) (packets : List FlowPacket)
+        ensures follows { (media : MediaValue) (key : KeyValue) (tai : ℕ) (packets : List FlowPacket)
             → StandsFor media key tai self.now packets → result ≡ expected_after packets media.pt }
+        ensures is { result ≡ expected_of self.now }
     {
         match &self.state {
             State::Going(flow) => flow.expected(),
             _ => None,
-        }
-    }
-
-    /// Whether the open run has a whole group, and the flow no fault.
-    #[inline(always)]
-    pub(crate) fn has_groups(&self) -> bool
-        ensures { result ≡ state_has_groups self.now.state }
-    {
-        match &self.state {
-            State::Going(flow) => flow.has_groups(),
-            State::Refused { .. } | State::Spent => false,
         }
     }
 

@@ -8,18 +8,22 @@ ghost use Rattle.udp_rtp.specs.Flow.{flow, is_same_target};
 ghost use Rattle.udp_rtp.specs.Frames.{datagram_of};
 ghost use Rattle.fail_interval.specs.Row.{row};
 ghost use Rattle.fail_interval.specs.Stands.{count_fed};
+ghost use Rattle.fail_interval.specs.Awaits.{AwaitsExpected};
 ghost use Rattle.timing_base.specs.Keys.{key_of};
 
 use crate::judge::FlowJudge;
 use std::alloc::{AllocError as OutOfMemory, Global};
 use timing_base::{FlowKey, Media, Row, Rtp, Target};
-use udp_rtp::{Datagram, carries, read_rtp};
+use udp_rtp::{Awaited, Datagram, carries, read_rtp};
 
 /// A media's target, and the judge of its flow.
 #[derive(Drop)]
 pub struct MediaJudge {
     pub target: Target,
     pub judge: FlowJudge,
+    /// The packet that the judge expects next, as the numbers of a frame that carries it; or nothing.
+    awaited: Awaited,
+    ghost awaits: { AwaitsExpected awaited target judge },
 }
 
 impl MediaJudge {
@@ -39,6 +43,7 @@ impl MediaJudge {
         MediaJudge {
             target: media.target(),
             judge: FlowJudge::new(alloc, media, key, tai),
+            awaited: Awaited::nothing(),
         }
     }
 
@@ -55,8 +60,8 @@ impl MediaJudge {
         Some(expected)
     }
 
-    /// Takes a record whose frame carries the packet that goes on in a judged run of this media, as most do, and
-    /// answers whether it does. Else nothing changes.
+    /// Takes a record whose frame carries the packet that is awaited, where that goes on in a judged run of this media,
+    /// as most do, and answers whether it did. Else nothing changes.
     #[inline(always)]
     pub fn take_judged(&mut self, at: u64, frame: &[u8]) -> bool
         requires stamp { IsStamp at }
@@ -66,13 +71,14 @@ impl MediaJudge {
         ensures other { result ≡ false → self.new ≡ self.old }
         ensures takes { result ≡ true → TakesCarried at frame.now self.old self.new }
     {
-        if !self.judge.has_groups() {
+        if !self.awaited.is_in(frame) {
             return false;
         }
-        let Some(_) = self.expected_in(frame) else {
+        if !self.judge.feed_judged(at) {
             return false;
-        };
-        self.judge.feed_judged(at)
+        }
+        self.awaited.go_on();
+        true
     }
 
     /// Takes the packet that the frame of a record carries to this media.
@@ -85,7 +91,9 @@ impl MediaJudge {
         ensures stands { IfOk result (λ _. (bytes : List ℕ) → carries self.old.target rtp bytes ≡ true
             → TakesRecord (record { number = rec; stamp = at; bytes = bytes }) self.old self.new) }
     {
-        self.judge.feed(rec, at, Ok(rtp))
+        let taken = self.judge.feed(rec, at, Ok(rtp));
+        self.awaited = Awaited::of(self.target, self.judge.expected());
+        taken
     }
 
     /// Takes the datagram of a record, where it goes to this media, and answers whether it does. `Err` is want of
@@ -103,7 +111,9 @@ impl MediaJudge {
         if datagram.target != self.target {
             return Ok(false);
         }
-        self.judge.feed(rec, at, read_rtp(datagram.payload))?;
+        let taken = self.judge.feed(rec, at, read_rtp(datagram.payload));
+        self.awaited = Awaited::of(self.target, self.judge.expected());
+        taken?;
         Ok(true)
     }
 
@@ -113,7 +123,7 @@ impl MediaJudge {
             → IsJudgeOf m file number tai self items
             → result ≡ row (flow items m) (key_of file number) m tai }
     {
-        let MediaJudge { target: _, judge } = self;
+        let MediaJudge { judge, .. } = self;
         judge.finish()
     }
 }

@@ -139,6 +139,14 @@ impl RunMeters {
         }
     }
 
+    /// The packets that were taken.
+    pub fn seen(&self) -> u64
+        ensures { (params : ParamsValue) (stamps : List ℕ) → StandsFor params self.now stamps
+            → result ≡ length stamps }
+    {
+        self.bucket.seen
+    }
+
     /// The verdict on a run of so many whole groups with this head and no tail.
     pub fn judged(&self, params: &Params, frames: u64, head: u64) -> Judged
         ensures { (stamps : List ℕ) → StandsFor params.now self.now stamps

@@ -1,6 +1,6 @@
 //! One run between gaps, as far as it has come.
 
-ghost use Rattle.std.specs.Prelude.{◌≡◌, ◌≤◌, ◌<◌, ◌+◌, ◌^◌, ◌++◌, ◌∷◌, [], ◌-◌, ℕ, List, length, OnOk, true, false};
+ghost use Rattle.std.specs.Prelude.{◌≡◌, ◌≤◌, ◌<◌, ◌+◌, ◌^◌, ◌++◌, ◌∷◌, [], ◌-◌, ℕ, List, length, true, false};
 ghost use Rattle.timing_base.specs.Media.{Media as MediaValue};
 ghost use Rattle.fail_interval.specs.SoFar.{AreStamps, Groups, SoFar, groups_first, groups_next};
 ghost use Rattle.fail_interval.specs.SoFar.{in_first, in_groups, in_head, outcome_of, so_far_next};
@@ -23,8 +23,6 @@ pub struct WholeGroups {
     meters: RunMeters,
     /// The verdict on the whole groups, with no tail.
     judged: Judged,
-    /// The packets after the last marker.
-    tail: u64,
 }
 
 impl WholeGroups {
@@ -46,7 +44,6 @@ impl WholeGroups {
             groups: 1,
             meters,
             judged: meters.judged(&params, 1, head),
-            tail: 0,
         }
     }
 
@@ -60,8 +57,6 @@ impl WholeGroups {
         self.meters.feed(&self.params, at);
         if marker {
             self.end_group();
-        } else {
-            self.tail += 1;
         }
     }
 
@@ -74,7 +69,6 @@ impl WholeGroups {
         ensures head { self.new.head ≡ self.old.head }
         ensures groups { self.new.groups ≡ self.old.groups + 1 }
         ensures meters { self.new.meters ≡ self.old.meters }
-        ensures tail { self.new.tail ≡ 0 }
         ensures judged { (stamps : List ℕ) → MetersStandFor self.old.params self.old.meters stamps
             → self.new.judged ≡ judged_values self.old.params.media (record {
               n = self.old.params.n;
@@ -84,9 +78,16 @@ impl WholeGroups {
               stamps = stamps;
             }) }
     {
-        self.tail = 0;
         self.groups += 1;
         self.judged = self.meters.judged(&self.params, self.groups, self.head);
+    }
+
+    /// The packets after the last marker.
+    fn tail(&self) -> u64
+        ensures { (m : MediaValue) (so_far : Groups) → IsWhole m self.now so_far
+            → result ≡ length so_far.stamps - length so_far.whole }
+    {
+        self.meters.seen().saturating_sub(self.judged.packets)
     }
 
     /// The verdict on the run, where it ends here.
@@ -101,7 +102,7 @@ impl WholeGroups {
             }) }
     {
         let mut judged = self.judged;
-        judged.tail = self.tail;
+        judged.tail = self.tail();
         judged
     }
 }
@@ -118,7 +119,8 @@ pub enum RunJudge {
 }
 
 impl RunJudge {
-    ghost use Rattle.fail_interval.specs.Runs.{CanGoOn as CanTake, IsWholeFirst, StandsFor, has_groups};
+    ghost use Rattle.fail_interval.specs.Runs.{CanGoOn as CanTake, IsOpenTo, IsWholeFirst, StandsFor, TakesNext};
+    ghost use Rattle.fail_interval.specs.Runs.{has_groups};
     ghost use Rattle.fail_interval.specs.declared.run.RunJudge.TheVariants.{First, Groups as GroupsValue, Head};
     ghost use Rattle.fail_interval.specs.declared.run.WholeGroups.{WholeGroups as WholeGroupsValue};
 
@@ -162,9 +164,8 @@ impl RunJudge {
         at: u64,
         marker: bool,
     ) -> Result<(), OutOfMemory>
-        requires { ∥ ((so_far : SoFar) × CanTake media.now self.old so_far at marker) ∥₁ }
-        ensures { (so_far : SoFar) → CanTake media.now self.old so_far at marker
-            → OnOk result (StandsFor media.now self.new (so_far_next so_far at marker)) }
+        requires { IsOpenTo media.now self.old at marker }
+        ensures { TakesNext media.now self.old self.new at marker result }
     {
         if let RunJudge::Groups(groups) = self {
             groups.feed(at, marker);
@@ -184,9 +185,8 @@ impl RunJudge {
         marker: bool,
     ) -> Result<(), OutOfMemory>
         requires early { (groups : WholeGroupsValue) → self.old ≡ GroupsValue groups → ⊥ }
-        requires next { ∥ ((so_far : SoFar) × CanTake media.now self.old so_far at marker) ∥₁ }
-        ensures { (so_far : SoFar) → CanTake media.now self.old so_far at marker
-            → OnOk result (StandsFor media.now self.new (so_far_next so_far at marker)) }
+        requires next { IsOpenTo media.now self.old at marker }
+        ensures { TakesNext media.now self.old self.new at marker result }
     {
         match self {
             RunJudge::Groups(_) => {}

@@ -1,5 +1,5 @@
 -- What the meters of a run's parts say of the packets that they were fed, which are counted from 0.
-use Rattle.std.specs.Prelude.{◌≡◌, ◌≤◌, ◌<◌, ◌-◌, ℕ, ℤ, pos, Option}
+use Rattle.std.specs.Prelude.{◌≡◌, ◌≤◌, ◌<◌, ◌-◌, ◌^◌, ◌≤ℤ◌, neg_ℤ, ℕ, ℤ, pos, Option}
 use Rattle.timing_base.specs.Media.{Media}
 use Rattle.timing_base.specs.declared.media.Kind.{Kind}
 use Rattle.timing_base.specs.declared.media.Kind.TheVariants.{N, NL, W}
@@ -82,6 +82,15 @@ abbrev pub MeasuresType : Kind → (n c_max full : ℕ) → KindMeters → Packe
 MeasuresType N n c_max full k p = MeasuresAhead n c_max full k.narrow k.seen k.level.bucket k.level.gapped p
 MeasuresType NL n c_max full k p = MeasuresAhead n c_max full k.narrow_linear k.seen k.level.bucket k.level.linear p
 MeasuresType W n c_max full k p = MeasuresAhead n c_max full k.wide k.seen k.level.bucket k.level.linear p
+
+-- what a packet finds is within what the meters of the types have room for
+pub record IsBounded (level : Level) : Type 0 where
+  pub bucket_low : neg_ℤ (pos (2 ^ 84)) ≤ℤ level.bucket
+  pub bucket_high : level.bucket ≤ℤ pos (2 ^ 84)
+  pub gapped_low : neg_ℤ (pos (2 ^ 84)) ≤ℤ level.gapped.occupancy
+  pub gapped_high : level.gapped.occupancy ≤ℤ pos (2 ^ 84)
+  pub linear_low : neg_ℤ (pos (2 ^ 84)) ≤ℤ level.linear.occupancy
+  pub linear_high : level.linear.occupancy ≤ℤ pos (2 ^ 84)
 
 -- packet i finds this, by the schedule of the type
 abbrev pub Finds : Kind → (c_max full : ℕ) → Packets → ℕ → Level → Type 0

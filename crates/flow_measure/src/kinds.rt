@@ -48,7 +48,7 @@ pub struct KindMeters {
 impl KindMeters {
     ghost use Rattle.timing_base.specs.declared.media.Kind.{Kind as KindValue};
     ghost use Rattle.sender_params.specs.Limits.{c_max_of, vrx_full_of};
-    ghost use Rattle.flow_measure.specs.Fed.{Finds, MeasuresType};
+    ghost use Rattle.flow_measure.specs.Fed.{Finds, IsBounded, MeasuresType};
     ghost use Rattle.flow_measure.specs.Kinds.{Packets};
 
     /// The meters before the first packet.
@@ -79,12 +79,7 @@ impl KindMeters {
     #[inline(always)]
     pub fn feed(&mut self, level: Level)
         requires few { self.old.seen < 2 ^ 41 }
-        requires bucket_low { neg_ℤ (pos (2 ^ 84)) ≤ℤ level.bucket }
-        requires bucket_high { level.bucket ≤ℤ pos (2 ^ 84) }
-        requires gapped_low { neg_ℤ (pos (2 ^ 84)) ≤ℤ level.gapped.occupancy }
-        requires gapped_high { level.gapped.occupancy ≤ℤ pos (2 ^ 84) }
-        requires linear_low { neg_ℤ (pos (2 ^ 84)) ≤ℤ level.linear.occupancy }
-        requires linear_high { level.linear.occupancy ≤ℤ pos (2 ^ 84) }
+        requires bounded { IsBounded level }
         ensures seen { self.new.seen ≡ self.old.seen + 1 }
 
         // Whatever packets the meters were fed, they were now fed this one, too.
@@ -100,12 +95,7 @@ impl KindMeters {
     /// Makes room for one packet more to wait, which finds this.
     #[inline(always)]
     fn turn_to(&mut self, level: Level)
-        requires bucket_low { neg_ℤ (pos (2 ^ 84)) ≤ℤ level.bucket }
-        requires bucket_high { level.bucket ≤ℤ pos (2 ^ 84) }
-        requires gapped_low { neg_ℤ (pos (2 ^ 84)) ≤ℤ level.gapped.occupancy }
-        requires gapped_high { level.gapped.occupancy ≤ℤ pos (2 ^ 84) }
-        requires linear_low { neg_ℤ (pos (2 ^ 84)) ≤ℤ level.linear.occupancy }
-        requires linear_high { level.linear.occupancy ≤ℤ pos (2 ^ 84) }
+        requires bounded { IsBounded level }
         ensures seen { self.new.seen ≡ self.old.seen }
         ensures level { self.new.level ≡ level }
         ensures room { self.new.narrow.broken.seen % self.new.narrow.broken.n + self.new.waits

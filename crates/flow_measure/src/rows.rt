@@ -13,4 +13,4 @@ mod rows;
 pub use groups::GroupRows;
 pub use levels::{Level, LevelMeter};
 pub use packets::PacketRows;
-pub use rows::{RunRows, header};
+pub use rows::{Rows, RunRows, header};

@@ -89,7 +89,7 @@ impl SummaryMeter {
     }
 
     /// Takes in the next number, which comes so many times.
-    pub fn feed_often(&mut self, number: i128, times: u64)
+    pub(crate) fn feed_often(&mut self, number: i128, times: u64)
         requires low { neg_ℤ (pos (2 ^ 84)) ≤ℤ number }
         requires high { number ≤ℤ pos (2 ^ 84) }
         requires some { 1 ≤ times }

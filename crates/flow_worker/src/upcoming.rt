@@ -1,37 +1,28 @@
 //! The packets that are expected next in a file.
 
-ghost use Rattle.std.specs.Prelude.{◌≡◌, ◌<◌, ◌^◌, All, IfSome, Some, List, length, true};
+ghost use Rattle.std.specs.Prelude.{◌≡◌, ◌<◌, ◌^◌, All, IfSome, Some, List, length};
 ghost use Rattle.timing_base.specs.Captures.{IsStamp};
 ghost use Rattle.timing_base.specs.Media.{Media as MediaValue};
+ghost use Rattle.timing_base.specs.declared.packet.Rtp.{Rtp as RtpValue};
+ghost use Rattle.timing_base.specs.declared.target.Target.{Target as TargetValue};
+ghost use Rattle.udp_rtp.specs.Awaited.{awaited};
 ghost use Rattle.flow_worker.specs.Opening.{packet_from};
 ghost use Rattle.flow_worker.specs.Targeted.{media_to};
 
 use ruled_intake::Packet;
 use timing_base::{FlowPacket, PacketFault, Rtp, Target};
-use udp_rtp::carries;
+use udp_rtp::Awaited;
 
 /// What is expected of one media.
 #[derive(Clone, Copy)]
 pub struct Expected {
-    /// Where its packets go.
-    target: Target,
-    /// Its next packet, if that goes on as most do. No frame carries a packet with the marker: where this one has
-    /// it, none is expected.
-    rtp: Rtp,
+    /// Its next packet, if that goes on as most do.
+    awaited: Awaited,
     /// The number of the media.
     media: u32,
     /// The place of the media whose packet came after the last one of this media.
     after: u32,
 }
-
-/// No packet: one with the marker.
-const NOTHING: Rtp = Rtp {
-    number: 0,
-    timestamp: 0,
-    marker: true,
-    pt: 0,
-    ssrc: 0,
-};
 
 impl Expected {
     ghost use Rattle.flow_worker.specs.Expecting.{IsExpected};
@@ -42,29 +33,21 @@ impl Expected {
         ensures after { result.after ≡ place }
     {
         Expected {
-            target: Target {
-                address: 0,
-                port: 0,
-            },
-            rtp: NOTHING,
+            awaited: Awaited::nothing(),
             media: 0,
             after: place,
         }
     }
 }
 
-/// The packet that goes on after one that was read, with its timestamp: none after the marker, nor after one that
-/// couldn't be read.
-fn goes_on(rtp: Result<Rtp, PacketFault>) -> Rtp {
+/// What is awaited after a packet of this target that was read: nothing after the marker, nor after one that couldn't
+/// be read.
+fn after(target: Target, rtp: Result<Rtp, PacketFault>) -> Awaited
+    ensures { (t : TargetValue) (p : RtpValue) → awaited result ≡ Some (t, p) → t ≡ target }
+{
     match rtp {
-        Ok(rtp) => Rtp {
-            number: rtp.number.wrapping_add(1),
-            timestamp: rtp.timestamp,
-            marker: rtp.marker,
-            pt: rtp.pt,
-            ssrc: rtp.ssrc,
-        },
-        Err(_) => NOTHING,
+        Ok(rtp) => Awaited::after(target, rtp),
+        Err(_) => Awaited::nothing(),
     }
 }
 
@@ -105,23 +88,19 @@ impl Upcoming {
             → IfSome result (λ packet. packet.media < length media) }
     {
         let place = self.each[self.last as usize].after;
-        let Expected {
-            target,
-            rtp,
-            media,
-            ..
-        } = self.each[place as usize];
-        if !carries(frame, target, rtp) {
+        let mut expected = self.each[place as usize];
+        if !expected.awaited.is_in(frame) {
             return None;
         }
-        self.each[place as usize].rtp.number = rtp.number.wrapping_add(1);
-        self.last = place;
         let packet = FlowPacket {
             rec: number,
             at,
-            rtp: Ok(rtp),
+            rtp: Ok(expected.awaited.packet()),
         };
-        Some(Packet::new(media, packet))
+        expected.awaited.go_on();
+        self.each[place as usize] = expected;
+        self.last = place;
+        Some(Packet::new(expected.media, packet))
     }
 
     /// The media with this number comes after the one whose packet came last.
@@ -141,8 +120,7 @@ impl Upcoming {
     {
         self.follow(media);
         self.each[media as usize] = Expected {
-            target,
-            rtp: goes_on(rtp),
+            awaited: after(target, rtp),
             media,
             after: self.each[media as usize].after,
         };

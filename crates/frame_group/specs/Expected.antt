@@ -1,14 +1,28 @@
 -- The packet that is expected after those of a flow: one that goes on in the frame or field of the last, as most do.
 use Rattle.std.specs.Prelude.{ℕ, ◌-◌, false, Bool, ◌==◌, ◌||◌, if◌then◌else◌, List, length, Option, Some, None, Ok, is_some}
-use Rattle.timing_base.specs.Flows.{expected_number, first_fault, has_marker, rtp}
+use Rattle.timing_base.specs.Flows.{first_fault, has_marker, next_number, rtp}
 use Rattle.timing_base.specs.declared.packet.FlowPacket.{FlowPacket}
 use Rattle.timing_base.specs.declared.packet.Rtp.{Rtp}
+
+-- this packet with another number
+abbrev pub with_number : ℕ → Rtp → Rtp
+with_number number p =
+    record { number = number; timestamp = p.timestamp; marker = p.marker; pt = p.pt; ssrc = p.ssrc }
+
+-- the packet that goes on after this one: only its number is another
+abbrev pub next_of : Rtp → Rtp
+next_of p = with_number (next_number p.number) p
+
+-- what is expected after what was expected
+abbrev pub after : Option Rtp → Option Rtp
+after None = None
+after (Some p) = Some (next_of p)
 
 -- packet i of a flow with this payload type, where it goes on with the timestamp of the packet before, of the flow's
 -- source, with no packet missing before it and without the marker
 abbrev pub going_on : List FlowPacket → ℕ → ℕ → Rtp
-going_on packets pt i = record {
-  number = expected_number packets i;
+going_on packets pt i = next_of record {
+  number = (rtp packets (i - 1)).number;
   timestamp = (rtp packets (i - 1)).timestamp;
   marker = false;
   pt = pt;

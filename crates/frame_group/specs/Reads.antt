@@ -1,8 +1,9 @@
--- What is kept of the packet before packet i of a flow, and how packet i itself comes.
-use Rattle.std.specs.Prelude.{◌≡◌, ◌<◌, ◌-◌, ℕ, false, List, Option, Some, None, Ok}
+-- What is kept of the packet before packet i of a flow, how packet i comes, and what is expected by what is kept.
+use Rattle.std.specs.Prelude.{◌≡◌, ◌<◌, ◌-◌, ℕ, false, if◌then◌else◌, List, Option, Some, None, Ok}
 use Rattle.timing_base.specs.Flows.{packet, rtp}
 use Rattle.timing_base.specs.declared.packet.FlowPacket.{FlowPacket}
 use Rattle.timing_base.specs.declared.packet.Rtp.{Rtp}
+use Rattle.frame_group.specs.Expected.{next_of, with_number}
 use Rattle.frame_group.specs.declared.before.Before.{Before}
 
 -- packet i came at this instant, and this was read of it
@@ -28,3 +29,19 @@ GoesAfter (Some b) r = (b.timestamp ≡ r.timestamp) × (b.marker ≡ false) × 
 abbrev pub ComesAfter : List FlowPacket → ℕ → Option Before → Type 0
 ComesAfter packets i None = i ≡ 0
 ComesAfter packets i (Some b) = IsAfter packets i b
+
+-- the packet that is expected after this one, in a flow with this payload type: none after the marker
+abbrev pub expected_by : ℕ → Option Before → Option Rtp
+expected_by pt None = None
+expected_by pt (Some b) = if b.marker then None else Some (next_of record {
+  number = b.number;
+  timestamp = b.timestamp;
+  marker = false;
+  pt = pt;
+  ssrc = b.source;
+})
+
+-- what is expected after a packet that has this number and else is the one that was expected
+abbrev pub after_number : ℕ → Option Rtp → Option Rtp
+after_number number None = None
+after_number number (Some p) = Some (next_of (with_number number p))

@@ -3,13 +3,18 @@ use Rattle.std.specs.Prelude.{◌≡◌, ℕ, List, ◌∷◌, ◌++◌, length,
 use Rattle.timing_base.specs.Flows.{FirstFault, cuts, first_fault_below, last_place, markers}
 use Rattle.timing_base.specs.declared.packet.FlowPacket.{FlowPacket}
 use Rattle.timing_base.specs.declared.packet.PacketFault.{PacketFault}
+use Rattle.timing_base.specs.declared.packet.Rtp.{Rtp}
 use Rattle.frame_group.specs.Marks.{IsIn}
-use Rattle.frame_group.specs.Reads.{ComesAfter}
+use Rattle.frame_group.specs.Reads.{ComesAfter, expected_by}
 use Rattle.frame_group.specs.declared.grouper.Grouper.{Grouper}
 
 -- how many packets were fed
 abbrev pub count_fed : Grouper → ℕ
 count_fed g = g.fed
+
+-- the packet that is expected next, by what is kept: none before the first packet, after the marker and after a fault
+abbrev pub expected_of : Grouper → Option Rtp
+expected_of g = expected_by g.pt g.before
 
 -- what the fault is, without its packet
 abbrev pub what : Option FirstFault → Option PacketFault

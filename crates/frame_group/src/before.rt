@@ -23,14 +23,15 @@ pub struct Before {
 }
 
 impl Before {
-    ghost use Rattle.frame_group.specs.Reads.{IsRead, IsAfter, ComesAfter, GoesAfter};
+    ghost use Rattle.frame_group.specs.Reads.{IsRead, IsAfter, ComesAfter, GoesAfter, after_number, expected_by};
 
     /// Goes on to the next packet, which goes on after the one before.
     #[inline(always)]
     pub fn go_on(before: &mut Option<Before>, at: u64, rtp: Rtp)
         requires { GoesAfter before.old rtp }
-        ensures { (packets : List FlowPacket) (i : ℕ) → ComesAfter packets i before.old
+        ensures comes { (packets : List FlowPacket) (i : ℕ) → ComesAfter packets i before.old
             → IsRead packets i at rtp → ComesAfter packets (i + 1) before.new }
+        ensures expects { (pt : ℕ) → expected_by pt before.new ≡ after_number rtp.number (expected_by pt before.old) }
     {
         if let Some(before) = before {
             before.at = at;

@@ -6,7 +6,7 @@ ghost use Rattle.timing_base.specs.declared.packet.FlowPacket.{FlowPacket};
 ghost use Rattle.timing_base.specs.Flows.{cuts, fault, fault_if, first_of, is_second_source, markers_before, order_fault};
 ghost use Rattle.timing_base.specs.declared.packet.PacketFault.TheVariants.{SecondSource};
 ghost use Rattle.frame_group.specs.Cuts.{answer_at, cut_at};
-ghost use Rattle.frame_group.specs.Expected.{expected_after, going_on, next_packet};
+ghost use Rattle.frame_group.specs.Expected.{after, expected_after, going_on, next_packet};
 
 use crate::before::Before;
 use crate::group::Group;
@@ -29,8 +29,8 @@ pub struct Grouper {
 
 impl Grouper {
     ghost use Rattle.frame_group.specs.Marks.{IsIn};
-    ghost use Rattle.frame_group.specs.Reads.{GoesAfter, IsAfter, IsRead};
-    ghost use Rattle.frame_group.specs.Stands.{count_fed, Keeps, StandsFor};
+    ghost use Rattle.frame_group.specs.Reads.{GoesAfter, IsAfter, IsRead, after_number};
+    ghost use Rattle.frame_group.specs.Stands.{count_fed, expected_of, Keeps, StandsFor};
 
     /// Before the first packet of a flow whose media has the payload type `pt`.
     pub fn new(pt: u8) -> Grouper
@@ -197,6 +197,7 @@ impl Grouper {
         requires after { GoesAfter self.old.before rtp }
         ensures keeps { (packets : List FlowPacket) (i : ℕ) → Keeps packets i self.old
             → IsRead packets i at rtp → None ≡ cut_at packets i → Keeps packets (i + 1) self.new }
+        ensures expects { expected_of self.new ≡ after_number rtp.number (expected_of self.old) }
         ensures pt { self.new.pt ≡ self.old.pt }
         ensures fed { self.new.fed ≡ self.old.fed + 1 }
         ensures fault { self.new.fault ≡ self.old.fault }
@@ -210,8 +211,9 @@ impl Grouper {
     /// marker. `None` before the first packet, after one with the marker, and after a fault.
     #[inline(always)]
     pub fn expected(&self) -> Option<Rtp>
-        ensures { (pt : ℕ) (packets : List FlowPacket) → StandsFor pt self.now packets
+        ensures follows { (pt : ℕ) (packets : List FlowPacket) → StandsFor pt self.now packets
             → result ≡ expected_after packets pt }
+        ensures is { result ≡ expected_of self.now }
     {
         let Some(before) = self.before else {
             return None;
@@ -238,6 +240,7 @@ impl Grouper {
         ensures other { result ≡ false → self.new ≡ self.old }
         ensures fed { result ≡ true → count_fed self.new ≡ count_fed self.old + 1 }
         ensures unmarked { result ≡ true → rtp.marker ≡ false }
+        ensures next { result ≡ true → expected_of self.new ≡ after_number rtp.number (expected_of self.old) }
 
         // No gap stands before the packet in any flow that begins with the packets before it and goes on
         // so, and it has no fault.
@@ -268,6 +271,7 @@ impl Grouper {
         ensures fed { result ≡ true → count_fed self.new ≡ count_fed self.old + 1 }
         ensures expects { result ≡ true → (pt : ℕ) (packets : List FlowPacket) → StandsFor pt self.old packets
             → expected_after packets pt ≡ Some (going_on packets pt (length packets)) }
+        ensures next { result ≡ true → expected_of self.new ≡ after (expected_of self.old) }
 
         // No gap stands before the packet in any flow that begins with the packets before it and goes on
         // so, and it has no fault.

@@ -216,25 +216,40 @@ seconds-end stands ends tai firsts media items gs found few h ended =
     each-pairs (IsSecondOf stands tai firsts items) (SecondEnds stands ends) (λ n m e. ends m n tai (flow items m) e)
     (λ n m g end is k. (k m n tai _ _ (flow items m) few is.stood).end_is) 0 media gs found h ended
 
-pub second-in : {T E : Type 0} (stands : Taking T) (ends : Ending E) (tai : ℕ) (firsts : List Record) (media : List Media) (text : List ℕ)
-    (old new : FlowBank (Again T)) (read : Taken) (r : Reading E) → tai ≤ 1000 → AreSeconds stands tai firsts media [] old.flows.items
-    → TakesText (BankTakes (TakesOn stands)) text 0 old new read → AllPairs (SecondEnds stands ends) new.flows.items r.flows.items → r.note ≡ read.note
-    → IsReadingIn (AreEnds ends tai media) text r
-second-in stands ends tai firsts media text old new read r few h t ended note = record {
+-- so they are found as what a second reading comes to
+seconds-found : {T E : Type 0} (stands : Taking T) (ends : Ending E) (tai also : ℕ) (media : List Media) (first : Reading Seen) (seens : List Seen)
+    (fs : List (FlowOf (Again T))) (old new : FlowBank (Again T)) (found : List E) → tai ≤ 1000 → tai ≡ also → seens ≡ first.flows.items
+    → old.flows.items ≡ fs → ((items : List Record) → AreUnmeasured tai media items seens → AreSeconds stands tai items media [] fs)
+    → IsReadingOf (AreUnmeasured also media) first → AllPairs (SecondEnds stands ends) new.flows.items found
+    → (items : List Record) → BankTakes (TakesOn stands) old new items → AreEnds ends also media items found
+seconds-found stands ends tai also media first seens fs old new found few same seen flows begun h ended items taken =
+    let seconds = seconds-begun stands tai also media first seens fs old.flows.items same seen flows begun h in
+    subst (λ (x : ℕ). AreEnds ends x media items found) same
+    (seconds-end stands ends tai h.items media items new.flows.items found few
+    (seconds-taken stands tai h.items media items old.flows.items new.flows.items seconds taken) ended)
+
+pub second-in : {T E : Type 0} (stands : Taking T) (ends : Ending E) (tai also : ℕ) (media : List Media) (text : List ℕ) (first : Reading Seen)
+    (seens : List Seen) (fs : List (FlowOf (Again T))) (old new : FlowBank (Again T)) (read : Taken) (r : Reading E) → tai ≤ 1000 → tai ≡ also
+    → seens ≡ first.flows.items → old.flows.items ≡ fs
+    → ((items : List Record) → AreUnmeasured tai media items seens → AreSeconds stands tai items media [] fs)
+    → IsReadingOf (AreUnmeasured also media) first → TakesText (BankTakes (TakesOn stands)) text 0 old new read
+    → AllPairs (SecondEnds stands ends) new.flows.items r.flows.items → r.note ≡ read.note → IsReadingIn (AreEnds ends also media) text r
+second-in stands ends tai also media text first seens fs old new read r few same seen flows begun h t ended note = record {
   items = t.items;
   records = subst (λ n. Records text (2 ^ 40) t.items n) (sym note) t.records;
-  are = seconds-end stands ends tai firsts media t.items new.flows.items r.flows.items few
-      (seconds-taken stands tai firsts media t.items old.flows.items new.flows.items h (fed-alone (BankTakes (TakesOn stands)) text old new read t)) ended;
+  are = seconds-found stands ends tai also media first seens fs old new r.flows.items few same seen flows begun h ended t.items
+      (fed-alone (BankTakes (TakesOn stands)) text old new read t);
 }
 
-pub second-of : {T E : Type 0} (stands : Taking T) (ends : Ending E) (tai most : ℕ) (firsts : List Record) (media : List Media)
-    (old new : FlowBank (Again T)) (r : Reading E) → tai ≤ 1000 → AreSeconds stands tai firsts media [] old.flows.items
-    → TakesFew (BankTakes (TakesOn stands)) most old new → AllPairs (SecondEnds stands ends) new.flows.items r.flows.items
-    → IsReadingOf (AreEnds ends tai media) r
-second-of stands ends tai most firsts media old new r few h t ended = record {
+pub second-of : {T E : Type 0} (stands : Taking T) (ends : Ending E) (tai also most : ℕ) (media : List Media) (first : Reading Seen)
+    (seens : List Seen) (fs : List (FlowOf (Again T))) (old new : FlowBank (Again T)) (r : Reading E) → tai ≤ 1000 → tai ≡ also
+    → seens ≡ first.flows.items → old.flows.items ≡ fs
+    → ((items : List Record) → AreUnmeasured tai media items seens → AreSeconds stands tai items media [] fs)
+    → IsReadingOf (AreUnmeasured also media) first → TakesFew (BankTakes (TakesOn stands)) most old new
+    → AllPairs (SecondEnds stands ends) new.flows.items r.flows.items → IsReadingOf (AreEnds ends also media) r
+second-of stands ends tai also most media first seens fs old new r few same seen flows begun h t ended = record {
   items = t.items;
-  are = seconds-end stands ends tai firsts media t.items new.flows.items r.flows.items few
-      (seconds-taken stands tai firsts media t.items old.flows.items new.flows.items h t.taken) ended;
+  are = seconds-found stands ends tai also media first seens fs old new r.flows.items few same seen flows begun h ended t.items t.taken;
 }
 
 -- a text that is told is the same at each reading

@@ -5,6 +5,7 @@ pub mod Meterings
 pub mod Eaches
 mod Banked
 mod Judged
+mod Takers
 mod Gauging
 pub mod Found
 pub mod Answering

@@ -73,7 +73,7 @@ closes-lost stands measures m tai packets k from to (Some j) (Some x) o result d
     absurd (none-some result x.0 none x.1)
 
 -- one cut more ends the last run, and begins another
-pub between-push : (found : Verdict) (packets : List FlowPacket) (to k from cut : ℕ) (places : List ℕ)
+between-push : (found : Verdict) (packets : List FlowPacket) (to k from cut : ℕ) (places : List ℕ)
     → planned_between found packets to k from (places ++ cut ∷ [])
     ≡ planned_between found packets cut k from places ++ planned_part packets (k + length places + 1) cut to (planned_at found (k + length places + 1))
 between-push found packets to k from cut [] =
@@ -106,6 +106,16 @@ pub opens-fresh : {G : Type 0} (stands : Standing G) (m : Media) (tai : ℕ) (pa
 opens-fresh stands m tai packets None e = tt
 opens-fresh stands m tai packets (Some o) e = cc
 
+-- where a run ends at a place and a later one begins there, its part is the last of those that are over
+pub parts-later : (found : Verdict) (packets : List FlowPacket) (i k from : ℕ) (places : List ℕ) (closed : List JudgedPart) → k ≡ length places
+    → ((to : ℕ) → planned_between found packets to 0 0 places ≡ closed ++ planned_part packets k from to (planned_at found k)) → (to : ℕ)
+    → planned_between found packets to 0 0 (places ++ i ∷ [])
+    ≡ (closed ++ planned_part packets k from i (planned_at found k)) ++ planned_part packets (k + 1) i to (planned_at found (k + 1))
+parts-later found packets i k from places closed count parts to =
+    let next : 0 + length places + 1 ≡ k + 1 = omega (arith, count) in
+    between-push found packets to 0 0 i places
+    ∙ ap₂ (λ a x. a ++ planned_part packets x i to (planned_at found x)) (parts i) next
+
 -- a later run begins
 pub going-later : {G : Type 0} (stands : Standing G) (measures : Measuring) (m : Media) (tai : ℕ) (found : Verdict) (packets : List FlowPacket)
     (i k from : ℕ) (places : List ℕ) (old new : List MeasuredRun) (before after : Option (OpenRun G)) → k ≡ length places
@@ -113,16 +123,12 @@ pub going-later : {G : Type 0} (stands : Standing G) (measures : Measuring) (m :
     → Closes measures m tai packets k from i (planned_at found k) old new
     → OpensAs stands m tai packets (k + 1) i i (planned_at found (k + 1)) after
     → IsGoing stands measures m tai found packets i (k + 1) i (places ++ i ∷ []) new after
-going-later stands measures m tai found packets i k from places old new before after count going closes opens =
-    let next : 0 + length places + 1 ≡ k + 1 = omega (arith, count) in
-    record {
-      closed = going.closed ++ planned_part packets k from i (planned_at found k);
-      parts = λ to.
-          between-push found packets to 0 0 i places
-          ∙ ap₂ (λ a x. a ++ planned_part packets x i to (planned_at found x)) (going.parts i) next;
-      done_are = closes going.closed going.done_are;
-      opens = opens;
-    }
+going-later stands measures m tai found packets i k from places old new before after count going closes opens = record {
+  closed = going.closed ++ planned_part packets k from i (planned_at found k);
+  parts = parts-later found packets i k from places going.closed count going.parts;
+  done_are = closes going.closed going.done_are;
+  opens = opens;
+}
 
 -- what is made of another media, other seconds and another verdict that are the same
 pub going-same : {G : Type 0} (stands : Standing G) (measures : Measuring) (m n : Media) (tai t : ℕ) (found f : Verdict) (packets : List FlowPacket)

@@ -57,6 +57,14 @@ planned-more judged packets from i order within head few =
     ap (λ l. take judged.packets (drop judged.head l)) (slice-more packets from i order within)
     ∙ part-more judged.head judged.packets (slice_range packets from i) (packet packets i) (omega (arith, long, head)) (omega (arith, long, few))
 
+-- so where none of the head is left, and some of what is due
+pub planned-next : (judged : Judged) (packets : List FlowPacket) (from i ahead due : ℕ) (p : FlowPacket) → from ≤ i → i < length packets
+    → packet packets i ≡ p → ahead ≡ 0 → 0 < due → ahead ≡ judged.head - (i - from) → due ≡ judged.packets - (i - from - judged.head)
+    → planned_packets judged packets from (i + 1) ≡ planned_packets judged packets from i ++ p ∷ []
+planned-next judged packets from i ahead due p order within at none some ahead_is due_is =
+    planned-more judged packets from i order within (omega (arith, none, ahead_is)) (omega (arith, some, due_is))
+    ∙ ap (λ x. planned_packets judged packets from i ++ x ∷ []) at
+
 pub planned-behind : (judged : Judged) (packets : List FlowPacket) (from i : ℕ) → from ≤ i → i < length packets → judged.head ≤ i - from
     → judged.packets ≤ i - from - judged.head
     → planned_packets judged packets from (i + 1) ≡ planned_packets judged packets from i
@@ -96,19 +104,15 @@ pub open-fed : {G : Type 0} (stands : Standing G) (m : Media) (tai : ℕ) (packe
     → IsOpenRun stands m tai packets run from i judged old → IsOpenRun stands m tai packets run from (i + 1) judged new
 open-fed stands m tai packets run from i judged old new p order within few at none some run_same rec_same number_same judged_same ahead_same due_same takes o =
     let fed = planned_packets judged packets from i in
-    let ahead = o.ahead in
-    let due = o.due in
-    let head : judged.head ≤ i - from = omega (arith, none, ahead) in
-    let more : planned_packets judged packets from (i + 1) ≡ fed ++ p ∷ [] =
-    planned-more judged packets from i order within head (omega (arith, some, due)) ∙ ap (λ x. fed ++ x ∷ []) at in
+    let more = planned-next judged packets from i old.ahead old.due p order within at none some o.ahead o.due in
     let long = planned-few judged packets from i order (omega (arith, within)) in
     record {
       run_is = run_same ∙ o.run_is;
       rec_is = rec_same ∙ o.rec_is;
       number = number_same ∙ o.number;
       judged_is = judged_same ∙ o.judged_is;
-      ahead = omega (arith, ahead_same, none, head, order);
-      due = omega (arith, due_same, due, some, head, order);
+      ahead = omega (arith, ahead_same, none, o.ahead, order);
+      due = omega (arith, due_same, o.due, some, none, o.ahead, order);
       gauge = λ rising.
           let rises : NeverFall (stamps_of tai (fed ++ p ∷ [])) = subst (λ l. NeverFall (stamps_of tai l)) more rising in
           subst (λ l. stands new.gauge m tai judged l) (sym more) (takes fed (omega (arith, long, few)) rises (o.gauge (stamps-before tai fed p rises)));

@@ -14,7 +14,7 @@ pub mod same;
 pub mod source;
 pub mod walk;
 
-pub use again::{Again, SecondTaker};
+pub use again::{Again, FoundFlow, SecondTaker};
 pub use edges::{Edge, EdgeMeter};
 pub use first::{FirstMeter, Seen};
 pub use flow::FlowMeter;

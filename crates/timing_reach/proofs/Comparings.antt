@@ -24,6 +24,7 @@ use Rattle.timing_reach.proofs.lemmas.steps.Seeing.{rose-within}
 use Rattle.udp_rtp.specs.Flow.{flow}
 use Rattle.timing_reach.specs.skew.Added.{Adds, taken_of}
 use Rattle.timing_reach.specs.skew.Comparing.{AreCompared, ComparesNext, IsComparedIn}
+use Rattle.timing_reach.specs.skew.Paired.{packets_in}
 use Rattle.timing_reach.specs.skew.Pairs.{PairsOn, taken-none}
 use Rattle.timing_reach.specs.Skewed.{first_of, last_of}
 use Rattle.timing_reach.specs.declared.skew.compare.Compared.{Compared}
@@ -57,7 +58,7 @@ last-more files items b count within =
     ∙ ap (λ n. taken_of (n == count) b items) (sym long) ∙ ap (taken_of (length (files ++ items ∷ []) == count) b) (sym last)
 
 -- no capture was read yet
-pub compared-none : (a b : Media) (count : ℕ) (c : Comparing) → c.notes.items ≡ [] → c.pairing.first ≡ a → c.pairing.second ≡ b → StandsFor c.pairing.skew [] []
+pub compared-none : (a b : Media) (count : ℕ) (c : Comparing) → c.notes.items ≡ [] → c.pairing.first.media ≡ a → c.pairing.second.media ≡ b → StandsFor c.pairing.skew [] []
     → AreCompared [] a b count c
 compared-none a b count c none first second stands = record {
   files = [];
@@ -73,10 +74,10 @@ compared-more : (texts : List (List ℕ)) (text : List ℕ) (a b : Media) (count
     → AreCompared (texts ++ text ∷ []) a b count new
 compared-more texts text a b count old new within h next =
     let long : length h.files ≡ length old.notes.items = files-length texts h.files old.notes.items h.records in
-    let first : taken_of (length old.notes.items == 0) old.pairing.first next.items ≡ taken_of (length h.files == 0) a next.items =
-    ap (λ n. taken_of (n == 0) old.pairing.first next.items) (sym long) ∙ ap (λ (m : Media). taken_of (length h.files == 0) m next.items) h.first in
-    let second : taken_of (length old.notes.items + 1 == count) old.pairing.second next.items ≡ taken_of (length h.files + 1 == count) b next.items =
-    ap (λ n. taken_of (n + 1 == count) old.pairing.second next.items) (sym long)
+    let first : taken_of (length old.notes.items == 0) old.pairing.first.media next.items ≡ taken_of (length h.files == 0) a next.items =
+    ap (λ n. taken_of (n == 0) old.pairing.first.media next.items) (sym long) ∙ ap (λ (m : Media). taken_of (length h.files == 0) m next.items) h.first in
+    let second : taken_of (length old.notes.items + 1 == count) old.pairing.second.media next.items ≡ taken_of (length h.files + 1 == count) b next.items =
+    ap (λ n. taken_of (n + 1 == count) old.pairing.second.media next.items) (sym long)
     ∙ ap (λ (m : Media). taken_of (length h.files + 1 == count) m next.items) h.second in
     record {
       files = h.files ++ next.items ∷ [];
@@ -87,7 +88,7 @@ compared-more texts text a b count old new within h next =
       stands =
           subst (λ f. StandsFor new.pairing.skew f (taken_of (length (h.files ++ next.items ∷ []) == count) b (last_of (h.files ++ next.items ∷ []))))
           (ap (λ l. flow (first_of h.files) a ++ l) first ∙ first-more h.files next.items a)
-          (subst (StandsFor new.pairing.skew (flow (first_of h.files) a ++ taken_of (length old.notes.items == 0) old.pairing.first next.items))
+          (subst (StandsFor new.pairing.skew (flow (first_of h.files) a ++ taken_of (length old.notes.items == 0) old.pairing.first.media next.items))
           (ap (λ l. taken_of (length h.files == count) b (last_of h.files) ++ l) second ∙ last-more h.files next.items b count (omega (arith, long, within)))
           (next.adds (flow (first_of h.files) a) (taken_of (length h.files == count) b (last_of h.files)) h.stands));
     }
@@ -114,30 +115,29 @@ compared-all texts a b count c done h all notes row =
     }
 
 -- a capture's records were taken
-pub compares-next : (text : List ℕ) (count : ℕ) (old new : Comparing) (turned taken : Pairing) (read : Taken) → turned.first ≡ old.pairing.first
-    → turned.second ≡ old.pairing.second
-    → turned.takes_first ≡ (length old.notes.items == 0) → turned.takes_second ≡ (length old.notes.items + 1 == count) → turned.skew ≡ old.pairing.skew
+pub compares-next : (text : List ℕ) (count : ℕ) (old new : Comparing) (turned taken : Pairing) (read : Taken)
+    → turned.first.media ≡ old.pairing.first.media → turned.second.media ≡ old.pairing.second.media
+    → turned.first.is_here ≡ (length old.notes.items == 0) → turned.second.is_here ≡ (length old.notes.items + 1 == count) → turned.skew ≡ old.pairing.skew
     → TakesText PairsOn text 0 turned taken read → new.notes.items ≡ old.notes.items ++ read.note ∷ [] → new.pairing ≡ taken → ComparesNext text count old new
-compares-next text count old new turned taken read first second takes_first takes_second kept t notes is =
+compares-next text count old new turned taken read first second first_here second_here kept t notes is =
     let items = t.items in
     let fed = fed-alone PairsOn text turned taken read t in
-    let one : taken_of turned.takes_first turned.first items ≡ taken_of (length old.notes.items == 0) old.pairing.first items =
-    ap (λ b. taken_of b turned.first items) takes_first ∙ ap (λ (m : Media). taken_of (length old.notes.items == 0) m items) first in
-    let two : taken_of turned.takes_second turned.second items ≡ taken_of (length old.notes.items + 1 == count) old.pairing.second items =
-    ap (λ b. taken_of b turned.second items) takes_second ∙ ap (λ (m : Media). taken_of (length old.notes.items + 1 == count) m items) second in
+    let one : packets_in turned.first items ≡ taken_of (length old.notes.items == 0) old.pairing.first.media items =
+    ap (λ b. taken_of b turned.first.media items) first_here ∙ ap (λ (m : Media). taken_of (length old.notes.items == 0) m items) first in
+    let two : packets_in turned.second items ≡ taken_of (length old.notes.items + 1 == count) old.pairing.second.media items =
+    ap (λ b. taken_of b turned.second.media items) second_here ∙ ap (λ (m : Media). taken_of (length old.notes.items + 1 == count) m items) second in
     record {
       items = items;
       note = read.note;
       records = t.records;
       notes = notes;
-      first = ap (λ (p : Pairing). p.first) is ∙ fed.same.first ∙ first;
-      second = ap (λ (p : Pairing). p.second) is ∙ fed.same.second ∙ second;
+      first = ap (λ (p : Pairing). p.first.media) is ∙ fed.first.media ∙ first;
+      second = ap (λ (p : Pairing). p.second.media) is ∙ fed.second.media ∙ second;
       adds =
-          let last = taken_of (length old.notes.items + 1 == count) old.pairing.second items in
-          subst (λ (s : Skew). Adds s new.pairing.skew (taken_of (length old.notes.items == 0) old.pairing.first items) last) kept
-          (subst (λ (p : Pairing). Adds turned.skew p.skew (taken_of (length old.notes.items == 0) old.pairing.first items) last) (sym is)
-          (subst (λ f. Adds turned.skew taken.skew f last) one (subst (Adds turned.skew taken.skew (taken_of turned.takes_first turned.first items)) two
-          fed.adds)));
+          let last = taken_of (length old.notes.items + 1 == count) old.pairing.second.media items in
+          subst (λ (s : Skew). Adds s new.pairing.skew (taken_of (length old.notes.items == 0) old.pairing.first.media items) last) kept
+          (subst (λ (p : Pairing). Adds turned.skew p.skew (taken_of (length old.notes.items == 0) old.pairing.first.media items) last) (sym is)
+          (subst (λ f. Adds turned.skew taken.skew f last) one (subst (Adds turned.skew taken.skew (packets_in turned.first items)) two fed.adds)));
     }
 
 -- what holds whatever the value is

@@ -36,19 +36,28 @@ last-more before [] p = refl
 last-more before (q ∷ packets) p = last-more (if (read_or_zeros q.rtp).marker then q.at else before) packets p
 
 -- a packet of the flow was passed to the judge
-pub judges-packet : {T E : Type 0} (result : Result T E) (old new : Judging) (p : FlowPacket) (frame : List ℕ)
+pub judges-one : (old new : Judging) (p : FlowPacket) (frame : List ℕ)
     → ((packets : List FlowPacket) → IsOpening packets old.opening → IsOpening (packets ++ p ∷ []) new.opening)
     → new.last ≡ last_marked old.last (p ∷ [])
     → ((m : Media) (key : FlowKey) (tai : ℕ) (packets : List FlowPacket) → StandsFor m key tai old.judge packets
-    → OnOk result (StandsFor m key tai new.judge (packets ++ p ∷ [])))
-    → IfOk result (λ _. (m : Media) (r : Record) → flow_packet m r ≡ Some p → r.bytes ≡ frame → JudgesOn m old new (r ∷ []))
-judges-packet (Ok x) old new p frame opens ends feeds = λ m r is carried key tai packets h.
+    → StandsFor m key tai new.judge (packets ++ p ∷ []))
+    → (m : Media) (r : Record) → flow_packet m r ≡ Some p → r.bytes ≡ frame → JudgesOn m old new (r ∷ [])
+judges-one old new p frame opens ends feeds = λ m r is carried key tai packets h.
     one-packet (IsJudging m key tai new) packets (Some p) (flow_packet m r) is
     (record {
       judge = feeds m key tai packets h.judge;
       opening = opens packets h.opening;
       last = ends ∙ ap (λ n. last_marked n (p ∷ [])) h.last ∙ sym (last-more 0 packets p);
     })
+
+-- and was, where memory was there
+pub judges-packet : {T E : Type 0} (result : Result T E) (old new : Judging) (p : FlowPacket) (frame : List ℕ)
+    → ((packets : List FlowPacket) → IsOpening packets old.opening → IsOpening (packets ++ p ∷ []) new.opening)
+    → new.last ≡ last_marked old.last (p ∷ [])
+    → ((m : Media) (key : FlowKey) (tai : ℕ) (packets : List FlowPacket) → StandsFor m key tai old.judge packets
+    → OnOk result (StandsFor m key tai new.judge (packets ++ p ∷ [])))
+    → IfOk result (λ _. (m : Media) (r : Record) → flow_packet m r ≡ Some p → r.bytes ≡ frame → JudgesOn m old new (r ∷ []))
+judges-packet (Ok x) old new p frame opens ends feeds = judges-one old new p frame opens ends feeds
 judges-packet (Err e) old new p frame opens ends feeds = tt
 
 -- the flow in a text was passed

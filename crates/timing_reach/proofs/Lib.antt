@@ -1,5 +1,6 @@
 pub mod Takings
 mod Openings
+mod Feedings
 pub mod Gauges
 pub mod Packets
 mod Judgings

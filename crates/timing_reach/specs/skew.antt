@@ -1,3 +1,4 @@
 pub mod Added
+pub mod Paired
 pub mod Pairs
 pub mod Comparing

@@ -3,6 +3,7 @@
 //! reading comes to is held against the first.
 
 pub mod captures;
+pub mod feeding;
 pub mod flows;
 mod judging;
 mod judgment;
@@ -13,6 +14,6 @@ mod second;
 mod twice;
 pub mod words;
 
-pub use look::Look;
+pub use look::{Look, SeenRun};
 pub use media::find_media;
-pub use twice::answer_twice;
+pub(crate) use twice::answer_twice;

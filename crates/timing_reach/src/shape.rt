@@ -14,7 +14,7 @@ ghost use Rattle.timing_reach.specs.steps.Ran.{HasCause, Ran, output_of};
 ghost use Rattle.timing_reach.specs.Asked.{FlowInputRose};
 ghost use Rattle.timing_reach.specs.Shaped.{FollowsShape};
 
-use crate::judged::{Look, answer_twice, find_media};
+use crate::judged::{Look, SeenRun, answer_twice, find_media};
 use crate::shape::leaver::Leaver;
 use crate::shape::shaping::Shaping;
 use crate::steps::{Answer, Failure, conclude};
@@ -44,15 +44,8 @@ impl Look for ShapeLook {
     ghost fresh = { λ look tai m judged first shaping.
         IsShaping (part_of m look.kind tai first judged) look.list shaping [] [] };
 
-    fn begin(
-        &self,
-        alloc: Global,
-        tai: u64,
-        media: &Media,
-        judged: &Judged,
-        first: u64,
-    ) -> Result<Shaping, OutOfMemory> {
-        let leaver = Leaver::new(media, judged, self.kind, first, tai);
+    fn begin(&self, alloc: Global, media: &Media, run: &SeenRun) -> Result<Shaping, OutOfMemory> {
+        let leaver = Leaver::new(media, &run.judged, self.kind, run.first, run.tai);
         Shaping::new(alloc, leaver, self.list)
     }
 

@@ -1,6 +1,7 @@
 //! `skew`: how far two flows with the same packets lie apart.
 
 mod compare;
+mod paired;
 mod pairing;
 mod words;
 

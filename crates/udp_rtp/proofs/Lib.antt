@@ -1,3 +1,4 @@
+pub mod Awaiting
 pub mod Flows
 mod Parts
 pub mod PlainFrames

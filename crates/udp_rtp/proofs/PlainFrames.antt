@@ -37,21 +37,21 @@ pub record IsCarried (target : Target) (p : Rtp) (frame : List ℕ) : Type 0 whe
   pub ssrc : number32 frame 50 ≡ p.ssrc
 
 -- the parts of a test with several
-and4 : (a b c d : Bool) → (a && b && c && d) ≡ true → (a ≡ true) × (b ≡ true) × (c ≡ true) × (d ≡ true)
+pub and4 : (a b c d : Bool) → (a && b && c && d) ≡ true → (a ≡ true) × (b ≡ true) × (c ≡ true) × (d ≡ true)
 and4 a b c d h =
     let (abc, w) = and_parts (a && b && c) d h in
     let (ab, z) = and_parts (a && b) c abc in
     let (x, y) = and_parts a b ab in
     (x, y, z, w)
 
-and5 : (a b c d e : Bool) → (a && b && c && d && e) ≡ true
+pub and5 : (a b c d e : Bool) → (a && b && c && d && e) ≡ true
     → (a ≡ true) × (b ≡ true) × (c ≡ true) × (d ≡ true) × (e ≡ true)
 and5 a b c d e h =
     let (abcd, v) = and_parts (a && b && c && d) e h in
     let (x, y, z, w) = and4 a b c d abcd in
     (x, y, z, w, v)
 
-and6 : (a b c d e f : Bool) → (a && b && c && d && e && f) ≡ true
+pub and6 : (a b c d e f : Bool) → (a && b && c && d && e && f) ≡ true
     → (a ≡ true) × (b ≡ true) × (c ≡ true) × (d ≡ true) × (e ≡ true) × (f ≡ true)
 and6 a b c d e f h =
     let (five, u) = and_parts (a && b && c && d && e) f h in

@@ -1,4 +1,5 @@
 -- what is promised
+pub mod Awaited
 pub mod Carried
 pub mod Flow
 pub mod Frames

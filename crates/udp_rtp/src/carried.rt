@@ -1,10 +1,10 @@
 //! Frames that carry a packet that is known beforehand.
 
-ghost use Rattle.std.specs.Prelude.{◌≡◌, ◌≤◌, ◌+◌, ◌*◌, ◌%◌, ◌^◌, ◌==◌, ◌&&◌, nat_le, drop, length, slice_index};
-ghost use Rattle.byteorder.specs.Endian.{big_number};
-ghost use Rattle.udp_rtp.specs.Carried.{carries, goes_to, has_fields, is_plain_rtp, is_plain_udp, number};
+ghost use Rattle.std.specs.Prelude.{◌≡◌, ◌≤◌, ◌%◌, ◌^◌, ◌==◌, ◌&&◌, nat_le, length, slice_index};
+ghost use Rattle.udp_rtp.specs.Carried.{carries, is_plain_udp};
 ghost use Rattle.udp_rtp.specs.Numbers.{number16, number32};
 
+use crate::awaited::Awaited;
 use byteorder::{BigEndian, ByteOrder};
 use timing_base::{Rtp, Target};
 
@@ -30,91 +30,20 @@ fn is_whole_udp(frame: &[u8]) -> bool
 
 /// Whether a UDP datagram over IPv4 stands in the frame with no tag, options or fragments.
 #[inline(always)]
-fn is_plain_udp(frame: &[u8]) -> bool
+pub(crate) fn is_plain_udp(frame: &[u8]) -> bool
     requires { 56 ≤ length frame.now }
     ensures { result ≡ is_plain_udp frame.now }
 {
     BigEndian::read_u16(&frame[12..]) == 0x0800 && frame[14] == 0x45 && is_whole_udp(frame)
 }
 
-/// Whether the datagram of the frame goes to the target.
-#[inline(always)]
-fn goes_to(frame: &[u8], target: Target) -> bool
-    requires { 56 ≤ length frame.now }
-    ensures { result ≡ goes_to target frame.now }
-{
-    BigEndian::read_u32(&frame[30..]) == target.address
-        && BigEndian::read_u16(&frame[36..]) == target.port
-}
-
 /// Whether the UDP length counts 22 bytes at least: of most packets its high byte says so.
 #[inline(always)]
-fn is_long_udp(frame: &[u8]) -> bool
+pub(crate) fn is_long_udp(frame: &[u8]) -> bool
     requires { 56 ≤ length frame.now }
     ensures { result ≡ nat_le 22 (number16 frame.now 38) }
 {
     frame[38] != 0 || frame[39] >= 22
-}
-
-/// Whether the payload is long enough, and RTP of version 2 with nothing before the extended sequence
-/// number but its fixed header.
-#[inline(always)]
-fn is_plain_rtp(frame: &[u8]) -> bool
-    requires { 56 ≤ length frame.now }
-    ensures { result ≡ is_plain_rtp frame.now }
-{
-    is_long_udp(frame) && frame[42] == 0x80
-}
-
-/// The packet number in the frame.
-#[inline(always)]
-fn number(frame: &[u8]) -> u32
-    requires { 56 ≤ length frame.now }
-    ensures { result ≡ number frame.now }
-{
-    let high = BigEndian::read_u16(&frame[54..]);
-    let low = BigEndian::read_u16(&frame[44..]);
-    u32::from(high) * 65_536 + u32::from(low)
-}
-
-/// The timestamp in the frame and the source behind it, as one number.
-#[inline(always)]
-fn timestamp_and_source(frame: &[u8]) -> u64
-    requires { 56 ≤ length frame.now }
-    ensures { result ≡ big_number 8 (drop 46 frame.now) }
-{
-    BigEndian::read_u64(&frame[46..])
-}
-
-/// The timestamp of the packet and its source, as one number.
-#[inline(always)]
-fn stream(rtp: Rtp) -> u64
-    ensures { result ≡ rtp.timestamp * 2 ^ 32 + rtp.ssrc }
-{
-    u64::from(rtp.timestamp) * 0x1_0000_0000 + u64::from(rtp.ssrc)
-}
-
-/// Whether timestamp and source in the frame are those of the packet: one comparison serves for both, and where the
-/// caller keeps the two side by side, they are read as one number.
-#[inline(always)]
-fn is_of_stream(frame: &[u8], rtp: Rtp) -> bool
-    requires { 56 ≤ length frame.now }
-    ensures { result ≡ ((number32 frame.now 46 == rtp.timestamp) && (number32 frame.now 50 == rtp.ssrc)) }
-{
-    timestamp_and_source(frame) == stream(rtp)
-}
-
-/// Whether the fields of RTP in the frame are those of the packet.
-#[inline(always)]
-fn has_fields(frame: &[u8], rtp: Rtp) -> bool
-    requires { 56 ≤ length frame.now }
-    ensures { result ≡ has_fields rtp frame.now }
-{
-    !rtp.marker
-        && rtp.pt < 128
-        && frame[43] == rtp.pt
-        && number(frame) == rtp.number
-        && is_of_stream(frame, rtp)
 }
 
 /// Whether a frame carries this packet, which has no marker, to this target, and is laid out as most
@@ -126,9 +55,5 @@ fn has_fields(frame: &[u8], rtp: Rtp) -> bool
 pub fn carries(frame: &[u8], target: Target, rtp: Rtp) -> bool
     ensures { result ≡ carries target rtp frame.now }
 {
-    frame.len() >= 56
-        && is_plain_udp(frame)
-        && goes_to(frame, target)
-        && is_plain_rtp(frame)
-        && has_fields(frame, rtp)
+    Awaited::of(target, Some(rtp)).is_in(frame)
 }

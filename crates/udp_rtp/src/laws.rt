@@ -9,6 +9,8 @@ ghost use Rattle.timing_base.specs.declared.packet.FlowPacket.{FlowPacket};
 ghost use Rattle.timing_base.specs.declared.packet.PacketFault.TheVariants.{Short, Version};
 ghost use Rattle.timing_base.specs.declared.packet.Rtp.{Rtp};
 ghost use Rattle.timing_base.specs.declared.target.Target.{Target};
+ghost use Rattle.udp_rtp.specs.Awaited.{awaited, awaited_after, awaited_of};
+ghost use Rattle.udp_rtp.specs.declared.awaited.Awaited.{Awaited};
 ghost use Rattle.udp_rtp.specs.Carried.{carries};
 ghost use Rattle.udp_rtp.specs.Numbers.{number16};
 ghost use Rattle.udp_rtp.specs.Frames.{datagram_of, payload_at};
@@ -237,4 +239,30 @@ pub fn carried_by_hand()
     ensures ssrc { carries group
         (record { number = 65544; timestamp = 1800; marker = false; pt = 96; ssrc = 2 })
         (frame_of plain_ip) ≡ false }
+{}
+
+/// Packets that are awaited, worked by hand.
+pub fn awaited_by_hand()
+    // 239.0.0.1 and port 50000; version 2, payload type 96, number 65,544 (0x1_0008), timestamp 1800 (0x708) and
+    // source 1.
+    ensures numbers { (a : Awaited) → a.destination ≡ 0xef0000010000c350 → a.head ≡ 0x80600008 → a.timestamp ≡ 0x708
+        → a.rest ≡ 0x0708000000010001 → awaited a ≡ Some (group, plain_packet) }
+    ensures nothing { (a : Awaited) → a.destination ≡ 0xef0000010001c350 → awaited a ≡ None }
+
+    // A packet without the marker, with it, and with a payload type of 8 bits.
+    ensures unmarked { awaited_of group (Some plain_packet) ≡ Some (group, plain_packet) }
+    ensures marked { awaited_of group
+        (Some (record { number = 65544; timestamp = 1800; marker = true; pt = 96; ssrc = 1 })) ≡ None }
+    ensures no_type { awaited_of group
+        (Some (record { number = 65544; timestamp = 1800; marker = false; pt = 128; ssrc = 1 })) ≡ None }
+
+    // The next number; none after one whose low half is the greatest.
+    ensures next { awaited_after (Some (group, plain_packet)) ≡ Some (
+      group,
+      record { number = 65545; timestamp = 1800; marker = false; pt = 96; ssrc = 1 },
+    ) }
+    ensures last_half { awaited_after (Some (
+      group,
+      record { number = 131071; timestamp = 1800; marker = false; pt = 96; ssrc = 1 },
+    )) ≡ None }
 {}

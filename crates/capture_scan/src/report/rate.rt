@@ -111,7 +111,7 @@ impl FrameRate {
     }
 
     /// Whether the least step is that of this rate, in ticks rounded down or up.
-    pub fn has_steps(self, fields: bool, step: Range) -> bool
+    pub(crate) fn has_steps(self, fields: bool, step: Range) -> bool
         ensures { result ≡ has_steps_of fields step self }
     {
         let eighths = u64::from(self.eighths);

@@ -21,6 +21,27 @@ pub fn header(frames: bool) -> &'static str
     }
 }
 
+/// Rows that were made, as lines.
+#[derive(Debug, Drop)]
+pub struct Rows {
+    /// The lines.
+    pub text: Vec<u8>,
+    /// In its memory the next row is written.
+    row: RowText,
+}
+
+impl Rows {
+    /// No row yet, behind this text.
+    pub fn new(text: Vec<u8>) -> Rows
+        ensures { result.text ≡ text }
+    {
+        Rows {
+            text,
+            row: RowText::new(),
+        }
+    }
+}
+
 /// The rows of one judged run, of its packets or of its groups.
 #[derive(Clone, Copy, Debug, PartialEq, Eq)]
 pub enum RunRows {
@@ -55,25 +76,20 @@ impl RunRows {
         }
     }
 
-    /// Takes the next judged packet: its record, when it came, in nanoseconds of TAI, and its RTP timestamp. The row that is
-    /// made of it, where one is, is put behind `text`. What it says is so where no stamp is below the one before.
+    /// Takes the next judged packet: its record, when it came, in nanoseconds of TAI, and its RTP timestamp. The row
+    /// that is made of it, where one is, is put behind those of `to`. What it says is so where no stamp is below the
+    /// one before.
     #[inline(always)]
-    pub fn put(
-        &mut self,
-        rec: u64,
-        at: u64,
-        timestamp: u32,
-        row: &mut RowText,
-        text: &mut Vec<u8>,
-    ) -> Result<(), OutOfMemory>
+    pub fn put(&mut self, rec: u64, at: u64, ticks: u32, to: &mut Rows) -> Result<(), OutOfMemory>
         requires in_time { at < 2 ^ 62 }
         requires few { seen_of self.old < 2 ^ 41 }
         ensures seen { seen_of self.new ≡ seen_of self.old + 1 }
-        ensures puts { IfOk result (λ _. PutsRow self.old self.new rec at timestamp text.old.items text.new.items) }
+        ensures puts { IfOk result
+            (λ _. PutsRow self.old self.new rec at ticks to.old.text.items to.new.text.items) }
     {
         match self {
-            RunRows::Packets(packets) => put_packet(packets, rec, at, row, text),
-            RunRows::Groups(groups) => put_group(groups, rec, at, timestamp, row, text),
+            RunRows::Packets(packets) => put_packet(packets, rec, at, to),
+            RunRows::Groups(groups) => put_group(groups, rec, at, ticks, to),
         }
     }
 }
@@ -81,44 +97,37 @@ impl RunRows {
 ghost use Rattle.flow_measure.specs.rows.making.Stands.{PutsRow};
 ghost use Rattle.flow_measure.specs.declared.rows.rows.RunRows.TheVariants as run_rows;
 
-/// Takes the next judged packet, and puts its row behind `text`. It isn't in line, nor is
+/// Takes the next judged packet, and puts its row behind those of `to`. It isn't in line, nor is
 /// `put_group`: so each clears the memory of its own row alone.
 #[inline(never)]
-fn put_packet(
-    packets: &mut PacketRows,
-    rec: u64,
-    at: u64,
-    row: &mut RowText,
-    text: &mut Vec<u8>,
-) -> Result<(), OutOfMemory>
+fn put_packet(packets: &mut PacketRows, rec: u64, at: u64, to: &mut Rows) -> Result<(), OutOfMemory>
     requires in_time { at < 2 ^ 62 }
     requires few { packets.old.levels.seen < 2 ^ 41 }
     ensures seen { packets.new.levels.seen ≡ packets.old.levels.seen + 1 }
     ensures puts { (timestamp : ℕ) → IfOk result (λ _. PutsRow (run_rows.Packets packets.old)
-        (run_rows.Packets packets.new) rec at timestamp text.old.items text.new.items) }
+        (run_rows.Packets packets.new) rec at timestamp to.old.text.items to.new.text.items) }
 {
     let made = packets.feed(rec, at);
-    text.extend_from_slice(row.of_packet(&made))
+    to.text.extend_from_slice(to.row.of_packet(&made))
 }
 
-/// Takes the next judged packet, and puts the row of its group behind `text` where it is the last of it.
+/// Takes the next judged packet, and puts the row of its group behind those of `to` where it is the last of it.
 #[inline(never)]
 fn put_group(
     groups: &mut GroupRows,
     rec: u64,
     at: u64,
     timestamp: u32,
-    row: &mut RowText,
-    text: &mut Vec<u8>,
+    to: &mut Rows,
 ) -> Result<(), OutOfMemory>
     requires in_time { at < 2 ^ 62 }
     requires few { groups.old.levels.seen < 2 ^ 41 }
     ensures seen { groups.new.levels.seen ≡ groups.old.levels.seen + 1 }
     ensures puts { IfOk result (λ _. PutsRow (run_rows.Groups groups.old) (run_rows.Groups groups.new)
-        rec at timestamp text.old.items text.new.items) }
+        rec at timestamp to.old.text.items to.new.text.items) }
 {
     match groups.feed(rec, at, timestamp) {
-        Some(made) => text.extend_from_slice(row.of_group(&made)),
+        Some(made) => to.text.extend_from_slice(to.row.of_group(&made)),
         None => Ok(()),
     }
 }

@@ -1,5 +1,6 @@
 pub mod Rowing
 pub mod Metering
+pub mod Taking
 pub mod Copying
 pub mod Capturing
 pub mod Fronting

@@ -1,5 +1,5 @@
 -- What a reading judges of a flow, and whether two readings find the same.
-use Rattle.std.specs.Prelude.{◌≡◌, ◌≤◌, ◌+◌, ◌^◌, ℕ, List}
+use Rattle.std.specs.Prelude.{◌≡◌, ◌≤◌, ◌+◌, ◌^◌, ◌++◌, ◌∷◌, [], ℕ, List}
 use Rattle.std.proofs.Common.{arith}
 use Rattle.timing_base.specs.Judged.{judged}
 use Rattle.timing_base.specs.Keys.{key_of}
@@ -28,6 +28,11 @@ room_less few many x less room = record {
 pub record StandsFor (m : Media) (number tai : ℕ) (x : Judging) (packets : List FlowPacket) : Type 0 where
   pub judge_is : JudgeStandsFor m (key_of 0 number) tai x.judge packets
   pub edges_are : EdgesStandFor x.edges packets
+
+-- whatever packets were judged, this one was then judged, too
+abbrev pub JudgesOn : (old new : Judging) → FlowPacket → Type 0
+JudgesOn old new p = (m : Media) (number tai : ℕ) (packets : List FlowPacket) → StandsFor m number tai old packets
+    → StandsFor m number tai new (packets ++ p ∷ [])
 
 -- what is found of these packets
 pub record IsFound (m : Media) (tai : ℕ) (packets : List FlowPacket) (f : Findings) : Type 0 where

@@ -54,7 +54,7 @@ FindsElse before x = (frames : Bool) (m : Media) (number tai : ℕ) (found : Ver
 pub record IsNewFlow (frames : Bool) (m : Media) (number tai : ℕ) (found : Verdict) (f : FlowOf SeriesMeter)
     : Type 0 where
   pub media_is : f.media ≡ m
-  pub text_is : f.taker.text.items ≡ header_text frames
+  pub text_is : f.taker.rows.text.items ≡ header_text frames
   pub stands : StandsFor frames m number tai found f.taker.flow [] []
 
 -- the answer on the flow of this media in some records, whatever the shelf tells

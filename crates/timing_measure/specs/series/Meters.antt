@@ -110,11 +110,14 @@ pub record Keeps (old new : FlowRows) : Type 0 where
   pub found_is : new.found ≡ old.found
   pub walk_is : new.walk ≡ old.walk
 
--- a packet was fed, and what is printed at it stands behind a text
-pub record Goes (old new : FlowRows) (p : FlowPacket) (before after : List ℕ) : Type 0 where
+-- a packet that was judged was passed, and what is printed at it stands behind a text
+pub record Passes (old new : FlowRows) (p : FlowPacket) (before after : List ℕ) : Type 0 where
+  pub judging_is : new.judging ≡ old.judging
+  pub tai_is : new.tai ≡ old.tai
+  pub count : new.walk.packets ≡ old.walk.packets + 1
   pub here : List ℕ
   pub text_is : after ≡ before ++ here
-  pub stands : (frames : Bool) (m : Media) (number tai : ℕ) (found : Verdict) (rows : List ℕ)
-      (packets : List FlowPacket)
-      → StandsFor frames m number tai found old rows packets
-      → StandsFor frames m number tai found new (rows ++ here) (packets ++ p ∷ [])
+  pub at : (frames : Bool) (m : Media) (tai : ℕ) (found : Verdict) (rows : List ℕ) (packets : List FlowPacket)
+      → ((rest : List FlowPacket) → IsAt frames m tai found old (packets ++ rest) (length packets) rows)
+      → (rest : List FlowPacket)
+      → IsAt frames m tai found new ((packets ++ p ∷ []) ++ rest) (length (packets ++ p ∷ [])) (rows ++ here)

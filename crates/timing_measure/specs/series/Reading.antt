@@ -64,22 +64,22 @@ feeds_more m x y z here more a b first second frames number tai found rows packe
 -- the flow of these records was fed, and what is printed at its packets stands behind what isn't written yet
 pub record TakesOn (m : Media) (old new : SeriesMeter) (items : List Record) : Type 0 where
   pub here : List ℕ
-  pub text_is : new.text.items ≡ old.text.items ++ here
+  pub text_is : new.rows.text.items ≡ old.rows.text.items ++ here
   pub feeds : FeedsOn m old.flow new.flow here items
 
 pub takes_none : (m : Media) (x : SeriesMeter) → TakesOn m x x []
-takes_none m x = record { here = []; text_is = sym (append-nil x.text.items); feeds = feeds_none m x.flow }
+takes_none m x = record { here = []; text_is = sym (append-nil x.rows.text.items); feeds = feeds_none m x.flow }
 
 pub takes_other : (m : Media) (x : SeriesMeter) (r : Record) → flow_packet m r ≡ None → TakesOn m x x (r ∷ [])
 takes_other m x r is =
-    record { here = []; text_is = sym (append-nil x.text.items); feeds = feeds_other m x.flow r is }
+    record { here = []; text_is = sym (append-nil x.rows.text.items); feeds = feeds_other m x.flow r is }
 
 pub takes_more : (m : Media) (x y z : SeriesMeter) (a b : List Record) → TakesOn m x y a → TakesOn m y z b
     → TakesOn m x z (a ++ b)
 takes_more m x y z a b first second = record {
   here = first.here ++ second.here;
   text_is = second.text_is ∙ ap (λ l. l ++ second.here) first.text_is
-      ∙ append_assoc x.text.items first.here second.here;
+      ∙ append_assoc x.rows.text.items first.here second.here;
   feeds = feeds_more m x.flow y.flow z.flow first.here second.here a b first.feeds second.feeds;
 }
 
@@ -90,7 +90,7 @@ pub record Copies (o : Output) (old new : FlowOf SeriesMeter) (items : List Reco
   pub here : List ℕ
   pub written : List ℕ
   pub appended : Appends o.old o.new written
-  pub text_is : old.taker.text.items ++ here ≡ written ++ new.taker.text.items
+  pub text_is : old.taker.rows.text.items ++ here ≡ written ++ new.taker.rows.text.items
   pub feeds : FeedsOn old.media old.taker.flow new.taker.flow here items
 
 -- of some records
@@ -120,7 +120,7 @@ pub record Stopped (o : Output) (old : FlowOf SeriesMeter) (items : List Record)
   pub whole : items ≡ taken ++ rest
   pub here : List ℕ
   pub count : ℕ
-  pub appended : Appends o.old o.new (take count (old.taker.text.items ++ here))
+  pub appended : Appends o.old o.new (take count (old.taker.rows.text.items ++ here))
   pub stood : FlowRows
   pub feeds : FeedsOn old.media old.taker.flow stood here taken
 

@@ -8,6 +8,7 @@ ghost use Rattle.timing_base.specs.Media.{Media as MediaValue};
 ghost use Rattle.timing_base.specs.declared.packet.FlowPacket.{FlowPacket as PacketValue};
 ghost use Rattle.timing_base.specs.declared.row.Verdict.{Verdict as VerdictValue};
 ghost use Rattle.fail_interval.specs.Row.{verdict_of};
+ghost use Rattle.fail_interval.specs.Taken.{IsExpected};
 ghost use Rattle.timing_measure.specs.Measured.{judged_parts};
 ghost use Rattle.timing_measure.specs.metering.Firsts.{IsFirst};
 
@@ -17,8 +18,20 @@ use crate::metering::judging::Judging;
 use crate::metering::same::is_again;
 use flow_measure::MeasuredFlow;
 use std::alloc::{AllocError as OutOfMemory, Global};
-use timing_base::{FlowPacket, Items, Media, Verdict};
+use timing_base::{FlowPacket, Items, Media, Rtp, Verdict};
 use timing_reach::judged::flows::FlowTaker;
+
+/// The flow of a media, as a first reading found it.
+#[derive(Drop)]
+pub struct FoundFlow {
+    pub media: Media,
+    /// The number of the media, counted from 0.
+    pub number: u32,
+    /// The seconds that are added to the stamps.
+    pub tai: u64,
+    /// What the first reading found.
+    pub found: Verdict,
+}
 
 /// What takes the packets of a flow that was judged before, one by one and in order.
 pub trait SecondTaker {
@@ -36,17 +49,11 @@ pub trait SecondTaker {
     /// What it comes to on these packets of the flow of the media of this number.
     ghost ends: { (m : MediaValue) → (number tai : ℕ) → (packets : List PacketValue) → Self.End → Type 0 };
 
-    /// Before the first packet of the flow of a media, of which a first reading found this. `Err` is want of memory.
-    fn begin(
-        alloc: Global,
-        media: &Media,
-        number: u32,
-        tai: u64,
-        found: Verdict,
-    ) -> Result<Self, OutOfMemory>
-        requires { tai ≤ 1000 }
+    /// Before the first packet of a flow. `Err` is want of memory.
+    fn begin(alloc: Global, flow: FoundFlow) -> Result<Self, OutOfMemory>
+        requires { flow.tai ≤ 1000 }
         ensures room { IfOk result (room (2 ^ 41)) }
-        ensures stands { IfOk result (λ x. stands x media.now number tai found []) };
+        ensures stands { IfOk result (λ x. stands x flow.media flow.number flow.tai flow.found []) };
 
     /// Takes the next packet of the flow. `Err` is want of memory: what it came to isn't known from then on.
     fn take(&mut self, packet: &FlowPacket) -> Result<(), OutOfMemory>
@@ -113,7 +120,13 @@ impl<T: SecondTaker + Drop> Again<T> {
     {
         let found = first.flow.verdict.try_copy(alloc)?;
         let before = copy_edges(alloc, first.edges.as_slice())?;
-        let taker = T::begin(alloc, media, number, tai, found)?;
+        let flow = FoundFlow {
+            media: *media,
+            number,
+            tai,
+            found,
+        };
+        let taker = T::begin(alloc, flow)?;
         Ok(Again {
             judging: Judging::new(alloc, media, number, tai),
             before,
@@ -149,6 +162,8 @@ impl<T: SecondTaker + Drop> FlowTaker for Again<T> {
 
     ghost room = { λ count x. HasRoom T.room count x };
 
+    ghost expects = { λ p x. IsExpected x.judging.judge p };
+
     ghost none = { λ m x. takes_none T.stands m x };
 
     ghost other = { λ m x r is. takes_other T.stands m x r is };
@@ -158,8 +173,19 @@ impl<T: SecondTaker + Drop> FlowTaker for Again<T> {
     ghost less = { λ few many x le room. room_less T.room T.less few many x le room };
 
     #[inline(always)]
+    fn expected(&self) -> Option<Rtp> {
+        self.judging.expected()
+    }
+
+    #[inline(always)]
     fn take(&mut self, packet: &FlowPacket, _frame: &[u8]) -> Result<(), OutOfMemory> {
         self.judging.feed(packet)?;
+        self.taker.take(packet)
+    }
+
+    #[inline(always)]
+    fn take_expected(&mut self, packet: &FlowPacket, _frame: &[u8]) -> Result<(), OutOfMemory> {
+        self.judging.feed_expected(packet)?;
         self.taker.take(packet)
     }
 }

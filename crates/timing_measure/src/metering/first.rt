@@ -3,13 +3,14 @@
 ghost use Rattle.std.specs.Prelude.{◌≡◌, ◌≤◌, ◌^◌, [], ℕ, List, IfOk};
 ghost use Rattle.timing_base.specs.Media.{Media as MediaValue};
 ghost use Rattle.timing_base.specs.declared.packet.FlowPacket.{FlowPacket as PacketValue};
+ghost use Rattle.fail_interval.specs.Taken.{IsExpected};
 
 use crate::metering::edges::Edge;
 use crate::metering::judging::{Findings, Judging};
 use crate::metering::source::source_with;
 use flow_measure::MeasuredFlow;
 use std::alloc::{AllocError as OutOfMemory, Global};
-use timing_base::{FlowPacket, Items, Media};
+use timing_base::{FlowPacket, Items, Media, Rtp};
 use timing_reach::judged::flows::FlowTaker;
 
 /// What is told of any flow, judged or not.
@@ -78,6 +79,8 @@ impl FlowTaker for FirstMeter {
 
     ghost room = { HasRoom };
 
+    ghost expects = { λ p x. IsExpected x.judging.judge p };
+
     ghost none = { takes_none };
 
     ghost other = { takes_other };
@@ -87,8 +90,19 @@ impl FlowTaker for FirstMeter {
     ghost less = { room_less };
 
     #[inline(always)]
+    fn expected(&self) -> Option<Rtp> {
+        self.judging.expected()
+    }
+
+    #[inline(always)]
     fn take(&mut self, packet: &FlowPacket, _frame: &[u8]) -> Result<(), OutOfMemory> {
         self.source = source_with(self.source, packet);
         self.judging.feed(packet)
+    }
+
+    #[inline(always)]
+    fn take_expected(&mut self, packet: &FlowPacket, _frame: &[u8]) -> Result<(), OutOfMemory> {
+        self.source = source_with(self.source, packet);
+        self.judging.feed_expected(packet)
     }
 }

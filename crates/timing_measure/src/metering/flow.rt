@@ -7,7 +7,7 @@ ghost use Rattle.timing_base.specs.Verdicts.{Judged as JudgedValue};
 ghost use Rattle.timing_base.specs.Media.{Media as MediaValue};
 ghost use Rattle.timing_base.specs.declared.packet.FlowPacket.{FlowPacket as PacketValue};
 
-use crate::metering::again::SecondTaker;
+use crate::metering::again::{FoundFlow, SecondTaker};
 use crate::metering::gauge::RunGauge;
 use crate::metering::open::OpenRun;
 use crate::metering::plan::planned_at;
@@ -82,15 +82,15 @@ impl<G: RunGauge + Drop> SecondTaker for FlowMeter<G> {
 
     ghost ends = { λ m number tai packets flow. IsMeasuredFlow G.measures m number tai packets flow };
 
-    fn begin(
-        alloc: Global,
-        media: &Media,
-        number: u32,
-        tai: u64,
-        found: Verdict,
-    ) -> Result<Self, OutOfMemory> {
+    fn begin(alloc: Global, flow: FoundFlow) -> Result<Self, OutOfMemory> {
+        let FoundFlow {
+            media,
+            number,
+            tai,
+            found,
+        } = flow;
         Ok(FlowMeter {
-            media: *media,
+            media,
             number,
             tai,
             found,

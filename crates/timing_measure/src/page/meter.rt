@@ -2,13 +2,13 @@
 
 ghost use Rattle.std.specs.Prelude.{◌≡◌, ◌+◌, All, IfOk, IfSome, None};
 
-use crate::metering::{FlowMeter, SecondTaker};
+use crate::metering::{FlowMeter, FoundFlow, SecondTaker};
 use crate::page::longest::longest_of;
 use crate::page::shown::{ShownMeter, begin_shown, pass_shown};
 use flow_measure::{MeasuredFlow, MeasuredRun, RunMeter};
 use flow_page::{FlowPage, ShownRun};
 use std::alloc::{AllocError as OutOfMemory, Global};
-use timing_base::{FlowPacket, Media, Verdict};
+use timing_base::{FlowPacket, Verdict};
 
 /// The meter of a flow that was judged before, and the drawing of its longest run.
 #[derive(Drop)]
@@ -62,16 +62,10 @@ impl SecondTaker for PageMeter {
 
     ghost ends = { IsFlowPage };
 
-    fn begin(
-        alloc: Global,
-        media: &Media,
-        number: u32,
-        tai: u64,
-        found: Verdict,
-    ) -> Result<Self, OutOfMemory> {
-        let shown = begin_shown(alloc, media, tai, longest_of(&found))?;
+    fn begin(alloc: Global, flow: FoundFlow) -> Result<Self, OutOfMemory> {
+        let shown = begin_shown(alloc, &flow.media, flow.tai, longest_of(&flow.found))?;
         Ok(PageMeter {
-            meter: FlowMeter::begin(alloc, media, number, tai, found)?,
+            meter: FlowMeter::begin(alloc, flow)?,
             shown,
         })
     }

@@ -5,7 +5,7 @@ ghost use Rattle.std.specs.Prelude.{false, length};
 ghost use Rattle.std.specs.Io.KnownBytes.{Appends};
 ghost use Rattle.timing_base.specs.Captures.{IsStamp};
 ghost use Rattle.timing_base.specs.declared.packet.FlowPacket.{FlowPacket as PacketValue};
-ghost use Rattle.fail_interval.specs.States.{IsReading};
+ghost use Rattle.fail_interval.specs.Taken.{IsExpected};
 ghost use Rattle.timing_outside.specs.Causes.{Rose};
 ghost use Rattle.timing_outside.specs.Written.{AppendsFront};
 ghost use Rattle.timing_reach.specs.declared.steps.failure.Failure.TheVariants as failure;
@@ -15,10 +15,9 @@ use crate::metering::Judging;
 use crate::metering::plan::planned_at;
 use crate::metering::walk::Walk;
 use crate::series::open::OpenRows;
-use flow_measure::report::RowText;
-use flow_measure::rows::header;
+use flow_measure::rows::{Rows, header};
 use std::alloc::{AllocError as OutOfMemory, Global};
-use timing_base::{FlowPacket, Media, Verdict};
+use timing_base::{FlowPacket, Media, Rtp, Verdict};
 use timing_outside::{Sink, put_all};
 use timing_reach::judged::flows::FlowTaker;
 use timing_reach::steps::Failure;
@@ -44,7 +43,7 @@ pub struct FlowRows {
 
 impl FlowRows {
     ghost use Rattle.timing_measure.specs.metering.Plan.{planned_at};
-    ghost use Rattle.timing_measure.specs.series.Meters.{Goes, Keeps, OpensAs, StandsFor};
+    ghost use Rattle.timing_measure.specs.series.Meters.{Keeps, OpensAs, Passes, StandsFor};
     ghost use Rattle.timing_measure.specs.series.Reading.{HasRoom};
 
     /// Before the first packet of the flow of a media, of which a first reading found this.
@@ -72,27 +71,19 @@ impl FlowRows {
         }
     }
 
-    /// Takes the next packet of the flow, and puts the row that is made of it behind `text`. `Err`
-    /// is want of memory: what was made isn't known from then on.
+    /// Passes the next packet of the flow, which was judged, and puts the row that is made of it
+    /// behind those of `to`. `Err` is want of memory: what was made isn't known from then on.
     #[inline]
-    fn feed(
-        &mut self,
-        packet: &FlowPacket,
-        row: &mut RowText,
-        text: &mut Vec<u8>,
-    ) -> Result<(), OutOfMemory>
+    fn pass(&mut self, packet: &FlowPacket, to: &mut Rows) -> Result<(), OutOfMemory>
         requires stamp { IsStamp packet.now.at }
-        requires reading { IsReading packet.now.rtp }
-        requires room { HasRoom 1 self.old }
-        ensures room { (more : ℕ) → IfOk result (λ _. HasRoom (more + 1) self.old
-            → HasRoom more self.new) }
-        ensures goes { IfOk result (λ _. Goes self.old self.new
-            packet.now text.old.items text.new.items) }
+        requires few { self.old.walk.packets < 2 ^ 41 }
+        requires tai { self.old.tai ≤ 1000 }
+        ensures { IfOk result (λ _. Passes self.old self.new
+            packet.now to.old.text.items to.new.text.items) }
     {
-        self.judging.feed(packet)?;
         let begins = self.walk.pass(packet);
         self.turn(begins);
-        pass_open(&mut self.last, packet, self.tai, row, text)
+        pass_open(&mut self.last, packet, self.tai, to)
     }
 
     /// Where a run begins with the next packet, the run before is over.
@@ -123,22 +114,21 @@ fn begin(media: &Media, found: &Verdict, run: u64, frames: bool) -> Option<OpenR
 }
 
 /// Passes the next packet to the run that is open, where one is, and puts the row that is made of
-/// it behind `text`. `tai` is in seconds.
+/// it behind those of `to`. `tai` is in seconds.
 #[inline(always)]
 fn pass_open(
     last: &mut Option<OpenRows>,
     packet: &FlowPacket,
     tai: u64,
-    row: &mut RowText,
-    text: &mut Vec<u8>,
+    to: &mut Rows,
 ) -> Result<(), OutOfMemory>
     requires stamp { IsStamp packet.now.at }
     requires tai { tai ≤ 1000 }
     ensures { IfOk result (λ _. PassesOn last.old last.new
-        packet.now tai text.old.items text.new.items) }
+        packet.now tai to.old.text.items to.new.text.items) }
 {
     match last {
-        Some(rows) => rows.pass(packet, tai, row, text),
+        Some(rows) => rows.pass(packet, tai, to),
         None => Ok(()),
     }
 }
@@ -148,22 +138,20 @@ fn pass_open(
 pub struct SeriesMeter {
     pub flow: FlowRows,
     /// The rows that aren't written yet.
-    pub text: Vec<u8>,
-    row: RowText,
+    pub rows: Rows,
 }
 
 impl SeriesMeter {
     /// Before the first packet of a flow. The header isn't written yet. `Err` is want of memory.
     pub fn new(alloc: Global, flow: FlowRows) -> Result<SeriesMeter, OutOfMemory>
         ensures flow { IfOk result (λ meter. meter.flow ≡ flow) }
-        ensures text { IfOk result (λ meter. meter.text.items ≡ header_text flow.frames) }
+        ensures text { IfOk result (λ meter. meter.rows.text.items ≡ header_text flow.frames) }
     {
         let mut text = Vec::with_capacity(alloc, 2 * FULL)?;
         text.extend_from_slice(header(flow.frames).as_bytes())?;
         Ok(SeriesMeter {
             flow,
-            text,
-            row: RowText::new(),
+            rows: Rows::new(text),
         })
     }
 
@@ -172,16 +160,16 @@ impl SeriesMeter {
     #[inline(always)]
     pub fn pour<K: Sink>(&mut self, out: &mut K) -> Result<(), Failure>
         ensures flow { self.new.flow ≡ self.old.flow }
-        ensures few { IfOk result (λ _. length self.new.text.items < 65536) }
+        ensures few { IfOk result (λ _. length self.new.rows.text.items < 65536) }
         ensures poured { IfOk result (λ _. (poured : List ℕ)
             × Appends (K.written out.old) (K.written out.new) poured
-            × (self.old.text.items ≡ poured ++ self.new.text.items)) }
+            × (self.old.rows.text.items ≡ poured ++ self.new.rows.text.items)) }
         ensures failed { IfErr result (λ e. (e ≡ failure.WriteFault)
             × Rose (K.faults out.old) (K.faults out.new)
-            × AppendsFront (K.written out.old) (K.written out.new) self.old.text.items) }
+            × AppendsFront (K.written out.old) (K.written out.new) self.old.rows.text.items) }
         ensures later { K.faults out.old ≤ K.faults out.new }
     {
-        if self.text.len() < FULL {
+        if self.rows.text.len() < FULL {
             return Ok(());
         }
         self.pour_all(out)
@@ -194,16 +182,16 @@ impl SeriesMeter {
     fn pour_all<K: Sink>(&mut self, out: &mut K) -> Result<(), Failure>
         ensures flow { self.new.flow ≡ self.old.flow }
         ensures poured { IfOk result
-            (λ _. Appends (K.written out.old) (K.written out.new) self.old.text.items
-            × (self.new.text.items ≡ [])) }
+            (λ _. Appends (K.written out.old) (K.written out.new) self.old.rows.text.items
+            × (self.new.rows.text.items ≡ [])) }
         ensures failed { IfErr result (λ e. (e ≡ failure.WriteFault)
             × Rose (K.faults out.old) (K.faults out.new)
-            × AppendsFront (K.written out.old) (K.written out.new) self.old.text.items) }
+            × AppendsFront (K.written out.old) (K.written out.new) self.old.rows.text.items) }
         ensures later { K.faults out.old ≤ K.faults out.new }
     {
-        match put_all(out, &self.text) {
+        match put_all(out, &self.rows.text) {
             Ok(()) => {
-                self.text.clear();
+                self.rows.text.clear();
                 Ok(())
             }
             Err(_) => Err(Failure::WriteFault),
@@ -219,6 +207,8 @@ impl FlowTaker for SeriesMeter {
 
     ghost room = { λ count x. HasRoom count x.flow };
 
+    ghost expects = { λ p x. IsExpected x.flow.judging.judge p };
+
     ghost none = { takes_none };
 
     ghost other = { takes_other };
@@ -228,7 +218,19 @@ impl FlowTaker for SeriesMeter {
     ghost less = { λ few many x le room. room_less few many x.flow le room };
 
     #[inline(always)]
+    fn expected(&self) -> Option<Rtp> {
+        self.flow.judging.expected()
+    }
+
+    #[inline(always)]
     fn take(&mut self, packet: &FlowPacket, _frame: &[u8]) -> Result<(), OutOfMemory> {
-        self.flow.feed(packet, &mut self.row, &mut self.text)
+        self.flow.judging.feed(packet)?;
+        self.flow.pass(packet, &mut self.rows)
+    }
+
+    #[inline(always)]
+    fn take_expected(&mut self, packet: &FlowPacket, _frame: &[u8]) -> Result<(), OutOfMemory> {
+        self.flow.judging.feed_expected(packet)?;
+        self.flow.pass(packet, &mut self.rows)
     }
 }

@@ -5,8 +5,7 @@ ghost use Rattle.timing_base.specs.Captures.{IsStamp};
 ghost use Rattle.timing_base.specs.declared.packet.FlowPacket.{FlowPacket as PacketValue};
 
 use crate::metering::walk::timestamp_of;
-use flow_measure::report::RowText;
-use flow_measure::rows::RunRows;
+use flow_measure::rows::{Rows, RunRows};
 use std::alloc::AllocError as OutOfMemory;
 use timing_base::{FlowPacket, Judged, Media};
 
@@ -38,20 +37,14 @@ impl OpenRows {
         }
     }
 
-    /// Passes its next packet, and puts the row that is made of it behind `text`. `tai` is in
+    /// Passes its next packet, and puts the row that is made of it behind those of `to`. `tai` is in
     /// seconds.
     #[inline(always)]
-    pub fn pass(
-        &mut self,
-        packet: &FlowPacket,
-        tai: u64,
-        row: &mut RowText,
-        text: &mut Vec<u8>,
-    ) -> Result<(), OutOfMemory>
+    pub fn pass(&mut self, packet: &FlowPacket, tai: u64, to: &mut Rows) -> Result<(), OutOfMemory>
         requires stamp { IsStamp packet.now.at }
         requires tai { tai ≤ 1000 }
         ensures { IfOk result (λ _. PassesRun self.old self.new
-            packet.now tai text.old.items text.new.items) }
+            packet.now tai to.old.text.items to.new.text.items) }
     {
         if self.ahead > 0 {
             self.ahead -= 1;
@@ -62,7 +55,6 @@ impl OpenRows {
         }
         self.due -= 1;
         let at = packet.at + tai * 1_000_000_000;
-        self.rows
-            .put(packet.rec, at, timestamp_of(packet), row, text)
+        self.rows.put(packet.rec, at, timestamp_of(packet), to)
     }
 }

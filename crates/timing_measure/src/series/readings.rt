@@ -25,6 +25,7 @@ use crate::metering::same::is_again;
 use crate::metering::{Edge, FirstMeter, Seen};
 use crate::series::meter::{FlowRows, SeriesMeter};
 use crate::series::stream::copy_rows;
+use flow_measure::rows::Rows;
 use pcap_reader::{MOST, PcapReader};
 use std::alloc::{AllocError as OutOfMemory, Global};
 use timing_base::{FileNote, Items, Media, PcapFault, SeriesJob, Verdict};
@@ -221,7 +222,8 @@ pub fn write_rows<H: Shelf, K: Sink>(
     let mut flow = begin_again(alloc, job, media, verdict)?;
     let note = copy_capture(alloc, shelf, name, &mut flow, out)?;
     let FlowOf { taker, .. } = flow;
-    let SeriesMeter { flow, text, .. } = taker;
+    let SeriesMeter { flow, rows } = taker;
+    let Rows { text, .. } = rows;
     if !is_found_again(flow, edges.as_slice())? {
         shelf.note_change(name);
         return Err(Failure::ReadFault(Input::Capture(0)));

@@ -1,13 +1,10 @@
 -- What takes the packets of a media's flow off the records of a capture. `takes` says of what took them that by the
 -- flow in these records, and by nothing else, the first became the second.
-use Rattle.std.specs.Prelude.{◌≡◌, ◌^◌, ℕ, if◌then◌else◌, List, [], ◌++◌, Option, Some, None, Result, Ok, Err}
+use Rattle.std.specs.Prelude.{◌≡◌, ◌^◌, ℕ, List, [], ◌++◌, Some}
 use Rattle.std.proofs.Common.{refl, subst, ◌∙◌}
 use Rattle.timing_base.specs.Captures.{Record}
-use Rattle.timing_base.specs.Flows.{next_number}
 use Rattle.timing_base.specs.Media.{Media}
 use Rattle.timing_base.specs.declared.capture.FileNote.{FileNote}
-use Rattle.timing_base.specs.declared.packet.PacketFault.{PacketFault}
-use Rattle.timing_base.specs.declared.packet.Rtp.{Rtp}
 use Rattle.timing_base.specs.Targets.{target_of}
 use Rattle.pcap_reader.specs.Records.{Records}
 use Rattle.udp_rtp.specs.Frames.{Datagram, datagram_of}
@@ -29,17 +26,6 @@ pub record TakesIn {F : Type 0} (takes : F → F → List Record → Type 0) (te
 -- a frame's datagram goes to the target of this media
 abbrev pub GoesTo : Media → (frame : List ℕ) → Type 0
 GoesTo m frame = (d : Datagram) × (datagram_of frame ≡ Some d) × (d.target ≡ target_of m)
-
--- what the packet behind one that reads so reads as, where the flow goes on in the same frame or field
-abbrev pub next_of : Result Rtp PacketFault → Option Rtp
-next_of (Ok p) = if p.marker then None else Some (record {
-  number = next_number p.number;
-  timestamp = p.timestamp;
-  marker = p.marker;
-  pt = p.pt;
-  ssrc = p.ssrc;
-})
-next_of (Err fault) = None
 
 -- no record, and some records and then others
 pub flow_none : {F : Type 0} (takes : Media → F → F → List Record → Type 0)

@@ -9,8 +9,10 @@ use Rattle.timing_base.specs.Media.{Media}
 use Rattle.timing_base.specs.declared.capture.FileNote.{FileNote}
 use Rattle.timing_base.specs.declared.key.FlowKey.{FlowKey}
 use Rattle.timing_base.specs.declared.packet.FlowPacket.{FlowPacket}
+use Rattle.timing_base.specs.declared.packet.Rtp.{Rtp}
 use Rattle.fail_interval.specs.Row.{verdict_of}
 use Rattle.fail_interval.specs.Stands.{StandsFor, count_fed}
+use Rattle.fail_interval.specs.Taken.{IsExpected}
 use Rattle.pcap_reader.specs.Records.{Records}
 use Rattle.sender_params.specs.Ticks.{NeverFall}
 use Rattle.udp_rtp.specs.Flow.{flow, flow_packet}
@@ -35,6 +37,10 @@ HasRoom count j = count_judged j + count ≤ 2 ^ 41
 
 pub room_less : (few many : ℕ) (j : Judging) → few ≤ many → HasRoom many j → HasRoom few j
 room_less few many j less room = omega (arith, less, room)
+
+-- whatever packets were passed, the judge expects this one then
+abbrev pub Expects : Rtp → Judging → Type 0
+Expects p j = IsExpected j.judge p
 
 -- whatever packets were passed, the flow of this media in these records was passed then, and nothing else
 abbrev pub JudgesOn : Media → (old new : Judging) → List Record → Type 0

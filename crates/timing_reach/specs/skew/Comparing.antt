@@ -18,18 +18,19 @@ pub record ComparesNext (text : List ℕ) (count : ℕ) (old new : Comparing) : 
   pub note : FileNote
   pub records : Records text (2 ^ 40) items note
   pub notes : new.notes.items ≡ old.notes.items ++ note ∷ []
-  pub first : new.pairing.first ≡ old.pairing.first
-  pub second : new.pairing.second ≡ old.pairing.second
-  pub adds : Adds old.pairing.skew new.pairing.skew (taken_of (length old.notes.items == 0) old.pairing.first items)
-      (taken_of (length old.notes.items + 1 == count) old.pairing.second items)
+  pub first : new.pairing.first.media ≡ old.pairing.first.media
+  pub second : new.pairing.second.media ≡ old.pairing.second.media
+  pub adds : Adds old.pairing.skew new.pairing.skew
+      (taken_of (length old.notes.items == 0) old.pairing.first.media items)
+      (taken_of (length old.notes.items + 1 == count) old.pairing.second.media items)
 
 -- captures of these texts were read, of so many: the first flow is of the first of them, and the second of the last,
 -- where that was read
 pub record AreCompared (texts : List (List ℕ)) (a b : Media) (count : ℕ) (c : Comparing) : Type 0 where
   pub files : List (List Record)
   pub records : AreRecords texts files c.notes.items
-  pub first : c.pairing.first ≡ a
-  pub second : c.pairing.second ≡ b
+  pub first : c.pairing.first.media ≡ a
+  pub second : c.pairing.second.media ≡ b
   pub stands : StandsFor c.pairing.skew (flow (first_of files) a) (taken_of (length files == count) b (last_of files))
 
 -- what is found of two media in all captures of these texts

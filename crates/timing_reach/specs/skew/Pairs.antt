@@ -1,27 +1,29 @@
 -- Which records of a capture were taken for two flows that are compared.
-use Rattle.std.specs.Prelude.{◌≡◌, ◌≤◌, ◌+◌, ◌^◌, ℕ, Bool, true, false, max, List, [], ◌++◌}
+use Rattle.std.specs.Prelude.{◌≡◌, ◌≤◌, ◌+◌, ◌^◌, ◌||◌, ℕ, Bool, true, false, max, not, List, [], ◌++◌}
 use Rattle.std.proofs.Common.{arith, refl, sym, subst, append-nil, append_assoc, ap, ◌∙◌}
 use Rattle.std.proofs.lemmas.List.Elements.{filter_map-append}
 use Rattle.timing_base.specs.Captures.{Record}
 use Rattle.timing_base.specs.Media.{Media}
+use Rattle.timing_base.specs.Targets.{target_of}
 use Rattle.timing_base.specs.declared.packet.FlowPacket.{FlowPacket}
 use Rattle.path_skew.specs.Stands.{StandsFor, count_first, count_second}
-use Rattle.udp_rtp.specs.Flow.{flow_packet}
+use Rattle.udp_rtp.specs.Flow.{flow_packet, is_same_target}
 use Rattle.timing_reach.specs.skew.Added.{Adds, taken_of}
+use Rattle.timing_reach.specs.skew.Paired.{IsSameFlow, packets_in}
+use Rattle.timing_reach.specs.declared.skew.paired.PairedFlow.{PairedFlow}
 use Rattle.timing_reach.specs.declared.skew.pairing.Pairing.{Pairing}
-
--- the same two flows are compared
-pub record IsSamePair (old new : Pairing) : Type 0 where
-  pub first : new.first ≡ old.first
-  pub second : new.second ≡ old.second
-  pub takes_first : new.takes_first ≡ old.takes_first
-  pub takes_second : new.takes_second ≡ old.takes_second
 
 -- these records and no others were taken
 pub record PairsOn (old new : Pairing) (more : List Record) : Type 0 where
-  pub same : IsSamePair old new
-  pub adds : Adds old.skew new.skew (taken_of old.takes_first old.first more)
-      (taken_of old.takes_second old.second more)
+  pub first : IsSameFlow old.first new.first
+  pub second : IsSameFlow old.second new.second
+  pub adds : Adds old.skew new.skew (packets_in old.first more) (packets_in old.second more)
+
+-- whether no record of this capture is a packet of both flows: they aren't both in it, or go to different targets
+abbrev pub are_apart : Pairing → Bool
+are_apart p =
+    not p.first.is_here
+    || (not p.second.is_here || not (is_same_target (target_of p.first.media) (target_of p.second.media)))
 
 -- the most packets that one flow has
 abbrev pub pair_given : Pairing → ℕ
@@ -46,35 +48,36 @@ taken-more false m x y = refl
 added-none : (b : Bool) (m : Media) (f : List FlowPacket) → f ≡ f ++ taken_of b m []
 added-none b m f = sym (append-nil f) ∙ ap (λ l. f ++ l) (sym (taken-none b m))
 
+same-none : (x : PairedFlow) → IsSameFlow x x
+same-none x = record { media = refl; is_here = refl }
+
 pub pairs_none : (x : Pairing) → PairsOn x x []
 pairs_none x = record {
-  same = record { first = refl; second = refl; takes_first = refl; takes_second = refl };
+  first = same-none x.first;
+  second = same-none x.second;
   adds = λ f g h.
-      subst (λ l. StandsFor x.skew l (g ++ taken_of x.takes_second x.second [])) (added-none x.takes_first x.first f)
-      (subst (λ l. StandsFor x.skew f l) (added-none x.takes_second x.second g) h);
+      subst (λ l. StandsFor x.skew l (g ++ packets_in x.second [])) (added-none x.first.is_here x.first.media f)
+      (subst (λ l. StandsFor x.skew f l) (added-none x.second.is_here x.second.media g) h);
 }
 
-same-more : (x y z : Pairing) → IsSamePair x y → IsSamePair y z → IsSamePair x z
-same-more x y z h k = record {
-  first = k.first ∙ h.first;
-  second = k.second ∙ h.second;
-  takes_first = k.takes_first ∙ h.takes_first;
-  takes_second = k.takes_second ∙ h.takes_second;
-}
+same-more : (x y z : PairedFlow) → IsSameFlow x y → IsSameFlow y z → IsSameFlow x z
+same-more x y z h k = record { media = k.media ∙ h.media; is_here = k.is_here ∙ h.is_here }
 
-added-more : (b c : Bool) (m n : Media) (f : List FlowPacket) (x y : List Record) → c ≡ b → n ≡ m
-    → (f ++ taken_of b m x) ++ taken_of c n y ≡ f ++ taken_of b m (x ++ y)
-added-more b c m n f x y e is =
-    ap (λ t. (f ++ taken_of b m x) ++ taken_of t n y) e ∙ ap (λ t. (f ++ taken_of b m x) ++ taken_of b t y) is
-    ∙ append_assoc f (taken_of b m x) (taken_of b m y) ∙ ap (λ l. f ++ l) (taken-more b m x y)
+added-more : (x y : PairedFlow) (f : List FlowPacket) (a b : List Record) → IsSameFlow x y
+    → (f ++ packets_in x a) ++ packets_in y b ≡ f ++ packets_in x (a ++ b)
+added-more x y f a b same =
+    ap (λ t. (f ++ packets_in x a) ++ taken_of t y.media b) same.is_here
+    ∙ ap (λ (m : Media). (f ++ packets_in x a) ++ taken_of x.is_here m b) same.media
+    ∙ append_assoc f (packets_in x a) (packets_in x b)
+    ∙ ap (λ l. f ++ l) (taken-more x.is_here x.media a b)
 
 pub pairs_more : (x y z : Pairing) (a b : List Record) → PairsOn x y a → PairsOn y z b → PairsOn x z (a ++ b)
 pairs_more x y z a b h k = record {
-  same = same-more x y z h.same k.same;
+  first = same-more x.first y.first z.first h.first k.first;
+  second = same-more x.second y.second z.second h.second k.second;
   adds = λ f g stood.
-      subst (λ l. StandsFor z.skew l (g ++ taken_of x.takes_second x.second (a ++ b)))
-      (added-more x.takes_first y.takes_first x.first y.first f a b h.same.takes_first h.same.first)
-      (subst (λ l. StandsFor z.skew ((f ++ taken_of x.takes_first x.first a) ++ taken_of y.takes_first y.first b) l)
-      (added-more x.takes_second y.takes_second x.second y.second g a b h.same.takes_second h.same.second)
-      (k.adds (f ++ taken_of x.takes_first x.first a) (g ++ taken_of x.takes_second x.second a) (h.adds f g stood)));
+      subst (λ l. StandsFor z.skew l (g ++ packets_in x.second (a ++ b))) (added-more x.first y.first f a b h.first)
+      (subst (λ l. StandsFor z.skew ((f ++ packets_in x.first a) ++ packets_in y.first b) l)
+      (added-more x.second y.second g a b h.second)
+      (k.adds (f ++ packets_in x.first a) (g ++ packets_in x.second a) (h.adds f g stood)));
 }

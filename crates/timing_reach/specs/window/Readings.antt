@@ -10,9 +10,11 @@ use Rattle.timing_base.specs.Verdicts.{Judged}
 use Rattle.timing_base.specs.declared.capture.FileNote.{FileNote}
 use Rattle.timing_base.specs.declared.key.FlowKey.{FlowKey}
 use Rattle.timing_base.specs.declared.packet.FlowPacket.{FlowPacket}
+use Rattle.timing_base.specs.declared.packet.Rtp.{Rtp}
 use Rattle.timing_base.specs.declared.row.Verdict.TheVariants as verdict
 use Rattle.fail_interval.specs.Row.{verdict_of}
 use Rattle.fail_interval.specs.Stands.{StandsFor, count_fed}
+use Rattle.fail_interval.specs.Taken.{IsExpected}
 use Rattle.pcap_reader.specs.Records.{Records}
 use Rattle.udp_rtp.specs.Flow.{flow, flow_packet}
 use Rattle.timing_reach.specs.window.Gauging.{AreWindowsIn, IsGauged, count_gauged}
@@ -34,6 +36,10 @@ room_less few many r less room = record {
   judge = omega (arith, less, room.judge);
   gauge = omega (arith, less, room.gauge);
 }
+
+-- whatever packets were passed, the judge expects this one then
+abbrev pub Expects : Rtp → Reading → Type 0
+Expects p r = IsExpected r.judge p
 
 -- whatever packets were passed, the flow of this media in these records was passed then, and nothing else
 abbrev pub ReadsOn : Media → (old new : Reading) → List Record → Type 0

@@ -2,7 +2,7 @@
 //! once.
 
 ghost use Rattle.std.specs.Prelude.{◌≡◌, ◌≤◌, ◌+◌, ◌++◌, ◌∷◌, ◌^◌, [], ℕ, List, None, Some, Ok, IfErr, IfOk, IfSome};
-ghost use Rattle.std.specs.Prelude.{length};
+ghost use Rattle.std.specs.Prelude.{IsOkAnd, length};
 ghost use Rattle.std.specs.Prelude.{true, false};
 ghost use Rattle.timing_base.specs.Captures.{IsStamp, Record};
 ghost use Rattle.timing_base.specs.Media.{Media as MediaValue};
@@ -15,7 +15,8 @@ ghost use Rattle.timing_reach.specs.steps.Answers.{OnReadFault};
 ghost use Rattle.timing_base.specs.Targets.{target_of};
 ghost use Rattle.udp_rtp.specs.Carried.{carries};
 ghost use Rattle.udp_rtp.specs.Flow.{flow_packet};
-ghost use Rattle.timing_reach.specs.judged.Flows.{TakesIn, next_of};
+ghost use Rattle.timing_base.specs.declared.packet.Rtp.{Rtp as RtpValue};
+ghost use Rattle.timing_reach.specs.judged.Flows.{TakesIn};
 
 use crate::judged::captures::take_capture;
 use crate::steps::Failure;
@@ -34,12 +35,31 @@ pub trait FlowTaker {
     /// It has room for so many packets more.
     ghost room: { (count : ℕ) → Self → Type 0 };
 
+    /// By what it took, the flow goes on with this packet in the frame or field of the last, if it goes on so.
+    ghost expects: { RtpValue → Self → Type 0 };
+
+    /// The packet with which the flow goes on, where it goes on as most do. `None` where what takes it doesn't know.
+    fn expected(&self) -> Option<Rtp>
+        ensures { IfSome result (λ p. expects p self.now) };
+
     /// Takes the next packet, and the frame that carried it. `Err` is want of memory.
     fn take(&mut self, packet: &FlowPacket, frame: &[u8]) -> Result<(), OutOfMemory>
         requires stamp { IsStamp packet.now.at }
         requires reading { IsReading packet.now.rtp }
         requires short { length frame.now ≤ 262144 }
         requires room { room 1 self.old }
+        ensures room { (count : ℕ) → IfOk result (λ _. room (count + 1) self.old → room count self.new) }
+        ensures takes { IfOk result (λ _. (m : MediaValue) (r : Record)
+            → flow_packet m r ≡ Some packet.now → r.bytes ≡ frame.now
+            → takes m self.old self.new (r ∷ [])) };
+
+    /// Takes the next packet as `take` does, where it is the one that is expected.
+    fn take_expected(&mut self, packet: &FlowPacket, frame: &[u8]) -> Result<(), OutOfMemory>
+        requires stamp { IsStamp packet.now.at }
+        requires reading { IsReading packet.now.rtp }
+        requires short { length frame.now ≤ 262144 }
+        requires room { room 1 self.old }
+        requires expected { IsOkAnd packet.now.rtp (λ p. expects p self.old) }
         ensures room { (count : ℕ) → IfOk result (λ _. room (count + 1) self.old → room count self.new) }
         ensures takes { IfOk result (λ _. (m : MediaValue) (r : Record)
             → flow_packet m r ≡ Some packet.now → r.bytes ≡ frame.now
@@ -64,23 +84,7 @@ pub trait FlowTaker {
 #[derive(Drop)]
 pub struct FlowOf<F: Drop> {
     pub media: Media,
-    /// What the next packet reads as where the flow goes on as most do. A frame is held against it before it is read,
-    /// since that is quicker; what is taken doesn't depend on it.
-    pub next: Option<Rtp>,
     pub taker: F,
-}
-
-/// What the packet behind this one reads as, where it goes on in the same frame or field.
-fn next_of(packet: &FlowPacket) -> Option<Rtp>
-    ensures { result ≡ next_of packet.now.rtp }
-{
-    match packet.rtp {
-        Ok(rtp) if !rtp.marker => Some(Rtp {
-            number: rtp.number.wrapping_add(1),
-            ..rtp
-        }),
-        _ => None,
-    }
 }
 
 impl<F: FlowTaker + Drop> FlowOf<F> {
@@ -93,25 +97,26 @@ impl<F: FlowTaker + Drop> FlowOf<F> {
     {
         FlowOf {
             media: *media,
-            next: None,
             taker,
         }
     }
 
-    /// The packet with which the flow goes on, where the frame carries it.
+    /// The packet that is expected, where the frame carries it: the frame is held against it before it is read, since
+    /// that is quicker.
     #[inline(always)]
     fn expected_in(&self, frame: &[u8]) -> Option<Rtp>
-        ensures { IfSome result (λ p. carries (target_of self.now.media) p frame.now ≡ true) }
+        ensures carried { IfSome result (λ p. carries (target_of self.now.media) p frame.now ≡ true) }
+        ensures expected { IfSome result (λ p. F.expects p self.now.taker) }
     {
-        let expected = self.next?;
+        let expected = self.taker.expected()?;
         if !carries(frame, self.media.target(), expected) {
             return None;
         }
         Some(expected)
     }
 
-    /// Takes the next record where its frame carries the packet with which the flow goes on, and answers whether it
-    /// does. Else nothing changes.
+    /// Takes the next record where its frame carries the packet that is expected, and answers whether it does. Else
+    /// nothing changes.
     #[inline(always)]
     pub fn take_next(&mut self, number: u64, at: u64, frame: &[u8]) -> Result<bool, OutOfMemory>
         requires stamp { IsStamp at }
@@ -132,7 +137,7 @@ impl<F: FlowTaker + Drop> FlowOf<F> {
             at,
             rtp: Ok(expected),
         };
-        self.take_packet(&packet, frame)?;
+        self.taker.take_expected(&packet, frame)?;
         Ok(true)
     }
 
@@ -148,7 +153,6 @@ impl<F: FlowTaker + Drop> FlowOf<F> {
         ensures takes { IfOk result (λ _. (r : Record) → flow_packet self.old.media r ≡ Some packet.now
             → r.bytes ≡ frame.now → TakesFlow F.takes self.old self.new (r ∷ [])) }
     {
-        self.next = next_of(packet);
         self.taker.take(packet, frame)
     }
 
@@ -224,7 +228,6 @@ pub fn take_flow<H: Shelf, F: FlowTaker + Drop>(
 {
     let mut flow = FlowOf {
         media: *media,
-        next: None,
         taker,
     };
     take_capture(alloc, shelf, name, &mut flow)?;

@@ -9,13 +9,14 @@ ghost use Rattle.timing_outside.specs.Shelves.{StaysAs};
 ghost use Rattle.pcapng_reader.specs.Classic.{classic_texts};
 ghost use Rattle.timing_reach.specs.steps.Answers.{OnReadFault};
 
+use crate::judged::feeding::{expected_of, feed_expected};
 use crate::judged::flows::{FlowTaker, take_flow};
 use crate::judged::judgment::Judgment;
 use crate::judged::opening::{Opening, last_marked};
 use crate::steps::Failure;
 use fail_interval::FlowJudge;
 use std::alloc::{AllocError as OutOfMemory, Global};
-use timing_base::{FlowJob, FlowKey, FlowPacket, Media};
+use timing_base::{FlowJob, FlowKey, FlowPacket, Media, Rtp};
 use timing_outside::Shelf;
 use timing_report::Input;
 
@@ -68,12 +69,14 @@ impl Judging {
 }
 
 impl FlowTaker for Judging {
-    ghost use Rattle.timing_reach.specs.judged.Readings.{HasRoom, JudgesOn, judges_more, judges_none, judges_other};
-    ghost use Rattle.timing_reach.specs.judged.Readings.{room_less};
+    ghost use Rattle.timing_reach.specs.judged.Readings.{Expects, HasRoom, JudgesOn, judges_more, judges_none};
+    ghost use Rattle.timing_reach.specs.judged.Readings.{judges_other, room_less};
 
     ghost takes = { JudgesOn };
 
     ghost room = { HasRoom };
+
+    ghost expects = { Expects };
 
     ghost none = { judges_none };
 
@@ -84,10 +87,23 @@ impl FlowTaker for Judging {
     ghost less = { room_less };
 
     #[inline(always)]
+    fn expected(&self) -> Option<Rtp> {
+        expected_of(&self.judge)
+    }
+
+    #[inline(always)]
     fn take(&mut self, packet: &FlowPacket, _frame: &[u8]) -> Result<(), OutOfMemory> {
         self.opening.pass(packet);
         self.last = last_marked(self.last, packet);
         self.judge.feed(packet.rec, packet.at, packet.rtp)
+    }
+
+    #[inline(always)]
+    fn take_expected(&mut self, packet: &FlowPacket, _frame: &[u8]) -> Result<(), OutOfMemory> {
+        feed_expected(&mut self.judge, packet)?;
+        self.opening.pass(packet);
+        self.last = last_marked(self.last, packet);
+        Ok(())
     }
 }
 

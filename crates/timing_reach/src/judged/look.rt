@@ -14,6 +14,16 @@ use crate::steps::Answer;
 use std::alloc::{AllocError as OutOfMemory, Global};
 use timing_base::{Judged, Media};
 
+/// A flow that was judged in one run.
+#[derive(Clone, Copy, Debug, PartialEq, Eq)]
+pub struct SeenRun {
+    /// The seconds that are added to its stamps.
+    pub tai: u64,
+    pub judged: Judged,
+    /// When its first judged packet came, in nanoseconds, as the capture has it.
+    pub first: u64,
+}
+
 /// How a command looks into a flow that is judged in one run: a meter takes its packets, one after the other.
 pub trait Look {
     /// What takes the packets.
@@ -27,22 +37,14 @@ pub trait Look {
     ghost fresh: { Self → (tai : ℕ) → MediaValue → JudgedValue → (first : ℕ) → Self.Meter
         → Type 0 };
 
-    /// The meter before the first packet of a media's flow that was judged so. Its first judged packet came
-    /// at `first`, in nanoseconds, as the capture has it.
-    fn begin(
-        &self,
-        alloc: Global,
-        tai: u64,
-        media: &Media,
-        judged: &Judged,
-        first: u64,
-    ) -> Result<Self::Meter, OutOfMemory>
-        requires tai { tai ≤ 1000 }
-        requires first { IsStamp first }
-        requires few { judged.now.packets ≤ 2 ^ 36 }
+    /// The meter before the first packet of a media's flow that was judged so.
+    fn begin(&self, alloc: Global, media: &Media, run: &SeenRun) -> Result<Self::Meter, OutOfMemory>
+        requires tai { run.now.tai ≤ 1000 }
+        requires first { IsStamp run.now.first }
+        requires few { run.now.judged.packets ≤ 2 ^ 36 }
         ensures room { IfOk result (λ meter. Self.Meter.room (2 ^ 36) meter) }
         ensures fresh { IfOk result (λ meter.
-            fresh self.now tai media.now judged.now first meter) };
+            fresh self.now run.now.tai media.now run.now.judged run.now.first meter) };
 
     /// The answer on a flow that was judged so and ends here.
     fn finish(

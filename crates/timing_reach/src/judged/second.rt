@@ -3,7 +3,7 @@
 use crate::judged::flows::FlowTaker;
 use crate::judged::judging::Judging;
 use std::alloc::AllocError as OutOfMemory;
-use timing_base::FlowPacket;
+use timing_base::{FlowPacket, Rtp};
 
 /// The judge of a flow that was judged before, and the meter of a command.
 #[derive(Drop)]
@@ -13,12 +13,14 @@ pub struct SecondReading<M: Drop> {
 }
 
 impl<M: FlowTaker + Drop> FlowTaker for SecondReading<M> {
-    ghost use Rattle.timing_reach.specs.judged.Readings.{judges_more, judges_none, judges_other, room_less};
+    ghost use Rattle.timing_reach.specs.judged.Readings.{Expects, judges_more, judges_none, judges_other, room_less};
     ghost use Rattle.timing_reach.specs.judged.SecondReadings.{HaveRoom, TakesBoth};
 
     ghost takes = { λ m old new items. TakesBoth M.takes m old new items };
 
     ghost room = { λ count x. HaveRoom M.room count x };
+
+    ghost expects = { λ p x. Expects p x.judging };
 
     ghost none = { λ m x. record { judged = judges_none m x.judging; metered = M.none m x.meter } };
 
@@ -38,8 +40,19 @@ impl<M: FlowTaker + Drop> FlowTaker for SecondReading<M> {
     } };
 
     #[inline(always)]
+    fn expected(&self) -> Option<Rtp> {
+        self.judging.expected()
+    }
+
+    #[inline(always)]
     fn take(&mut self, packet: &FlowPacket, frame: &[u8]) -> Result<(), OutOfMemory> {
         self.judging.take(packet, frame)?;
+        self.meter.take(packet, frame)
+    }
+
+    #[inline(always)]
+    fn take_expected(&mut self, packet: &FlowPacket, frame: &[u8]) -> Result<(), OutOfMemory> {
+        self.judging.take_expected(packet, frame)?;
         self.meter.take(packet, frame)
     }
 }

@@ -20,7 +20,7 @@ ghost use Rattle.timing_reach.specs.judged.SecondReadings.{AnswersSome};
 use crate::judged::flows::take_flow;
 use crate::judged::judging::{Judging, judge_flow};
 use crate::judged::judgment::Judgment;
-use crate::judged::look::Look;
+use crate::judged::look::{Look, SeenRun};
 use crate::judged::second::SecondReading;
 use crate::judged::words::not_judged;
 use crate::steps::{Answer, Failure};
@@ -60,7 +60,12 @@ fn look_again<L: Look, H: Shelf>(
 {
     let name = job.capture.as_str();
     let judging = Judging::new(alloc, media, job.media, job.tai);
-    let meter = look.begin(alloc, job.tai, media, judged, judgment.first)?;
+    let run = SeenRun {
+        tai: job.tai,
+        judged: *judged,
+        first: judgment.first,
+    };
+    let meter = look.begin(alloc, media, &run)?;
     let second = SecondReading { judging, meter };
     let SecondReading { judging, meter } = take_flow(alloc, shelf, name, media, second)?;
     if !judging.finish().is_again(judged, judgment) {

@@ -15,7 +15,7 @@ use crate::shape::words::not_shaped;
 use crate::steps::Answer;
 use flow_shaper::{Departure, Late};
 use std::alloc::{AllocError as OutOfMemory, Global};
-use timing_base::FlowPacket;
+use timing_base::{FlowPacket, Rtp};
 use timing_report::Status;
 
 /// What is made of a flow that is shaped, as far as the flow has come.
@@ -172,6 +172,8 @@ impl FlowTaker for Shaping {
 
     ghost room = { λ _ _. ⊤ };
 
+    ghost expects = { λ _ _. ⊤ };
+
     ghost none = { shapes_none };
 
     ghost other = { shapes_other };
@@ -180,11 +182,19 @@ impl FlowTaker for Shaping {
 
     ghost less = { λ _ _ _ _ _. tt };
 
+    fn expected(&self) -> Option<Rtp> {
+        None
+    }
+
     #[inline(always)]
     fn take(&mut self, packet: &FlowPacket, frame: &[u8]) -> Result<(), OutOfMemory> {
         if self.late.is_some() {
             return Ok(());
         }
         self.pass(packet.at, frame)
+    }
+
+    fn take_expected(&mut self, packet: &FlowPacket, frame: &[u8]) -> Result<(), OutOfMemory> {
+        self.take(packet, frame)
     }
 }

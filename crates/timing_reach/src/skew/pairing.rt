@@ -1,34 +1,23 @@
 //! Two flows, packet number by packet number.
 
-ghost use Rattle.std.specs.Prelude.{◌≡◌, ◌==◌, ◌≤◌, ◌<◌, ◌+◌, ◌^◌, ◌∷◌, [], List, IfOk};
+ghost use Rattle.std.specs.Prelude.{◌≡◌, ◌==◌, ◌≤◌, ◌<◌, ◌+◌, ◌^◌, ◌∷◌, [], ℕ, List, IfOk, Ok, true, false};
 ghost use Rattle.std.specs.List.{cons_option};
 ghost use Rattle.std.specs.Option.{ForSome};
 ghost use Rattle.timing_base.specs.Captures.{IsStamp};
 ghost use Rattle.path_skew.specs.Stands.{count_first, count_second};
-ghost use Rattle.udp_rtp.specs.Flow.{flow_packet};
-ghost use Rattle.timing_reach.specs.skew.Added.{Adds, taken_of};
+ghost use Rattle.timing_reach.specs.skew.Added.{Adds};
 
+use crate::skew::paired::PairedFlow;
 use path_skew::{Skew, SkewRow};
 use pcap_reader::Taker;
 use std::alloc::{AllocError as OutOfMemory, Global};
-use timing_base::{FlowPacket, Media, Rtp};
-use udp_rtp::{carries, packet_of};
+use timing_base::{FlowPacket, Media};
 
 /// Two flows, and which of them is in the capture that is read.
 #[derive(Drop)]
 pub struct Pairing {
-    /// The media of the first flow.
-    pub first: Media,
-    /// The media of the second flow.
-    pub second: Media,
-    /// Whether the first flow is in this capture.
-    pub takes_first: bool,
-    /// Whether the second flow is in it.
-    pub takes_second: bool,
-    /// The packet that follows the last one that was read of the first flow.
-    next_first: Rtp,
-    /// The packet that follows the last one that was read of the second flow.
-    next_second: Rtp,
+    pub first: PairedFlow,
+    pub second: PairedFlow,
     pub skew: Skew,
 }
 
@@ -36,22 +25,18 @@ impl Pairing {
     ghost use Rattle.path_skew.specs.Pair.{skew};
     ghost use Rattle.path_skew.specs.Stands.{StandsFor};
     ghost use Rattle.timing_base.specs.declared.packet.FlowPacket.{FlowPacket};
-    ghost use Rattle.timing_reach.specs.skew.Pairs.{pair_given};
+    ghost use Rattle.timing_reach.specs.skew.Pairs.{HasRoom, PairsOn, are_apart, pair_given};
 
     /// No packet of either flow, and no capture that has one.
     pub fn new(alloc: Global, first: &Media, second: &Media) -> Pairing
-        ensures first { result.first ≡ first.now }
-        ensures second { result.second ≡ second.now }
+        ensures first { result.first.media ≡ first.now }
+        ensures second { result.second.media ≡ second.now }
         ensures given { pair_given result ≡ 0 }
         ensures stands { StandsFor result.skew [] [] }
     {
         Pairing {
-            first: *first,
-            second: *second,
-            takes_first: false,
-            takes_second: false,
-            next_first: none_yet(),
-            next_second: none_yet(),
+            first: PairedFlow::new(first),
+            second: PairedFlow::new(second),
             skew: Skew::new(alloc),
         }
     }
@@ -60,14 +45,67 @@ impl Pairing {
     /// and the last has the second.
     pub fn turn(&mut self, number: usize, count: usize)
         requires { number < count }
-        ensures first { self.new.first ≡ self.old.first }
-        ensures second { self.new.second ≡ self.old.second }
-        ensures takes_first { self.new.takes_first ≡ (number == 0) }
-        ensures takes_second { self.new.takes_second ≡ (number + 1 == count) }
+        ensures first { self.new.first.media ≡ self.old.first.media }
+        ensures second { self.new.second.media ≡ self.old.second.media }
+        ensures first_here { self.new.first.is_here ≡ (number == 0) }
+        ensures second_here { self.new.second.is_here ≡ (number + 1 == count) }
         ensures skew { self.new.skew ≡ self.old.skew }
     {
-        self.takes_first = number == 0;
-        self.takes_second = number + 1 == count;
+        self.first.is_here = number == 0;
+        self.second.is_here = number + 1 == count;
+    }
+
+    /// Whether no packet in this capture is of both flows.
+    #[inline(always)]
+    fn are_apart(&self) -> bool
+        ensures { result ≡ are_apart self.now }
+    {
+        !self.first.is_here
+            || !self.second.is_here
+            || self.first.media.target() != self.second.media.target()
+    }
+
+    /// Takes the next record where its frame carries the packet that is expected of the second flow and that can't be
+    /// of the first, and answers whether it does. Else nothing changes.
+    #[inline(always)]
+    fn take_second(&mut self, number: u64, at: u64, frame: &[u8]) -> Result<bool, OutOfMemory>
+        requires stamp { IsStamp at }
+        requires room { HasRoom number 1 self.old }
+        ensures other { result ≡ Ok false → self.new ≡ self.old }
+        ensures room { (count : ℕ) → result ≡ Ok true → HasRoom number (count + 1) self.old
+            → HasRoom number count self.new }
+        ensures takes { result ≡ Ok true → PairsOn self.old self.new
+            (record { number = number; stamp = at; bytes = frame.now } ∷ []) }
+    {
+        if !self.are_apart() {
+            return Ok(false);
+        }
+        let second = self.second.next_packet(number, at, frame);
+        if second.is_none() {
+            return Ok(false);
+        }
+        put_second(&mut self.skew, second)?;
+        Ok(true)
+    }
+
+    /// Takes the next record, whatever its frame.
+    #[inline(always)]
+    fn take_any(&mut self, number: u64, at: u64, frame: &[u8]) -> Result<(), OutOfMemory>
+        requires stamp { IsStamp at }
+        requires room { HasRoom number 1 self.old }
+        ensures room { (count : ℕ) → IfOk result (λ _. HasRoom number (count + 1) self.old
+            → HasRoom number count self.new) }
+        ensures takes { IfOk result (λ _. PairsOn self.old self.new
+            (record { number = number; stamp = at; bytes = frame.now } ∷ [])) }
+    {
+        let apart = self.are_apart();
+        let first = self.first.packet_in(number, at, frame);
+        put_first(&mut self.skew, first)?;
+        if apart && first.is_some() {
+            return Ok(());
+        }
+        let second = self.second.packet_in(number, at, frame);
+        put_second(&mut self.skew, second)
     }
 
     /// What is told of the two flows, where they end here.
@@ -104,114 +142,10 @@ impl Taker for Pairing {
 
     #[inline(always)]
     fn take(&mut self, number: u64, at: u64, frame: &[u8]) -> Result<(), OutOfMemory> {
-        let first = packet_in(
-            self.takes_first,
-            &self.first,
-            &mut self.next_first,
-            number,
-            at,
-            frame,
-        );
-        put_first(&mut self.skew, first)?;
-        let second = packet_in(
-            self.takes_second,
-            &self.second,
-            &mut self.next_second,
-            number,
-            at,
-            frame,
-        );
-        put_second(&mut self.skew, second)
-    }
-}
-
-/// A packet that no frame carries.
-fn none_yet() -> Rtp {
-    Rtp {
-        number: 0,
-        timestamp: 0,
-        marker: true,
-        pt: 0,
-        ssrc: 0,
-    }
-}
-
-/// The packet that is expected after this one in its frame or field.
-#[inline(always)]
-fn packet_after(rtp: Rtp) -> Rtp {
-    Rtp {
-        number: rtp.number.wrapping_add(1),
-        marker: false,
-        ..rtp
-    }
-}
-
-/// The packet that a record is of the flow of this media, read from its frame. What is expected next
-/// goes on from there.
-#[cold]
-#[inline(never)]
-fn read_packet(
-    media: &Media,
-    next: &mut Rtp,
-    number: u64,
-    at: u64,
-    frame: &[u8],
-) -> Option<FlowPacket>
-    ensures { result
-        ≡ flow_packet media.now (record { number = number; stamp = at; bytes = frame.now }) }
-{
-    let packet = packet_of(media, number, at, frame);
-    if let Some(FlowPacket { rtp: Ok(rtp), .. }) = packet {
-        *next = packet_after(rtp);
-    }
-    packet
-}
-
-/// The packet that a record is of the flow of this media. Where its frame carries the packet that is
-/// expected next, as most do, it is not read anew.
-#[inline(always)]
-fn next_packet(
-    media: &Media,
-    next: &mut Rtp,
-    number: u64,
-    at: u64,
-    frame: &[u8],
-) -> Option<FlowPacket>
-    ensures { result
-        ≡ flow_packet media.now (record { number = number; stamp = at; bytes = frame.now }) }
-{
-    let expected = *next;
-    if !carries(frame, media.target(), expected) {
-        return read_packet(media, next, number, at, frame);
-    }
-    next.number = expected.number.wrapping_add(1);
-    Some(FlowPacket {
-        rec: number,
-        at,
-        rtp: Ok(expected),
-    })
-}
-
-/// The packet that a record is of the flow of this media, where that is in its capture.
-#[inline(always)]
-fn packet_in(
-    takes: bool,
-    media: &Media,
-    next: &mut Rtp,
-    number: u64,
-    at: u64,
-    frame: &[u8],
-) -> Option<FlowPacket>
-    requires stamp { IsStamp at }
-    ensures packet { cons_option result []
-        ≡ taken_of takes media.now
-        (record { number = number; stamp = at; bytes = frame.now } ∷ []) }
-    ensures stamp { ForSome result (λ packet. IsStamp packet.at) }
-{
-    if takes {
-        next_packet(media, next, number, at, frame)
-    } else {
-        None
+        if self.take_second(number, at, frame)? {
+            return Ok(());
+        }
+        self.take_any(number, at, frame)
     }
 }
 

@@ -5,12 +5,13 @@ ghost use Rattle.timing_base.specs.Media.{Media as MediaValue};
 ghost use Rattle.timing_base.specs.declared.key.FlowKey.{FlowKey as KeyValue};
 ghost use Rattle.timing_base.specs.declared.packet.FlowPacket.{FlowPacket as PacketValue};
 
+use crate::judged::feeding::{expected_of, feed_expected};
 use crate::judged::flows::FlowTaker;
 use crate::window::gauge::Gauge;
 use crate::window::windows::Windows;
 use fail_interval::FlowJudge;
 use std::alloc::{AllocError as OutOfMemory, Global};
-use timing_base::{FlowKey, FlowPacket, Media, Verdict};
+use timing_base::{FlowKey, FlowPacket, Media, Rtp, Verdict};
 
 /// What a reading comes to: the verdict on the flow, and the windows of its judged packets, where it is judged in one
 /// run.
@@ -60,12 +61,14 @@ impl Reading {
 }
 
 impl FlowTaker for Reading {
-    ghost use Rattle.timing_reach.specs.window.Readings.{HasRoom, ReadsOn, reads_more, reads_none, reads_other};
-    ghost use Rattle.timing_reach.specs.window.Readings.{room_less};
+    ghost use Rattle.timing_reach.specs.window.Readings.{Expects, HasRoom, ReadsOn, reads_more, reads_none};
+    ghost use Rattle.timing_reach.specs.window.Readings.{reads_other, room_less};
 
     ghost takes = { ReadsOn };
 
     ghost room = { HasRoom };
+
+    ghost expects = { Expects };
 
     ghost none = { reads_none };
 
@@ -76,8 +79,19 @@ impl FlowTaker for Reading {
     ghost less = { room_less };
 
     #[inline(always)]
+    fn expected(&self) -> Option<Rtp> {
+        expected_of(&self.judge)
+    }
+
+    #[inline(always)]
     fn take(&mut self, packet: &FlowPacket, _frame: &[u8]) -> Result<(), OutOfMemory> {
         self.judge.feed(packet.rec, packet.at, packet.rtp)?;
+        self.gauge.pass(packet)
+    }
+
+    #[inline(always)]
+    fn take_expected(&mut self, packet: &FlowPacket, _frame: &[u8]) -> Result<(), OutOfMemory> {
+        feed_expected(&mut self.judge, packet)?;
         self.gauge.pass(packet)
     }
 }

@@ -311,6 +311,31 @@ next-of m tai n before p rec at t level gapped linear same came ticks held =
           (extends-with (length old) linear level.linear);
     }
 
+-- a packet more came, and the row says so
+row-taken : (m : Media) (tai run n k : ℕ) (x : GroupRows) (before : List FlowPacket) (p : FlowPacket) (gapped linear : ℕ → ℤ)
+    → LevelsStandFor m n x.levels (stamps_of tai (before ++ p ∷ [])) → AreOccupancies m n (stamps_of tai (before ++ p ∷ [])) true gapped
+    → AreOccupancies m n (stamps_of tai (before ++ p ∷ [])) false linear → x.row.run ≡ run → x.row.group ≡ k
+    → x.n0 ≡ anchor_in m (stamps_of tai (before ++ p ∷ [])) → x.before ≡ Some (firsts_of n (ticks_in (before ++ p ∷ [])) k)
+    → IsBegun m n k (length before + 1) (anchor_in m (stamps_of tai (before ++ p ∷ []))) (slice_index (stamps_of tai (before ++ p ∷ [])))
+    (records_in (before ++ p ∷ [])) (ticks_in (before ++ p ∷ [])) (buckets_of m n (stamps_of tai (before ++ p ∷ []))) gapped linear x.row
+    → IsTaken m tai run n k x (before ++ p ∷ [])
+row-taken m tai run n k x before p gapped linear levels gapped_are linear_are run_is group_is anchor_is before_is begun =
+    let all = before ++ p ∷ [] in
+    let now = stamps_of tai all in
+    record {
+      run_is = run_is;
+      group_is = group_is;
+      levels_are = levels;
+      anchor_is = anchor_is;
+      before_is = before_is;
+      gapped = gapped;
+      linear = linear;
+      gapped_are = gapped_are;
+      linear_are = linear_are;
+      begun = subst (λ c. IsBegun m n k c (anchor_in m now) (slice_index now) (records_in all) (ticks_in all) (buckets_of m n now) gapped linear x.row)
+          (sym (length-append before (p ∷ []))) begun;
+    }
+
 -- so with a packet more
 taken : (m : Media) (tai run n : ℕ) (old mid new : GroupRows) (before : List FlowPacket) (p : FlowPacket) (rec at t : ℕ) (level : Level)
     → (mid.place ≡ 0 → Begins rec at t level mid new)
@@ -328,7 +353,6 @@ taken m tai run n old mid new before p rec at t level begins widens row_same n0_
     let past = stamps_of tai before in
     let now = stamps_of tai all in
     let more = stamps-more tai before p at came in
-    let long : length all ≡ count + 1 = length-append before (p ∷ []) in
     let parts : k * n + count % n ≡ count = div-add-mod' count n in
     let gapped = extended (length past) h.gapped level.gapped in
     let linear = extended (length past) h.linear level.linear in
@@ -336,6 +360,7 @@ taken m tai run n old mid new before p rec at t level begins widens row_same n0_
     (occupancies-more m n past true at h.gapped level.gapped h.gapped_are held.gapped) in
     let linear_are : AreOccupancies m n now false linear = subst (λ l. AreOccupancies m n l false linear) (sym more)
     (occupancies-more m n past false at h.linear level.linear h.linear_are held.linear) in
+    let so = row-taken m tai run n k new before p gapped linear (subst (λ l. LevelsStandFor m n l now) (sym levels) fed) gapped_are linear_are in
     let e = next-of m tai n before p rec at t level h.gapped h.linear same came ticks held in
     let media : mid.levels.params.media ≡ m = fed.media_is in
     let some : 1 ≤ n = omega (arith, within) in
@@ -345,26 +370,17 @@ taken m tai run n old mid new before p rec at t level begins widens row_same n0_
           let behind : k * n < count = omega (arith, parts, inside, h.place_is) in
           let few : 0 < count = omega (arith, behind) in
           let anchors : anchor_in m past ≡ anchor_in m now = ap (anchor_of m) (sym (e.stamps.front 0 few)) in
-          record {
-            run_is = w.1.place.run ∙ ap (λ (r : GroupRow). r.run) row_same ∙ h.run_is;
-            group_is = w.1.place.group ∙ ap (λ (r : GroupRow). r.group) row_same ∙ h.group_is;
-            levels_are = subst (λ l. LevelsStandFor m n l now) (sym levels) fed;
-            anchor_is = w.0.n0_is ∙ n0_same ∙ h.anchor_is few ∙ anchors;
-            before_is = w.0.before_is ∙ before_same ∙ h.goes_on inside ∙ ap (λ (x : ℕ). Some x) (sym (e.ticks.front (k * n) behind));
-            gapped = gapped;
-            linear = linear;
-            gapped_are = gapped_are;
-            linear_are = linear_are;
-            begun = subst (λ c. IsBegun m n k c (anchor_in m now) (slice_index now) (records_in all) (ticks_in all) (buckets_of m n now) gapped linear new.row)
-                (sym long)
-                (row-widens m n k count (anchor_in m now) (slice_index past) (slice_index now) (records_in before) (records_in all) (ticks_in before)
-                (ticks_in all) (buckets_of m n past) (buckets_of m n now) h.gapped gapped h.linear linear at rec t level mid.row new.row behind some e
-                (subst (λ a. IsBegun m n k count a (slice_index past) (records_in before) (ticks_in before) (buckets_of m n past) h.gapped h.linear mid.row)
-                anchors
-                (subst (λ r. IsBegun m n k count (anchor_in m past) (slice_index past) (records_in before) (ticks_in before) (buckets_of m n past) h.gapped
-                h.linear r) (sym row_same) (h.begun inside)))
-                w.1);
-          }
+          so (w.1.place.run ∙ ap (λ (r : GroupRow). r.run) row_same ∙ h.run_is)
+          (w.1.place.group ∙ ap (λ (r : GroupRow). r.group) row_same ∙ h.group_is)
+          (w.0.n0_is ∙ n0_same ∙ h.anchor_is few ∙ anchors)
+          (w.0.before_is ∙ before_same ∙ h.goes_on inside ∙ ap (λ (x : ℕ). Some x) (sym (e.ticks.front (k * n) behind)))
+          (row-widens m n k count (anchor_in m now) (slice_index past) (slice_index now) (records_in before) (records_in all) (ticks_in before)
+          (ticks_in all) (buckets_of m n past) (buckets_of m n now) h.gapped gapped h.linear linear at rec t level mid.row new.row behind some e
+          (subst (λ a. IsBegun m n k count a (slice_index past) (records_in before) (ticks_in before) (buckets_of m n past) h.gapped h.linear mid.row)
+          anchors
+          (subst (λ r. IsBegun m n k count (anchor_in m past) (slice_index past) (records_in before) (ticks_in before) (buckets_of m n past) h.gapped
+          h.linear r) (sym row_same) (h.begun inside)))
+          w.1)
       | inr outside ↦
           let zero_place : old.place ≡ 0 = omega (arith, outside) in
           let b = begins (omega (arith, zero_place, place_same)) in
@@ -375,23 +391,12 @@ taken m tai run n old mid new before p rec at t level begins widens row_same n0_
           let anchor : new.n0 ≡ anchor_in m now =
           anchor-begun m k n count mid.before mid.n0 new.n0 (firsts_of n (ticks_in before)) (slice_index past) (slice_index now) at whole some e.stamps is
           (λ none. b.first none ∙ ap (λ (x : Media). anchor_of x at) media) b.later (λ few. n0_same ∙ h.anchor_is few) in
-          record {
-            run_is = b.row_is.run ∙ ap (λ (r : GroupRow). r.run) row_same ∙ h.run_is;
-            group_is = b.row_is.group ∙ group;
-            levels_are = subst (λ l. LevelsStandFor m n l now) (sym levels) fed;
-            anchor_is = anchor;
-            before_is = b.before_is ∙ ap (λ (x : ℕ). Some x) (sym here_t);
-            gapped = gapped;
-            linear = linear;
-            gapped_are = gapped_are;
-            linear_are = linear_are;
-            begun = subst (λ c. IsBegun m n k c (anchor_in m now) (slice_index now) (records_in all) (ticks_in all) (buckets_of m n now) gapped linear new.row)
-                (sym long)
-                (row-begins m n k count new.n0 (anchor_in m now) mid.before (slice_index past) (slice_index now) (records_in before) (records_in all)
-                (ticks_in before) (ticks_in all) (buckets_of m n past) (buckets_of m n now) h.gapped gapped h.linear linear at rec t level mid.row new.row
-                whole some group anchor is e
-                (subst (λ (x : Media). BeginsRow x new.n0 mid.before rec at t level mid.row new.row) media b.row_is));
-          }
+          so (b.row_is.run ∙ ap (λ (r : GroupRow). r.run) row_same ∙ h.run_is) (b.row_is.group ∙ group) anchor
+          (b.before_is ∙ ap (λ (x : ℕ). Some x) (sym here_t))
+          (row-begins m n k count new.n0 (anchor_in m now) mid.before (slice_index past) (slice_index now) (records_in before) (records_in all)
+          (ticks_in before) (ticks_in all) (buckets_of m n past) (buckets_of m n now) h.gapped gapped h.linear linear at rec t level mid.row new.row
+          whole some group anchor is e
+          (subst (λ (x : Media). BeginsRow x new.n0 mid.before rec at t level mid.row new.row) media b.row_is))
     ]
 
 -- so where a meter of levels was fed the packet, which says what is held

@@ -19,7 +19,7 @@ use Rattle.timing_measure.specs.Measured.{stamps_of}
 use Rattle.timing_measure.specs.Measures.{timestamps_of}
 use Rattle.timing_measure.specs.metering.Plan.{planned_packets}
 use Rattle.timing_measure.proofs.Edging.{stands-on}
-use Rattle.timing_measure.proofs.Planning.{length-slice, none-some, planned-behind, planned-more, some-same, stamps-before}
+use Rattle.timing_measure.proofs.Planning.{length-slice, none-some, planned-behind, planned-next, some-same, stamps-before}
 use Rattle.timing_measure.specs.page.drawing.Metering.{HasPassed, IsAt, IsDrawn, IsPair, MayStand, MayStandAt, begin_of, end_of}
 use Rattle.timing_measure.specs.declared.page.longest.LongestRun.{LongestRun}
 use Rattle.timing_measure.specs.declared.page.shown.ShownMeter.{ShownMeter}
@@ -186,12 +186,8 @@ pub passed-drawn : (m : Media) (tai : ℕ) (longest : LongestRun) (old new : Sho
     → Draws m judged new.drawing (stamps ++ at ∷ []) (timestamps ++ timestamp ∷ []))
     → HasPassed m tai longest old packets from i → HasPassed m tai longest new packets from (i + 1)
 passed-drawn m tai longest old new packets p at timestamp from i order within here stamp ticks none some tai_same run_same ahead_same due_same draws h =
-    let ahead = h.ahead in
-    let due = h.due in
     let fed = planned_packets longest.judged packets from i in
-    let head : longest.judged.head ≤ i - from = omega (arith, none, ahead) in
-    let more : planned_packets longest.judged packets from (i + 1) ≡ fed ++ p ∷ [] =
-    planned-more longest.judged packets from i order within head (omega (arith, some, due)) ∙ ap (λ x. fed ++ x ∷ []) here in
+    let more = planned-next longest.judged packets from i old.ahead old.due p order within here none some h.ahead h.due in
     let stamp_is : stamp_of tai p ≡ at = ap (λ t. stamp_of t p) (sym h.tai_is) ∙ stamp in
     let stamps : stamps_of tai (fed ++ p ∷ []) ≡ stamps_of tai fed ++ at ∷ [] =
     map-append (stamp_of tai) fed (p ∷ []) ∙ ap (λ x. stamps_of tai fed ++ x ∷ []) stamp_is in
@@ -201,8 +197,8 @@ passed-drawn m tai longest old new packets p at timestamp from i order within he
       tai_is = tai_same ∙ h.tai_is;
       run_is = run_same ∙ h.run_is;
       three = h.three;
-      ahead = omega (arith, ahead_same, none, head, order);
-      due = omega (arith, due_same, due, some, head, order);
+      ahead = omega (arith, ahead_same, none, h.ahead, order);
+      due = omega (arith, due_same, h.due, some, none, h.ahead, order);
       drawn = λ drawable rising.
           let rises : NeverFall (stamps_of tai (fed ++ p ∷ [])) = subst (λ l. NeverFall (stamps_of tai l)) more rising in
           subst (λ l. Draws m longest.judged new.drawing (stamps_of tai l) (timestamps_of l)) (sym more)

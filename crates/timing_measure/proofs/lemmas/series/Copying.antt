@@ -35,7 +35,7 @@ copies-none o f same = record {
   here = [];
   written = [];
   appended = subst (λ n. Appends o.old n []) (sym same) (appends-same o.old);
-  text_is = append-nil f.taker.text.items;
+  text_is = append-nil f.taker.rows.text.items;
   feeds = feeds_none f.media f.taker.flow;
 }
 
@@ -49,22 +49,22 @@ copies-more o old mid new a b c t =
       here = c.here ++ more.here;
       written = c.written;
       appended = c.appended;
-      text_is = sym (append_assoc old.taker.text.items c.here more.here) ∙ ap (λ l. l ++ more.here) c.text_is
-          ∙ append_assoc c.written mid.taker.text.items more.here ∙ ap (λ l. c.written ++ l) (sym more.text_is);
+      text_is = sym (append_assoc old.taker.rows.text.items c.here more.here) ∙ ap (λ l. l ++ more.here) c.text_is
+          ∙ append_assoc c.written mid.taker.rows.text.items more.here ∙ ap (λ l. c.written ++ l) (sym more.text_is);
       feeds = feeds_more old.media old.taker.flow mid.taker.flow new.taker.flow c.here more.here a b c.feeds more.feeds;
     }
 
 -- what was made was written, or a front of it
 pub copies-poured : (o : Output) (new : Option (List ℕ)) (now : ℕ) (old f g : FlowOf SeriesMeter) (items : List Record) (poured : List ℕ)
     → Copies o old f items → g.media ≡ f.media → g.taker.flow ≡ f.taker.flow → Appends o.new new poured
-    → f.taker.text.items ≡ poured ++ g.taker.text.items
+    → f.taker.rows.text.items ≡ poured ++ g.taker.rows.text.items
     → Copies (until o new now) old g items
 copies-poured o new now old f g items poured c media same more text = record {
   media_is = media ∙ c.media_is;
   here = c.here;
   written = c.written ++ poured;
   appended = Appends-trans o.old o.new new c.written poured c.appended more;
-  text_is = c.text_is ∙ ap (λ l. c.written ++ l) text ∙ sym (append_assoc c.written poured g.taker.text.items);
+  text_is = c.text_is ∙ ap (λ l. c.written ++ l) text ∙ sym (append_assoc c.written poured g.taker.rows.text.items);
   feeds = subst (λ x. FeedsOn old.media old.taker.flow x c.here items) (sym same) c.feeds;
 }
 
@@ -82,7 +82,7 @@ stopped-here o old f taken rest items whole c = record {
   here = c.here;
   count = length c.written;
   appended = subst (λ t. Appends o.old o.new t)
-      (sym (ap (take (length c.written)) c.text_is ∙ take-front c.written f.taker.text.items)) c.appended;
+      (sym (ap (take (length c.written)) c.text_is ∙ take-front c.written f.taker.rows.text.items)) c.appended;
   stood = f.taker.flow;
   feeds = c.feeds;
 }
@@ -98,7 +98,7 @@ take-more (x ∷ a) b k =
 
 -- a write failed: a front of what was made stands behind what was written
 pub stopped-broken : (o : Output) (new : Option (List ℕ)) (now : ℕ) (old f : FlowOf SeriesMeter) (taken rest items : List Record)
-    → items ≡ taken ++ rest → Copies o old f taken → AppendsFront o.new new f.taker.text.items
+    → items ≡ taken ++ rest → Copies o old f taken → AppendsFront o.new new f.taker.rows.text.items
     → Stopped (until o new now) old items
 stopped-broken o new now old f taken rest items whole c front = record {
   taken = taken;
@@ -107,8 +107,8 @@ stopped-broken o new now old f taken rest items whole c front = record {
   here = c.here;
   count = length c.written + front.0;
   appended = subst (λ t. Appends o.old new t)
-      (sym (ap (take (length c.written + front.0)) c.text_is ∙ take-more c.written f.taker.text.items front.0))
-      (Appends-trans o.old o.new new c.written (take front.0 f.taker.text.items) c.appended front.2);
+      (sym (ap (take (length c.written + front.0)) c.text_is ∙ take-more c.written f.taker.rows.text.items front.0))
+      (Appends-trans o.old o.new new c.written (take front.0 f.taker.rows.text.items) c.appended front.2);
   stood = f.taker.flow;
   feeds = c.feeds;
 }
@@ -154,7 +154,7 @@ copying-taken left name faults o first reader new old f g number at bytes result
 pub copying-poured : {R : Type 0} (gives : R → List Record → FileNote → Type 0) (o : Output) (new : Option (List ℕ)) (now : ℕ) (first reader : R)
     (old f g : FlowOf SeriesMeter) (poured : List ℕ)
     → IsCopying gives o first reader old f → g.media ≡ f.media → g.taker.flow ≡ f.taker.flow → Appends o.new new poured
-    → f.taker.text.items ≡ poured ++ g.taker.text.items
+    → f.taker.rows.text.items ≡ poured ++ g.taker.rows.text.items
     → IsCopying gives (until o new now) first reader old g
 copying-poured gives o new now first reader old f g poured c media same more text = record {
   taken = c.taken;
@@ -188,7 +188,7 @@ copying-stopped gives o first reader old f c items end told =
 
 pub copying-broken : {R : Type 0} (gives : R → List Record → FileNote → Type 0) (o : Output) (new : Option (List ℕ)) (now : ℕ) (first reader : R)
     (old f : FlowOf SeriesMeter)
-    → IsCopying gives o first reader old f → AppendsFront o.new new f.taker.text.items
+    → IsCopying gives o first reader old f → AppendsFront o.new new f.taker.rows.text.items
     → (items : List Record) (end : FileNote) → gives first items end → Stopped (until o new now) old items
 copying-broken gives o new now first reader old f c front items end told =
     let before = c.told items end told in stopped-broken o new now old f c.taken before.0 items before.1 c.copies front

@@ -46,11 +46,11 @@ use Rattle.timing_measure.proofs.lemmas.series.Fronting.{rows-all, rows-begun}
 
 -- what takes a flow, made of what makes its rows
 pub new-flow : (frames : Bool) (m : Media) (number tai : ℕ) (found : Verdict) (x : FlowRows) (meter : SeriesMeter) (f : FlowOf SeriesMeter)
-    → f.media ≡ m → f.taker ≡ meter → meter.flow ≡ x → meter.text.items ≡ header_text x.frames → StandsFor frames m number tai found x [] []
+    → f.media ≡ m → f.taker ≡ meter → meter.flow ≡ x → meter.rows.text.items ≡ header_text x.frames → StandsFor frames m number tai found x [] []
     → IsNewFlow frames m number tai found f
 new-flow frames m number tai found x meter f media taker is text stands = record {
   media_is = media;
-  text_is = ap (λ (y : SeriesMeter). y.text.items) taker ∙ text ∙ ap header_text (stands.at []).frames_is;
+  text_is = ap (λ (y : SeriesMeter). y.rows.text.items) taker ∙ text ∙ ap header_text (stands.at []).frames_is;
   stands = subst (λ (y : SeriesMeter). StandsFor frames m number tai found y.flow [] []) (sym taker)
       (subst (λ (y : FlowRows). StandsFor frames m number tai found y [] []) (sym is) stands);
 }
@@ -63,7 +63,7 @@ same-items text a b x y h k = (only_by (header text) (2 ^ 40) text b a y x k h).
 pub series-in : (frames : Bool) (m : Media) (number tai : ℕ) (text : List ℕ) (found : Found) (o : Output) (f g : FlowOf SeriesMeter) (note : FileNote)
     (status : Status) → tai ≤ 1000 → has_judged_run found.verdict ≡ true → IsFoundIn m tai text found → IsNewFlow frames m number tai found.verdict f
     → CopiesIn o f g text note → status ≡ series_status note
-    → HasRest o (HasSeries frames tai m text) (record { text = g.taker.text.items; status = status })
+    → HasRest o (HasSeries frames tai m text) (record { text = g.taker.rows.text.items; status = status })
 series-in frames m number tai text found o f g note status seconds has k fresh c ends =
     let same : c.items ≡ k.items = same-items text k.items c.items found.note note k.records c.records in
     let verdict : found.verdict ≡ verdict_of m (judged (flow c.items m) m.pt tai) =
@@ -77,7 +77,7 @@ series-in frames m number tai text found o f g note status seconds has k fresh c
         note = note;
         records = c.records;
         answers = subst (λ b. AnswersFlow frames m tai note c.items b (record {
-          text = c.copies.written ++ g.taker.text.items;
+          text = c.copies.written ++ g.taker.rows.text.items;
           status = status;
         })) (sym (ap has_judged_run (sym verdict) ∙ has)) (
           record {
@@ -96,7 +96,7 @@ series-in frames m number tai text found o f g note status seconds has k fresh c
 pub series-of : (frames : Bool) (m : Media) (number tai : ℕ) (found : Verdict) (before : List Edge) (o : Output) (f g : FlowOf SeriesMeter)
     (note : FileNote) (status : Status) → tai ≤ 1000 → has_judged_run found ≡ true → IsNewFlow frames m number tai found f → CopiesSome o f g
     → HasRoom 1 g.taker.flow → FindsAgain before g.taker.flow → status ≡ series_status note
-    → HasRest o (IsAnswerOf frames m tai) (record { text = g.taker.text.items; status = status })
+    → HasRest o (IsAnswerOf frames m tai) (record { text = g.taker.rows.text.items; status = status })
 series-of frames m number tai found before o f g note status seconds has fresh c room finds ends =
     let items = c.0 in
     let copies = c.1 in
@@ -111,7 +111,7 @@ series-of frames m number tai found before o f g note status seconds has fresh c
         items = items;
         note = note;
         answers = subst (λ b. AnswersFlow frames m tai note items b (record {
-          text = copies.written ++ g.taker.text.items;
+          text = copies.written ++ g.taker.rows.text.items;
           status = status;
         })) (sym (ap has_judged_run again ∙ has)) (
           record {
@@ -134,7 +134,7 @@ front-in frames m number tai text found o f seconds k fresh s =
     subst (λ (x : Media). FeedsOn x f.taker.flow s.stood s.here s.taken) fresh.media_is s.feeds in
     let whole : flow k.items m ≡ flow s.taken m ++ flow s.rest m =
     ap (λ l. flow l m) s.whole ∙ filter_map-append (flow_packet m) s.taken s.rest in (
-      take s.count (f.taker.text.items ++ s.here),
+      take s.count (f.taker.rows.text.items ++ s.here),
       s.appended,
       inr (record {
         items = k.items;

@@ -1,6 +1,6 @@
 -- The rows of a flow take a packet in.
 use Rattle.std.proofs.Common.{◌≡◌, ◌≤◌, ◌<◌, ◌+◌, ◌^◌, ℕ, zero, suc, Bool, true, false, List, [], ◌∷◌, ◌++◌, length, Option, Some, None}
-use Rattle.std.proofs.Common.{refl, arith, ap, ap₂, ◌∙◌, sym, subst, append-nil, append_assoc, length-append}
+use Rattle.std.proofs.Common.{refl, arith, ap, ◌∙◌, sym, subst, append-nil, append_assoc, length-append}
 use Rattle.std.specs.Prelude.{◌==◌, ◌||◌}
 use Rattle.std.proofs.lemmas.Bool.Decides.{nat_tests}
 use Rattle.std.proofs.Math.Seq.{get_or-append_seam}
@@ -16,7 +16,7 @@ use Rattle.flow_measure.specs.rows.Rows.{AreRows}
 use Rattle.timing_measure.specs.series.Meters.{IsAt, IsFresh, IsGoing, IsOpen, OpensAs, PassesOn, PassesRun}
 use Rattle.timing_measure.specs.declared.series.meter.FlowRows.{FlowRows}
 use Rattle.timing_measure.specs.declared.series.open.OpenRows.{OpenRows}
-use Rattle.timing_measure.proofs.Meterings.{between-push}
+use Rattle.timing_measure.proofs.Meterings.{parts-later}
 use Rattle.timing_measure.proofs.lemmas.series.Rowing.{closes, planned-none}
 
 -- the first run begins
@@ -40,19 +40,15 @@ going-later : (frames : Bool) (m : Media) (tai : ℕ) (found : Verdict) (packets
     → IsGoing frames m tai found packets i k from places before rows
     → OpensAs frames m tai packets (k + 1) i i (planned_at found (k + 1)) after []
     → IsGoing frames m tai found packets i (k + 1) i (places ++ i ∷ []) after rows
-going-later frames m tai found packets i k from places before after rows count going opens =
-    let next : 0 + length places + 1 ≡ k + 1 = omega (arith, count) in
-    record {
-      closed = going.closed ++ planned_part packets k from i (planned_at found k);
-      parts = λ to.
-          between-push found packets to 0 0 i places
-          ∙ ap₂ (λ a x. a ++ planned_part packets x i to (planned_at found x)) (going.parts i) next;
-      over = going.over ++ going.here;
-      here = [];
-      rows_are = going.rows_are ∙ sym (append-nil (going.over ++ going.here));
-      over_are = closes frames m tai packets k from i (planned_at found k) before going.closed going.over going.here going.opens going.over_are;
-      opens = opens;
-    }
+going-later frames m tai found packets i k from places before after rows count going opens = record {
+  closed = going.closed ++ planned_part packets k from i (planned_at found k);
+  parts = parts-later found packets i k from places going.closed count going.parts;
+  over = going.over ++ going.here;
+  here = [];
+  rows_are = going.rows_are ∙ sym (append-nil (going.over ++ going.here));
+  over_are = closes frames m tai packets k from i (planned_at found k) before going.closed going.over going.here going.opens going.over_are;
+  opens = opens;
+}
 
 -- the run goes on with a packet
 going-passed : (frames : Bool) (m : Media) (tai : ℕ) (found : Verdict) (packets : List FlowPacket) (i k from : ℕ) (places : List ℕ)

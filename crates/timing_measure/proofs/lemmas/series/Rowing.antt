@@ -19,7 +19,7 @@ use Rattle.timing_measure.specs.series.Meters.{IsOpen, OpensAs, PassesRun}
 use Rattle.flow_measure.specs.rows.making.Stands.{PutsRow, StandsFor, seen_of}
 use Rattle.flow_measure.specs.declared.rows.rows.RunRows.{RunRows}
 use Rattle.timing_measure.specs.declared.series.open.OpenRows.{OpenRows}
-use Rattle.timing_measure.proofs.Planning.{planned-behind, planned-few, planned-more, stamps-before}
+use Rattle.timing_measure.proofs.Planning.{planned-behind, planned-few, planned-next, stamps-before}
 
 -- what is printed at one packet more
 pub rows-more : (frames : Bool) (m : Media) (tai number n : ℕ) (before packets : List FlowPacket) (p : FlowPacket) (text here : List ℕ)
@@ -77,15 +77,11 @@ open-put old new p tai at before after none some ahead_same due_same seen_same a
   text_is = puts.text_is;
   opens = λ frames m packets run from i judged order within few here o.
       let fed = planned_packets judged packets from i in
-      let ahead = o.ahead in
-      let due = o.due in
-      let head : judged.head ≤ i - from = omega (arith, none, ahead) in
-      let more : planned_packets judged packets from (i + 1) ≡ fed ++ p ∷ [] =
-      planned-more judged packets from i order within head (omega (arith, some, due)) ∙ ap (λ x. fed ++ x ∷ []) here in
+      let more = planned-next judged packets from i old.ahead old.due p order within here none some o.ahead o.due in
       let long : length (fed ++ p ∷ []) ≡ length fed + 1 = length-append fed (p ∷ []) in
       record {
-        ahead = omega (arith, ahead_same, none, head, order);
-        due = omega (arith, due_same, due, some, head, order);
+        ahead = omega (arith, ahead_same, none, o.ahead, order);
+        due = omega (arith, due_same, o.due, some, none, o.ahead, order);
         seen = seen_same ∙ ap (λ x. x + 1) o.seen ∙ sym long ∙ ap length (sym more);
         rows = λ rising.
             let rises : NeverFall (stamps_of tai (fed ++ p ∷ [])) = subst (λ l. NeverFall (stamps_of tai l)) more rising in
@@ -94,11 +90,7 @@ open-put old new p tai at before after none some ahead_same due_same seen_same a
       };
   rows = λ frames m packets run from i judged order within few here o text begun rising.
       let fed = planned_packets judged packets from i in
-      let ahead = o.ahead in
-      let due = o.due in
-      let head : judged.head ≤ i - from = omega (arith, none, ahead) in
-      let more : planned_packets judged packets from (i + 1) ≡ fed ++ p ∷ [] =
-      planned-more judged packets from i order within head (omega (arith, some, due)) ∙ ap (λ x. fed ++ x ∷ []) here in
+      let more = planned-next judged packets from i old.ahead old.due p order within here none some o.ahead o.due in
       let rises : NeverFall (stamps_of tai (fed ++ p ∷ [])) = subst (λ l. NeverFall (stamps_of tai l)) more rising in
       let past = stamps-before tai fed p rises in
       subst (λ l. AreRows frames m tai run judged.n [] l (text ++ puts.here)) (sym more)

@@ -3,7 +3,7 @@ use Rattle.std.proofs.lemmas.List.Elements.{All-weaker}
 use Rattle.timing_outside.specs.Causes.{Rose}
 use Rattle.timing_reach.proofs.lemmas.steps.Seeing.{rose-within}
 use Rattle.timing_measure.specs.Banks.{HaveRoom}
-use Rattle.timing_measure.specs.Readings.{AreEnds, AreSeconds, AreUnmeasured, IsReadingIn, IsReadingOf}
+use Rattle.timing_measure.specs.Readings.{AreSeconds, AreUnmeasured, IsReadingIn}
 use Rattle.timing_measure.specs.metering.Agains.{HasRoom, room_less}
 use Rattle.timing_measure.proofs.Eaches.{each-long}
 use Rattle.timing_measure.proofs.Found.{changed-untold, second-in, second-of, second-room, seconds-begun}
@@ -48,29 +48,17 @@ end_again-requires g c =
 
 pub returns-in-Some-clause-told : goal.returns-in-Some-clause-told
 returns-in-Some-clause-told g c = λ text whole.
-    let t = g.T.SecondTaker in
-    let same : c.job.inside.tai ≡ c.args.job.now.tai = search rules in
-    let seen : c.deref.result.now ≡ c.args.first.now.flows.items = search rules in
-    let flows : c.new-bank.result.flows.items ≡ c.in_ok-begin_again.field-0.items = search rules in
-    let begun = seconds-begun t.stands c.job.inside.tai c.args.job.now.tai c.args.media.now c.args.first.now c.deref.result.now
-    c.in_ok-begin_again.field-0.items c.new-bank.result.flows.items same seen flows c.in_ok-begin_again.ensures.stands c.requires.some in
-    subst (λ (x : ℕ). IsReadingIn (AreEnds t.ends x c.args.media.now) text (record { note = c.in_ok-taken.taken.note; flows = c.in-Some.flows })) same
-    (second-in t.stands t.ends c.job.inside.tai c.requires.some.items c.args.media.now text c.new-bank.result c.take_capture.new.taker c.in_ok-taken.taken
-    (record { note = c.in_ok-taken.taken.note; flows = c.in-Some.flows }) c.job.invariant.tai_most
-    begun (c.in_ok-taken.ensures.told text (search rules)) (search rules) refl)
+    second-in g.T.SecondTaker.stands g.T.SecondTaker.ends c.job.inside.tai c.args.job.now.tai c.args.media.now text c.args.first.now c.deref.result.now
+    c.in_ok-begin_again.field-0.items c.new-bank.result c.take_capture.new.taker c.in_ok-taken.taken
+    (record { note = c.in_ok-taken.taken.note; flows = c.in-Some.flows }) c.job.invariant.tai_most (search rules) (search rules) (search rules)
+    c.in_ok-begin_again.ensures.stands c.requires.some (c.in_ok-taken.ensures.told text (search rules)) (search rules) refl
 
 pub returns-in-Some-clause-some : goal.returns-in-Some-clause-some
 returns-in-Some-clause-some g c =
-    let t = g.T.SecondTaker in
-    let same : c.job.inside.tai ≡ c.args.job.now.tai = search rules in
-    let seen : c.deref.result.now ≡ c.args.first.now.flows.items = search rules in
-    let flows : c.new-bank.result.flows.items ≡ c.in_ok-begin_again.field-0.items = search rules in
-    let begun = seconds-begun t.stands c.job.inside.tai c.args.job.now.tai c.args.media.now c.args.first.now c.deref.result.now
-    c.in_ok-begin_again.field-0.items c.new-bank.result.flows.items same seen flows c.in_ok-begin_again.ensures.stands c.requires.some in
-    subst (λ (x : ℕ). IsReadingOf (AreEnds t.ends x c.args.media.now) (record { note = c.in_ok-taken.taken.note; flows = c.in-Some.flows })) same
-    (second-of t.stands t.ends c.job.inside.tai (2 ^ 36) c.requires.some.items c.args.media.now c.new-bank.result c.take_capture.new.taker
-    (record { note = c.in_ok-taken.taken.note; flows = c.in-Some.flows }) c.job.invariant.tai_most
-    begun c.in_ok-taken.ensures.fed (search rules))
+    second-of g.T.SecondTaker.stands g.T.SecondTaker.ends c.job.inside.tai c.args.job.now.tai (2 ^ 36) c.args.media.now c.args.first.now
+    c.deref.result.now c.in_ok-begin_again.field-0.items c.new-bank.result c.take_capture.new.taker
+    (record { note = c.in_ok-taken.taken.note; flows = c.in-Some.flows }) c.job.invariant.tai_most (search rules) (search rules) (search rules)
+    c.in_ok-begin_again.ensures.stands c.requires.some c.in_ok-taken.ensures.fed (search rules)
 
 pub returns-in-None-clause-cause : goal.returns-in-None-clause-cause
 returns-in-None-clause-cause g c =

@@ -8,7 +8,7 @@ use Rattle.timing_report.specs.declared.status.Input.TheVariants as input
 use Rattle.timing_report.specs.declared.status.Status.{Status}
 use Rattle.timing_report.specs.declared.status.Status.TheVariants as status
 use Rattle.timing_reach.specs.steps.Answers.{Answer}
-use Rattle.timing_reach.specs.steps.Ends.{EndsWith, HasStatus, IsTextBeside, check_ends, is_failure, is_silent, look_ends}
+use Rattle.timing_reach.specs.steps.Ends.{EndsWith, HasStatus, IsTextBeside, check_ends, is_failure, look_ends}
 use Rattle.timing_reach.specs.steps.Ran.{Appended, Broke, HasCause, IsAnswered, Leaves, Output}
 use Rattle.timing_reach.specs.declared.steps.failure.Failure.{Failure}
 use Rattle.timing_reach.specs.declared.steps.failure.Failure.TheVariants as failure

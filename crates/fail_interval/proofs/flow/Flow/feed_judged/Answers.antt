@@ -23,4 +23,5 @@ returns-else-not-feed_expected-clause-goes_on c = λ _. record {
       goes_on _ packets rec_number c.args.at (going_on packets c.args.self.now.media.pt (length packets)) None _ _ _ c.in-Some.is refl
       (λ rest. c.if-not-feed_expected.ensures.answer refl _ packets rest rec_number h.stands.grouper)
       (c.if-not-feed_expected.ensures.stands refl _ packets rec_number h.stands.grouper) (c.feed_whole.ensures _) h;
+  next = c.if-not-feed_expected.ensures.next refl;
 }

@@ -1,5 +1,18 @@
-use Rattle.fail_interval.proofs.Expecting.{expected-none}
+use Rattle.std.proofs.Common.{◌∙◌}
+use Rattle.fail_interval.proofs.Expecting.{expected-going, expected-none, expected-stands}
 use Rattle.fail_interval.proofs.judge.FlowJudge.expected.Goals as goal
 
-pub returns-in_default : goal.returns-in_default
-returns-in_default c = λ media key tai packets s. expected-none media key tai c.args.self.now packets c.in_default.not-Going s
+pub returns-in-Going-clause-is : goal.returns-in-Going-clause-is
+returns-in-Going-clause-is c = expected-going c.args.self.now.state c.in-Going.flow _ c.in-Going.is c.expected.ensures.is
+
+pub returns-in-Going-clause-follows : goal.returns-in-Going-clause-follows
+returns-in-Going-clause-follows c = λ media key tai packets s.
+    expected-going c.args.self.now.state c.in-Going.flow _ c.in-Going.is c.expected.ensures.is
+    ∙ expected-stands media key tai c.args.self.now packets s
+
+pub returns-in_default-clause-is : goal.returns-in_default-clause-is
+returns-in_default-clause-is c = expected-none c.args.self.now.state c.in_default.not-Going
+
+pub returns-in_default-clause-follows : goal.returns-in_default-clause-follows
+returns-in_default-clause-follows c = λ media key tai packets s.
+    expected-none c.args.self.now.state c.in_default.not-Going ∙ expected-stands media key tai c.args.self.now packets s

@@ -1,5 +1,6 @@
 use Rattle.std.proofs.Common.{refl, subst, sym}
 use Rattle.fail_interval.specs.States.{IsKnown}
+use Rattle.fail_interval.proofs.Expecting.{expected-next}
 use Rattle.fail_interval.proofs.Judging.{flow-known, known-expected, stands-expected, took-expected}
 use Rattle.fail_interval.proofs.judge.FlowJudge.feed_judged.Goals as goal
 
@@ -28,4 +29,5 @@ returns-clause-took c = λ _.
       stands = λ media key tai packets rec s.
           stands-expected media key tai rec c.args.at c.args.self.now _ _ packets went c.requires.few c.requires.stamp s;
       going = λ spent. let no = c.if-not-feed_judged.ensures.spent spent in cc;
+      next = expected-next c.args.at c.args.self.now.state _ went;
     }

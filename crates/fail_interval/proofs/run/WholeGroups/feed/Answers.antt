@@ -9,13 +9,9 @@ feed-requires c = ∥∥₁_map c.requires (λ (m, so_far, h). (so_far.stamps, c
 pub end_group-requires : goal.end_group-requires
 end_group-requires c = omega (arith, (room-known _ _ _ c.requires).groups)
 
-pub overflow_add-self : goal.overflow_add-self
-overflow_add-self c = omega (arith, (room-known _ _ _ c.requires).tail)
-
 pub returns-then-marker : goal.returns-then-marker
 returns-then-marker c = λ m so_far h.
     marked_as _ _ _ so_far _ _ _ c.end_group.ensures.params c.end_group.ensures.head c.end_group.ensures.groups c.end_group.ensures.meters
-    c.end_group.ensures.tail
     c.feed.ensures.stands c.end_group.ensures.judged c.if-marker.true h
 
 pub returns-else-marker : goal.returns-else-marker

@@ -6,7 +6,7 @@ use Rattle.flow_measure.proofs.rows.rows.put_group.Goals as goal
 
 pub returns-in-Some-clause-puts : goal.returns-in-Some-clause-puts
 returns-in-Some-clause-puts c =
-    let old = c.args.text.now.items in
+    let old = c.args.to.now.text.items in
     let line = c.of_group.result.now in
     let self = Groups c.args.groups.now in
     on-ok c.extend_from_slice.result c.extend_from_slice.new.self.items (old ++ line) old
@@ -17,5 +17,5 @@ returns-in-Some-clause-puts c =
 
 pub returns-in-None-clause-puts : goal.returns-in-None-clause-puts
 returns-in-None-clause-puts c =
-    group-still (Groups c.args.groups.now) c.args.groups.now c.feed.new.self c.args.rec c.args.at c.args.timestamp c.args.text.now.items refl
+    group-still (Groups c.args.groups.now) c.args.groups.now c.feed.new.self c.args.rec c.args.at c.args.timestamp c.args.to.now.text.items refl
     c.in-None.ensures.ends c.in-None.ensures.stands

@@ -6,7 +6,7 @@ use Rattle.flow_measure.proofs.rows.rows.put_packet.Goals as goal
 
 pub returns-clause-puts : goal.returns-clause-puts
 returns-clause-puts c = λ timestamp.
-    let old = c.args.text.now.items in
+    let old = c.args.to.now.text.items in
     let line = c.of_packet.result.now in
     let self = Packets c.args.packets.now in
     on-ok c.extend_from_slice.result c.extend_from_slice.new.self.items (old ++ line) old

@@ -1,15 +1,24 @@
-use Rattle.std.proofs.Common.{refl, ap}
-use Rattle.std.specs.Prelude.{is_some}
-use Rattle.frame_group.proofs.Expecting.{none-after, none-before, some-after}
+use Rattle.std.proofs.Common.{◌∙◌}
+use Rattle.frame_group.proofs.Expecting.{expected-is, none-after, none-before, some-after}
 use Rattle.frame_group.proofs.grouper.Grouper.expected.Goals as goal
 
-pub returns-in_default : goal.returns-in_default
-returns-in_default c = λ pt packets s. none-before c.args.self.now pt packets c.in_default.is s
+pub returns-in_default-clause-is : goal.returns-in_default-clause-is
+returns-in_default-clause-is c = none-before c.args.self.now.pt c.args.self.now.before c.in_default.is
 
-pub returns-then-before : goal.returns-then-before
-returns-then-before c = λ pt packets s. none-after c.args.self.now c.in-Some.before pt packets c.in-Some.is (rw c.if-before.true refl) s
+pub returns-in_default-clause-follows : goal.returns-in_default-clause-follows
+returns-in_default-clause-follows c = λ pt packets s.
+    none-before c.args.self.now.pt c.args.self.now.before c.in_default.is ∙ expected-is c.args.self.now pt packets s
 
-pub returns : goal.returns
-returns c = λ pt packets s.
-    some-after c.args.self.now c.in-Some.before pt packets c.in-Some.is c.if-before.false
-    (ap is_some (c.args.self.now.sound c.in-Some.before c.in-Some.is)) s
+pub returns-then-before-clause-is : goal.returns-then-before-clause-is
+returns-then-before-clause-is c = none-after c.args.self.now.pt c.args.self.now.before c.in-Some.before c.in-Some.is c.if-before.true
+
+pub returns-then-before-clause-follows : goal.returns-then-before-clause-follows
+returns-then-before-clause-follows c = λ pt packets s.
+    none-after c.args.self.now.pt c.args.self.now.before c.in-Some.before c.in-Some.is c.if-before.true ∙ expected-is c.args.self.now pt packets s
+
+pub returns-clause-is : goal.returns-clause-is
+returns-clause-is c = some-after c.args.self.now.pt c.args.self.now.before c.in-Some.before c.in-Some.is c.if-before.false
+
+pub returns-clause-follows : goal.returns-clause-follows
+returns-clause-follows c = λ pt packets s.
+    some-after c.args.self.now.pt c.args.self.now.before c.in-Some.before c.in-Some.is c.if-before.false ∙ expected-is c.args.self.now pt packets s

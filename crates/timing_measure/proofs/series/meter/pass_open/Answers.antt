@@ -5,6 +5,6 @@ use Rattle.timing_measure.proofs.series.meter.pass_open.Goals as goal
 pub returns-in-Some : goal.returns-in-Some
 returns-in-Some c =
     if-ok c.pass.result
-    (λ _ passes. on-some c.args.last.now c.in-Some.rows c.pass.new.self c.args.packet.now c.args.tai c.args.text.now.items c.pass.new.text.items c.in-Some.is
-    passes)
+    (λ _ passes. on-some c.args.last.now c.in-Some.rows c.pass.new.self c.args.packet.now c.args.tai c.args.to.now.text.items
+    c.pass.new.to.text.items c.in-Some.is passes)
     c.pass.ensures

@@ -10,8 +10,8 @@ returns-clause-told g c = λ text whole.
     let long : c.len-number.result ≡ length c.args.comparing.now.notes.items = search rules in
     compares-next text c.args.count c.args.comparing.now (record { notes = c.push.new.self; pairing = c.take_source.new.taker }) c.turn.new.self
     c.take_source.new.taker c.in_ok-taken.taken
-    c.turn.ensures.first c.turn.ensures.second (c.turn.ensures.takes_first ∙ ap (λ n. n == 0) long)
-    (c.turn.ensures.takes_second ∙ ap (λ n. n + 1 == c.args.count) long) c.turn.ensures.skew
+    c.turn.ensures.first c.turn.ensures.second (c.turn.ensures.first_here ∙ ap (λ n. n == 0) long)
+    (c.turn.ensures.second_here ∙ ap (λ n. n + 1 == c.args.count) long) c.turn.ensures.skew
     (c.in_ok-taken.ensures.told text whole) c.in_ok-push.ensures.items refl
 
 pub returns-clause-given : goal.returns-clause-given

@@ -7,10 +7,10 @@ use Rattle.flow_measure.proofs.rows.rows.RunRows.put.Goals as goal
 
 pub returns-in-Packets-clause-puts : goal.returns-in-Packets-clause-puts
 returns-in-Packets-clause-puts c =
-    subst (λ (x : RunRows). IfOk c.put_packet.result (λ _. PutsRow x (Packets c.put_packet.new.packets) c.args.rec c.args.at c.args.timestamp
-    c.args.text.now.items c.put_packet.new.text.items)) (sym c.in-Packets.is) (c.put_packet.ensures.puts c.args.timestamp)
+    subst (λ (x : RunRows). IfOk c.put_packet.result (λ _. PutsRow x (Packets c.put_packet.new.packets) c.args.rec c.args.at c.args.ticks
+    c.args.to.now.text.items c.put_packet.new.to.text.items)) (sym c.in-Packets.is) (c.put_packet.ensures.puts c.args.ticks)
 
 pub returns-in-Groups-clause-puts : goal.returns-in-Groups-clause-puts
 returns-in-Groups-clause-puts c =
-    subst (λ (x : RunRows). IfOk c.put_group.result (λ _. PutsRow x (Groups c.put_group.new.groups) c.args.rec c.args.at c.args.timestamp
-    c.args.text.now.items c.put_group.new.text.items)) (sym c.in-Groups.is) c.put_group.ensures.puts
+    subst (λ (x : RunRows). IfOk c.put_group.result (λ _. PutsRow x (Groups c.put_group.new.groups) c.args.rec c.args.at c.args.ticks
+    c.args.to.now.text.items c.put_group.new.to.text.items)) (sym c.in-Groups.is) c.put_group.ensures.puts

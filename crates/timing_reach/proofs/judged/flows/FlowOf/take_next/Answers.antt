@@ -8,11 +8,14 @@ pub returns-clause-goes : goal.returns-clause-goes
 returns-clause-goes g c = λ _.
     let target = target_of c.args.self.now.media in
     let p = c.in-Some.expected in
-    let is = carried target p c.args.frame.now c.in-Some.ensures in
+    let is = carried target p c.args.frame.now c.in-Some.ensures.carried in
     (_, datagram-carried target p c.args.frame.now is, refl)
 
 pub returns-clause-takes : goal.returns-clause-takes
 returns-clause-takes g c = λ _.
     let r : Record = record { number = c.args.number; stamp = c.args.at; bytes = c.args.frame.now } in
-    let is = carried (target_of c.args.self.now.media) c.in-Some.expected r.bytes c.in-Some.ensures in
-    c.in_ok-take_packet.ensures.takes r (packet-carried c.args.self.now.media c.in-Some.expected r is) refl
+    let is = carried (target_of c.args.self.now.media) c.in-Some.expected r.bytes c.in-Some.ensures.carried in
+    record {
+      media = refl;
+      fed = c.in_ok-take_expected.ensures.takes c.args.self.now.media r (packet-carried c.args.self.now.media c.in-Some.expected r is) refl;
+    }
