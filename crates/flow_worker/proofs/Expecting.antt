@@ -6,8 +6,10 @@ use Rattle.timing_base.specs.Captures.{Record}
 use Rattle.timing_base.specs.Media.{Media}
 use Rattle.timing_base.specs.declared.packet.Rtp.{Rtp}
 use Rattle.timing_base.specs.declared.target.Target.{Target}
+use Rattle.udp_rtp.specs.Awaited.{awaited, carries_awaited}
 use Rattle.udp_rtp.specs.Carried.{carries}
 use Rattle.udp_rtp.specs.Frames.{Datagram, payload_at}
+use Rattle.udp_rtp.proofs.Awaiting.{awaited-carried}
 use Rattle.udp_rtp.proofs.PlainFrames.{carried, datagram-carried, reading-carried}
 use Rattle.ruled_intake.specs.Packets.{packet_of}
 use Rattle.flow_worker.specs.Expecting.{IsExpected}
@@ -38,6 +40,15 @@ expected-before all es i after d within each = All-set (IsExpected all) es i _ (
 pub is-ahead : (all : List Media) (u : Upcoming) (d e : Expected) → ahead u d < length u.each → All (IsExpected all) u.each
     → IsExpected all (expected_ahead u d e)
 is-ahead all u d e within each = All-get_or (IsExpected all) u.each (ahead u d) e within each
+
+-- the target and the packet of a frame that carries what is expected of that media, whose target it is
+pub carried-ahead : (all : List Media) (u : Upcoming) (d e : Expected) (frame : List ℕ) → ahead u d < length u.each → All (IsExpected all) u.each
+    → carries_awaited (awaited (expected_ahead u d e).awaited) frame ≡ true
+    → (target : Target) × (p : Rtp) × (awaited (expected_ahead u d e).awaited ≡ Some (target, p)) × (carries target p frame ≡ true)
+    × (media_to target 0 all ≡ Some (expected_ahead u d e).media)
+carried-ahead all u d e frame within each h =
+    let (target, p, is, it) = awaited-carried (awaited (expected_ahead u d e).awaited) frame h in
+    (target, p, is, it, is-ahead all u d e within each target p is)
 
 -- a record whose frame carries this packet to this target has it, of the first media with the target
 pub packet-expected : (all : List Media) (target : Target) (p : Rtp) (media : ℕ) (r : Record) → carries target p r.bytes ≡ true

@@ -1,5 +1,6 @@
 -- The packet that is expected after those of a flow: one that goes on in the frame or field of the last, as most do.
-use Rattle.std.specs.Prelude.{ℕ, ◌-◌, false, Bool, ◌==◌, ◌||◌, if◌then◌else◌, List, length, Option, Some, None, Ok, is_some}
+use Rattle.std.specs.Prelude.{ℕ, ◌-◌, false, Bool, ◌==◌, ◌||◌, if◌then◌else◌}
+use Rattle.std.specs.Prelude.{List, length, Option, Some, None, Ok, is_some}
 use Rattle.timing_base.specs.Flows.{first_fault, has_marker, next_number, rtp}
 use Rattle.timing_base.specs.declared.packet.FlowPacket.{FlowPacket}
 use Rattle.timing_base.specs.declared.packet.Rtp.{Rtp}

@@ -14,8 +14,8 @@ invariant_of-self c = record {
 -- it goes on so
 pub invariant_of-self-2 : goal.invariant_of-self-2
 invariant_of-self-2 c = record {
-  awaits = awaits-next (awaited c.args.self.now.awaited) _ c.args.self.now.target c.args.self.now.judge c.feed_judged.new.self c.args.self.now.awaits c.go_on.ensures
-      (c.if-not-feed_judged.ensures.took refl).next;
+  awaits = awaits-next (awaited c.args.self.now.awaited) _ c.args.self.now.target c.args.self.now.judge c.feed_judged.new.self c.args.self.now.awaits
+      c.go_on.ensures (c.if-not-feed_judged.ensures.took refl).next;
 }
 
 pub returns-then-not-feed_judged-clause-other : goal.returns-then-not-feed_judged-clause-other
