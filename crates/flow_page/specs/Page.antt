@@ -12,8 +12,6 @@ use Rattle.timing_report.specs.Words.{group_name}
 use Rattle.flow_measure.specs.declared.numbers.MeasuredFlow.{MeasuredFlow}
 use Rattle.flow_measure.specs.declared.numbers.MeasuredRun.{MeasuredRun}
 use Rattle.flow_page.specs.chart.Figures.{told}
-use Rattle.capture_scan.specs.report.Contents.{Contents}
-use Rattle.capture_scan.specs.report.Text.{contents_text}
 use Rattle.flow_page.specs.Around.{around_figures}
 use Rattle.flow_page.specs.Head.{legend, note_line, page_end, page_start}
 use Rattle.flow_page.specs.Levels.{level_figures}
@@ -79,12 +77,12 @@ flow_parts tai session flows = flat_map (λ f. flow_part tai (flow_media session
 abbrev pub contents_told : List ℕ → List ℕ
 contents_told lines = told (codes "<h2>What the capture holds</h2>\n<div class=\"scroll\"><pre>") lines
 
--- what the capture holds, as `scan` prints it
-unfoldable pub contents_part : List ℕ → FileNote → Contents → List ℕ
-contents_part name note c = contents_told (contents_text name note c) ++ codes "</pre></div>\n"
+-- what the capture holds, told in these lines
+unfoldable pub contents_part : List ℕ → List ℕ
+contents_part lines = contents_told lines ++ codes "</pre></div>\n"
 
--- the page of a capture of this name that ends so
-abbrev pub page_of : List ℕ → FileNote → (tai : ℕ) → List Media → List FlowPage → Contents → List ℕ
-page_of name note tai session flows c =
+-- the page of a capture of this name that ends so, with what it holds in these lines
+abbrev pub page_of : List ℕ → FileNote → (tai : ℕ) → List Media → List FlowPage → List ℕ → List ℕ
+page_of name note tai session flows lines =
     page_start name ++ (note_line note ++ (media_table session flows ++ (legend ++ (flow_parts tai session flows
-    ++ (contents_part name note c ++ page_end)))))
+    ++ (contents_part lines ++ page_end)))))

@@ -4,7 +4,6 @@ ghost use Rattle.std.specs.Prelude.{◌≡◌, ◌+◌, ◌++◌, IfOk, Some, st
 ghost use Rattle.std.specs.List.{flat_map};
 ghost use Rattle.timing_base.specs.Targets.{target_of};
 ghost use Rattle.timing_report.specs.Words.{group_name};
-ghost use Rattle.capture_scan.specs.report.Contents.{contents_of};
 ghost use Rattle.flow_page.specs.Media.{AreOfMedia};
 ghost use Rattle.flow_page.specs.Page.{contents_part, contents_told, flow_heading, flow_part, flow_parts, page_of, part_if, run_grid, run_heading, run_tables, words_list};
 ghost use Rattle.flow_page.specs.Words.{utc};
@@ -19,7 +18,6 @@ use crate::often::{add_gap_figure, add_often_of};
 use crate::shown::{FlowPage, ShownRun, TypeShown, types_shown};
 use crate::timings::{add_steps_line, add_timing_figures, period_of};
 use crate::words::{Clock, add_words, utc};
-use capture_scan::Found;
 use flow_measure::{MeasuredFlow, MeasuredRun};
 use std::alloc::{AllocError as OutOfMemory, Global};
 use timing_base::{FileNote, Media, Session, Target};
@@ -207,24 +205,17 @@ fn add_contents(text: &mut String, lines: &str) -> Result<(), OutOfMemory>
     )
 }
 
-/// Adds what the capture holds, as `scan` prints it.
-fn add_contents_part(
-    text: &mut String,
-    alloc: Global,
-    name: &str,
-    note: FileNote,
-    found: &Found,
-) -> Result<(), OutOfMemory>
-    ensures { IfOk result (λ _. string_bytes text.new
-        ≡ string_bytes text.old ++ contents_part name.now note (contents_of found.now)) }
+/// Adds what the capture holds.
+fn add_contents_part(text: &mut String, contents: &str) -> Result<(), OutOfMemory>
+    ensures { IfOk result (λ _. string_bytes text.new ≡ string_bytes text.old ++ contents_part contents.now) }
 {
-    let contents = capture_scan::report::text_of(alloc, name, note, found)?;
-    add_contents(text, contents.as_str())?;
+    add_contents(text, contents)?;
     add_markup(text, "</pre></div>\n")
 }
 
 /// The page of a capture of this name. `note` says how the capture ends, `tai` how many seconds were added to its
-/// stamps, each flow is of a media of the session, and `found` is what the capture holds. `Err` is want of memory.
+/// stamps, each flow is of a media of the session, and `contents` says what the capture holds, as `scan` prints it. `Err`
+/// is want of memory.
 ///
 /// It needs nothing else: no script, and nothing that is fetched. Numbers stand where their size puts them, rounded down
 /// to a tenth of a unit of their picture; what of names HTML would read as markup is escaped.
@@ -235,11 +226,10 @@ pub fn page_text(
     tai: u32,
     session: &Session,
     flows: &[FlowPage],
-    found: &Found,
+    contents: &str,
 ) -> Result<String, OutOfMemory>
     requires { AreOfMedia session.now flows.now }
-    ensures { IfOk result (λ s. string_bytes s
-        ≡ page_of name.now note tai session.now flows.now (contents_of found.now)) }
+    ensures { IfOk result (λ s. string_bytes s ≡ page_of name.now note tai session.now flows.now contents.now) }
 {
     let mut text = String::new(alloc);
     add_page_start(&mut text, name)?;
@@ -247,7 +237,7 @@ pub fn page_text(
     add_media_table(&mut text, alloc, session, flows)?;
     add_legend(&mut text)?;
     add_flow_parts(&mut text, alloc, tai, session, flows)?;
-    add_contents_part(&mut text, alloc, name, note, found)?;
+    add_contents_part(&mut text, contents)?;
     add_page_end(&mut text)?;
     Ok(text)
 }

@@ -11,6 +11,7 @@ use Rattle.flow_page.specs.Page.{page_of}
 use Rattle.flow_page.specs.declared.shown.FlowPage.{FlowPage}
 use Rattle.pcap_reader.specs.Records.{Records}
 use Rattle.capture_scan.specs.report.Contents.{Contents}
+use Rattle.capture_scan.specs.report.Text.{contents_text}
 use Rattle.timing_measure.specs.Each.{EachOf}
 use Rattle.timing_measure.specs.Measures.{MeasureInputRose, has_run, measure_ends}
 use Rattle.timing_reach.specs.Asked.{ReadsCapture}
@@ -40,7 +41,7 @@ page_status note pages =
 -- the answer on a capture of this name, which ends so and holds this, with these flows of a session
 abbrev pub paged : (name : List ℕ) → FileNote → (tai : ℕ) → List Media → List FlowPage → Contents → Answer
 paged name note tai media pages c = record {
-  text = page_of name note tai media pages c;
+  text = page_of name note tai media pages (contents_text name note c);
   status = page_status note pages;
 }
 

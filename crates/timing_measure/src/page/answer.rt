@@ -7,6 +7,7 @@ ghost use Rattle.capture_scan.specs.report.Contents.{contents_of};
 ghost use Rattle.timing_measure.specs.page.Pages.{is_judged, page_ends, page_status, paged};
 
 use crate::page::readings::PageReading;
+use capture_scan::report::text_of;
 use flow_page::{FlowPage, page_text};
 use std::alloc::{AllocError as OutOfMemory, Global};
 use timing_base::{CaptureJob, FileNote, Session};
@@ -55,17 +56,19 @@ pub fn paged(
 {
     let name = job.capture.as_str();
     let pages = reading.reading.flows.as_slice();
+    let note = reading.reading.note;
+    let contents = text_of(alloc, name, note, &reading.found)?;
     let text = page_text(
         alloc,
         name,
-        reading.reading.note,
+        note,
         job.tai as u32,
         session,
         pages,
-        &reading.found,
+        contents.as_str(),
     )?;
     Ok(Answer {
         text: text.into_bytes(),
-        status: status_of(reading.reading.note, pages),
+        status: status_of(note, pages),
     })
 }

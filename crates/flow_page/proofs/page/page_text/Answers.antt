@@ -1,5 +1,4 @@
 use Rattle.std.proofs.Common.{List, ℕ, ◌++◌, ap, ◌∙◌}
-use Rattle.capture_scan.specs.report.Contents.{contents_of}
 use Rattle.timing_report.proofs.Appends.{two}
 use Rattle.flow_page.specs.Head.{legend, note_line, page_end, page_start}
 use Rattle.flow_page.specs.Media.{media_table}
@@ -15,7 +14,7 @@ returns c =
     let d : List ℕ = media_table session flows in
     let e : List ℕ = legend in
     let f : List ℕ = flow_parts c.args.tai session flows in
-    let g : List ℕ = contents_part c.args.name.now c.args.note (contents_of c.args.found.now) in
+    let g : List ℕ = contents_part c.args.contents.now in
     let h : List ℕ = page_end in
     two _ a (b ++ (d ++ (e ++ (f ++ (g ++ h))))) _ _ c.in_ok-add_page_start.ensures
     (two _ b (d ++ (e ++ (f ++ (g ++ h)))) _ _ c.in_ok-add_note_line.ensures
