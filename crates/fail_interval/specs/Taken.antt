@@ -28,8 +28,8 @@ pub record TakesCarried (at : ℕ) (bytes : List ℕ) (old new : MediaJudge) : T
 
 -- whatever packets the judge was fed, this is the one expected after them
 abbrev pub IsExpected : FlowJudge → Rtp → Type 0
-IsExpected judge p = (m : Media) (key : FlowKey) (tai : ℕ) (packets : List FlowPacket) → StandsFor m key tai judge packets
-    → Some p ≡ expected_after packets m.pt
+IsExpected judge p = (m : Media) (key : FlowKey) (tai : ℕ) (packets : List FlowPacket)
+    → StandsFor m key tai judge packets → Some p ≡ expected_after packets m.pt
 
 -- so many judges have taken it, and the others are as they were
 abbrev pub TakesUpTo : Record → ℕ → (olds news : List MediaJudge) → Type 0

@@ -4,7 +4,7 @@
 //! The capture is read once to judge its flows. Where a run is judged, it is read again: each flow is judged once more,
 //! and the judged packets of each judged run go to a meter. What the second reading comes to is held against the first.
 //!
-//! - `bank`: the flows of all media, taken in one pass.
+//! - `bank`: the flows of all media, taken in one pass; `both`: two that take each record.
 //! - `laws`: texts have one answer; judged runs and their stamps worked by hand.
 //! - `metering`: what judges and measures a flow, and tells whether two readings found the same.
 //! - `page`, `series`: these commands.

@@ -22,7 +22,8 @@ pub returns-clause-packet : goal.returns-clause-packet
 returns-clause-packet c = λ all h.
     let e = expected_ahead c.args.self.now c.index-self-self.result c.index-self-place.result in
     let r : Record = record { number = c.args.number; stamp = c.args.at; bytes = c.args.frame.now } in
-    let (target, p, is, it, goes) = carried-ahead all c.args.self.now c.index-self-self.result c.index-self-place.result r.bytes (search rules) h (search rules) in
+    let (target, p, is, it, goes) = carried-ahead all c.args.self.now c.index-self-self.result c.index-self-place.result r.bytes
+    (search rules) h (search rules) in
     let same : c.packet.result ≡ p = c.packet.ensures ∙ packet-awaited e.awaited target p is in
     packet-expected all target p e.media r it goes
     ∙ ap (λ x. Some (packet_of e.media record { rec = r.number; at = r.stamp; rtp = Ok x })) (sym same)
@@ -31,7 +32,8 @@ returns-clause-packet c = λ all h.
 pub returns-clause-media : goal.returns-clause-media
 returns-clause-media c = λ all h.
     let e = expected_ahead c.args.self.now c.index-self-self.result c.index-self-place.result in
-    let (target, _, _, _, goes) = carried-ahead all c.args.self.now c.index-self-self.result c.index-self-place.result c.args.frame.now (search rules) h (search rules) in
+    let (target, _, _, _, goes) = carried-ahead all c.args.self.now c.index-self-self.result c.index-self-place.result c.args.frame.now
+    (search rules) h (search rules) in
     let below : e.media < 0 + length all = media_to-below target 0 e.media all goes in
     let same : c.new.result.media ≡ e.media = ap (λ (p : Packet). p.media) c.new.ensures.value in
     omega (arith, below, same)
