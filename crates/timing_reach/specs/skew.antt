@@ -1,4 +1,5 @@
 pub mod Added
+pub mod Awaits
 pub mod Paired
 pub mod Pairs
 pub mod Comparing

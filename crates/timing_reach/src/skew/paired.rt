@@ -4,10 +4,12 @@ ghost use Rattle.std.specs.Prelude.{◌≡◌, ◌∷◌, [], None, IfSome};
 ghost use Rattle.std.specs.List.{cons_option};
 ghost use Rattle.std.specs.Option.{ForSome};
 ghost use Rattle.timing_base.specs.Captures.{IsStamp};
+ghost use Rattle.timing_base.specs.Targets.{target_of};
 ghost use Rattle.udp_rtp.specs.Flow.{flow_packet};
+ghost use Rattle.timing_reach.specs.skew.Awaits.{AwaitsAt};
 
-use timing_base::{FlowPacket, Media, Rtp};
-use udp_rtp::{carries, packet_of};
+use timing_base::{FlowPacket, Media};
+use udp_rtp::{Awaited, packet_of};
 
 /// One of two flows that are compared.
 #[derive(Drop)]
@@ -15,8 +17,9 @@ pub struct PairedFlow {
     pub media: Media,
     /// Whether the flow is in the capture that is read.
     pub is_here: bool,
-    /// The packet that follows the last one that was read.
-    next: Rtp,
+    /// The packet that is expected next, as the numbers of a frame that carries it; or nothing.
+    awaited: Awaited,
+    ghost awaits: { AwaitsAt (target_of media) awaited },
 }
 
 impl PairedFlow {
@@ -29,7 +32,7 @@ impl PairedFlow {
         PairedFlow {
             media: *media,
             is_here: false,
-            next: none_yet(),
+            awaited: Awaited::nothing(),
         }
     }
 
@@ -43,7 +46,7 @@ impl PairedFlow {
     {
         let packet = packet_of(&self.media, number, at, frame);
         if let Some(FlowPacket { rtp: Ok(rtp), .. }) = packet {
-            self.next = packet_after(rtp);
+            self.awaited = Awaited::after(self.media.target(), rtp);
         }
         packet
     }
@@ -59,16 +62,16 @@ impl PairedFlow {
             ≡ packets_in self.old (record { number = number; stamp = at; bytes = frame.now } ∷ [])) }
         ensures stamp { ForSome result (λ packet. IsStamp packet.at) }
     {
-        let expected = self.next;
-        if !self.is_here || !carries(frame, self.media.target(), expected) {
+        if !self.is_here || !self.awaited.is_in(frame) {
             return None;
         }
-        self.next.number = expected.number.wrapping_add(1);
-        Some(FlowPacket {
+        let packet = FlowPacket {
             rec: number,
             at,
-            rtp: Ok(expected),
-        })
+            rtp: Ok(self.awaited.packet()),
+        };
+        self.awaited.go_on();
+        Some(packet)
     }
 
     /// The packet that a record is of the flow, where that is in this capture. Most are as is expected.
@@ -87,26 +90,5 @@ impl PairedFlow {
             Some(packet) => Some(packet),
             None => self.read_packet(number, at, frame),
         }
-    }
-}
-
-/// A packet that no frame carries.
-fn none_yet() -> Rtp {
-    Rtp {
-        number: 0,
-        timestamp: 0,
-        marker: true,
-        pt: 0,
-        ssrc: 0,
-    }
-}
-
-/// The packet that is expected after this one in its frame or field.
-#[inline(always)]
-fn packet_after(rtp: Rtp) -> Rtp {
-    Rtp {
-        number: rtp.number.wrapping_add(1),
-        marker: false,
-        ..rtp
     }
 }
