@@ -58,8 +58,8 @@ last-more files items b count within =
     ∙ ap (λ n. taken_of (n == count) b items) (sym long) ∙ ap (taken_of (length (files ++ items ∷ []) == count) b) (sym last)
 
 -- no capture was read yet
-pub compared-none : (a b : Media) (count : ℕ) (c : Comparing) → c.notes.items ≡ [] → c.pairing.first.media ≡ a → c.pairing.second.media ≡ b → StandsFor c.pairing.skew [] []
-    → AreCompared [] a b count c
+pub compared-none : (a b : Media) (count : ℕ) (c : Comparing) → c.notes.items ≡ [] → c.pairing.first.media ≡ a → c.pairing.second.media ≡ b
+    → StandsFor c.pairing.skew [] [] → AreCompared [] a b count c
 compared-none a b count c none first second stands = record {
   files = [];
   records = subst (AreRecords [] []) (sym none) tt;
