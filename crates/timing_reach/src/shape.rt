@@ -24,7 +24,7 @@ use timing_outside::{Shelf, Sink};
 use timing_report::Status;
 
 /// A flow is shaped.
-#[derive(Clone, Copy, Debug, PartialEq, Eq)]
+#[derive(Clone, Copy)]
 struct ShapeLook {
     kind: Kind,
     /// Whether the delayed packets are listed, in place of a capture.

@@ -15,7 +15,7 @@ use std::alloc::{AllocError as OutOfMemory, Global};
 use timing_base::{Judged, Media};
 
 /// A flow that was judged in one run.
-#[derive(Clone, Copy, Debug, PartialEq, Eq)]
+#[derive(Clone, Copy)]
 pub struct SeenRun {
     /// The seconds that are added to its stamps.
     pub tai: u64,

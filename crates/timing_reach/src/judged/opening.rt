@@ -8,7 +8,7 @@ ghost use Rattle.timing_base.specs.declared.packet.FlowPacket.{FlowPacket as Pac
 use timing_base::FlowPacket;
 
 /// The stamp of the packet behind the first marker of a flow, as far as the flow has come.
-#[derive(Clone, Copy, Debug, PartialEq, Eq)]
+#[derive(Clone, Copy)]
 pub struct Opening {
     /// Whether a packet had the marker.
     pub is_marked: bool,

@@ -11,7 +11,7 @@ use timing_base::{Judged, Kind, Media};
 const END: u64 = 4_294_967_296_000_000_000;
 
 /// What becomes of the next packet of a flow.
-#[derive(Clone, Copy, Debug, PartialEq, Eq)]
+#[derive(Clone, Copy)]
 pub enum Turn {
     /// It comes before the judged packets, or behind them.
     Beside,
@@ -28,7 +28,7 @@ pub enum Turn {
 }
 
 /// The judged packets of a flow that left, and those that are still to come.
-#[derive(Clone, Copy, Debug, PartialEq, Eq)]
+#[derive(Clone, Copy)]
 pub struct Leaver {
     pub params: Params,
     pub shaper: Shaper,

@@ -10,7 +10,7 @@ use std::fmt;
 use timing_report::Status;
 
 /// What holds a packet back, as a line has it.
-#[derive(Clone, Copy, Debug)]
+#[derive(Clone, Copy)]
 struct BoundWord {
     bound: Bound,
 }

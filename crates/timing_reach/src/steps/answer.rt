@@ -6,7 +6,7 @@ use timing_report::Status;
 
 /// What the texts of a request define: the bytes on standard output, and the status. Contracts see
 /// the bytes.
-#[derive(Debug, Drop)]
+#[derive(Drop)]
 pub struct Answer {
     /// What is printed, whole.
     pub text: Vec<u8>,

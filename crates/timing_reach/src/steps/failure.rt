@@ -5,7 +5,7 @@ use timing_outside::OpenFault;
 use timing_report::{Input, Status};
 
 /// Why a run has no answer, or not the whole of it on its output.
-#[derive(Clone, Copy, Debug, PartialEq, Eq)]
+#[derive(Clone, Copy)]
 pub enum Failure {
     /// This input couldn't be fetched, or a read of it failed.
     ReadFault(Input),

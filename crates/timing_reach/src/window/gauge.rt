@@ -52,7 +52,7 @@ impl FirstGroup {
 }
 
 /// A flow with a whole group.
-#[derive(Clone, Copy, Debug, PartialEq, Eq)]
+#[derive(Clone, Copy)]
 struct GroupGauge {
     params: Params,
     /// The meters of all packets behind the first marker.

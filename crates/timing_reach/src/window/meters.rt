@@ -10,7 +10,7 @@ use sender_params::Params;
 use timing_base::Kind;
 
 /// The windows of the packets so far of one flow, for each sender type.
-#[derive(Clone, Copy, Debug, PartialEq, Eq)]
+#[derive(Clone, Copy)]
 pub struct WindowMeters {
     pub narrow: WindowMeter,
     pub narrow_linear: WindowMeter,

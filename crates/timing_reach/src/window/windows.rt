@@ -12,7 +12,7 @@ use timing_base::Kind;
 use timing_report::{Status, kind_name};
 
 /// The offsets that would keep the buffer of a flow, for each sender type.
-#[derive(Clone, Copy, Debug, PartialEq, Eq)]
+#[derive(Clone, Copy)]
 pub struct Windows {
     pub narrow: Window,
     pub narrow_linear: Window,
@@ -20,7 +20,7 @@ pub struct Windows {
 }
 
 /// The packet that binds an end, as a line has it.
-#[derive(Clone, Copy, Debug)]
+#[derive(Clone, Copy)]
 struct BindingWord {
     /// Counted from 0.
     packet: Option<u64>,
@@ -41,7 +41,7 @@ impl fmt::Display for BindingWord {
 }
 
 /// An end of a window, as a line has it.
-#[derive(Clone, Copy, Debug)]
+#[derive(Clone, Copy)]
 struct EndWord {
     end: WindowEnd,
 }
