@@ -1,5 +1,6 @@
 -- for other crates
 pub mod Confirmed
+pub mod Judges
 pub mod Runs
 -- of this crate alone
 mod Awaiting
@@ -10,7 +11,6 @@ mod Fit
 mod Flows
 mod Going
 mod HandWorked
-mod Judges
 mod Judging
 mod Limits
 mod Lulls

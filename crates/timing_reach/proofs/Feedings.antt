@@ -1,20 +1,17 @@
 -- A judge is fed the packet that it expects.
 use Rattle.std.specs.Prelude.{IfSome, IsOkAnd, Result, Ok, Err, ⊤}
-use Rattle.std.proofs.Common.{◌≡◌, ℕ, ◌∷◌, [], ◌++◌, Option, Some, None, refl, subst}
+use Rattle.std.proofs.Common.{◌≡◌, ℕ, Option, Some, None, refl}
 use Rattle.timing_base.specs.declared.packet.PacketFault.{PacketFault}
 use Rattle.timing_base.specs.declared.packet.Rtp.{Rtp}
-use Rattle.fail_interval.specs.Stands.{StandsFor, Takes, TakesExpected}
+use Rattle.fail_interval.specs.Stands.{Takes, TakesExpected}
 use Rattle.fail_interval.specs.Taken.{IsExpected}
 use Rattle.fail_interval.specs.declared.judge.FlowJudge.{FlowJudge}
+use Rattle.fail_interval.proofs.Judges.{takes_expected}
 
 -- what holds of whatever is there
 pub if-some : {X : Type 0} (o : Option X) (P : X → Type 0) → ((x : X) → o ≡ Some x → P x) → IfSome o P
 if-some None P h = tt
 if-some (Some x) P h = h x refl
-
--- two that are one
-same-packet : (a b : Rtp) (o : Option Rtp) → Some a ≡ o → o ≡ Some b → b ≡ a
-same-packet a b o first second = cc
 
 -- a judge that took the packet that it expects was fed that one
 pub takes-expected : {E : Type 0} (old new : FlowJudge) (rec_number at : ℕ) (rtp : Result Rtp PacketFault) → IsOkAnd rtp (λ p. IsExpected old p)
@@ -22,9 +19,7 @@ pub takes-expected : {E : Type 0} (old new : FlowJudge) (rec_number at : ℕ) (r
 takes-expected old new rec_number at (Err fault) expects takes = absurd expects
 takes-expected old new rec_number at (Ok rtp) expects takes = record {
   fed = takes.fed;
-  stands = λ m key tai packets h.
-      subst (λ (p : Rtp). StandsFor m key tai new (packets ++ record { rec = rec_number; at = at; rtp = Ok p } ∷ []))
-      (same-packet rtp _ _ (expects m key tai packets h) (takes.expects m key tai packets h)) (takes.stands m key tai packets rec_number h);
+  stands = takes_expected old new at rtp expects takes rec_number;
   spends = tt;
   stays = λ spent. absurd (takes.going spent);
 }
