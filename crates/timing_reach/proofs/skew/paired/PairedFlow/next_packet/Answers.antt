@@ -27,5 +27,6 @@ returns-clause-packets c =
     let is : carries_awaited (awaited flow.awaited) r.bytes ≡ true = search rules in
     let (target, p, was, goes) = awaited-carried (awaited flow.awaited) r.bytes is in
     let to : carries (target_of flow.media) p r.bytes ≡ true = subst (λ t. carries t p r.bytes ≡ true) (flow.awaits target p was) goes in
-    subst (λ q. record { rec = r.number; at = r.stamp; rtp = Ok q } ∷ [] ≡ packets_in flow (r ∷ [])) (sym (c.packet.ensures ∙ packet-awaited flow.awaited target p was))
+    subst (λ q. record { rec = r.number; at = r.stamp; rtp = Ok q } ∷ [] ≡ packets_in flow (r ∷ []))
+    (sym (c.packet.ensures ∙ packet-awaited flow.awaited target p was))
     (packet-here flow.is_here flow.media r _ here (packet-carried flow.media p r (carried (target_of flow.media) p r.bytes to)))
