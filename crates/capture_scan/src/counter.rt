@@ -163,7 +163,7 @@ impl Arrival {
 }
 
 /// The numbers of a stream, and what the next packet is compared with.
-#[derive(Clone, Copy, Debug)]
+#[derive(Clone, Copy)]
 pub struct Counter {
     pub stream: Stream,
     /// The number of the last packet.

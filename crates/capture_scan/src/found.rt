@@ -30,7 +30,7 @@ pub struct Span {
 }
 
 /// What is told of a capture.
-#[derive(Debug, Drop)]
+#[derive(Drop)]
 pub struct Found {
     pub records: u64,
     /// `None` where there is no record.

@@ -7,7 +7,7 @@ use crate::packet::Packet;
 use timing_base::Target;
 
 /// A stream: the address and the port that its packets go to, and their synchronisation source.
-#[derive(Clone, Copy, Debug, PartialEq, Eq, Hash)]
+#[derive(Clone, Copy, PartialEq, Eq, Hash)]
 pub struct StreamKey {
     pub address: u32,
     pub port: u16,
@@ -15,7 +15,7 @@ pub struct StreamKey {
 }
 
 /// A target: an address and a port.
-#[derive(Clone, Copy, Debug, PartialEq, Eq, Hash)]
+#[derive(Clone, Copy, PartialEq, Eq, Hash)]
 pub struct TargetKey {
     pub address: u32,
     pub port: u16,

@@ -6,7 +6,7 @@ ghost use Rattle.capture_scan.specs.Counting.{mark_next, mark_of};
 use timing_base::Rtp;
 
 /// A packet with the marker.
-#[derive(Clone, Copy, Debug)]
+#[derive(Clone, Copy)]
 pub struct Mark {
     /// Its place in its stream, counted from 0.
     pub place: u64,

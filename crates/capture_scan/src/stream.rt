@@ -3,7 +3,7 @@
 use timing_base::Target;
 
 /// When a packet came.
-#[derive(Clone, Copy, Debug, PartialEq, Eq)]
+#[derive(Clone, Copy)]
 pub struct Arrival {
     /// The number of its record, counted from 1.
     pub rec: u64,
@@ -13,7 +13,7 @@ pub struct Arrival {
 
 /// The order of a stream's sequence numbers, which have 16 bits (RFC 3550, section 5.1): each is compared with
 /// the one before.
-#[derive(Clone, Copy, Debug, PartialEq, Eq)]
+#[derive(Clone, Copy)]
 pub struct Order {
     /// The sequence numbers that were passed over, going on.
     pub lost: u64,
@@ -26,14 +26,14 @@ pub struct Order {
 }
 
 /// The least and the greatest of some numbers.
-#[derive(Clone, Copy, Debug, PartialEq, Eq)]
+#[derive(Clone, Copy)]
 pub struct Range {
     pub least: u64,
     pub greatest: u64,
 }
 
 /// A mean, as its sum and how many there are.
-#[derive(Clone, Copy, Debug, PartialEq, Eq)]
+#[derive(Clone, Copy)]
 pub struct Rate {
     /// The sum of the steps, in ticks of 90 kHz.
     pub ticks: u128,
@@ -42,7 +42,7 @@ pub struct Rate {
 }
 
 /// From one packet with the marker to the next.
-#[derive(Clone, Copy, Debug, PartialEq, Eq)]
+#[derive(Clone, Copy)]
 pub struct Pace {
     /// How many packets come, with the second of the two.
     pub frame: Range,
@@ -53,7 +53,7 @@ pub struct Pace {
 }
 
 /// The first line headers of a stream's packets.
-#[derive(Clone, Copy, Debug, PartialEq, Eq)]
+#[derive(Clone, Copy)]
 pub struct Lines {
     /// The greatest line number, counted from 0.
     pub greatest: u16,
@@ -62,7 +62,7 @@ pub struct Lines {
 }
 
 /// What is told of a stream: of the packets with one target and one SSRC, in the order of their records.
-#[derive(Clone, Copy, Debug, PartialEq, Eq)]
+#[derive(Clone, Copy)]
 pub struct Stream {
     /// The address and the port that its first packet comes from.
     pub source: Target,

@@ -16,7 +16,7 @@ enum Place {
 }
 
 /// How many of the numbers so far belong to each bin up to a limit, and how many to none.
-#[derive(Clone, Copy, Debug, PartialEq, Eq)]
+#[derive(Clone, Copy)]
 pub struct Bins {
     /// The greatest number that belongs to a bin.
     pub limit: u64,

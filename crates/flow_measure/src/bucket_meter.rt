@@ -7,7 +7,7 @@ use drain_bucket::Bucket;
 use sender_params::Params;
 
 /// The bucket of one flow, at the packets so far.
-#[derive(Clone, Copy, Debug, PartialEq, Eq)]
+#[derive(Clone, Copy)]
 pub struct BucketMeter {
     /// The packets fed.
     pub seen: u64,

@@ -8,7 +8,7 @@ const MOST: usize = 64;
 
 /// How many of the numbers so far belong to each class: class 0 has the zeros, and class c, from 1 on, the
 /// numbers from 2^(c - 1) to 2^c - 1.
-#[derive(Clone, Copy, Debug, PartialEq, Eq)]
+#[derive(Clone, Copy)]
 pub struct Classes {
     counts: [u64; MOST],
     /// The classes up to the last one that has a number.

@@ -7,7 +7,7 @@ ghost use Rattle.flow_measure.specs.Columns.{column_at, width_of};
 use std::alloc::{AllocError, Global};
 
 /// The least and the greatest of some numbers.
-#[derive(Clone, Copy, Debug, PartialEq, Eq)]
+#[derive(Clone, Copy)]
 pub struct Extremes {
     /// The least of them.
     pub least: i128,
@@ -41,7 +41,7 @@ impl Extremes {
 
 /// The columns of the numbers so far, which come in groups of one size, laid over each other. Where all
 /// numbers are one group, these are the columns of their curve.
-#[derive(Debug, Drop)]
+#[derive(Drop)]
 pub struct Columns {
     /// The numbers of a group.
     pub group: u64,

@@ -10,7 +10,7 @@ use crate::summary::SummaryMeter;
 use sender_params::Params;
 
 /// What the first packets and the RTP timestamps of the groups so far say.
-#[derive(Clone, Copy, Debug, PartialEq, Eq)]
+#[derive(Clone, Copy)]
 pub struct FirstMeter {
     /// The groups fed.
     pub seen: u64,

@@ -7,7 +7,7 @@ use crate::numbers::Gaps;
 use crate::summary::SummaryMeter;
 
 /// The times from each packet so far to the next, in nanoseconds.
-#[derive(Clone, Copy, Debug, PartialEq, Eq)]
+#[derive(Clone, Copy)]
 pub struct GapMeter {
     /// The packets fed.
     pub seen: u64,

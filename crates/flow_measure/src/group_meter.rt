@@ -11,7 +11,7 @@ use crate::summary::{Summary, SummaryMeter};
 use sender_params::Params;
 
 /// What the packets and RTP timestamps of groups say, as a run's numbers have it.
-#[derive(Clone, Copy, Debug, PartialEq, Eq)]
+#[derive(Clone, Copy)]
 pub struct GroupNumbers {
     pub first: Summary,
     pub last: Summary,
@@ -21,7 +21,7 @@ pub struct GroupNumbers {
 }
 
 /// What the packets and RTP timestamps of the groups so far say.
-#[derive(Clone, Copy, Debug, PartialEq, Eq)]
+#[derive(Clone, Copy)]
 pub struct GroupMeter {
     /// The packets fed.
     pub walk: GroupWalk,

@@ -6,7 +6,7 @@ ghost use Rattle.sender_params.specs.Reads.{anchor_of};
 use sender_params::Params;
 
 /// How far the packets of a run have come among its groups.
-#[derive(Clone, Copy, Debug, PartialEq, Eq)]
+#[derive(Clone, Copy)]
 pub struct GroupWalk {
     /// The packets of a group.
     pub n: u32,

@@ -13,7 +13,7 @@ use timing_base::Kind;
 
 /// How near the packets so far of one flow come to the limits of one sender type, and how often they break
 /// them.
-#[derive(Clone, Copy, Debug, PartialEq, Eq)]
+#[derive(Clone, Copy)]
 pub struct KindMeter {
     /// The packets fed.
     pub seen: u64,

@@ -9,7 +9,7 @@ use timing_base::Kind;
 
 /// What a packet finds: what the bucket holds just after it, and what the buffer says of it by the reads of each
 /// schedule.
-#[derive(Clone, Copy, Debug, PartialEq, Eq)]
+#[derive(Clone, Copy, PartialEq, Eq)]
 pub struct Level {
     pub bucket: i128,
     pub gapped: Held,
@@ -19,7 +19,7 @@ pub struct Level {
 /// How near the packets so far of one flow come to the limits of the types N, NL and W.
 ///
 /// The last packets of a group that find the same wait, and are fed to the meters of the types at once.
-#[derive(Clone, Copy, Debug, PartialEq, Eq)]
+#[derive(Clone, Copy)]
 pub struct KindMeters {
     /// The packets fed.
     pub seen: u64,

@@ -16,7 +16,7 @@ const NONE: i128 = i128::MAX;
 
 /// The reads of one schedule in parts of a nanosecond, from `GROUPS_BEFORE` groups before 0 of TAI on: read
 /// k * `n` + j is at `start + k * group + j * step`.
-#[derive(Clone, Copy, Debug, PartialEq, Eq)]
+#[derive(Clone, Copy)]
 struct Reads {
     /// The parts of a nanosecond.
     den: u64,
@@ -63,7 +63,7 @@ impl Reads {
 }
 
 /// The next packet's own read.
-#[derive(Clone, Copy, Debug, PartialEq, Eq)]
+#[derive(Clone, Copy)]
 struct OwnRead {
     reads: Reads,
     /// Its number.
@@ -155,7 +155,7 @@ pub struct Margins {
 }
 
 /// By how much the packets so far of one flow come before their own reads, of one schedule.
-#[derive(Clone, Copy, Debug, PartialEq, Eq)]
+#[derive(Clone, Copy)]
 pub struct MarginMeter {
     /// The packets fed.
     pub seen: u64,

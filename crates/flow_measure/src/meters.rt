@@ -14,7 +14,7 @@ use crate::target::target_of;
 use sender_params::Params;
 
 /// The meters of one run, once its first packet is known.
-#[derive(Clone, Copy, Debug, PartialEq, Eq)]
+#[derive(Clone, Copy)]
 pub struct RunMeters {
     /// The packets fed.
     pub seen: u64,

@@ -5,7 +5,7 @@ ghost use Rattle.std.specs.Prelude.{◌≡◌, ◌<◌, ◌+◌, ◌^◌, ℕ, O
 use crate::numbers::Place;
 
 /// A packet whose place is asked for, if there is one.
-#[derive(Clone, Copy, Debug, PartialEq, Eq)]
+#[derive(Clone, Copy)]
 pub struct Named {
     /// Its number, counted from 0.
     to: Option<u64>,

@@ -7,7 +7,7 @@ use crate::summary::Summary;
 use timing_base::{Items, Judged, Verdict};
 
 /// What the receiver buffer held at each packet by the reads of one schedule.
-#[derive(Clone, Copy, Debug, PartialEq, Eq)]
+#[derive(Clone, Copy)]
 pub struct Buffer {
     /// What it held just after each packet, in packets, reads at that instant done; below 0 where the reads are ahead.
     pub occupancy: Summary,
@@ -25,7 +25,7 @@ pub struct Place {
 }
 
 /// How near a run comes to the limits of one sender type, and how often it breaks them.
-#[derive(Clone, Copy, Debug, PartialEq, Eq)]
+#[derive(Clone, Copy)]
 pub struct KindNumbers {
     /// The groups that have a packet that breaks a model.
     pub groups_broken: u64,
@@ -44,14 +44,14 @@ pub struct KindNumbers {
 }
 
 /// The times from each packet to the next, in nanoseconds.
-#[derive(Clone, Copy, Debug, PartialEq, Eq)]
+#[derive(Clone, Copy)]
 pub struct Gaps {
     pub summary: Summary,
     pub classes: Classes,
 }
 
 /// The numbers of one judged run. Packets and groups count from 0.
-#[derive(Clone, Copy, Debug, PartialEq, Eq)]
+#[derive(Clone, Copy)]
 pub struct RunNumbers {
     /// What the bucket held just after each packet, in packets.
     pub bucket: Summary,
@@ -78,7 +78,7 @@ pub struct RunNumbers {
 }
 
 /// A judged run of a flow and its numbers.
-#[derive(Clone, Copy, Debug, PartialEq, Eq)]
+#[derive(Clone, Copy)]
 pub struct MeasuredRun {
     /// Which of the flow's runs it is, judged or not, counted from 1.
     pub run: u32,
@@ -91,7 +91,7 @@ pub struct MeasuredRun {
 }
 
 /// A flow and its judged runs.
-#[derive(Debug, Drop)]
+#[derive(Drop)]
 pub struct MeasuredFlow {
     /// The media, counted from 0.
     pub media: u32,

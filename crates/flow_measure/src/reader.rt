@@ -13,7 +13,7 @@ use read_schedule::Schedule;
 use sender_params::Params;
 
 /// What the buffer says of one packet.
-#[derive(Clone, Copy, Debug, PartialEq, Eq)]
+#[derive(Clone, Copy, PartialEq, Eq)]
 pub struct Held {
     /// What it holds just after the packet came, in packets; below 0 where the reads are more.
     pub occupancy: i128,
@@ -22,7 +22,7 @@ pub struct Held {
 }
 
 /// The reads of one schedule and the packets so far of one flow: their margins, and the occupancy at the next.
-#[derive(Clone, Copy, Debug, PartialEq, Eq)]
+#[derive(Clone, Copy)]
 pub struct ScheduleMeter {
     /// The packets fed.
     pub seen: u64,

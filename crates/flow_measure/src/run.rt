@@ -10,7 +10,7 @@ use sender_params::Params;
 /// The numbers of the judged packets of one run, as far as they were fed.
 ///
 /// It keeps no history: its size, some five thousand bytes, doesn't grow with what it is fed.
-#[derive(Clone, Copy, Debug, PartialEq, Eq)]
+#[derive(Clone, Copy)]
 pub struct RunMeter {
     /// The packets fed.
     pub seen: u64,

@@ -6,7 +6,7 @@ use crate::frames::step_of;
 use crate::summary::{Summary, SummaryMeter};
 
 /// The steps from the RTP timestamp of each group so far to that of the next, in ticks of 90 kHz.
-#[derive(Clone, Copy, Debug, PartialEq, Eq)]
+#[derive(Clone, Copy)]
 pub struct StepMeter {
     /// The groups fed.
     pub seen: u64,

@@ -4,7 +4,7 @@ ghost use Rattle.std.specs.Prelude.{◌≡◌, ◌<◌, ◌≤◌, ◌+◌, ◌*
 ghost use Rattle.std.specs.Int.{int_max, int_min};
 
 /// The summary of whole numbers, of which there is one at least. It has their unit.
-#[derive(Clone, Copy, Debug, PartialEq, Eq)]
+#[derive(Clone, Copy)]
 pub struct Summary {
     /// The least of them.
     pub least: i128,
@@ -38,7 +38,7 @@ impl Summary {
 }
 
 /// The summary of the numbers so far.
-#[derive(Clone, Copy, Debug, PartialEq, Eq)]
+#[derive(Clone, Copy)]
 pub struct SummaryMeter {
     /// The numbers fed.
     pub seen: u64,

@@ -14,7 +14,7 @@ use timing_base::{Judged, Kind};
 use timing_report::kind_name;
 
 /// What a picture is of.
-#[derive(Clone, Copy, Debug, PartialEq, Eq)]
+#[derive(Clone, Copy)]
 enum Level {
     Bucket,
     /// The buffer by gapped reads.
@@ -24,7 +24,7 @@ enum Level {
 }
 
 /// What a picture goes over.
-#[derive(Clone, Copy, Debug, PartialEq, Eq)]
+#[derive(Clone, Copy)]
 pub(crate) enum View {
     WholeRun,
     /// One group, with all groups laid over each other.
@@ -32,7 +32,7 @@ pub(crate) enum View {
 }
 
 /// A limit, and the first packet that is above it.
-#[derive(Clone, Copy, Debug, PartialEq, Eq)]
+#[derive(Clone, Copy)]
 struct LimitOn {
     limit: u64,
     first: Option<u64>,
@@ -233,7 +233,7 @@ fn level_lines(alloc: Global, level: Level, types: &[TypeShown]) -> Result<Vec<L
 }
 
 /// The first packet above a limit, where one is.
-#[derive(Clone, Copy, Debug)]
+#[derive(Clone, Copy)]
 struct FirstTold {
     first: Option<u64>,
 }

@@ -30,7 +30,7 @@ pub(crate) fn add_table_close(text: &mut String) -> Result<(), OutOfMemory>
 }
 
 /// Pass or fail of a type, and its peaks with their limits.
-#[derive(Clone, Copy, Debug)]
+#[derive(Clone, Copy)]
 struct TypeCells {
     shown: TypeShown,
 }

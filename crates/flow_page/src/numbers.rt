@@ -14,7 +14,7 @@ use timing_base::Judged;
 use timing_report::{class_name, first_passing, kind_name};
 
 /// A cell that may be empty.
-#[derive(Clone, Copy, Debug)]
+#[derive(Clone, Copy)]
 struct CellIf {
     number: Option<u64>,
 }
@@ -34,7 +34,7 @@ impl fmt::Display for CellIf {
 }
 
 /// A row of a summary: least, greatest and sum alone.
-#[derive(Clone, Copy, Debug)]
+#[derive(Clone, Copy)]
 struct LevelRow {
     name: &'static str,
     summary: Summary,
@@ -57,7 +57,7 @@ impl fmt::Display for LevelRow {
 }
 
 /// The least and the greatest number of a summary.
-#[derive(Clone, Copy, Debug)]
+#[derive(Clone, Copy)]
 struct ExtremeCells {
     summary: Summary,
 }
@@ -76,7 +76,7 @@ impl fmt::Display for ExtremeCells {
 }
 
 /// The first and the last number of a summary.
-#[derive(Clone, Copy, Debug)]
+#[derive(Clone, Copy)]
 struct EndCells {
     summary: Summary,
 }
@@ -95,7 +95,7 @@ impl fmt::Display for EndCells {
 }
 
 /// A row of all of a summary.
-#[derive(Clone, Copy, Debug)]
+#[derive(Clone, Copy)]
 struct SummaryRow {
     name: &'static str,
     summary: Summary,
@@ -120,7 +120,7 @@ impl fmt::Display for SummaryRow {
 }
 
 /// The row of the steps of the timestamp, where there are two groups.
-#[derive(Clone, Copy, Debug)]
+#[derive(Clone, Copy)]
 struct StepRow {
     step: Option<Summary>,
 }
@@ -144,7 +144,7 @@ impl fmt::Display for StepRow {
 }
 
 /// The row of the times between packets, where there are two.
-#[derive(Clone, Copy, Debug)]
+#[derive(Clone, Copy)]
 struct GapRow {
     gap: Option<Gaps>,
 }
@@ -248,7 +248,7 @@ fn types_open() -> &'static str
 }
 
 /// What a type says of the bucket.
-#[derive(Clone, Copy, Debug)]
+#[derive(Clone, Copy)]
 struct BucketCells {
     shown: TypeShown,
 }
@@ -273,7 +273,7 @@ impl fmt::Display for BucketCells {
 }
 
 /// What a type says of the buffer.
-#[derive(Clone, Copy, Debug)]
+#[derive(Clone, Copy)]
 struct BufferCells {
     shown: TypeShown,
 }
@@ -298,7 +298,7 @@ impl fmt::Display for BufferCells {
 }
 
 /// What a type says of reads.
-#[derive(Clone, Copy, Debug)]
+#[derive(Clone, Copy)]
 struct ReadCells {
     shown: TypeShown,
 }

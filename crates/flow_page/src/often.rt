@@ -93,7 +93,7 @@ fn often_title(alloc: Global, what: &str, kind: Kind) -> Result<String, OutOfMem
 }
 
 /// How many packets of all are above a limit.
-#[derive(Clone, Copy, Debug)]
+#[derive(Clone, Copy)]
 struct AboveOf {
     above: u64,
     seen: u64,

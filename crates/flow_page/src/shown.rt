@@ -10,7 +10,7 @@ use timing_report::{buffer_peak, verdict_on};
 
 /// The columns of a run: at most 1,000 over all its packets or groups, and at most 500 of its groups laid over each
 /// other.
-#[derive(Debug, Drop)]
+#[derive(Drop)]
 pub struct Curves {
     /// What the bucket holds just after each packet.
     pub bucket: Items<Extremes>,
@@ -33,7 +33,7 @@ pub struct Curves {
 }
 
 /// The packets around a fail: at most 400 columns of the model that breaks.
-#[derive(Debug, Drop)]
+#[derive(Drop)]
 pub struct Region {
     /// The type that fails.
     pub kind: Kind,
@@ -45,7 +45,7 @@ pub struct Region {
 }
 
 /// The run of a flow of which there are pictures.
-#[derive(Debug, Drop)]
+#[derive(Drop)]
 pub struct ShownRun {
     pub run: MeasuredRun,
     /// The stamps of its first and its last judged packet, in nanoseconds, with the seconds that are added.
@@ -57,7 +57,7 @@ pub struct ShownRun {
 }
 
 /// A flow and what is shown of it.
-#[derive(Debug, Drop)]
+#[derive(Drop)]
 pub struct FlowPage {
     pub flow: MeasuredFlow,
     /// Its run with the most judged packets, where one is judged.
@@ -65,7 +65,7 @@ pub struct FlowPage {
 }
 
 /// What a judged run shows of a sender type. Packets and groups count from 0.
-#[derive(Clone, Copy, Debug, PartialEq, Eq)]
+#[derive(Clone, Copy)]
 pub(crate) struct TypeShown {
     pub(crate) kind: Kind,
     pub(crate) verdict: KindVerdict,

@@ -15,7 +15,7 @@ use std::fmt;
 use timing_base::{Judged, Media};
 
 /// What a picture is of.
-#[derive(Clone, Copy, Debug, PartialEq, Eq)]
+#[derive(Clone, Copy)]
 enum Timing {
     /// The first packet of each group.
     First,
@@ -76,7 +76,7 @@ fn timing_unit(timing: Timing) -> Unit
 }
 
 /// So many of what its numbers count.
-#[derive(Clone, Copy, Debug)]
+#[derive(Clone, Copy)]
 struct Most {
     timing: Timing,
     most: i128,
@@ -146,7 +146,7 @@ fn drift_of(first: i128, last: i128, span: u64) -> u128
 }
 
 /// A minus, where the last one is earlier.
-#[derive(Clone, Copy, Debug)]
+#[derive(Clone, Copy)]
 struct MinusIf {
     summary: Summary,
 }
@@ -167,7 +167,7 @@ impl fmt::Display for MinusIf {
 }
 
 /// How packets drift, of two groups or more.
-#[derive(Clone, Copy, Debug)]
+#[derive(Clone, Copy)]
 struct DriftText {
     summary: Summary,
     groups: u64,
@@ -195,7 +195,7 @@ impl fmt::Display for DriftText {
 }
 
 /// How packets drift, where a picture is of packets.
-#[derive(Clone, Copy, Debug)]
+#[derive(Clone, Copy)]
 struct Drift {
     timing: Timing,
     summary: Summary,

@@ -12,7 +12,7 @@ use timing_base::{FailProof, KindVerdict};
 use timing_report::kind_name;
 
 /// The last two digits of a number.
-#[derive(Clone, Copy, Debug)]
+#[derive(Clone, Copy)]
 struct Two {
     number: u64,
 }
@@ -29,7 +29,7 @@ impl fmt::Display for Two {
 }
 
 /// The last three digits of a number.
-#[derive(Clone, Copy, Debug)]
+#[derive(Clone, Copy)]
 struct Three {
     number: u64,
 }
@@ -53,7 +53,7 @@ impl fmt::Display for Three {
 }
 
 /// The time of day of an instant, in nanoseconds since the begin of a day.
-#[derive(Clone, Copy, Debug)]
+#[derive(Clone, Copy)]
 pub(crate) struct Clock {
     pub(crate) ns: u64,
 }
@@ -94,7 +94,7 @@ pub(crate) fn utc(tai: u32, stamp: u64) -> u64
 }
 
 /// Pass or fail, by a word and a sign.
-#[derive(Clone, Copy, Debug)]
+#[derive(Clone, Copy)]
 pub(crate) struct Sign {
     pub(crate) verdict: KindVerdict,
 }
@@ -114,7 +114,7 @@ impl fmt::Display for Sign {
 }
 
 /// So many of a thing.
-#[derive(Clone, Copy, Debug)]
+#[derive(Clone, Copy)]
 pub(crate) struct Counted {
     pub(crate) count: i128,
     /// What one of them is called.
@@ -142,7 +142,7 @@ impl fmt::Display for Counted {
 }
 
 /// After how many packets something is above its limit, where it ever is.
-#[derive(Clone, Copy, Debug)]
+#[derive(Clone, Copy)]
 struct Above {
     what: &'static str,
     count: u64,
@@ -174,7 +174,7 @@ impl fmt::Display for Above {
 }
 
 /// By how much the worst packet is late.
-#[derive(Clone, Copy, Debug)]
+#[derive(Clone, Copy)]
 struct Worst {
     late: Late,
 }
@@ -199,7 +199,7 @@ fn lateness(slack: i128) -> u128
 }
 
 /// How many packets come late, where one does.
-#[derive(Clone, Copy, Debug)]
+#[derive(Clone, Copy)]
 struct Late {
     late: u64,
     slack: i128,
@@ -231,7 +231,7 @@ impl fmt::Display for Late {
 }
 
 /// Where the last packet of a fail stands.
-#[derive(Clone, Copy, Debug)]
+#[derive(Clone, Copy)]
 struct Named {
     to: u64,
     tai: u32,
@@ -262,7 +262,7 @@ impl fmt::Display for Named {
 }
 
 /// By how much a type passes, or how it fails.
-#[derive(Clone, Copy, Debug)]
+#[derive(Clone, Copy)]
 struct Outcome {
     shown: TypeShown,
     /// What a group is called.
@@ -293,7 +293,7 @@ impl fmt::Display for Outcome {
 }
 
 /// How many groups break a type.
-#[derive(Clone, Copy, Debug)]
+#[derive(Clone, Copy)]
 struct BrokenText {
     shown: TypeShown,
     group: &'static str,
@@ -316,7 +316,7 @@ impl fmt::Display for BrokenText {
 }
 
 /// What is above its limit.
-#[derive(Clone, Copy, Debug)]
+#[derive(Clone, Copy)]
 struct OverText {
     shown: TypeShown,
 }
@@ -344,7 +344,7 @@ impl fmt::Display for OverText {
 }
 
 /// How a type fails.
-#[derive(Clone, Copy, Debug)]
+#[derive(Clone, Copy)]
 struct Breaks {
     shown: TypeShown,
     group: &'static str,
@@ -380,7 +380,7 @@ impl fmt::Display for Breaks {
 }
 
 /// The peaks and the limits of a type.
-#[derive(Clone, Copy, Debug)]
+#[derive(Clone, Copy)]
 struct Peaks {
     shown: TypeShown,
 }

@@ -6,7 +6,7 @@ use pcap_reader::Taker;
 use std::alloc::AllocError as OutOfMemory;
 
 /// What takes records and keeps nothing of them.
-#[derive(Clone, Copy, Debug, PartialEq, Eq)]
+#[derive(Clone, Copy)]
 pub struct Nothing;
 
 /// Two takers that are given the same records, in one pass.

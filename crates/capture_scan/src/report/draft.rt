@@ -11,7 +11,7 @@ use std::fmt;
 use timing_base::Target;
 
 /// A video of a draft.
-#[derive(Clone, Copy, Debug, PartialEq, Eq)]
+#[derive(Clone, Copy)]
 pub struct DraftVideo {
     /// Where the packets go; its port is above 0.
     pub target: Target,
@@ -28,7 +28,7 @@ pub struct DraftVideo {
 }
 
 /// A draft of a session description: its videos, at most 64, each with a target of its own.
-#[derive(Debug, Drop)]
+#[derive(Drop)]
 pub struct Draft {
     pub videos: Vec<DraftVideo>,
 }
@@ -154,7 +154,7 @@ impl Draft {
 }
 
 /// An address of a connection.
-#[derive(Clone, Copy, Debug)]
+#[derive(Clone, Copy)]
 struct ConnectionText {
     address: u32,
 }
@@ -176,7 +176,7 @@ impl fmt::Display for ConnectionText {
 }
 
 /// A rate as a fraction.
-#[derive(Clone, Copy, Debug)]
+#[derive(Clone, Copy)]
 struct RatioText {
     rate: FrameRate,
 }
@@ -198,7 +198,7 @@ impl fmt::Display for RatioText {
 }
 
 /// That the pictures are two fields each, where they are.
-#[derive(Clone, Copy, Debug)]
+#[derive(Clone, Copy)]
 struct InterlaceText {
     interlaced: bool,
 }

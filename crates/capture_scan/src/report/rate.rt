@@ -7,7 +7,7 @@ use crate::{Range, Rate};
 use std::fmt;
 
 /// A frame rate that is known.
-#[derive(Clone, Copy, Debug, PartialEq, Eq)]
+#[derive(Clone, Copy)]
 pub struct FrameRate {
     /// Frames per second, of which `slowed` leaves 1000/1001.
     pub whole: u16,

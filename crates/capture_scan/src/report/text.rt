@@ -102,7 +102,7 @@ fn share(packets: u64, lost: u64) -> u128
 }
 
 /// Who sends to whom.
-#[derive(Clone, Copy, Debug)]
+#[derive(Clone, Copy)]
 struct KeyText {
     stream: Stream,
 }
@@ -126,7 +126,7 @@ impl fmt::Display for KeyText {
 }
 
 /// How many packets, where.
-#[derive(Clone, Copy, Debug)]
+#[derive(Clone, Copy)]
 struct PacketsText {
     stream: Stream,
 }
@@ -161,7 +161,7 @@ fn known_rate(fields: bool, pace: Pace) -> Option<FrameRate>
 }
 
 /// A rate, where one is known.
-#[derive(Clone, Copy, Debug)]
+#[derive(Clone, Copy)]
 struct KnownText {
     rate: Option<FrameRate>,
 }
@@ -181,7 +181,7 @@ impl fmt::Display for KnownText {
 }
 
 /// The least and the greatest of some numbers.
-#[derive(Clone, Copy, Debug)]
+#[derive(Clone, Copy)]
 struct RangeText {
     range: Range,
 }
@@ -199,7 +199,7 @@ impl fmt::Display for RangeText {
 }
 
 /// A rate, where one is known, and the steps that were seen.
-#[derive(Clone, Copy, Debug)]
+#[derive(Clone, Copy)]
 struct StepsText {
     rate: Option<FrameRate>,
     step: Range,
@@ -219,7 +219,7 @@ impl fmt::Display for StepsText {
 }
 
 /// The rate of frames, or of fields where a line of a second field was seen.
-#[derive(Clone, Copy, Debug)]
+#[derive(Clone, Copy)]
 struct RateTold {
     fields: bool,
     pace: Option<Pace>,
@@ -246,7 +246,7 @@ impl fmt::Display for RateTold {
 }
 
 /// The packets from one marker to the next.
-#[derive(Clone, Copy, Debug)]
+#[derive(Clone, Copy)]
 struct FrameTold {
     pace: Option<Pace>,
 }
@@ -269,7 +269,7 @@ impl fmt::Display for FrameTold {
 }
 
 /// What was lost.
-#[derive(Clone, Copy, Debug)]
+#[derive(Clone, Copy)]
 struct LossText {
     stream: Stream,
 }
@@ -301,7 +301,7 @@ fn lines_in(lines: Lines) -> u32
 }
 
 /// The lines of a picture, or of a field.
-#[derive(Clone, Copy, Debug)]
+#[derive(Clone, Copy)]
 struct LinesTold {
     lines: Option<Lines>,
 }

@@ -127,7 +127,7 @@ fn add_flow_front(text: &mut String, flow: &MeasuredFlow) -> Result<(), OutOfMem
 }
 
 /// The source of a flow, where there is one.
-#[derive(Clone, Copy, Debug)]
+#[derive(Clone, Copy)]
 struct Source {
     ssrc: Option<u32>,
 }

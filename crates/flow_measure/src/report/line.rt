@@ -10,7 +10,7 @@ const ROOM: usize = 512;
 
 /// A line of at most 512 bytes. It is written from its end to its front, since the length of a number is known only
 /// when its digits are.
-#[derive(Clone, Copy, Debug)]
+#[derive(Clone, Copy)]
 pub(crate) struct Line {
     bytes: [u8; ROOM],
     /// Where the bytes that were put in begin.

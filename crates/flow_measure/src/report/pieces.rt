@@ -50,7 +50,7 @@ fn add_counts(text: &mut String, counts: &[u64]) -> Result<(), OutOfMemory>
 }
 
 /// The least, the greatest and the sum of some numbers.
-#[derive(Clone, Copy, Debug)]
+#[derive(Clone, Copy)]
 pub(crate) struct Level {
     pub(crate) summary: Summary,
 }
@@ -71,7 +71,7 @@ impl fmt::Display for Level {
 }
 
 /// What the buffer holds, and how packets come to their reads.
-#[derive(Clone, Copy, Debug)]
+#[derive(Clone, Copy)]
 pub(crate) struct Held {
     pub(crate) buffer: Buffer,
 }
@@ -94,7 +94,7 @@ impl fmt::Display for Held {
 }
 
 /// The end of a summary: what its numbers are held against, where there is something.
-#[derive(Clone, Copy, Debug)]
+#[derive(Clone, Copy)]
 struct TargetEnd {
     target: Option<u64>,
 }
@@ -114,7 +114,7 @@ impl fmt::Display for TargetEnd {
 }
 
 /// All of a summary, and what its numbers are held against, where there is something.
-#[derive(Clone, Copy, Debug)]
+#[derive(Clone, Copy)]
 pub(crate) struct Whole {
     pub(crate) summary: Summary,
     pub(crate) target: Option<u64>,
@@ -145,7 +145,7 @@ impl fmt::Display for Whole {
 }
 
 /// The steps of the timestamp, where there are two groups.
-#[derive(Clone, Copy, Debug)]
+#[derive(Clone, Copy)]
 pub(crate) struct Steps {
     pub(crate) step: Option<Summary>,
 }
@@ -169,7 +169,7 @@ impl fmt::Display for Steps {
 }
 
 /// A number that may be missing, with its key and the comma after it.
-#[derive(Clone, Copy, Debug)]
+#[derive(Clone, Copy)]
 pub(crate) struct NumberIf {
     pub(crate) key: &'static str,
     pub(crate) number: Option<u64>,
@@ -190,7 +190,7 @@ impl fmt::Display for NumberIf {
 }
 
 /// Where packet `to` of a fail stands.
-#[derive(Clone, Copy, Debug)]
+#[derive(Clone, Copy)]
 struct Named {
     place: Option<Place>,
 }
@@ -211,7 +211,7 @@ impl fmt::Display for Named {
 }
 
 /// A fail.
-#[derive(Clone, Copy, Debug)]
+#[derive(Clone, Copy)]
 struct Proof {
     proof: FailProof,
     place: Option<Place>,
@@ -237,7 +237,7 @@ impl fmt::Display for Proof {
 }
 
 /// Whether a type passes, and what shows that it fails.
-#[derive(Clone, Copy, Debug)]
+#[derive(Clone, Copy)]
 pub(crate) struct Outcome {
     pub(crate) verdict: KindVerdict,
     pub(crate) place: Option<Place>,

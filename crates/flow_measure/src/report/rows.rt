@@ -7,7 +7,7 @@ ghost use Rattle.flow_measure.specs.report.Rows.{field, field_if, group_clock, g
 use crate::report::line::Line;
 
 /// A judged packet and what it finds.
-#[derive(Clone, Copy, Debug, PartialEq, Eq)]
+#[derive(Clone, Copy)]
 pub struct PacketRow {
     /// Which of the flow's runs it belongs to, judged or not, counted from 1.
     pub run: u32,
@@ -30,7 +30,7 @@ pub struct PacketRow {
 }
 
 /// A judged group.
-#[derive(Clone, Copy, Debug, PartialEq, Eq)]
+#[derive(Clone, Copy)]
 pub struct GroupRow {
     /// Which of the flow's runs it belongs to, judged or not, counted from 1.
     pub run: u32,
@@ -79,7 +79,7 @@ pub(crate) fn group_header() -> &'static str
 }
 
 /// Writes rows as lines, each in the memory of the one before.
-#[derive(Clone, Copy, Debug)]
+#[derive(Clone, Copy)]
 pub struct RowText {
     line: Line,
 }

@@ -27,7 +27,7 @@ fn step_with(before: Option<u32>, timestamp: u32) -> Option<u32>
 }
 
 /// Makes a row of each judged group of a run, at its last packet.
-#[derive(Clone, Copy, Debug, PartialEq, Eq)]
+#[derive(Clone, Copy)]
 pub struct GroupRows {
     pub levels: LevelMeter,
     /// The number in the epoch of the group to which the first packet belongs; 0 before that packet.

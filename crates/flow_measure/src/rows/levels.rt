@@ -13,7 +13,7 @@ use read_schedule::Schedule;
 use sender_params::Params;
 
 /// What is held just after a packet came, in packets.
-#[derive(Clone, Copy, Debug, PartialEq, Eq)]
+#[derive(Clone, Copy)]
 pub struct Level {
     /// By the bucket.
     pub bucket: u64,
@@ -24,7 +24,7 @@ pub struct Level {
 }
 
 /// The bucket of a run and its reads, from its first judged packet on.
-#[derive(Clone, Copy, Debug, PartialEq, Eq)]
+#[derive(Clone, Copy)]
 pub struct Levels {
     /// The packets fed.
     pub seen: u64,
@@ -89,7 +89,7 @@ impl Levels {
 }
 
 /// What is held at each judged packet of one run. Its size doesn't grow with what it is fed.
-#[derive(Clone, Copy, Debug, PartialEq, Eq)]
+#[derive(Clone, Copy)]
 pub struct LevelMeter {
     /// The packets fed.
     pub seen: u64,

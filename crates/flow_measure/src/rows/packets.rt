@@ -13,7 +13,7 @@ use crate::rows::levels::LevelMeter;
 use sender_params::Params;
 
 /// Makes a row of each judged packet of a run.
-#[derive(Clone, Copy, Debug, PartialEq, Eq)]
+#[derive(Clone, Copy)]
 pub struct PacketRows {
     /// Which of the flow's runs it is, counted from 1.
     run: u32,

@@ -22,7 +22,7 @@ pub fn header(frames: bool) -> &'static str
 }
 
 /// Rows that were made, as lines.
-#[derive(Debug, Drop)]
+#[derive(Drop)]
 pub struct Rows {
     /// The lines.
     pub text: Vec<u8>,
@@ -43,7 +43,7 @@ impl Rows {
 }
 
 /// The rows of one judged run, of its packets or of its groups.
-#[derive(Clone, Copy, Debug, PartialEq, Eq)]
+#[derive(Clone, Copy)]
 pub enum RunRows {
     Packets(PacketRows),
     Groups(GroupRows),

@@ -6,7 +6,7 @@ ghost use Rattle.flow_page.specs.chart.Marks.{high};
 
 /// An axis: its low end, how far it is from one tick to the next, and how many steps there are up to its high end. All
 /// have the unit of the numbers.
-#[derive(Clone, Copy, Debug, PartialEq, Eq)]
+#[derive(Clone, Copy)]
 pub struct Axis {
     /// The number at the low end.
     pub low: i64,

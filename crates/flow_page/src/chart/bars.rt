@@ -11,7 +11,7 @@ use std::alloc::AllocError as OutOfMemory;
 use std::fmt;
 
 /// Which numbers a bar counts.
-#[derive(Clone, Copy, Debug, PartialEq, Eq)]
+#[derive(Clone, Copy)]
 pub enum BarName {
     /// Those below 0, which are beyond a limit.
     Below,
@@ -22,7 +22,7 @@ pub enum BarName {
 }
 
 /// A bar.
-#[derive(Clone, Copy, Debug, PartialEq, Eq)]
+#[derive(Clone, Copy)]
 pub struct Bar {
     pub name: BarName,
     /// How many numbers it counts.
@@ -45,7 +45,7 @@ impl fmt::Display for BarName {
 }
 
 /// What is told at a bar.
-#[derive(Clone, Copy, Debug, PartialEq, Eq)]
+#[derive(Clone, Copy)]
 enum BarTold {
     Name(BarName),
     /// Tenths of a percent.

@@ -23,7 +23,7 @@ use std::alloc::{AllocError as OutOfMemory, Global};
 const FAR: i128 = 1 << 61;
 
 /// What stands up and side by side in a curve's picture.
-#[derive(Clone, Copy, Debug, PartialEq, Eq)]
+#[derive(Clone, Copy)]
 pub struct Scene {
     /// Whether the picture is as wide as the page; of others two stand side by side.
     pub wide: bool,

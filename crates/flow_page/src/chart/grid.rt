@@ -8,7 +8,7 @@ use crate::chart::plot::{Across, Plot, Tenths};
 use std::alloc::AllocError as OutOfMemory;
 
 /// What the numbers of an axis count.
-#[derive(Clone, Copy, Debug, PartialEq, Eq)]
+#[derive(Clone, Copy)]
 pub enum Unit {
     Packets,
     /// Told as milliseconds or microseconds where each tick of the axis is a whole one.
@@ -18,7 +18,7 @@ pub enum Unit {
 }
 
 /// What stands side by side.
-#[derive(Clone, Copy, Debug, PartialEq, Eq)]
+#[derive(Clone, Copy)]
 pub enum UnitAcross {
     /// Judged packets, from 0.
     Packet,

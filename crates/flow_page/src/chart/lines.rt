@@ -10,7 +10,7 @@ use std::alloc::AllocError as OutOfMemory;
 use std::fmt;
 
 /// What a line is the limit of.
-#[derive(Clone, Copy, Debug, PartialEq, Eq)]
+#[derive(Clone, Copy)]
 pub enum LineName {
     /// Of a narrow sender.
     Narrow,
@@ -29,7 +29,7 @@ pub enum LineName {
 }
 
 /// A line at a number.
-#[derive(Clone, Copy, Debug, PartialEq, Eq)]
+#[derive(Clone, Copy)]
 pub struct Limit {
     pub name: LineName,
     pub at: i128,
@@ -117,7 +117,7 @@ fn base_of(plot: Plot, line: Limit) -> Tenths
 
 /// The heights of the names that stand beside lines, in tenths of a unit: of the topmost and of the
 /// lowest.
-#[derive(Clone, Copy, Debug, PartialEq, Eq)]
+#[derive(Clone, Copy)]
 pub(crate) struct Names {
     top: u128,
     lowest: u128,

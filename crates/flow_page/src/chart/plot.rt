@@ -7,7 +7,7 @@ use crate::chart::axis::Axis;
 use std::fmt;
 
 /// Tenths of a unit of the picture, as `12` or `12.3`.
-#[derive(Clone, Copy, Debug, PartialEq, Eq)]
+#[derive(Clone, Copy)]
 pub struct Tenths {
     pub tenths: u128,
 }
@@ -30,7 +30,7 @@ impl fmt::Display for Tenths {
 }
 
 /// The part of a picture where numbers stand, in tenths of a unit.
-#[derive(Clone, Copy, Debug, PartialEq, Eq)]
+#[derive(Clone, Copy)]
 pub struct Panel {
     pub left: u32,
     pub width: u32,
@@ -40,7 +40,7 @@ pub struct Panel {
 
 /// What stands side by side: so many places, counted from `start`, of which each column takes `each`, the last one maybe
 /// fewer.
-#[derive(Clone, Copy, Debug, PartialEq, Eq)]
+#[derive(Clone, Copy)]
 pub struct Across {
     pub start: u64,
     pub count: u64,
@@ -48,7 +48,7 @@ pub struct Across {
 }
 
 /// A panel with what stands side by side in it, and the axis of the numbers that stand up in it.
-#[derive(Clone, Copy, Debug, PartialEq, Eq)]
+#[derive(Clone, Copy)]
 pub struct Plot {
     pub panel: Panel,
     pub axis: Axis,

@@ -9,7 +9,7 @@ use crate::chart::plot::{Panel, Plot, Tenths};
 use std::alloc::AllocError as OutOfMemory;
 
 /// Places that are shaded, counted from the first that stands in the picture.
-#[derive(Clone, Copy, Debug, PartialEq, Eq)]
+#[derive(Clone, Copy)]
 pub struct Shade {
     pub from: u64,
     /// The last of them.

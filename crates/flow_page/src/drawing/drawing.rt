@@ -30,7 +30,7 @@ fn drawn(count: u64) -> u64
 
 /// What is drawn of the judged packets of one run, as far as they were fed. Its size doesn't grow
 /// with what it is fed.
-#[derive(Debug, Drop)]
+#[derive(Drop)]
 pub struct RunDrawing {
     pub levels: LevelMeter,
     packets: PacketColumns,

@@ -10,7 +10,7 @@ use sender_params::Params;
 use std::alloc::{AllocError as OutOfMemory, Global};
 
 /// The columns of the first packets of the groups of a run.
-#[derive(Debug, Drop)]
+#[derive(Drop)]
 pub struct FirstColumns {
     /// The groups that have begun.
     pub seen: u64,
@@ -84,7 +84,7 @@ impl FirstColumns {
 }
 
 /// The columns of the groups of a run, as far as their packets came.
-#[derive(Debug, Drop)]
+#[derive(Drop)]
 pub struct GroupColumns {
     /// The packets fed; the number of their first group is unknown before the first of them.
     pub walk: GroupWalk,

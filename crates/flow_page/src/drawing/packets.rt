@@ -34,7 +34,7 @@ pub fn listed(alloc: Global, columns: &Columns) -> Result<Items<Extremes>, OutOf
 
 /// The columns of what is held after each packet: over all packets, and of all groups laid over
 /// each other.
-#[derive(Debug, Drop)]
+#[derive(Drop)]
 pub struct LevelColumns {
     /// The packets fed.
     pub seen: u64,
@@ -96,7 +96,7 @@ impl LevelColumns {
 }
 
 /// The columns of what bucket and buffer hold at the judged packets of a run.
-#[derive(Debug, Drop)]
+#[derive(Drop)]
 pub struct PacketColumns {
     /// The packets fed.
     pub seen: u64,

@@ -40,7 +40,7 @@ fn count_around(proof: FailProof, packets: u64) -> u64
 
 /// The columns around a fail of a sender type, of the model that breaks, as far as the packets
 /// came.
-#[derive(Debug, Drop)]
+#[derive(Drop)]
 pub struct RegionMeter {
     kind: Kind,
     proof: FailProof,

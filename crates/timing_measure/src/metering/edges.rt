@@ -9,14 +9,14 @@ use std::alloc::{AllocError as OutOfMemory, Global};
 use timing_base::FlowPacket;
 
 /// The stamps of the first and of the last judged packet of a run, in nanoseconds, as the capture has them.
-#[derive(Clone, Copy, Debug, PartialEq, Eq)]
+#[derive(Clone, Copy, PartialEq, Eq)]
 pub struct Edge {
     pub first: u64,
     pub last: u64,
 }
 
 /// How far a run has come, by its markers. Stamps are in nanoseconds, as the capture has them.
-#[derive(Clone, Copy, Debug, PartialEq, Eq)]
+#[derive(Clone, Copy)]
 pub enum Course {
     /// No packet has the marker.
     Head,

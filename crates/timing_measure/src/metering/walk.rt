@@ -8,7 +8,7 @@ use timing_base::FlowPacket;
 
 /// How far a flow has come. A run begins with its first packet, and with each whose number isn't the one after that of
 /// the packet before.
-#[derive(Clone, Copy, Debug, PartialEq, Eq)]
+#[derive(Clone, Copy)]
 pub struct Walk {
     /// The packets so far.
     pub packets: u64,

@@ -9,7 +9,7 @@ use crate::metering::plan::values_of;
 use timing_base::{Judged, Run, Verdict};
 
 /// The run of a flow with the most judged packets, and what is judged of it.
-#[derive(Clone, Copy, Debug, PartialEq, Eq)]
+#[derive(Clone, Copy)]
 pub struct LongestRun {
     /// Which of the flow's runs it is, judged or not, counted from 0.
     pub run: u32,

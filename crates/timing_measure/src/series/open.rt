@@ -13,7 +13,7 @@ use timing_base::{FlowPacket, Judged, Media};
 const MOST: u64 = 1 << 41;
 
 /// A judged run that isn't over, and its rows.
-#[derive(Clone, Copy, Debug, PartialEq, Eq)]
+#[derive(Clone, Copy)]
 pub struct OpenRows {
     /// The packets that are still before the judged ones.
     pub ahead: u64,

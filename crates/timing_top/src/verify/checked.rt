@@ -7,7 +7,7 @@ use timing_report::json_report::ReportProof;
 pub type Finding = Result<bool, Unjudged>;
 
 /// A fail that a report tells, and what its captures say of it.
-#[derive(Clone, Copy, Debug, PartialEq, Eq)]
+#[derive(Clone, Copy)]
 pub struct Checked {
     pub claim: ReportProof,
     pub finding: Finding,

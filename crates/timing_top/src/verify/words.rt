@@ -68,7 +68,7 @@ fn finding_word(finding: Finding) -> &'static str
 }
 
 /// A run after the first, as the line of a report's fail has it.
-#[derive(Clone, Copy, Debug)]
+#[derive(Clone, Copy)]
 struct RunWord {
     /// Counted from 0.
     run: u32,
