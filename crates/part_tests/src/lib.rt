@@ -1,5 +1,5 @@
-//! Tests of the parts, worked by hand: what is read, the numbers of a sender and of flows, what is judged and told, and what runs beside
-//! each other: lanes, books, intakes and workers.
+//! Tests of the parts up to the judges and the checker, worked by hand: what is read, the numbers of a sender and of a flow, and what is
+//! judged and claimed.
 #![tactic(auto)]
 
 #[cfg(test)]
