@@ -1,4 +1,4 @@
-//! Tests of threads, reports and words, part by part, and of whole calls: the words that the program is given, the files that it reads, and
+//! Tests of intakes and workers, reports and words, part by part, and of whole calls: the words that the program is given, the files that it reads, and
 //! what it prints.
 #![tactic(auto)]
 

@@ -11,8 +11,6 @@ mod scan;
 mod skew;
 mod texts;
 
-// What runs beside each other.
-mod books;
+// Intakes and workers.
 mod intakes;
-mod lanes;
 mod workers;

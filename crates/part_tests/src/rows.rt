@@ -26,3 +26,7 @@ mod window;
 mod bank;
 mod checker;
 mod judge;
+
+// What runs beside each other.
+mod books;
+mod lanes;

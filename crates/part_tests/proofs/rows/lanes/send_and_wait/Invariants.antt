@@ -1,5 +1,5 @@
 use Rattle.std.proofs.Common.{◌≡◌}
-use Rattle.call_tests.proofs.parts.lanes.send_ends.Given as goal
+use Rattle.part_tests.proofs.rows.lanes.send_and_wait.Given as goal
 
 abbrev pub invariant-loop-at : goal.invariant-loop-at
 invariant-loop-at g l = l.pass.lane ≡ l.lane
