@@ -1,5 +1,5 @@
-//! Tests of the parts, worked by hand: what is read, the numbers of a sender and of flows, what is judged and told, and what runs beside
-//! each other: lanes, books, intakes and workers.
+//! Tests of the parts up to the judges and the checker, and of lanes and books, worked by hand: what is read, the numbers of a sender and of
+//! a flow, what is judged and claimed, and what runs beside each other.
 #![tactic(auto)]
 
 #[cfg(test)]

@@ -12,30 +12,21 @@ mod pcapng;
 mod sdp;
 mod udp;
 
-// Fractions, the numbers of a sender, and those of one flow or two.
+// Fractions, the numbers of a sender, and those of one flow.
 mod bucket;
 mod buffer;
 mod fractions;
 mod groups;
-mod measures;
 mod reads;
 mod sender;
 mod shaper;
-mod skew;
 mod window;
 
-// Flows, claims, what a capture holds, words and texts.
+// Flows and claims.
 mod bank;
 mod checker;
-mod json;
 mod judge;
-mod lines;
-mod report;
-mod scan;
-mod texts;
 
 // What runs beside each other.
 mod books;
-mod intakes;
 mod lanes;
-mod workers;

@@ -3,6 +3,7 @@
 ghost use Rattle.std.specs.Prelude.{IfSome};
 ghost use Rattle.verdict_book.specs.Receipts.{IsOf};
 
+use super::compare::same;
 use std::process::Abort;
 use std::sync::Wait;
 use std::thread;
@@ -25,13 +26,12 @@ fn row(number: u32) -> Row {
 
 // Asserts that a row is the one with this number.
 fn is_row(rt: &impl Abort, found: &Row, number: u32) {
-    assert_eq!(rt; found.key.file, number);
-    match &found.verdict {
-        Verdict::Unjudged(Unjudged::NoWholeFrame { head }) => {
-            assert_eq!(rt; *head, u64::from(number));
-        }
-        _ => assert!(rt; false, "another verdict"),
-    }
+    same(rt, &found.key.file, &number);
+    let head = match &found.verdict {
+        Verdict::Unjudged(Unjudged::NoWholeFrame { head }) => Some(*head),
+        _ => None,
+    };
+    same(rt, &head, &Some(u64::from(number)));
 }
 
 #[test]

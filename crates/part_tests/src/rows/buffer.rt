@@ -64,25 +64,38 @@ fn after(rt: &impl Abort, params: &Params, kind: Kind, first: u64, step: u64) ->
     flow.buffer
 }
 
-#[test]
-fn plain_narrow(rt: HostRuntime) {
-    for kind in KINDS {
-        let vrx = after(&rt, &plain(), kind, FIRST, 960_000);
-        same(&rt, &vrx.fault, &None);
-        same(&rt, &vrx.peak, &1);
+// Of two frames of packets so far apart each type's buffer has this fault and this peak.
+fn comes_to(
+    rt: &impl Abort,
+    params: &Params,
+    (first, step): (u64, u64),
+    rows: &[(Kind, Option<VrxFault>, u64)],
+) {
+    for (kind, fault, peak) in rows {
+        let vrx = after(rt, params, *kind, first, step);
+        same_at(rt, kind, &(vrx.fault, vrx.peak), &(*fault, *peak));
+    }
+}
+
+// The first packet of two frames comes behind its read.
+fn is_late(rt: &impl Abort, params: &Params, first: u64) {
+    for kind in &KINDS {
+        let vrx = after(rt, params, *kind, first, 960_000);
+        same_at(rt, kind, &vrx.fault, &Some(VrxFault::Empty { packet: 0 }));
     }
 }
 
 #[test]
+fn plain_narrow(rt: HostRuntime) {
+    let rows = [(Kind::N, None, 1), (Kind::NL, None, 1), (Kind::W, None, 1)];
+    comes_to(&rt, &plain(), (FIRST, 960_000), &rows)
+}
+
+#[test]
 fn linear_sender(rt: HostRuntime) {
-    let narrow = after(&rt, &plain(), Kind::N, FIRST, 1_000_000);
-    same(&rt, &narrow.fault, &Some(VrxFault::Empty { packet: 1 }));
-    same(&rt, &narrow.peak, &1);
-    for kind in [Kind::NL, Kind::W] {
-        let vrx = after(&rt, &plain(), kind, FIRST, 1_000_000);
-        same(&rt, &vrx.fault, &None);
-        same(&rt, &vrx.peak, &1);
-    }
+    let empty = Some(VrxFault::Empty { packet: 1 });
+    let rows = [(Kind::N, empty, 1), (Kind::NL, None, 1), (Kind::W, None, 1)];
+    comes_to(&rt, &plain(), (FIRST, 1_000_000), &rows)
 }
 
 #[test]
@@ -101,39 +114,29 @@ fn five_at_once(rt: HostRuntime) {
     }
 }
 
-// TROFF=700: each packet stands on its gapped read.
-#[test]
-fn on_its_read(rt: HostRuntime) {
+// The plain sender with TROFF=700.
+fn early_reads() -> Params {
     let mut media = video(1080, false, 50, 1);
     media.troff = Some(700);
-    let params = Params::of(&media, 20);
-    let rows = [(Kind::N, 0), (Kind::NL, 1), (Kind::W, 1)];
-    for (kind, peak) in rows {
-        let vrx = after(&rt, &params, kind, SECOND + 700_000, 960_000);
-        same(&rt, &vrx.fault, &None);
-        same(&rt, &vrx.peak, &peak);
-    }
+    Params::of(&media, 20)
+}
+
+// Each packet stands on its gapped read.
+#[test]
+fn on_its_read(rt: HostRuntime) {
+    let rows = [(Kind::N, None, 0), (Kind::NL, None, 1), (Kind::W, None, 1)];
+    comes_to(&rt, &early_reads(), (SECOND + 700_000, 960_000), &rows)
 }
 
 #[test]
 fn one_ns_late(rt: HostRuntime) {
-    let mut media = video(1080, false, 50, 1);
-    media.troff = Some(700);
-    let params = Params::of(&media, 20);
-    for kind in KINDS {
-        let vrx = after(&rt, &params, kind, SECOND + 700_001, 960_000);
-        same(&rt, &vrx.fault, &Some(VrxFault::Empty { packet: 0 }));
-    }
+    is_late(&rt, &early_reads(), SECOND + 700_001)
 }
 
 // Read 0 is at 746,666 2/3 ns.
 #[test]
 fn height_720(rt: HostRuntime) {
-    let params = Params::of(&video(720, false, 50, 1), 20);
-    for kind in KINDS {
-        let vrx = after(&rt, &params, kind, FIRST, 960_000);
-        same(&rt, &vrx.fault, &Some(VrxFault::Empty { packet: 0 }));
-    }
+    is_late(&rt, &Params::of(&video(720, false, 50, 1), 20), FIRST)
 }
 
 #[test]

@@ -483,14 +483,17 @@ fn too_many_gaps(rt: HostRuntime) {
     comes_to_none(&rt, flow, want)
 }
 
-// Asserts that these two runs come of a flow.
-fn are_two(rt: &impl Abort, flow: Flow, first: Run, second: Run) {
-    match flow.finish().verdict {
-        Verdict::Runs(runs) => {
-            same(rt, &runs.list.as_slice(), &[first, second].as_slice());
-        }
-        _ => panic!(rt; "not runs"),
+// The runs of a row.
+fn runs(row: &Row) -> &[Run] {
+    match &row.verdict {
+        Verdict::Runs(runs) => runs.list.as_slice(),
+        _ => &[],
     }
+}
+
+// These runs come of a flow.
+fn comes_to_runs(rt: &impl Abort, flow: Flow, want: &[Run]) {
+    same(rt, &runs(&flow.finish()), &want);
 }
 
 #[test]
@@ -519,7 +522,7 @@ fn two_runs(rt: HostRuntime) {
         expected: Some(33),
         verdict: RunVerdict::NoWholeFrame { head: 9 },
     };
-    are_two(&rt, flow, first, second);
+    comes_to_runs(&rt, flow, &[first, second]);
 }
 
 #[test]
@@ -540,5 +543,5 @@ fn equal_low_halves(rt: HostRuntime) {
         expected: Some(8),
         verdict: RunVerdict::NoWholeFrame { head: 1 },
     };
-    are_two(&rt, flow, first, second);
+    comes_to_runs(&rt, flow, &[first, second]);
 }

@@ -3,6 +3,7 @@
 ghost use Rattle.std.specs.Prelude.{◌≡◌, length};
 ghost use Rattle.ruled_intake.specs.Lanes.{AreSenders};
 
+use super::compare::same;
 use ruled_intake::{
     Batch, Closed, FileEnd, Halt, Lane, Message, NoLesson, Packet, Reading, SendPass, TakePass,
     Turn, Working,
@@ -29,13 +30,11 @@ fn cut_at(file: u32, at: u64) -> Message {
 
 // Asserts that a message is the end of a file that is cut at this byte.
 fn is_cut_at(rt: &impl Abort, message: Option<Message>, file: u32, at: u64) {
-    match &message {
-        Some(Message::End(end)) => {
-            assert_eq!(rt; end.file, file);
-            assert_eq!(rt; end.note, FileNote::Cut { at });
-        }
-        _ => assert!(rt; false, "no end of a file"),
-    }
+    let end = match &message {
+        Some(Message::End(end)) => Some((end.file, end.note)),
+        _ => None,
+    };
+    same(rt, &end, &Some((file, FileNote::Cut { at })));
 }
 
 // Sends a message by pass f of the lane, and asserts that there is room and memory.
@@ -70,7 +69,7 @@ fn lane_order(rt: HostRuntime) {
     is_cut_at(&rt, lane.take::<NoLesson, _>(&rt, &mut taker), 1, 9);
     assert!(&rt; lane.take::<NoLesson, _>(&rt, &mut taker).is_none());
     let closed = lane.close(&rt, passes, taker);
-    assert_eq!(rt; closed, Closed { sent: 3, taken: 3 });
+    same(&rt, &closed, &Closed { sent: 3, taken: 3 });
 }
 
 // Sends 1,000 ends of the next file.
@@ -110,10 +109,10 @@ fn take_ends<R: Wait + Abort>(rt: &R, lane: &Lane, taker: TakePass, count: u64)
         let file = end.file as usize;
         assert!(rt; file < 2);
         let next = last[file].wrapping_add(1);
-        assert_eq!(rt; end.note, FileNote::Cut { at: next });
+        same(rt, &end.note, &FileNote::Cut { at: next });
         last[file] = next;
     }
-    assert_eq!(rt; last, [1000, 1000]);
+    same(rt, &last, &[1000, 1000]);
 }
 
 // Sends from a thread for each pass.
@@ -221,13 +220,18 @@ fn send_file<R: Wait + Abort>(rt: &R, alloc: Global, lane: &Lane, pass: SendPass
     counts.sent.fetch_add(1, Ordering::SeqCst);
 }
 
+// Asserts that a packet is the one that its file and its number tell.
+fn is_packet(rt: &impl Abort, found: &Packet, file: u32, number: u32) {
+    let wanted = packet(file, number);
+    same(rt, &found.media(), &wanted.media());
+    same(rt, &found.flow_packet(), &wanted.flow_packet());
+}
+
 // Asserts that the packets of a file go on at this number, and returns the one after them.
 fn goes_on(rt: &impl Abort, batch: &Batch, first: u32) -> u32 {
     let mut number = first;
     for found in batch.packets.as_slice() {
-        let wanted = packet(batch.file, number);
-        assert_eq!(rt; found.media(), wanted.media());
-        assert_eq!(rt; found.flow_packet(), wanted.flow_packet());
+        is_packet(rt, found, batch.file, number);
         number = number.wrapping_add(1);
     }
     number
@@ -263,7 +267,7 @@ fn take_files<R: Wait + Abort>(rt: &R, lane: &Lane, taker: TakePass, sent: &Atom
             Message::End(end) => {
                 let file = end.file as usize;
                 assert!(rt; file < 16);
-                assert_eq!(rt; next[file], BATCHES * 256);
+                same(rt, &next[file], &(BATCHES * 256));
                 ended = ended.wrapping_add(1);
             }
         }
@@ -320,7 +324,7 @@ fn million_packets_of_sixteen_senders(rt: HostRuntime) {
 
 #[test]
 fn packet_has_40_bytes(rt: HostRuntime) {
-    assert_eq!(rt; mem::size_of::<Packet>(), 40);
+    same(&rt, &mem::size_of::<Packet>(), &40);
 }
 
 #[test]

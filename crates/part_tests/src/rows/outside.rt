@@ -35,10 +35,11 @@ fn put(
 // Reads once, and compares what was read.
 fn reads<S: Source>(rt: &impl Abort, source: &mut S, expected: Result<&[u8], Failed>) {
     let mut buf = [0u8; 8];
-    match (source.read(&mut buf), expected) {
-        (Ok(count), Ok(bytes)) => same(rt, &(&buf[..count]), &bytes),
-        (got, expected) => same(rt, &got.is_ok(), &expected.is_ok()),
-    }
+    let got = match source.read(&mut buf) {
+        Ok(count) => Ok(&buf[..count]),
+        Err(failed) => Err(failed),
+    };
+    same(rt, &got, &expected);
 }
 
 // What is fetched under this name reads so first.

@@ -42,13 +42,22 @@ impl Kind {
         }
     }
 
+    fn is_little(self) -> bool {
+        match self {
+            Kind::LittleMicros | Kind::LittleNanos => true,
+            Kind::BigMicros | Kind::BigNanos => false,
+        }
+    }
+
     // A file header: the magic, the version, zone, sigfigs, snaplen and link type.
     fn header(self, alloc: Global, minor: u8, link: u32) -> Result<Vec<u8>, AllocError> {
         let mut out = Vec::from_slice(alloc, &self.magic())?;
-        match self {
-            Kind::LittleMicros | Kind::LittleNanos => out.extend_from_slice(&[2, 0, minor, 0])?,
-            Kind::BigMicros | Kind::BigNanos => out.extend_from_slice(&[0, 2, 0, minor])?,
-        }
+        let version = if self.is_little() {
+            [2, 0, minor, 0]
+        } else {
+            [0, 2, 0, minor]
+        };
+        out.extend_from_slice(&version)?;
         for number in [0, 0, 262_144, link] {
             self.number(&mut out, number)?;
         }
@@ -56,10 +65,12 @@ impl Kind {
     }
 
     fn number(self, out: &mut Vec<u8>, number: u32) -> Result<(), AllocError> {
-        match self {
-            Kind::LittleMicros | Kind::LittleNanos => out.extend_from_slice(&number.to_le_bytes()),
-            Kind::BigMicros | Kind::BigNanos => out.extend_from_slice(&number.to_be_bytes()),
-        }
+        let bytes = if self.is_little() {
+            number.to_le_bytes()
+        } else {
+            number.to_be_bytes()
+        };
+        out.extend_from_slice(&bytes)
     }
 
     // A record's head, the stamp in nanoseconds.

@@ -278,254 +278,262 @@ impl Around<'_> {
     }
 }
 
+static SIZES: Around = Around {
+    before: "v=0\nc=IN IP4 239.0.0.1\nm=video 5000 RTP/AVP 96\na=rtpmap:96 raw/90000\na=fmtp:96 exactframerate=25; ",
+    after: "\n",
+    good: &[
+        "width=1; height=1",
+        "width=32767 ;\theight=0000032767;; ;",
+        "WIDTH=2; Height=2",
+    ],
+    bad: &[
+        (
+            5,
+            BadParameter,
+            &[
+                "width=0; height=2",
+                "width=32768; height=2",
+                "width=2; height=0",
+                "width=2; height=32768",
+                "width=00000000002; height=2",
+                "width= 2; height=2",
+                "width=+2; height=2",
+                "width; height=2",
+                // A width in a bad form isn't missing.
+                "width=x; height=2",
+                "width=2; height=",
+                "width=2; height=2; width",
+            ],
+        ),
+        (
+            5,
+            RepeatedParameter,
+            &["width=2; height=2; height=2", "width=2; Width=2; height=2"],
+        ),
+    ],
+};
+
 #[test]
 fn sizes(rt: HostRuntime) -> Result<(), AllocError> {
-    let around = Around {
-        before: "v=0\nc=IN IP4 239.0.0.1\nm=video 5000 RTP/AVP 96\na=rtpmap:96 raw/90000\na=fmtp:96 exactframerate=25; ",
-        after: "\n",
-        good: &[
-            "width=1; height=1",
-            "width=32767 ;\theight=0000032767;; ;",
-            "WIDTH=2; Height=2",
-        ],
-        bad: &[
-            (
-                5,
-                BadParameter,
-                &[
-                    "width=0; height=2",
-                    "width=32768; height=2",
-                    "width=2; height=0",
-                    "width=2; height=32768",
-                    "width=00000000002; height=2",
-                    "width= 2; height=2",
-                    "width=+2; height=2",
-                    "width; height=2",
-                    // A width in a bad form isn't missing.
-                    "width=x; height=2",
-                    "width=2; height=",
-                    "width=2; height=2; width",
-                ],
-            ),
-            (
-                5,
-                RepeatedParameter,
-                &["width=2; height=2; height=2", "width=2; Width=2; height=2"],
-            ),
-        ],
-    };
-    around.holds(&rt, rt.alloc())
+    SIZES.holds(&rt, rt.alloc())
 }
+
+static RATES: Around = Around {
+    before: "v=0\nc=IN IP4 239.0.0.1\nm=video 5000 RTP/AVP 96\na=rtpmap:96 RaW/90000\na=fmtp:96 width=2; height=2; exactframerate",
+    after: "\n",
+    good: &[
+        "=1",
+        "=1/1001",
+        "=240",
+        "=480/2",
+        "=60000/1001",
+        "=240240/1001",
+        "=0000000025/0000000001",
+    ],
+    bad: &[(
+        5,
+        BadRate,
+        &[
+            "=241",
+            "=481/2",
+            "=240241/1001",
+            "=1/1002",
+            "=1/0",
+            "=0",
+            "=0/1",
+            "=1/",
+            "=480/2/1",
+            "",
+        ],
+    )],
+};
 
 #[test]
 fn rates(rt: HostRuntime) -> Result<(), AllocError> {
-    let around = Around {
-        before: "v=0\nc=IN IP4 239.0.0.1\nm=video 5000 RTP/AVP 96\na=rtpmap:96 RaW/90000\na=fmtp:96 width=2; height=2; exactframerate",
-        after: "\n",
-        good: &[
-            "=1",
-            "=1/1001",
-            "=240",
-            "=480/2",
-            "=60000/1001",
-            "=240240/1001",
-            "=0000000025/0000000001",
-        ],
-        bad: &[(
-            5,
-            BadRate,
-            &[
-                "=241",
-                "=481/2",
-                "=240241/1001",
-                "=1/1002",
-                "=1/0",
-                "=0",
-                "=0/1",
-                "=1/",
-                "=480/2/1",
-                "",
-            ],
-        )],
-    };
-    around.holds(&rt, rt.alloc())
+    RATES.holds(&rt, rt.alloc())
 }
+
+static OTHER_PARAMETERS: Around = Around {
+    before: "v=0\nc=IN IP4 239.0.0.1\nm=video 5000 RTP/AVP 96\na=rtpmap:96 raw/90000\na=fmtp:96 width=2; height=2; exactframerate=25; ",
+    after: "\n",
+    good: &[
+        "interlace",
+        "TP=2110TPW",
+        "TROFF=0",
+        "TROFF=1000000",
+        "CMAX=1",
+        "CMAX=65535",
+        "MAXUDP=1",
+        "MAXUDP=1460",
+        // Names that aren't known are passed over, also a second time.
+        "width =5; foo; bar=baz=1; foo",
+    ],
+    bad: &[
+        (
+            5,
+            BadParameter,
+            &[
+                "interlace=1",
+                "segmented=",
+                "TP=2110tpn",
+                "TROFF=1000001",
+                "CMAX=0",
+                "CMAX=65536",
+                "MAXUDP=0",
+                "MAXUDP=65536",
+            ],
+        ),
+        (5, ExtendedUdp, &["MAXUDP=1461", "MAXUDP=65535"]),
+        (5, Segmented, &["segmented", "interlace; segmented"]),
+        (
+            5,
+            RepeatedParameter,
+            &["tp=2110TPN; TP=2110TPN", "interlace; interlace"],
+        ),
+    ],
+};
 
 #[test]
 fn other_parameters(rt: HostRuntime) -> Result<(), AllocError> {
-    let around = Around {
-        before: "v=0\nc=IN IP4 239.0.0.1\nm=video 5000 RTP/AVP 96\na=rtpmap:96 raw/90000\na=fmtp:96 width=2; height=2; exactframerate=25; ",
-        after: "\n",
-        good: &[
-            "interlace",
-            "TP=2110TPW",
-            "TROFF=0",
-            "TROFF=1000000",
-            "CMAX=1",
-            "CMAX=65535",
-            "MAXUDP=1",
-            "MAXUDP=1460",
-            // Names that aren't known are passed over, also a second time.
-            "width =5; foo; bar=baz=1; foo",
-        ],
-        bad: &[
-            (
-                5,
-                BadParameter,
-                &[
-                    "interlace=1",
-                    "segmented=",
-                    "TP=2110tpn",
-                    "TROFF=1000001",
-                    "CMAX=0",
-                    "CMAX=65536",
-                    "MAXUDP=0",
-                    "MAXUDP=65536",
-                ],
-            ),
-            (5, ExtendedUdp, &["MAXUDP=1461", "MAXUDP=65535"]),
-            (5, Segmented, &["segmented", "interlace; segmented"]),
-            (
-                5,
-                RepeatedParameter,
-                &["tp=2110TPN; TP=2110TPN", "interlace; interlace"],
-            ),
-        ],
-    };
-    around.holds(&rt, rt.alloc())
+    OTHER_PARAMETERS.holds(&rt, rt.alloc())
 }
+
+static SEVERAL_CAUSES: Around = Around {
+    before: "v=0\nc=IN IP4 239.0.0.1\nm=video 5000 RTP/AVP 96\na=rtpmap:96 raw/90000\na=fmtp:96 height=2; segmented; MAXUDP=",
+    after: "\n",
+    good: &[],
+    bad: &[
+        (5, BadParameter, &["0; width=2; width=2; exactframerate=0"]),
+        (
+            5,
+            RepeatedParameter,
+            &["1461; width=2; width=2; exactframerate=0"],
+        ),
+        (5, BadRate, &["1461; width=2; exactframerate=0"]),
+        (5, Segmented, &["1461; width=2; exactframerate=25"]),
+    ],
+};
 
 // Two causes and more on one line: that with the smallest number.
 #[test]
 fn several_causes(rt: HostRuntime) -> Result<(), AllocError> {
-    let around = Around {
-        before: "v=0\nc=IN IP4 239.0.0.1\nm=video 5000 RTP/AVP 96\na=rtpmap:96 raw/90000\na=fmtp:96 height=2; segmented; MAXUDP=",
-        after: "\n",
-        good: &[],
-        bad: &[
-            (5, BadParameter, &["0; width=2; width=2; exactframerate=0"]),
-            (
-                5,
-                RepeatedParameter,
-                &["1461; width=2; width=2; exactframerate=0"],
-            ),
-            (5, BadRate, &["1461; width=2; exactframerate=0"]),
-            (5, Segmented, &["1461; width=2; exactframerate=25"]),
-        ],
-    };
-    around.holds(&rt, rt.alloc())
+    SEVERAL_CAUSES.holds(&rt, rt.alloc())
 }
+
+static ADDRESSES: Around = Around {
+    before: "v=0\nc=",
+    after: "\nm=video 1 RTP/AVP 0\na=rtpmap:0 raw/90000\na=fmtp:0 width=1;height=1;exactframerate=1",
+    good: &[
+        "IN IP4 0.0.0.0",
+        "IN IP4 255.255.255.255/255",
+        "IN IP4 001.02.3.4/0",
+    ],
+    bad: &[(
+        2,
+        BadAddress,
+        &[
+            "IN IP4 1.2.3",
+            "IN IP4 1.2.3.",
+            "IN IP4 1.2.3.4.5",
+            "IN IP4 256.2.3.4",
+            "IN IP4 1.2.3.256",
+            "IN IP4 1.2.3.0004",
+            "IN IP4 1.2.3.4/",
+            "IN IP4 1.2.3.4/256",
+            "IN IP4 1.2.3.4/1/2",
+            "IN IP4  1.2.3.4",
+            "in ip4 1.2.3.4",
+            "IN IP6 ::1",
+            "",
+        ],
+    )],
+};
 
 #[test]
 fn addresses(rt: HostRuntime) -> Result<(), AllocError> {
-    let around = Around {
-        before: "v=0\nc=",
-        after: "\nm=video 1 RTP/AVP 0\na=rtpmap:0 raw/90000\na=fmtp:0 width=1;height=1;exactframerate=1",
-        good: &[
-            "IN IP4 0.0.0.0",
-            "IN IP4 255.255.255.255/255",
-            "IN IP4 001.02.3.4/0",
-        ],
-        bad: &[(
-            2,
-            BadAddress,
-            &[
-                "IN IP4 1.2.3",
-                "IN IP4 1.2.3.",
-                "IN IP4 1.2.3.4.5",
-                "IN IP4 256.2.3.4",
-                "IN IP4 1.2.3.256",
-                "IN IP4 1.2.3.0004",
-                "IN IP4 1.2.3.4/",
-                "IN IP4 1.2.3.4/256",
-                "IN IP4 1.2.3.4/1/2",
-                "IN IP4  1.2.3.4",
-                "in ip4 1.2.3.4",
-                "IN IP6 ::1",
-                "",
-            ],
-        )],
-    };
-    around.holds(&rt, rt.alloc())
+    ADDRESSES.holds(&rt, rt.alloc())
 }
+
+static VIDEO_LINES: Around = Around {
+    before: "v=0\nc=IN IP4 1.2.3.4\nm=video ",
+    after: "\na=rtpmap:0 raw/90000\na=fmtp:0 width=1;height=1;exactframerate=1",
+    good: &[
+        "1 RTP/AVP 0",
+        "65535 RTP/AVP 000",
+        "0000000001 RTP/AVP 0 0 x",
+    ],
+    bad: &[(
+        3,
+        BadMedia,
+        &[
+            "",
+            " 1 RTP/AVP 0",
+            "0 RTP/AVP 0",
+            "65536 RTP/AVP 0",
+            "00000000001 RTP/AVP 0",
+            "1/2 RTP/AVP 0",
+            "1  RTP/AVP 0",
+            "1 RTP/SAVP 0",
+            "1 rtp/avp 0",
+            "1 RTP/AVP 128",
+            "1 RTP/AVP 0x",
+            "1 RTP/AVP\t0",
+            "1 RTP/AVP",
+            "1",
+        ],
+    )],
+};
 
 #[test]
 fn video_lines(rt: HostRuntime) -> Result<(), AllocError> {
-    let around = Around {
-        before: "v=0\nc=IN IP4 1.2.3.4\nm=video ",
-        after: "\na=rtpmap:0 raw/90000\na=fmtp:0 width=1;height=1;exactframerate=1",
-        good: &[
-            "1 RTP/AVP 0",
-            "65535 RTP/AVP 000",
-            "0000000001 RTP/AVP 0 0 x",
-        ],
-        bad: &[(
-            3,
-            BadMedia,
-            &[
-                "",
-                " 1 RTP/AVP 0",
-                "0 RTP/AVP 0",
-                "65536 RTP/AVP 0",
-                "00000000001 RTP/AVP 0",
-                "1/2 RTP/AVP 0",
-                "1  RTP/AVP 0",
-                "1 RTP/SAVP 0",
-                "1 rtp/avp 0",
-                "1 RTP/AVP 128",
-                "1 RTP/AVP 0x",
-                "1 RTP/AVP\t0",
-                "1 RTP/AVP",
-                "1",
-            ],
-        )],
-    };
-    around.holds(&rt, rt.alloc())
+    VIDEO_LINES.holds(&rt, rt.alloc())
 }
+
+static ACCEPTED: [&str; 4] = [
+    // The shortest, and line ends.
+    "v=0\nm=video 1 RTP/AVP 0\nc=IN IP4 1.2.3.4\na=rtpmap:0 raw/90000\na=fmtp:0 width=1;height=1;exactframerate=1",
+    "\r\n\nv=0 \t\r\nm=video 65535 RTP/AVP 127 98 x \r\nc=IN IP4 255.255.255.255/255\r\na=rtpmap:127 raw/90000\t\r\na=fmtp:127 width=1;height=1;exactframerate=1\r\n",
+    // A parameter list before its map, in two lines, with leading zeros; the first `c=` of two.
+    "v=0\nc=x\nm=video 1 RTP/AVP 000\na=fmtp:00 width=1\na=rtpmap:0000 raw/90000\na=fmtp:0 height=1;exactframerate=1\nc=IN IP4 1.2.3.4\nc=bad",
+    // Parts that are passed over.
+    "v=0\nm=audio x\nc=bad\nm=videos\nm=VIDEO\nm=video 1 RTP/AVP 0\nc=bad\na=rtpmap:0 raw/90000/2\nm=video 2 RTP/AVP 0\nc=IN IP4 1.2.3.4\na=rtpmap:0 raw/90000\na=fmtp:0 width=1;height=1;exactframerate=1",
+];
 
 // Each text is accepted.
 #[test]
 fn accepted(rt: HostRuntime) {
-    let texts = [
-        // The shortest, and line ends.
-        "v=0\nm=video 1 RTP/AVP 0\nc=IN IP4 1.2.3.4\na=rtpmap:0 raw/90000\na=fmtp:0 width=1;height=1;exactframerate=1",
-        "\r\n\nv=0 \t\r\nm=video 65535 RTP/AVP 127 98 x \r\nc=IN IP4 255.255.255.255/255\r\na=rtpmap:127 raw/90000\t\r\na=fmtp:127 width=1;height=1;exactframerate=1\r\n",
-        // A parameter list before its map, in two lines, with leading zeros; the first `c=` of two.
-        "v=0\nc=x\nm=video 1 RTP/AVP 000\na=fmtp:00 width=1\na=rtpmap:0000 raw/90000\na=fmtp:0 height=1;exactframerate=1\nc=IN IP4 1.2.3.4\nc=bad",
-        // Parts that are passed over.
-        "v=0\nm=audio x\nc=bad\nm=videos\nm=VIDEO\nm=video 1 RTP/AVP 0\nc=bad\na=rtpmap:0 raw/90000/2\nm=video 2 RTP/AVP 0\nc=IN IP4 1.2.3.4\na=rtpmap:0 raw/90000\na=fmtp:0 width=1;height=1;exactframerate=1",
-    ];
-    for text in texts {
+    for text in &ACCEPTED {
         assert_fault(&rt, rt.alloc(), text, None);
     }
 }
 
+static SINGLE_LINES: [(&str, u32, SdpCause); 17] = [
+    ("v=0\ns=\0", 2, NotText),
+    ("v=0\ns=a\rb\n", 2, NotText),
+    ("v=0\ns=a\r \n", 2, NotText),
+    ("v=0\r\r\n", 1, NotText),
+    ("v=0\r", 1, NotText),
+    ("\0", 1, NotText),
+    ("s=x\n\0\n", 1, NoVersion),
+    ("\n \n", 1, NoVersion),
+    ("\n\nv=1\nv=0", 3, NoVersion),
+    (" v=0", 1, NoVersion),
+    ("x", 1, NoVersion),
+    ("v=00", 1, NoVersion),
+    ("v=0\nA=x", 2, BadLine),
+    ("v=0\na", 2, BadLine),
+    ("v=0\na =x", 2, BadLine),
+    ("v=0\na=\nz=\n{=", 4, BadLine),
+    ("v=0\n`=", 2, BadLine),
+];
+
 #[test]
 fn single_lines(rt: HostRuntime) {
-    let rows = [
-        ("v=0\ns=\0", 2, NotText),
-        ("v=0\ns=a\rb\n", 2, NotText),
-        ("v=0\ns=a\r \n", 2, NotText),
-        ("v=0\r\r\n", 1, NotText),
-        ("v=0\r", 1, NotText),
-        ("\0", 1, NotText),
-        ("s=x\n\0\n", 1, NoVersion),
-        ("\n \n", 1, NoVersion),
-        ("\n\nv=1\nv=0", 3, NoVersion),
-        (" v=0", 1, NoVersion),
-        ("x", 1, NoVersion),
-        ("v=00", 1, NoVersion),
-        ("v=0\nA=x", 2, BadLine),
-        ("v=0\na", 2, BadLine),
-        ("v=0\na =x", 2, BadLine),
-        ("v=0\na=\nz=\n{=", 4, BadLine),
-        ("v=0\n`=", 2, BadLine),
-    ];
-    assert_faults(&rt, rt.alloc(), &rows)
+    assert_faults(&rt, rt.alloc(), &SINGLE_LINES)
 }
 
 // Parts that are passed over: a map of another format, fields that a tab cuts, and no map.
-const PASSED_OVER: Around = Around {
+static PASSED_OVER: Around = Around {
     before: "v=0\nm=video",
     after: "",
     good: &[],
@@ -540,95 +548,98 @@ const PASSED_OVER: Around = Around {
     )],
 };
 
+static RAW: Around = Around {
+    before: "v=0\nc=IN IP4 1.2.3.4\nm=video 1 RTP/AVP 0\na=rtpmap:0 raw/90000\n",
+    after: "",
+    good: &[],
+    bad: &[
+        // The part's own connection, before the session's.
+        (
+            5,
+            BadAddress,
+            &["c=bad\na=fmtp:0 width=1;height=1;exactframerate=1"],
+        ),
+        // No list at all, a list of another format beside a line without one, and no rate.
+        (
+            3,
+            MissingParameter,
+            &[
+                "",
+                "a=fmtp:0\na=fmtp:1 width=1;height=1;exactframerate=1",
+                "a=fmtp:0 width=1;height=1",
+            ],
+        ),
+        // A second time in a second line, once in a bad form.
+        (
+            6,
+            RepeatedParameter,
+            &[
+                "a=fmtp:0 width=1;height=1;exactframerate=1\na=fmtp:0 Width=1",
+                "a=fmtp:0 width=1;height=1;exactframerate=1\na=fmtp:0 exactframerate=x",
+            ],
+        ),
+    ],
+};
+
 // A part that is passed over, or has a fault of its own; the text's first line is the version.
 #[test]
 fn raw_parts(rt: HostRuntime) -> Result<(), AllocError> {
-    let raw = Around {
-        before: "v=0\nc=IN IP4 1.2.3.4\nm=video 1 RTP/AVP 0\na=rtpmap:0 raw/90000\n",
-        after: "",
-        good: &[],
-        bad: &[
-            // The part's own connection, before the session's.
-            (
-                5,
-                BadAddress,
-                &["c=bad\na=fmtp:0 width=1;height=1;exactframerate=1"],
-            ),
-            // No list at all, a list of another format beside a line without one, and no rate.
-            (
-                3,
-                MissingParameter,
-                &[
-                    "",
-                    "a=fmtp:0\na=fmtp:1 width=1;height=1;exactframerate=1",
-                    "a=fmtp:0 width=1;height=1",
-                ],
-            ),
-            // A second time in a second line, once in a bad form.
-            (
-                6,
-                RepeatedParameter,
-                &[
-                    "a=fmtp:0 width=1;height=1;exactframerate=1\na=fmtp:0 Width=1",
-                    "a=fmtp:0 width=1;height=1;exactframerate=1\na=fmtp:0 exactframerate=x",
-                ],
-            ),
-        ],
-    };
     PASSED_OVER.holds(&rt, rt.alloc())?;
-    raw.holds(&rt, rt.alloc())
+    RAW.holds(&rt, rt.alloc())
 }
+
+static SECOND_PARTS: Around = Around {
+    before: "v=0\nc=IN IP4 1.2.3.4\nm=video 1 RTP/AVP 0\na=rtpmap:0 raw/90000\na=fmtp:0 width=1;height=1;exactframerate=1\nm=video ",
+    after: "\na=rtpmap:0 raw/90000\na=fmtp:0 width=1;height=1;exactframerate=1",
+    // One address and two ports, and one port at two addresses.
+    good: &["2 RTP/AVP 0", "1 RTP/AVP 0\nc=IN IP4 1.2.3.5"],
+    // The same address, also in another form.
+    bad: &[(
+        6,
+        SameTarget,
+        &["1 RTP/AVP 0", "1 RTP/AVP 0\nc=IN IP4 01.2.3.4/7"],
+    )],
+};
 
 // A part, and a second one on line 6.
 #[test]
 fn second_parts(rt: HostRuntime) -> Result<(), AllocError> {
-    let around = Around {
-        before: "v=0\nc=IN IP4 1.2.3.4\nm=video 1 RTP/AVP 0\na=rtpmap:0 raw/90000\na=fmtp:0 width=1;height=1;exactframerate=1\nm=video ",
-        after: "\na=rtpmap:0 raw/90000\na=fmtp:0 width=1;height=1;exactframerate=1",
-        // One address and two ports, and one port at two addresses.
-        good: &["2 RTP/AVP 0", "1 RTP/AVP 0\nc=IN IP4 1.2.3.5"],
-        // The same address, also in another form.
-        bad: &[(
-            6,
-            SameTarget,
-            &["1 RTP/AVP 0", "1 RTP/AVP 0\nc=IN IP4 01.2.3.4/7"],
-        )],
-    };
-    around.holds(&rt, rt.alloc())
+    SECOND_PARTS.holds(&rt, rt.alloc())
 }
+
+static LEAST_LINES: [(&str, u32, SdpCause); 5] = [
+    (
+        "v=0\nc=IN IP4 1.2.3.4\nm=video 1 RTP/AVP 0\na=rtpmap:0 raw/90000\na=fmtp:0 segmented;width=1;height=1;exactframerate=1\ns=\0",
+        5,
+        Segmented,
+    ),
+    (
+        "v=0\nc=IN IP4 1.2.3.4\nm=video 1 RTP/AVP 0\na=rtpmap:0 raw/90000\ns=\0\na=fmtp:0 segmented;width=1;height=1;exactframerate=1",
+        5,
+        NotText,
+    ),
+    (
+        "v=0\nc=bad\ns=\0\nm=video 1 RTP/AVP 0\na=rtpmap:0 raw/90000",
+        2,
+        BadAddress,
+    ),
+    // Before a missing parameter on the same line, and that before the same target.
+    (
+        "v=0\nm=video 1 RTP/AVP 0\na=rtpmap:0 raw/90000",
+        2,
+        NoConnection,
+    ),
+    (
+        "v=0\nc=IN IP4 1.2.3.4\nm=video 1 RTP/AVP 0\na=rtpmap:0 raw/90000\na=fmtp:0 width=1;height=1;exactframerate=1\nm=video 1 RTP/AVP 0\na=rtpmap:0 raw/90000",
+        6,
+        MissingParameter,
+    ),
+];
 
 // The least line, though a later one has a cause with a smaller number.
 #[test]
 fn least_lines(rt: HostRuntime) {
-    let rows = [
-        (
-            "v=0\nc=IN IP4 1.2.3.4\nm=video 1 RTP/AVP 0\na=rtpmap:0 raw/90000\na=fmtp:0 segmented;width=1;height=1;exactframerate=1\ns=\0",
-            5,
-            Segmented,
-        ),
-        (
-            "v=0\nc=IN IP4 1.2.3.4\nm=video 1 RTP/AVP 0\na=rtpmap:0 raw/90000\ns=\0\na=fmtp:0 segmented;width=1;height=1;exactframerate=1",
-            5,
-            NotText,
-        ),
-        (
-            "v=0\nc=bad\ns=\0\nm=video 1 RTP/AVP 0\na=rtpmap:0 raw/90000",
-            2,
-            BadAddress,
-        ),
-        // Before a missing parameter on the same line, and that before the same target.
-        (
-            "v=0\nm=video 1 RTP/AVP 0\na=rtpmap:0 raw/90000",
-            2,
-            NoConnection,
-        ),
-        (
-            "v=0\nc=IN IP4 1.2.3.4\nm=video 1 RTP/AVP 0\na=rtpmap:0 raw/90000\na=fmtp:0 width=1;height=1;exactframerate=1\nm=video 1 RTP/AVP 0\na=rtpmap:0 raw/90000",
-            6,
-            MissingParameter,
-        ),
-    ];
-    assert_faults(&rt, rt.alloc(), &rows)
+    assert_faults(&rt, rt.alloc(), &LEAST_LINES)
 }
 
 #[test]

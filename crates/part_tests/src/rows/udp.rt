@@ -190,6 +190,10 @@ fn packets_of(
     Ok(packets)
 }
 
+fn packet_at(rec: u64, at: u64, rtp: Result<Rtp, PacketFault>) -> FlowPacket {
+    FlowPacket { rec, at, rtp }
+}
+
 #[test]
 fn flow_of_records(rt: HostRuntime) {
     let other_port = with(37, 0x51);
@@ -206,12 +210,9 @@ fn flow_of_records(rt: HostRuntime) {
         panic!(rt; "out of memory");
     };
     let want = [
-        (1, 500, Ok(READ)),
-        (3, 505, Err(PacketFault::Short)),
-        (6, 540, Ok(READ)),
+        packet_at(1, 500, Ok(READ)),
+        packet_at(3, 505, Err(PacketFault::Short)),
+        packet_at(6, 540, Ok(READ)),
     ];
-    same(&rt, &packets.len(), &want.len());
-    for (packet, (rec, at, rtp)) in packets.iter().zip(want) {
-        same(&rt, packet, &FlowPacket { rec, at, rtp });
-    }
+    same(&rt, &packets.as_slice(), &want.as_slice());
 }

@@ -41,16 +41,26 @@ const PLAIN: Sent = Sent {
 };
 
 impl Sent {
+    // When this packet of a group comes.
+    fn stamp(&self, group: u64, place: u64) -> u64 {
+        let bunched = group == self.bunched && place < self.at_once;
+        let steps = if bunched { 0 } else { place };
+        let begin = SECOND.saturating_add(group.saturating_mul(20_000_000));
+        let late = steps.saturating_mul(self.step).saturating_add(self.first);
+        begin.saturating_add(late)
+    }
+
+    fn put_group(&self, stamps: &mut Vec<u64>, group: u64) -> Result<(), AllocError> {
+        for place in 0..self.packets {
+            stamps.push(self.stamp(group, place))?;
+        }
+        Ok(())
+    }
+
     fn stamps(&self, alloc: Global) -> Result<Vec<u64>, AllocError> {
         let mut stamps = Vec::new(alloc);
         for group in 0..self.groups {
-            for place in 0..self.packets {
-                let bunched = group == self.bunched && place < self.at_once;
-                let steps = if bunched { 0 } else { place };
-                let begin = SECOND.saturating_add(group.saturating_mul(20_000_000));
-                let late = steps.saturating_mul(self.step).saturating_add(self.first);
-                stamps.push(begin.saturating_add(late))?;
-            }
+            self.put_group(&mut stamps, group)?;
         }
         Ok(stamps)
     }

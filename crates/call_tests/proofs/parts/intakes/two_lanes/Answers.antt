@@ -2,7 +2,7 @@ use Rattle.std.proofs.Common.{◌≡◌, ◌<◌, ℕ, zero, suc, List, [], ◌�
 use Rattle.std.specs.Prelude.{slice_index_or}
 use Rattle.ruled_intake.specs.Lanes.{LaneId, Sender}
 use Rattle.flow_worker.specs.Intakes.{HaveSentNothing}
-use Rattle.part_tests.proofs.rows.intakes.two_lanes.Goals as goal
+use Rattle.call_tests.proofs.parts.intakes.two_lanes.Goals as goal
 
 two-each : (a b : LaneId) (p q : Sender) → HaveSentNothing 0 (a ∷ []) (p ∷ []) → HaveSentNothing 0 (b ∷ []) (q ∷ []) → (w : ℕ) (d : Sender) (l : LaneId) → w < 2
     → slice_index_or (p ∷ q ∷ []) w d ≡ record { lane = slice_index_or (a ∷ b ∷ []) w l; from = 0; sent = [] }

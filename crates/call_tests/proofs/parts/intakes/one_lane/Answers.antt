@@ -3,7 +3,7 @@ use Rattle.std.specs.Prelude.{slice_index_or, Result, Ok, Err, IfOk}
 use Rattle.ruled_intake.specs.Lanes.{AreSenders, LaneId, Sender, sent_of}
 use Rattle.flow_worker.specs.Intakes.{HaveSentNothing}
 use Rattle.flow_worker.proofs.Passes.{sender-is, sent_of-at}
-use Rattle.part_tests.proofs.rows.intakes.one_lane.Goals as goal
+use Rattle.call_tests.proofs.parts.intakes.one_lane.Goals as goal
 
 -- the one sender of a lane, as the pass of file 0
 one-sender : (lane : LaneId) (ps : List Sender) → AreSenders lane ps → length ps ≡ 1 → ((f : ℕ) → sent_of ps f ≡ []) → HaveSentNothing 0 (lane ∷ []) ps
