@@ -172,9 +172,11 @@ commands =
 abbrev pub summaries : Text
 summaries = flat_map summary commands
 
--- the lines before them
+-- the lines before them: name and version of the program, and what it does
 abbrev pub front_text : Text
-front_text = codes "Judges the timing of video senders from packet captures, after SMPTE ST 2110-21:2017.\n\nWords:\n"
+front_text =
+    codes "st2110_timing 1.0.0: judges the timing of video senders from packet captures, after SMPTE ST 2110-21:2017.\n"
+    ++ codes "\nWords:\n"
 
 -- and those after them
 abbrev pub back_text : Text

@@ -341,11 +341,11 @@ fn summaries(alloc: Global) -> Result<String, OutOfMemory>
     )
 }
 
-/// The lines before them.
+/// The lines before them. The first has the version of the program, which stands nowhere else in the sources.
 fn front_text() -> &'static str
     ensures { result.now ≡ page.front_text }
 {
-    "Judges the timing of video senders from packet captures, after SMPTE ST 2110-21:2017.\n\nWords:\n"
+    "st2110_timing 1.0.0: judges the timing of video senders from packet captures, after SMPTE ST 2110-21:2017.\n\nWords:\n"
 }
 
 /// And those after them.
