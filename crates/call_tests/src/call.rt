@@ -6,12 +6,9 @@ mod lines;
 mod row;
 mod step;
 mod untold;
-mod variants;
 
 pub use answer::{Outcome, SINKS, Sinks, answered};
-pub use bytes::part;
-pub use lines::{ABSENT, CHECK_TWO, HEADER, JOINED, LINEAR, NARROW};
-pub use row::{FEW_WAYS, ONE_WAY, PASS, Reads, Row, USAGE, WHOLE, each_line, hold, shelve};
-pub use step::{INTERLACED, PLAIN, Step, made};
+pub use lines::{CHECK_TWO, HEADER, JOINED, NARROW};
+pub use row::{FEW_WAYS, ONE_WAY, PASS, Reads, Row, WHOLE, hold, shelve};
+pub use step::{PLAIN, Step};
 pub use untold::{UntoldSource, Watch};
-pub use variants::Sent;

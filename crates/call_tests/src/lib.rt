@@ -1,5 +1,4 @@
-//! Tests of intakes and workers, reports and words, part by part, and of whole calls: the words that the program is given, the files that it reads, and
-//! what it prints.
+//! Tests of intakes and workers, reports and command lines, part by part, and of whole commands where files can't show the result.
 #![tactic(auto)]
 
 #[cfg(test)]

@@ -1,23 +1,8 @@
-//! The rows, by what is called and what is shown.
+//! The rows, by what fails, changes or overlaps.
 
-mod captures;
-mod claims;
-mod descriptions;
 mod faults;
-mod joined;
-mod measures;
-mod pages;
-mod pairs;
-mod pcapng;
+mod plain;
 mod readings;
-mod refused;
-mod scans;
-mod self_tests;
-mod senders;
-mod series;
-mod several;
-mod shapes;
+mod reads;
+mod rooms;
 mod threads;
-mod verify;
-mod windows;
-mod words;

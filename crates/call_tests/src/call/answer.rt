@@ -64,14 +64,6 @@ impl Outcome {
         )
     }
 
-    /// Fails where a piece stands on standard output and wasn't wanted there, or was and doesn't.
-    pub fn shows(&self, line: &str, piece: &str, wanted: bool) -> Result<(), Fail> {
-        holds(
-            told(self.out.bytes()).contains(piece) == wanted,
-            format_args!("{line}: the piece {piece} isn't as wanted"),
-        )
-    }
-
     /// Fails where the answer isn't what was wanted of these words.
     pub fn is(&self, line: &str, wanted: (Status, &[u8], &str)) -> Result<(), Fail> {
         self.ended(line, (wanted.0, wanted.2))?;

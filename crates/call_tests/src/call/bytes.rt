@@ -8,7 +8,7 @@ pub fn part(bytes: &[u8], from: usize, to: usize) -> &[u8] {
 }
 
 /// Puts these bytes over those from a place on, as far as there are any.
-pub fn patch(bytes: &mut [u8], at: usize, with: &[u8]) {
+fn patch(bytes: &mut [u8], at: usize, with: &[u8]) {
     for (to, from) in bytes.iter_mut().skip(at).zip(with) {
         *to = *from;
     }

@@ -15,10 +15,3 @@ pub const HEADER: &str = "ST 2110-21 timing report\nfile 1 end a.pcap\n";
 /// The lines of the plain flow.
 pub const NARROW: &str =
     "flow 1.1 239.0.0.1:50000 judged: 20 per frame, 2 frames, 40 packets, head 1, tail 0, class narrow, declared N\n  N pass, bucket 1 of 4, buffer 1 of 8\n  NL pass, bucket 1 of 4, buffer 1 of 8\n  W pass, bucket 1 of 16, buffer 1 of 720\n";
-
-/// Those of a sender that spreads its packets over the whole frame, behind the number of its flow.
-pub const LINEAR: &str =
-    " 239.0.0.1:50000 judged: 20 per frame, 2 frames, 40 packets, head 1, tail 0, class narrow linear, declared N\n  N fail Empty 1 to 1 count 1 limit 2, bucket 1 of 4, buffer 1 of 8\n  NL pass, bucket 1 of 4, buffer 1 of 8\n  W pass, bucket 1 of 16, buffer 1 of 720\n";
-
-/// The line of a flow without packets.
-pub const ABSENT: &str = "flow 1.1 239.0.0.1:50000 absent\n";

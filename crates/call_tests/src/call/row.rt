@@ -53,10 +53,9 @@ pub struct Row {
     /// `p.sdp`.
     pub sdp: &'static [Step],
     pub sdp_reads: Reads,
-    /// `a.pcap`, but where it has another name.
+    /// `a.pcap`.
     pub capture: &'static [Step],
     pub reads: Reads,
-    pub name: &'static str,
     /// `b.pcap`.
     pub second: &'static [Step],
     pub second_reads: Reads,
@@ -66,8 +65,6 @@ pub struct Row {
     pub status: Status,
     /// What stands on standard output, text behind text, as far as there is room.
     pub out: &'static [&'static str],
-    /// Texts in the place of others in it, wherever these stand.
-    pub changes: &'static [(&'static str, &'static str)],
     /// The file that stands behind it.
     pub file: &'static [Step],
     /// What stands on standard error.
@@ -78,18 +75,16 @@ pub struct Row {
 pub const PASS: Row = Row {
     line: CHECK,
     ways: WAYS,
-    sdp: &[Step::Described("", "")],
+    sdp: &[Step::Described],
     sdp_reads: WHOLE,
     capture: &[PLAIN],
     reads: WHOLE,
-    name: "a.pcap",
     second: &[],
     second_reads: WHOLE,
     is_empty: false,
     sinks: SINKS,
     status: Status::Pass,
     out: &[HEADER, NARROW, "status 0\n"],
-    changes: &[],
     file: &[],
     err: "",
 };
@@ -132,7 +127,7 @@ impl Row {
         let mut shelf = MemoryShelf::new(alloc);
         if !self.is_empty {
             shelve(alloc, &mut shelf, "p.sdp", self.sdp, self.sdp_reads)?;
-            shelve(alloc, &mut shelf, self.name, self.capture, self.reads)?;
+            shelve(alloc, &mut shelf, "a.pcap", self.capture, self.reads)?;
             shelve(alloc, &mut shelf, "b.pcap", self.second, self.second_reads)?;
         }
         Ok(shelf)
@@ -143,9 +138,6 @@ impl Row {
         let mut text = String::new(alloc);
         for part in self.out {
             text.push_str(part)?;
-        }
-        for (from, to) in self.changes {
-            text = text.replace(alloc, from, to)?;
         }
         Ok(text)
     }
@@ -190,7 +182,6 @@ impl Row {
             },
             status: Status::ReadFault(Input::Capture(0)),
             out: &[],
-            changes: &[],
             err: "read fault: capture 1\n",
             ..*self
         }
@@ -212,30 +203,6 @@ impl Row {
         row.reads.fail = past;
         row.holds(rt)
     }
-}
-
-/// The words are no request.
-pub static USAGE: Row = Row {
-    status: Status::Usage,
-    out: &[],
-    err: "usage: check, verify, verify-report or selftest\n",
-    ..PASS
-};
-
-/// Runs a row with each of these lines.
-pub fn each_line<R: AllocGlobal + Wait + Threads + Sync>(
-    rt: &R,
-    lines: &[&'static str],
-    row: &Row,
-) -> Result<(), Fail> {
-    for line in lines {
-        let row = Row {
-            line: *line,
-            ..*row
-        };
-        row.holds(rt)?;
-    }
-    Ok(())
 }
 
 /// Runs rows, and compares the answers.

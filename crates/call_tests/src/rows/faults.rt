@@ -1,7 +1,7 @@
-//! Reads, fetches and writes that fail.
+//! Reads, fetches and writes of `check` that fail.
 
 use crate::call::{
-    CHECK_TWO, FEW_WAYS, HEADER, JOINED, NARROW, ONE_WAY, PASS, PLAIN, Reads, Row, SINKS, Sinks,
+    CHECK_TWO, FEW_WAYS, HEADER, JOINED, NARROW, PASS, PLAIN, Reads, Row, SINKS, Sinks, Step,
     WHOLE, hold,
 };
 use sdp_reader::{SdpCause, SdpFault};
@@ -10,24 +10,69 @@ use std::test::Fail;
 use std::thread::Threads;
 use timing_report::{Input, Status};
 
-// Standard error has no room for its line.
-static NO_ROOM_FOR_ERR: Row = Row {
+// A description of no bytes.
+const NO_TEXT: Row = Row {
     sdp: &[],
-    sinks: Sinks {
-        room_for_err: 0,
-        ..SINKS
-    },
     status: Status::SdpRefused(SdpFault {
         line: 1,
         what: SdpCause::NoVersion,
     }),
     out: &[],
+    err: "sdp refused: line 1 NoVersion\n",
     ..PASS
+};
+
+// Standard error has no room for its line.
+static NO_ROOM_FOR_ERR: Row = Row {
+    sinks: Sinks {
+        room_for_err: 0,
+        ..SINKS
+    },
+    err: "",
+    ..NO_TEXT
 };
 
 #[test]
 fn no_room_for_err(rt: HostRuntime) -> Result<(), Fail> {
     NO_ROOM_FOR_ERR.holds(&rt)
+}
+
+// The description is refused before the capture is fetched: the capture's first read would fail, and then its fetch.
+const SDP_REFUSED_FIRST_UNREADABLE: Row = Row {
+    reads: Reads { fail: 1, ..WHOLE },
+    ..NO_TEXT
+};
+
+const SDP_REFUSED_FIRST_UNFETCHED: Row = Row {
+    reads: Reads {
+        fail: 1,
+        ..UNFETCHED
+    },
+    ..NO_TEXT
+};
+
+static SDP_REFUSED_FIRST: [Row; 2] = [SDP_REFUSED_FIRST_UNREADABLE, SDP_REFUSED_FIRST_UNFETCHED];
+
+#[test]
+fn sdp_refused_first(rt: HostRuntime) -> Result<(), Fail> {
+    hold(&rt, &SDP_REFUSED_FIRST)
+}
+
+// A description that is too large is read up to one byte beyond the limit, in 17 reads: an 18th would fail.
+static SDP_TOO_LARGE: Row = Row {
+    sdp: &[Step::Fill(b'x', 1_048_577)],
+    sdp_reads: Reads { fail: 18, ..WHOLE },
+    status: Status::SdpRefused(SdpFault {
+        line: 0,
+        what: SdpCause::TooLarge,
+    }),
+    err: "sdp refused: line 0 TooLarge\n",
+    ..NO_TEXT
+};
+
+#[test]
+fn sdp_too_large(rt: HostRuntime) -> Result<(), Fail> {
+    SDP_TOO_LARGE.holds(&rt)
 }
 
 // Nothing is printed, as the first capture can't be read.
@@ -44,26 +89,6 @@ const SDP_FAILS: Row = Row {
     err: "read fault: sdp\n",
     ..FIRST_FAILS
 };
-
-// The capture isn't there, and then the description isn't.
-const MISSING_CAPTURE_CAPTURE: Row = Row {
-    ways: ONE_WAY,
-    name: "b.pcap",
-    ..FIRST_FAILS
-};
-
-const MISSING_CAPTURE_DESCRIPTION: Row = Row {
-    ways: ONE_WAY,
-    is_empty: true,
-    ..SDP_FAILS
-};
-
-static MISSING_CAPTURE: [Row; 2] = [MISSING_CAPTURE_CAPTURE, MISSING_CAPTURE_DESCRIPTION];
-
-#[test]
-fn missing_capture(rt: HostRuntime) -> Result<(), Fail> {
-    hold(&rt, &MISSING_CAPTURE)
-}
 
 // Of two captures the second can't be read.
 const SECOND_FAILS: Row = Row {

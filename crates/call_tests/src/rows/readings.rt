@@ -4,9 +4,10 @@
 ghost use Rattle.std.specs.Prelude.{◌≡◌, IfSome};
 ghost use Rattle.timing_outside.specs.MemorySources.{faults_of, name_of};
 
-use super::measures::{self, REFUSED};
-use super::shapes::{LIST, NONE_LINES, WRITE};
-use super::{pages, series, windows};
+use super::plain::{
+    FRAMES, FRAMES_LINE, LIST_LINE, LISTED, MEASURE_LINE, MEASURED, PACKETS, PAGE_LINE,
+    SERIES_LINE, SHAPE_LINE, SHAPED, WINDOW,
+};
 use crate::call::{Outcome, PASS, PLAIN, Row, Step, UntoldSource, WHOLE, Watch, answered, shelve};
 use std::process::Abort;
 use std::sync::Wait;
@@ -139,55 +140,40 @@ fn hold_changing<R: Abort + AllocGlobal + Wait + Threads + Sync>(
 }
 
 // The later text is read, and answered on as if it had been there before.
-const LISTED: Changing = Changing {
-    row: Row {
-        line: LIST,
-        out: &[NONE_LINES],
-        ..PASS
-    },
+const LISTED_AGAIN: Changing = Changing {
+    row: LISTED,
     later: &[PLAIN],
     fetched: 2,
     noted: 0,
 };
 
-const WRITTEN: Changing = Changing {
-    row: Row {
-        line: WRITE,
-        out: &[],
-        file: &[PLAIN],
-        ..PASS
-    },
-    ..LISTED
+const SHAPED_AGAIN: Changing = Changing {
+    row: SHAPED,
+    ..LISTED_AGAIN
 };
 
-const MEASURED: Changing = Changing {
-    row: Row {
-        line: measures::LINE,
-        out: measures::TEXT,
-        ..PASS
-    },
-    ..LISTED
+const MEASURED_AGAIN: Changing = Changing {
+    row: MEASURED,
+    ..LISTED_AGAIN
 };
 
-const IN_ROWS: Changing = Changing {
-    row: Row {
-        line: series::LINE,
-        out: &[series::PACKETS],
-        ..PASS
-    },
-    ..LISTED
+const PACKETS_AGAIN: Changing = Changing {
+    row: PACKETS,
+    ..LISTED_AGAIN
 };
 
-const IN_FRAMES: Changing = Changing {
-    row: Row {
-        line: series::FRAMES_LINE,
-        out: series::FRAMES,
-        ..PASS
-    },
-    ..LISTED
+const FRAMES_AGAIN: Changing = Changing {
+    row: FRAMES,
+    ..LISTED_AGAIN
 };
 
-static THE_SAME_AGAIN: [Changing; 5] = [LISTED, WRITTEN, MEASURED, IN_ROWS, IN_FRAMES];
+static THE_SAME_AGAIN: [Changing; 5] = [
+    LISTED_AGAIN,
+    SHAPED_AGAIN,
+    MEASURED_AGAIN,
+    PACKETS_AGAIN,
+    FRAMES_AGAIN,
+];
 
 #[test]
 fn the_same_again(rt: HostRuntime) -> Result<(), Fail> {
@@ -195,10 +181,10 @@ fn the_same_again(rt: HostRuntime) -> Result<(), Fail> {
 }
 
 // The commands that read a capture twice, and print once all is read.
-const TWICE: &[&str] = &[LIST, WRITE, measures::LINE, pages::LINE];
+const TWICE: &[&str] = &[LIST_LINE, SHAPE_LINE, MEASURE_LINE, PAGE_LINE];
 
 // And those that read it twice and print meanwhile: what stands on standard output isn't compared.
-const MEANWHILE: &[&str] = &[series::LINE, series::FRAMES_LINE];
+const MEANWHILE: &[&str] = &[SERIES_LINE, FRAMES_LINE];
 
 // Where the later text isn't the first, nothing is printed.
 const CHANGED: Changing = Changing {
@@ -209,18 +195,14 @@ const CHANGED: Changing = Changing {
         ..PASS
     },
     noted: 1,
-    ..LISTED
+    ..LISTED_AGAIN
 };
 
 // And `window` answers on the first.
-const WINDOW: Changing = Changing {
-    row: Row {
-        line: windows::LINE,
-        out: &[windows::TEXT],
-        ..PASS
-    },
+const WINDOW_ONCE: Changing = Changing {
+    row: WINDOW,
     fetched: 1,
-    ..LISTED
+    ..LISTED_AGAIN
 };
 
 // The row of a capture that differs from its later text, with these words.
@@ -246,7 +228,10 @@ fn differs<R: Abort + AllocGlobal + Wait + Threads + Sync>(
     for line in MEANWHILE {
         changed(*line, later).ended(rt)?;
     }
-    let window = Changing { later, ..WINDOW };
+    let window = Changing {
+        later,
+        ..WINDOW_ONCE
+    };
     window.holds(rt)
 }
 
@@ -275,10 +260,12 @@ fn other_stamps(rt: HostRuntime) -> Result<(), Fail> {
 
 // Where no flow is judged there is nothing to measure, and the capture is read once.
 const UNJUDGED: Row = Row {
-    line: measures::LINE,
-    capture: &[Step::Made(0, 4)],
+    line: MEASURE_LINE,
+    capture: &[Step::Made(4)],
     status: Status::NotAllJudged,
-    out: &[REFUSED],
+    out: &[
+        "{\"end\":\"end\",\"flows\":[{\"fault\":\"FrameSize want 20 got 19\",\"media\":1,\"packets\":40,\"record\":40,\"ssrc\":\"00000001\",\"target\":\"239.0.0.1:50000\",\"verdict\":\"refused\"}],\"name\":\"a.pcap\"}\n",
+    ],
     ..PASS
 };
 
@@ -291,7 +278,7 @@ const NOTHING_TO_MEASURE: Changing = Changing {
 
 const NOTHING_TO_LIST: Changing = Changing {
     row: Row {
-        line: series::LINE,
+        line: SERIES_LINE,
         out: &["not judged: refused at record 40: FrameSize want 20 got 19\n"],
         ..UNJUDGED
     },
@@ -303,7 +290,7 @@ static NOTHING_JUDGED: [Changing; 2] = [NOTHING_TO_MEASURE, NOTHING_TO_LIST];
 // A page is printed all the same.
 static NOTHING_TO_DRAW: Changing = Changing {
     row: Row {
-        line: pages::LINE,
+        line: PAGE_LINE,
         ..UNJUDGED
     },
     ..NOTHING_TO_MEASURE

@@ -1,6 +1,5 @@
 //! That intakes and workers run beside each other.
 
-use super::self_tests::TEXT_2;
 use crate::call::{CHECK_TWO, Outcome, PASS, Row, SINKS, Step, UntoldSource, Watch, answered};
 use std::process::Abort;
 use std::sync::Wait;
@@ -79,7 +78,9 @@ const TWO_THREADS_AT_ONCE_CHECK: Row = Row {
 const TWO_THREADS_AT_ONCE_SELF_TEST: Row = Row {
     line: "selftest 2 --workers 1",
     is_empty: true,
-    out: &[TEXT_2],
+    out: &[
+        "flaw 0: judged: 20 per frame, 2 frames, 40 packets, head 1, tail 0, class narrow, declared N; status 0\nflaw 1: judged: 20 per frame, 2 frames, 40 packets, head 1, tail 0, class wide, declared N; status 1\nflaw 2: judged: 20 per frame, 2 frames, 40 packets, head 1, tail 0, class narrow linear, declared N; status 1\nflaw 3: gaps 1, runs 2; status 4\nflaw 4: refused at record 40: FrameSize want 20 got 19; status 4\n",
+    ],
     ..PASS
 };
 
