@@ -1,0 +1,116 @@
+#!/usr/bin/env perl
+# Writes a capture of a video sender to standard output: pcap, little-endian, with nanoseconds, byte for byte as crates/capture_gen makes it.
+#
+#   tests/capture.pl sender [NAME=NUMBER..] > a.pcap
+#   tests/capture.pl flaw NUMBER [frames=NUMBER] [from=NUMBER] > a.pcap
+#   tests/capture.pl usual > a.pcap
+#
+# `sender` is the plain sender: groups (frames or fields) of packets behind one packet that ends the group before them. These change it:
+#
+#   first=764000        when packet 0 of group 0 comes, in nanoseconds after second 1,600,000,000
+#   groups=2            the groups
+#   packets=20          the packets of a group
+#   group_ns=20000000   nanoseconds from a group to the next
+#   packet_ns=960000    nanoseconds from a packet to the next of its group
+#   bunched=0           the group that has packets at one instant
+#   at_once=1           how many of that group come with its packet 0, which counts too
+#
+# `flaw` is the self-test's capture: 0 has none, which is the plain sender; 1: five packets at once in the last frame; 2: packets a
+# millisecond apart; 3: packet 10 of the last frame is missing; 4: packet 19 of the last frame is missing, and packet 18 has the marker.
+# It has 2 frames or so many, and its packet numbers begin with 0 or that number, which modulo 1,000,000 is added to the seconds too.
+#
+# `usual` is a narrow sender at 60000/1001 frames per second, 4,320 packets a frame, by a clock that is 37 seconds behind TAI: two frames.
+use strict;
+use warnings;
+
+my $second = 1_000_000_000;
+my $start = 1_600_000_000 * $second;
+
+# The file's header: version 2.4, 262,144 bytes of a packet at most, Ethernet.
+my $file_head = pack "VvvVVVV", 0xa1b23c4d, 2, 4, 0, 0, 262_144, 1;
+
+# Ethernet, IPv4 from 192.0.2.1 to 239.0.0.1, and UDP between ports 50000, whose payload is the RTP header and the high half of the packet's number.
+my $ethernet = pack "H*", "01005e000001020000000001" . "0800";
+my $ip = pack "H*", "4500002a0000400040110000" . "c0000201" . "ef000001";
+my $udp = pack "nnnn", 50_000, 50_000, 22, 0;
+
+sub record {
+    my ($at, $timestamp, $marker, $number) = @_;
+    my $rtp = pack "CCnNN", 0x80, $marker ? 0xe0 : 0x60, $number % 65_536, $timestamp, 1;
+    my $packet = $ethernet . $ip . $udp . $rtp . pack "n", int($number / 65_536);
+    return pack("VVVV", int($at / $second), $at % $second, length $packet, length $packet) . $packet;
+}
+
+sub usage {
+    print STDERR "usage: capture.pl sender [NAME=NUMBER..], capture.pl flaw NUMBER [frames=NUMBER] [from=NUMBER], or capture.pl usual\n";
+    exit 2;
+}
+
+# The numbers of these names, with those of the command line in the place of the given ones.
+sub numbers {
+    my %number = %{+shift};
+    for my $word (@_) {
+        my ($name, $value) = $word =~ /^(\w+)=(\d+)$/ or usage();
+        exists $number{$name} or usage();
+        $number{$name} = $value;
+    }
+    return \%number;
+}
+
+sub sender {
+    my $is = numbers({
+        first => 764_000, groups => 2, packets => 20, group_ns => 20_000_000, packet_ns => 960_000, bunched => 0, at_once => 1,
+    }, @_);
+    my $records = record($start - 1_000_000, 0, 1, 0);
+    for my $group (0 .. $is->{groups} - 1) {
+        for my $place (0 .. $is->{packets} - 1) {
+            my $late = $group == $is->{bunched} && $place < $is->{at_once} ? 0 : $is->{packet_ns} * $place;
+            my $at = $start + $is->{first} + $is->{group_ns} * $group + $late;
+            my $number = 1 + $is->{packets} * $group + $place;
+            $records .= record($at, 1800 * ($group + 1), $place + 1 == $is->{packets}, $number);
+        }
+    }
+    return $records;
+}
+
+sub flaw {
+    my $flaw = shift // usage();
+    $flaw =~ /^[0-4]$/ or usage();
+    my $is = numbers({ frames => 2, from => 0 }, @_);
+    my $begin = $start + $is->{from} % 1_000_000 * $second;
+    my $spacing = $flaw == 2 ? 1_000_000 : 960_000;
+    my $records = record($begin - 1_000_000, 0, 1, $is->{from} % 2**32);
+    for my $frame (0 .. $is->{frames} - 1) {
+        my $of_last = $frame == $is->{frames} - 1 ? $flaw : 0;
+        for my $place (0 .. 19) {
+            next if $of_last == 3 && $place == 10 || $of_last == 4 && $place == 19;
+            my $late = $of_last == 1 && $place <= 4 ? 0 : $spacing * $place;
+            my $at = $begin + 20_000_000 * $frame + 764_000 + $late;
+            my $number = ($is->{from} + 1 + 20 * $frame + $place) % 2**32;
+            $records .= record($at, 1800 * ($frame + 1), $place == ($of_last == 4 ? 18 : 19), $number);
+        }
+    }
+    return $records;
+}
+
+# Each packet comes a microsecond before its gapped read. A frame has 4,500 reads, of which 172 are due before that of packet 0.
+sub usual {
+    usage() if @_;
+    my $begin = (1_601_600_000 - 37) * $second - 1_000;
+    my $due = sub { return $begin + int($_[0] * 100_100_000 / 27_000) };
+    my $records = record($due->(172) - 1_000_000, 0, 1, 0);
+    for my $frame (0, 1) {
+        for my $place (0 .. 4319) {
+            my $at = $due->(4500 * $frame + 172 + $place);
+            $records .= record($at, 1501 * ($frame + 1), $place == 4319, 1 + 4320 * $frame + $place);
+        }
+    }
+    return $records;
+}
+
+my %made = (sender => \&sender, flaw => \&flaw, usual => \&usual);
+my $kind = shift // usage();
+my $records = ($made{$kind} // usage())->(@ARGV);
+binmode STDOUT;
+print $file_head, $records;
+close STDOUT or die "capture.pl: $!\n";
