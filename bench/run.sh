@@ -7,9 +7,9 @@
 # the least time counts. Where `valgrind` is there, instructions a packet are counted too, which no other work disturbs. Needs a C compiler.
 set -euo pipefail
 here=$(cd "$(dirname "$(readlink -f "$0")")" && pwd)
-program=$here/../crates/st2110_timing/out/st2110_timing
+program=${PROGRAM:-$here/../dist/st2110_timing}
 folder=${1:-$(mktemp -d)} runs=${RUNS:-11}
-[ -x "$program" ] || { echo "bench/run.sh: the program isn't built; ./run builds it" >&2; exit 2; }
+[ -x "$program" ] || { echo "bench/run.sh: there is no program $program" >&2; exit 2; }
 mkdir -p "$folder" && cd "$folder"
 for name in capture walk; do
     cc -O2 -march=x86-64-v2 -o "$name" "$here/$name.c"

@@ -17,7 +17,7 @@ trap 'rm -rf "$folder"' EXIT
 keep=${KEEP:-}
 [ -z "$keep" ] || mkdir -p "$keep" || exit 2
 
-wrong=0 looked=0
+wrong=0 passed=0 failed=0
 left_out=()
 
 # Notes what is wrong.
@@ -91,7 +91,6 @@ look() {
     framed "$width" "$folder/copy.html" > "$folder/framed.html"
     run_browser "${options[@]}" --window-size=2600,1600 --virtual-time-budget=5000 --dump-dom "file://$folder/framed.html" > "$folder/dom" \
         || fault "$where: the browser fails"
-    looked=$((looked + 1))
     ! grep -q ':ERROR:CONSOLE\|:INFO:CONSOLE' "$folder/log" || fault "$where: $(grep -m 1 CONSOLE "$folder/log")"
     [ "$(answer wide)" = "$width" ] || fault "$where: the window is $(answer wide) pixels wide"
     [ "$(answer over)" = 0 ] || fault "$where: $(answer over) pixels are beside the window"
@@ -108,8 +107,10 @@ look() {
     fi
 }
 
-for page in "$@"; do
-    [ -s "$page" ] || { fault "$page: there is no such page"; continue; }
+# Looks at a page in each window, and prints it.
+look_at() {
+    local page=$1 width scheme
+    [ -s "$page" ] || { fault "$page: there is no such page"; return; }
     wanted=''
     if [ -e "${page%.html}.name" ]; then wanted=$(< "${page%.html}.name"); fi
     ! grep -qiE '<script|<link|<img|<iframe|<object|@import|url\(|(src|href)=|\son[a-z]+=' "$page" || fault "$page: it runs or fetches something"
@@ -117,7 +118,7 @@ for page in "$@"; do
         tidy -e -q "$page" > /dev/null 2> "$folder/tidy"
         [ ! -s "$folder/tidy" ] || fault "$page: tidy: $(head -n 3 "$folder/tidy")"
     fi
-    [ -n "$browser" ] || continue
+    [ -n "$browser" ] || return
     cat "$page" "$folder/asked.html" > "$folder/copy.html"
     for width in 360 1280 2560; do
         for scheme in light dark; do
@@ -127,8 +128,14 @@ for page in "$@"; do
     run_browser --no-pdf-header-footer --print-to-pdf="$folder/page.pdf" "file://$(readlink -f "$page")" > /dev/null
     head -c 4 "$folder/page.pdf" 2> /dev/null | grep -q '%PDF' || fault "$page: it isn't printed"
     [ -z "$keep" ] || cp "$folder/page.pdf" "$keep/$(basename "$page" .html).pdf"
+}
+
+for page in "$@"; do
+    before=$wrong
+    look_at "$page"
+    if [ "$wrong" -eq "$before" ]; then passed=$((passed + 1)); else failed=$((failed + 1)); fi
 done
 
 [ ${#left_out[@]} -eq 0 ] || printf 'left out: %s\n' "${left_out[@]}"
-echo "page: $# pages, $looked looks, $wrong wrong"
-[ "$wrong" -eq 0 ]
+echo "page: $passed passed, $failed failed"
+[ "$failed" -eq 0 ]

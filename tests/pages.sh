@@ -2,7 +2,7 @@
 # Runs the commands of README.md and docs/GUIDE.md as a reader would, from a folder with the examples, and compares what
 # each prints with what the page shows below it.
 #
-#   tests/pages.sh [PROGRAM]      the program that the gate or ./run has built; where there is none, ./run builds it
+#   tests/pages.sh [PROGRAM]      dist/st2110_timing if none is named
 #
 # A page's block that begins with ```console has commands (after `$ `, and `> ` where they go on) and what they print; all are
 # run but those of the list below. The commands of its ```sh blocks aren't run, and have to be in the list, so none is passed
@@ -13,6 +13,9 @@ export LC_ALL=C
 
 # What isn't run: how a command begins, and what it needs.
 not_run=(
+    'make test|to be run by itself: it calls this script'
+    'make install|a place to install to: tests/packaging.sh does it'
+    'make deb|a place to install to: tests/packaging.sh does it'
     'tcpdump -i|a network card'
     'dumpcap -i|a network card'
     'editcap -r in.pcapng|a capture of your own'
@@ -30,17 +33,12 @@ top=$(cd "$(dirname "$(readlink -f "$0")")/.." && pwd) || exit 2
 folder=$(mktemp -d) || exit 2
 trap 'rm -rf "$folder"' EXIT
 
-# The program: the one that was named, else the one that ./run builds where none stands or a source is newer.
-program=${1:-$top/crates/st2110_timing/out/st2110_timing}
-if [ $# -eq 0 ]; then
-    "$top/run" selftest 2 > "$folder/said" 2>&1 || { cat "$folder/said" >&2; echo "pages: no program" >&2; exit 2; }
-fi
-program=$(readlink -f "$program") && "$program" selftest 2 > "$folder/said" || { echo "pages: no program" >&2; exit 2; }
+program=$(readlink -f "${1:-$top/dist/st2110_timing}") && "$program" help > "$folder/said" || { echo "pages: no program" >&2; exit 2; }
 
 # The commands run in a folder of their own, in which `./run` is that program.
 mkdir "$folder/here" && cp -r "$top/examples" "$folder/here" && cd "$folder/here" && ln -s "$program" run || exit 2
 
-ran=0 wrong=0
+passed=0 wrong=0
 left_out=() met=()
 
 # Says why a command isn't run, or nothing.
@@ -73,9 +71,10 @@ finish() {
         wrong=$((wrong + 1))
         echo "$page: it is neither run nor in the list of this script: $command"
     else
-        ran=$((ran + 1))
         found=$(HOME=$folder timeout 60 bash -c "$command" 2>&1 < /dev/null)
-        if [ "$found" != "${wanted%$'\n'}" ]; then
+        if [ "$found" = "${wanted%$'\n'}" ]; then
+            passed=$((passed + 1))
+        else
             wrong=$((wrong + 1))
             echo "$page: it prints something else: $command"
             diff <(printf '%s\n' "${wanted%$'\n'}") <(printf '%s\n' "$found")
@@ -110,5 +109,5 @@ for entry in "${!not_run[@]}"; do
     fi
 done
 [ ${#left_out[@]} -eq 0 ] || printf 'left out: %s\n' "${left_out[@]}"
-echo "pages: $ran commands were run, ${#left_out[@]} left out, $wrong wrong"
+echo "pages: $passed passed, $wrong failed"
 [ "$wrong" -eq 0 ]
