@@ -79,7 +79,7 @@ run_one() {
 run_line() {
     local line=$1 way wrong=0
     local -a words
-    if [[ " $line " == ' check '*' --serial '* ]]; then
+    if [[ $line == 'check '* && " $line " == *' --serial '* ]]; then
         for way in "${ways[@]}"; do
             read -r -a words <<< "${line/--serial/$way}"
             run_one "$program" "${words[@]}" || wrong=1
