@@ -4,6 +4,9 @@
 #   tests/capture.pl sender [NAME=NUMBER..] > a.pcap
 #   tests/capture.pl flaw NUMBER [frames=NUMBER] [from=NUMBER] > a.pcap
 #   tests/capture.pl usual > a.pcap
+#   tests/capture.pl media [NAME=NUMBER..] > a.pcap
+#   tests/capture.pl sdp [media=NUMBER] > a.sdp
+#   tests/capture.pl packets [NAME=NUMBER..] [then [NAME=NUMBER..]].. > a.pcap
 #
 # `sender` is the plain sender: groups (frames or fields) of packets behind one packet that ends the group before them. These change it:
 #
@@ -20,29 +23,52 @@
 # It has 2 frames or so many, and its packet numbers begin with 0 or that number, which modulo 1,000,000 is added to the seconds too.
 #
 # `usual` is a narrow sender at 60000/1001 frames per second, 4,320 packets a frame, by a clock that is 37 seconds behind TAI: two frames.
+#
+# `media` is several plain senders, at the UDP ports 50000, 50002 and so on. They take turns: each writes its first packets, then each
+# the packets of its next two frames, and so on. `sdp` prints their session description, from examples/plain.sdp.
+#
+#   media=64            the senders
+#   groups=2            the frames of each
+#   begin=1             the packets of its first turn: 1, or 41 for those of two frames too
+#
+# `packets` is packets at the instant 1,600,000,000 s. After `then` come others, with the values given there:
+#
+#   from=0              the number of the first packet
+#   step=1              by how much the number rises from a packet to the next
+#   count=1             the packets
+#   timestamp=1800      their RTP timestamp
+#   marker=0            1: they have the marker
 use strict;
 use warnings;
+use File::Basename qw(dirname);
 
 my $second = 1_000_000_000;
 my $start = 1_600_000_000 * $second;
+my $first_port = 50_000;
 
 # The file's header: version 2.4, 262,144 bytes of a packet at most, Ethernet.
 my $file_head = pack "VvvVVVV", 0xa1b23c4d, 2, 4, 0, 0, 262_144, 1;
 
-# Ethernet, IPv4 from 192.0.2.1 to 239.0.0.1, and UDP between ports 50000, whose payload is the RTP header and the high half of the packet's number.
-my $ethernet = pack "H*", "01005e000001020000000001" . "0800";
-my $ip = pack "H*", "4500002a0000400040110000" . "c0000201" . "ef000001";
-my $udp = pack "nnnn", 50_000, 50_000, 22, 0;
+# Ethernet, IPv4 from 192.0.2.1 to 239.0.0.1, and the source port of UDP. The destination port, length and checksum follow, then RTP, and
+# as its payload the high half of the packet's number.
+my $headers = pack "H*", "01005e000001" . "020000000001" . "0800" . "4500002a0000400040110000" . "c0000201" . "ef000001" . "c350";
 
+# The packet record of a packet.
 sub record {
-    my ($at, $timestamp, $marker, $number) = @_;
-    my $rtp = pack "CCnNN", 0x80, $marker ? 0xe0 : 0x60, $number % 65_536, $timestamp, 1;
-    my $packet = $ethernet . $ip . $udp . $rtp . pack "n", int($number / 65_536);
-    return pack("VVVV", int($at / $second), $at % $second, length $packet, length $packet) . $packet;
+    my ($at, $timestamp, $marker, $number, $port) = @_;
+    return pack "VVVVa*nnnCCnNNn", int($at / $second), $at % $second, 56, 56, $headers, $port // $first_port, 22, 0,
+        0x80, $marker ? 0xe0 : 0x60, $number % 65_536, $timestamp, 1, int($number / 65_536);
 }
 
 sub usage {
-    print STDERR "usage: capture.pl sender [NAME=NUMBER..], capture.pl flaw NUMBER [frames=NUMBER] [from=NUMBER], or capture.pl usual\n";
+    print STDERR <<'END';
+usage: capture.pl sender [NAME=NUMBER..]
+       capture.pl flaw NUMBER [frames=NUMBER] [from=NUMBER]
+       capture.pl usual
+       capture.pl media [NAME=NUMBER..]
+       capture.pl sdp [media=NUMBER]
+       capture.pl packets [NAME=NUMBER..] [then [NAME=NUMBER..]]..
+END
     exit 2;
 }
 
@@ -57,20 +83,25 @@ sub numbers {
     return \%number;
 }
 
-sub sender {
+# The packets of the plain sender, or of one that differs: instant, RTP timestamp, marker and number of each.
+sub plain_packets {
     my $is = numbers({
         first => 764_000, groups => 2, packets => 20, group_ns => 20_000_000, packet_ns => 960_000, bunched => 0, at_once => 1,
     }, @_);
-    my $records = record($start - 1_000_000, 0, 1, 0);
+    my @packets = [$start - 1_000_000, 0, 1, 0];
     for my $group (0 .. $is->{groups} - 1) {
         for my $place (0 .. $is->{packets} - 1) {
             my $late = $group == $is->{bunched} && $place < $is->{at_once} ? 0 : $is->{packet_ns} * $place;
             my $at = $start + $is->{first} + $is->{group_ns} * $group + $late;
             my $number = 1 + $is->{packets} * $group + $place;
-            $records .= record($at, 1800 * ($group + 1), $place + 1 == $is->{packets}, $number);
+            push @packets, [$at, 1800 * ($group + 1), $place + 1 == $is->{packets}, $number];
         }
     }
-    return $records;
+    return @packets;
+}
+
+sub sender {
+    return $file_head, map { record(@$_) } plain_packets(@_);
 }
 
 sub flaw {
@@ -90,7 +121,7 @@ sub flaw {
             $records .= record($at, 1800 * ($frame + 1), $place == ($of_last == 4 ? 18 : 19), $number);
         }
     }
-    return $records;
+    return $file_head, $records;
 }
 
 # Each packet comes a microsecond before its gapped read. A frame has 4,500 reads, of which 172 are due before that of packet 0.
@@ -105,12 +136,52 @@ sub usual {
             $records .= record($at, 1501 * ($frame + 1), $place == 4319, 1 + 4320 * $frame + $place);
         }
     }
-    return $records;
+    return $file_head, $records;
 }
 
-my %made = (sender => \&sender, flaw => \&flaw, usual => \&usual);
+# The UDP ports of so many senders.
+sub ports {
+    my ($media) = @_;
+    return map { $first_port + 2 * $_ } 0 .. $media - 1;
+}
+
+sub media {
+    my $is = numbers({ media => 64, groups => 2, begin => 1 }, @_);
+    my @packets = plain_packets("groups=$is->{groups}");
+    my $records = "";
+    for (my $turn = $is->{begin}; @packets; $turn = 40) {
+        my @turn = splice @packets, 0, $turn;
+        for my $port (ports($is->{media})) {
+            $records .= record(@$_, $port) for @turn;
+        }
+    }
+    return $file_head, $records;
+}
+
+sub sdp {
+    my $is = numbers({ media => 64 }, @_);
+    my $name = dirname($0) . "/../examples/plain.sdp";
+    open my $in, "<:raw", $name or die "$name: $!";
+    my ($session, $video) = split /(?=^m=)/m, join "", <$in>;
+    return $session, map { $video =~ s/^m=video \d+/m=video $_/r } ports($is->{media});
+}
+
+sub packets {
+    my @runs = [];
+    for my $word (@_) {
+        if ($word eq "then") { push @runs, [] } else { push @{$runs[-1]}, $word }
+    }
+    my $records = "";
+    for my $run (@runs) {
+        my $is = numbers({ from => 0, step => 1, count => 1, timestamp => 1800, marker => 0 }, @$run);
+        $records .= record($start, $is->{timestamp}, $is->{marker}, $is->{from} + $is->{step} * $_) for 0 .. $is->{count} - 1;
+    }
+    return $file_head, $records;
+}
+
+my %made = (sender => \&sender, flaw => \&flaw, usual => \&usual, media => \&media, sdp => \&sdp, packets => \&packets);
 my $kind = shift // usage();
-my $records = ($made{$kind} // usage())->(@ARGV);
+my @pieces = ($made{$kind} // usage())->(@ARGV);
 binmode STDOUT;
-print $file_head, $records;
+print @pieces;
 close STDOUT or die "capture.pl: $!\n";

@@ -11,12 +11,15 @@ export LC_ALL=C
 
 ways=(--serial '--workers 1' '--workers 4' '--workers 16')
 
-# Prints how the files differ, and fails if they do. A file that a case lacks is empty.
+# Prints how two files differ, and fails if they do. A file that the case lacks is empty.
 compare() {
     local wanted=$1 found=$2
-    [ -e "$wanted" ] || wanted=/dev/null
+    if [ ! -e "$wanted" ]; then
+        [ -s "$found" ] || return 0
+        wanted=/dev/null
+    fi
     cmp -s "$wanted" "$found" && return 0
-    echo "    $(basename "$found") differs (- wanted, + found):"
+    echo "    ${found##*.} differs (- wanted, + found):"
     diff --text -u "$wanted" "$found" | tail -n +3 | head -n 20 | cut -c 1-300 | sed 's/^/    /'
     return 1
 }
@@ -25,7 +28,7 @@ compare() {
 compare_pieces() {
     local file=$1 wanted=$2 found line piece='' is_begun='' wrong=0
     [ -e "$file" ] || return 0
-    found=$(< "$folder/stdout")
+    found=$(< "$out.stdout")
     while IFS= read -r line || [ -n "$line" ]; do
         if [ "$line" != -- ]; then
             piece+=${is_begun:+$'\n'}$line is_begun=yes
@@ -48,25 +51,27 @@ compare_piece() {
     return 1
 }
 
-# Runs a command in the case's folder, and compares.
+# Compares exit status and output of a run with those that the case wants.
+compare_run() {
+    local status=$1 wanted=0 wrong=0
+    [ ! -e "$case/status" ] || read -r wanted < "$case/status"
+    if [ "$status" != "$wanted" ]; then echo "    exit status $status, and not $wanted"; wrong=1; fi
+    compare "$case/stderr" "$out.stderr" || wrong=1
+    if [ -e "$case/has" ]; then
+        compare_pieces "$case/has" yes || wrong=1
+        compare_pieces "$case/hasnt" no || wrong=1
+    else
+        compare "$case/stdout" "$out.stdout" || wrong=1
+    fi
+    return "$wrong"
+}
+
+# Runs a command in the copy of the case, and compares.
 run_one() {
-    local status wanted=0 wrong=0
-    (cd "$folder/in" && exec timeout 50 "$@") > "$folder/stdout" 2> "$folder/stderr" < /dev/null
-    status=$?
-    [ ! -e "$case/status" ] || wanted=$(< "$case/status")
-    {
-        if [ "$status" != "$wanted" ]; then echo "    exit status $status, and not $wanted"; wrong=1; fi
-        compare "$case/stderr" "$folder/stderr" || wrong=1
-        if [ -e "$case/has" ]; then
-            compare_pieces "$case/has" yes || wrong=1
-            compare_pieces "$case/hasnt" no || wrong=1
-        else
-            compare "$case/stdout" "$folder/stdout" || wrong=1
-        fi
-    } > "$folder/said"
-    [ "$wrong" = 0 ] && return 0
+    timeout 50 "$@" > "$out.stdout" 2> "$out.stderr" < /dev/null
+    compare_run $? > "$out.said" && return 0
     echo "  $*" | sed "s|^  $program |  |"
-    cat "$folder/said"
+    cat "$out.said"
     return 1
 }
 
@@ -74,7 +79,7 @@ run_one() {
 run_line() {
     local line=$1 way wrong=0
     local -a words
-    if [[ " $line " == ' check '*' --serial '* ]]; then
+    if [[ $line == 'check '* && " $line " == *' --serial '* ]]; then
         for way in "${ways[@]}"; do
             read -r -a words <<< "${line/--serial/$way}"
             run_one "$program" "${words[@]}" || wrong=1
@@ -85,41 +90,40 @@ run_line() {
     run_one "$program" "${words[@]}"
 }
 
-# Runs a case, and says what is wrong.
+# Runs a case in its copy, and says what is wrong.
 run_case() {
-    local case=$1 folder=$2 line wrong=0
+    local line wrong=0
     [ -s "$case/about" ] || { echo "  it has no file about"; return 1; }
-    cp -r "$case" "$folder/in" || return 1
-    if [ -e "$case/make" ] && ! (cd "$folder/in" && tests=$tests bash -eu make) > "$folder/said" 2>&1; then
-        echo "  its files can't be made:"; sed 's/^/    /' "$folder/said"
+    if [ -e make ] && ! bash -eu make > "$out.said" 2>&1; then
+        echo "  its files can't be made:"; sed 's/^/    /' "$out.said"
         return 1
     fi
-    if [ -e "$case/run" ]; then
-        program=$program tests=$tests run_one bash run
+    if [ -e run ]; then
+        run_one bash run
         return
     fi
-    [ -s "$case/args" ] || { echo "  it has neither args nor run"; return 1; }
+    [ -s args ] || { echo "  it has neither args nor run"; return 1; }
     while IFS= read -r line || [ -n "$line" ]; do
         run_line "$line" || wrong=1
     done < "$case/args"
     return "$wrong"
 }
 
-# Called by itself for one case.
-if [ "${1-}" = --case ]; then
-    program=$2 tests=$3 place=$4 name=$5
-    mkdir "$place/$name"
-    if run_case "$tests/cases/$name" "$place/$name" > "$place/$name.said" 2>&1; then touch "$place/$name.passed"; fi
-    rm -rf "${place:?}/$name"
-    exit 0
-fi
+# Runs every case whose place in the list is the job's number, or that and a multiple of the jobs. The file NAME.said says what is wrong.
+run_job() {
+    local number name case out=$place/$1
+    for ((number = $1; number < ${#names[@]}; number += jobs)); do
+        name=${names[number]}
+        case=$tests/cases/$name
+        cd "$place/in/$name" && run_case > "$place/$name.said" 2>&1 && : > "$place/$name.passed"
+    done
+}
 
 tests=$(cd "$(dirname "$(readlink -f "$0")")" && pwd) || exit 2
 program=$tests/../dist/st2110_timing
 case ${1-} in */*) program=$1; shift ;; esac
 program=$(readlink -f "$program") && [ -x "$program" ] || { echo "cases: there is no program ${program:-there}" >&2; exit 2; }
-place=$(mktemp -d) || exit 2
-trap 'rm -rf "$place"' EXIT
+export tests program
 
 names=("$@")
 [ $# -gt 0 ] || names=($(cd "$tests/cases" && echo */))
@@ -127,17 +131,22 @@ names=("${names[@]%/}")
 for name in "${names[@]}"; do
     [ -d "$tests/cases/$name" ] || { echo "cases: there is no case $name" >&2; exit 2; }
 done
-printf '%s\0' "${names[@]}" | xargs -0 -P "${JOBS:-$(nproc)}" -n 1 "$tests/cases.sh" --case "$program" "$tests" "$place"
+place=$(mktemp -d) || exit 2
+trap 'kill $(jobs -p) 2> /dev/null; rm -rf "$place"' EXIT
+mkdir "$place/in" && cp -r "${names[@]/#/$tests/cases/}" "$place/in" || exit 2
 
-passed=0 failed=0
-for name in "${names[@]}"; do
-    if [ -e "$place/$name.passed" ]; then
-        passed=$((passed + 1))
-    else
-        failed=$((failed + 1))
-        echo "$name: $(head -n 1 "$tests/cases/$name/about" 2> /dev/null)"
-        cat "$place/$name.said"
-    fi
+jobs=${JOBS:-$(nproc)}
+for ((job = 0; job < jobs; job++)); do
+    run_job "$job" &
 done
-echo "$passed passed, $failed failed"
+wait
+
+failed=0
+for name in "${names[@]}"; do
+    [ ! -e "$place/$name.passed" ] || continue
+    failed=$((failed + 1))
+    echo "$name: $(head -n 1 "$tests/cases/$name/about" 2> /dev/null)"
+    cat "$place/$name.said"
+done
+echo "$((${#names[@]} - failed)) passed, $failed failed"
 [ "$failed" = 0 ]

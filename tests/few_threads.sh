@@ -3,20 +3,20 @@
 # scheduler: it has to end each time, with the one-thread report. The captures are long enough for intakes to wait for workers, and
 # where they are joined for each other.
 #
-#   tests/few_threads.sh [PROGRAM]
+#   tests/few_threads.sh [PROGRAM]      dist/st2110_timing
 #
-# It is no part of the gate. It needs `su` and a user `nobody`, or another name in $AS, whose threads are counted: a limit on
+# It needs `su` and a user `nobody`, or another name in $AS, whose threads are counted: a limit on
 # processes says nothing to root. A run that hasn't ended after 60 seconds hangs.
 set -u
 top=$(cd "$(dirname "$0")/.." && pwd) || exit 2
-program=${1:-$top/crates/st2110_timing/out/st2110_timing}
+program=$(readlink -f "${1:-$top/dist/st2110_timing}")
 as=${AS:-nobody}
-[ -x "$program" ] || { echo "no program at $program: call ./run once, or name one" >&2; exit 2; }
+[ -x "$program" ] || { echo "there is no program ${program:-there}" >&2; exit 2; }
 folder=$(mktemp -d) || exit 2
 trap 'rm -rf "$folder"' EXIT
 cp "$program" "$folder/program" || exit 2
 cd "$folder" || exit 2
-perl "$top/tests/long_capture.pl" "$top/examples/plain.sdp" "$top/examples/plain.pcap" 30 long.sdp long.pcap || exit 2
+perl "$top/tests/capture.pl" sdp > long.sdp && perl "$top/tests/capture.pl" media groups=60 > long.pcap || exit 2
 chmod -R a+rX "$folder"
 
 captures="long.pcap long.pcap long.pcap long.pcap"

@@ -1,5 +1,5 @@
 #!/usr/bin/env bash
-# Prints the report of `check` on a capture of tests/long_capture.pl (TIMES 1), named several times: 64 media in each, which pass.
+# Prints the report of `check` on a capture of `tests/capture.pl media`, named several times: 64 media in each, which pass.
 #
 #   tests/many_flows.sh NAME TIMES
 set -u

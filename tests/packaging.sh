@@ -96,7 +96,7 @@ bash_completes() {
 }
 bash_offers() { same "$1" "$(cd "$copy/examples" && bash_completes st2110_timing "${@:2}")"; }
 
-# Prints what zsh shows after a line and a TAB, in a terminal of its own.
+# Prints what zsh shows after each of these lines and a TAB, in a terminal of its own.
 zsh_shows() {
     timeout 20 zsh -f -c '
         zmodload zsh/zpty
@@ -104,17 +104,20 @@ zsh_shows() {
         zpty -w shell "PS1=\"READY> \"; TERM=dumb; stty columns 200 rows 200; LISTMAX=500; fpath=($1 \$fpath)"
         zpty -w shell "autoload -Uz compinit; compinit -u -D; print BE\"\"GUN"
         zpty -r shell part "*BEGUN*READY> *"
-        zpty -w -n shell "$2"$'\''\t'\''
-        for ((quiet = 0; quiet < 20; quiet++)); do
-            while zpty -rt shell part; do print -rn -- "$part"; [[ $part != *$'\''\n'\''* ]] || quiet=10; done
-            sleep 0.05
+        for line in "${@:2}"; do
+            zpty -w -n shell "$line"$'\''\t'\''
+            for ((quiet = 0; quiet < 20; quiet++)); do
+                while zpty -rt shell part; do print -rn -- "$part"; [[ $part != *$'\''\n'\''* ]] || quiet=10; done
+                sleep 0.05
+            done
+            zpty -w -n shell $'\''\C-u'\''
         done
-        zpty -d shell' zsh "$folder/tree/opt/st/share/zsh/site-functions" "$1"
+        zpty -d shell' zsh "$folder/tree/opt/st/share/zsh/site-functions" "$@"
 }
-# Checks that zsh shows each name that standard input lists, with a description.
+# Checks that zsh shows each name that standard input lists, with a description, after one of these lines.
 zsh_offers() {
     local name shown wrong=0
-    shown=$(zsh_shows "$1")
+    shown=$(zsh_shows "$@")
     while read -r name; do
         grep -qE -- "^$name +-- [^ ]" <<< "$shown" || { echo "$name isn't offered"; wrong=1; }
     done
@@ -173,8 +176,8 @@ expect 'bash offers files' bash_offers $'plain.pcap\nplain.pcapng' check plain.p
 expect 'bash offers files for --sdp' bash_offers $'plain.sdp' check --sdp plain.s
 expect 'bash offers nothing for --tai' bash_offers '' check --tai ''
 if command -v zsh > /dev/null; then
-    expect 'zsh offers the commands of help' zsh_offers 'st2110_timing ' < <(commands)
-    expect 'zsh offers the options of check' zsh_offers 'st2110_timing check --' < <(options_of check)
+    expect 'zsh offers the commands of help and the options of check' zsh_offers 'st2110_timing ' 'st2110_timing check --' \
+        < <(commands; options_of check)
 else
     leave_out 'the completion of zsh' zsh
 fi

@@ -1,52 +1,27 @@
 #!/usr/bin/env bash
 # Runs the program on 16 captures with 64 media each, with 1 to 16 workers, and compares each report with that of one
-# thread. Captures and description are made from those under examples/: each media has the plain sender's packets at a
-# port of its own, and each capture lacks one packet of some media.
+# thread. Each media has the plain sender's packets at a port of its own, and each capture lacks one packet of some media.
 # Then it runs it on 16 captures of 20 MB, with fewer workers than captures, so that the workers are behind: no run may take more
 # than 64 MB.
 #
-#   tests/stress.sh [TIMES [PROGRAM]]      100 times, the program that ./run builds
+#   tests/stress.sh [TIMES [PROGRAM]]      100 times, dist/st2110_timing
 #
-# It is no part of the gate. It needs perl, and ends with 1 at the first report that differs.
+# It needs perl, and ends with 1 at the first report that differs.
 set -u
 top=$(cd "$(dirname "$0")/.." && pwd) || exit 2
 times=${1:-100}
-program=${2:-$top/crates/st2110_timing/out/st2110_timing}
-[ -x "$program" ] || { echo "no program at $program: call ./run once, or name one" >&2; exit 2; }
+program=$(readlink -f "${2:-$top/dist/st2110_timing}")
+[ -x "$program" ] || { echo "there is no program ${program:-there}" >&2; exit 2; }
 folder=$(mktemp -d) || exit 2
 trap 'rm -rf "$folder"' EXIT
 cd "$folder" || exit 2
 
-perl -e '
-    my ($sdp, $pcap) = @ARGV;
-    local $/;
-    open my $in, "<", $sdp or die $!;
-    my ($head, $part) = split /(?=^m=)/m, <$in>;
-    open my $out, ">", "s.sdp" or die $!;
-    print $out $head;
-    for my $media (0 .. 63) {
-        my $port = 50000 + 2 * $media;
-        (my $copy = $part) =~ s/^m=video \d+/m=video $port/;
-        print $out $copy;
-    }
-    close $out;
-    open $in, "<:raw", $pcap or die $!;
-    my $bytes = <$in>;
-    my @records = unpack "(a72)*", substr $bytes, 24;
-    for my $file (0 .. 15) {
-        open my $out, ">:raw", "$file.pcap" or die $!;
-        print $out substr $bytes, 0, 24;
-        for my $media (0 .. 63) {
-            for my $number (0 .. $#records) {
-                next if $media == 4 * $file && $number == 25;
-                my $record = $records[$number];
-                substr $record, 16 + 36, 2, pack "n", 50000 + 2 * $media;
-                print $out $record;
-            }
-        }
-        close $out;
-    }
-' "$top/examples/plain.sdp" "$top/examples/plain.pcap" || exit 2
+perl "$top/tests/capture.pl" sdp > s.sdp && perl "$top/tests/capture.pl" media begin=41 > whole.pcap || exit 2
+# (a packet record has 72 bytes, and a media has 41 packets)
+for file in {0..15}; do
+    record=$((24 + 72 * (41 * 4 * file + 25)))
+    { head -c "$record" whole.pcap; tail -c +$((record + 72 + 1)) whole.pcap; } > "$file.pcap"
+done
 
 captures=$(seq -f '%g.pcap' 0 15)
 for way in "" --joined --json; do
@@ -79,14 +54,14 @@ watch() {
     status=$?
 }
 
-perl "$top/tests/long_capture.pl" "$top/examples/plain.sdp" "$top/examples/plain.pcap" 110 long.sdp long.pcap || exit 1
+perl "$top/tests/capture.pl" media groups=220 > long.pcap || exit 1
 captures=$(for _ in {1..16}; do echo long.pcap; done)
 for way in "" --joined; do
     # shellcheck disable=SC2086
-    "$program" check --serial $way --sdp long.sdp $captures > serial; serial=$?
+    "$program" check --serial $way --sdp s.sdp $captures > serial; serial=$?
     for workers in 1 2 4 16; do
         # shellcheck disable=SC2086
-        watch "$program" check --workers $workers $way --sdp long.sdp $captures
+        watch "$program" check --workers $workers $way --sdp s.sdp $captures
         if [ $status -ne $serial ] || ! cmp -s serial many; then
             echo "differs: 16 long captures $way, $workers workers, status $status and not $serial" >&2
             exit 1
