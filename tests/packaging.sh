@@ -182,6 +182,9 @@ else
     leave_out 'the completion of zsh' zsh
 fi
 
+expect 'the newest heading of CHANGELOG.md is the version that the program prints' \
+    same "$(sed -n 's/^## //p' "$copy/CHANGELOG.md" | head -n 1)" "$("$copy/build/version.sh" "$program")"
+
 expect 'make uninstall' in_copy uninstall PREFIX=/opt/st DESTDIR="$folder/tree"
 expect 'make uninstall leaves nothing behind' is_removed
 
