@@ -67,19 +67,19 @@ wanted_files() {
     find examples -type f -printf '%m %p\n' | sed -E "s/^(.).. /\1 /; s/^7/755/; s/^6/644/; s: : $doc/:"
 }
 found_files() { (cd "$1" && find . -type f -printf '%m %p\n' | sort); }
-has_files() { same "$(wanted_files | sort -u)" "$(found_files "$folder/tree/opt/st")"; }
+has_files() { same "$(wanted_files | sort -u)" "$(found_files "$folder/tree/usr/elsewhere")"; }
 has_folders() { ! find "$folder/tree" -type d ! -perm 755 | grep .; }
-has_examples() { diff -r "$copy/examples" "$folder/tree/opt/st/share/doc/st2110_timing/examples"; }
+has_examples() { diff -r "$copy/examples" "$folder/tree/usr/elsewhere/share/doc/st2110_timing/examples"; }
 
 # Checks that the installed program runs, and that its first line has name and version.
 prints_first_line() {
     local first
-    first=$("$folder/tree/opt/st/bin/st2110_timing" help | sed -n 1p)
+    first=$("$folder/tree/usr/elsewhere/bin/st2110_timing" help | sed -n 1p)
     echo "$first"
     [[ $first =~ ^st2110_timing\ [0-9][^\ ]*:\  ]] && same "$first" "$("$program" help | sed -n 1p)"
 }
 
-renders() { "$@" "$folder/tree/opt/st/share/man/man1/st2110_timing.1" 2>&1 | grep 'st2110_timing'; }
+renders() { "$@" "$folder/tree/usr/elsewhere/share/man/man1/st2110_timing.1" 2>&1 | grep 'st2110_timing'; }
 
 commands() { "$program" help | sed -nE 's/^  ([a-z][a-z-]*)( .*)?$/\1/p' | sort; }
 options_of() { "$program" help "$1" | sed -nE 's/^  (--[a-z-]+).*/\1/p' | sort; }
@@ -92,7 +92,7 @@ bash_completes() {
         function=$(complete -p st2110_timing | sed "s/.*-F \([^ ]*\).*/\1/")
         "$function" st2110_timing "${COMP_WORDS[COMP_CWORD]}" "${COMP_WORDS[COMP_CWORD - 1]}"
         printf "%s\n" "${COMPREPLY[@]}" | sort' bash \
-        "$folder/tree/opt/st/share/bash-completion/completions/st2110_timing" "$@"
+        "$folder/tree/usr/elsewhere/share/bash-completion/completions/st2110_timing" "$@"
 }
 bash_offers() { same "$1" "$(cd "$copy/examples" && bash_completes st2110_timing "${@:2}")"; }
 
@@ -112,7 +112,7 @@ zsh_shows() {
             done
             zpty -w -n shell $'\''\C-u'\''
         done
-        zpty -d shell' zsh "$folder/tree/opt/st/share/zsh/site-functions" "$@"
+        zpty -d shell' zsh "$folder/tree/usr/elsewhere/share/zsh/site-functions" "$@"
 }
 # Checks that zsh shows each name that standard input lists, with a description, after one of these lines.
 zsh_offers() {
@@ -151,7 +151,7 @@ mkdir "$copy/dist" && cp "$program" "$copy/dist/st2110_timing" && chmod 755 "$co
 
 # (a umask that keeps everything from others must not show in the modes)
 umask 077
-expect 'make install' in_copy install PREFIX=/opt/st DESTDIR="$folder/tree"
+expect 'make install' in_copy install PREFIX=/usr/elsewhere DESTDIR="$folder/tree"
 umask 022
 expect 'make install: files and modes' has_files
 expect 'make install: modes of folders' has_folders
@@ -185,7 +185,7 @@ fi
 expect 'the newest heading of CHANGELOG.md is the version that the program prints' \
     same "$(sed -n 's/^## //p' "$copy/CHANGELOG.md" | head -n 1)" "$("$copy/build/version.sh" "$program")"
 
-expect 'make uninstall' in_copy uninstall PREFIX=/opt/st DESTDIR="$folder/tree"
+expect 'make uninstall' in_copy uninstall PREFIX=/usr/elsewhere DESTDIR="$folder/tree"
 expect 'make uninstall leaves nothing behind' is_removed
 
 if command -v dpkg-deb > /dev/null; then
