@@ -4,7 +4,8 @@
 #   tests/schema.sh [PROGRAM]      PROGRAM: dist/st2110_timing, unless another is named
 #
 # schema.py has the tests. They need a python3 with the module jsonschema (Debian: python3-jsonschema); if there is none, they are left
-# out. The last line is `schema: N passed, N failed`. The exit status is 1 if a test fails, and 2 if there is no program.
+# out. JOBS programs run at once, as many as there are processors. The last line is `schema: N passed, N failed`. The exit status is 1 if a
+# test fails, and 2 if there is no program.
 set -u
 export LC_ALL=C
 tests=$(cd "$(dirname "$(readlink -f "$0")")" && pwd) || exit 2

@@ -10,7 +10,8 @@
 # - `record`: it is the right word where `packet record of the capture` stood before;
 # - `proof`: nearly all are those of the prover; of a violation only the key of the JSON has this name, and that is code;
 # - `tells` and `says` of anything but code and what it prints: a page, a clause, a standard may say something;
-# - `words` in plain words, of 32 bits, or of a picture; `how often` and `fails` in a sentence; `cut` of a capture; `row` of a table.
+# - `words` in plain words, of 32 bits, or of a picture; `text` beside JSON; `how often` and `fails` in a sentence; `cut` of a capture;
+#   `row` of a table.
 use strict;
 use warnings;
 
@@ -27,7 +28,7 @@ my @RULES = (
     ['\bthe words (?=(?:are|aren\'t|say|don\'t|give|make|alone|after|of (?:a|an|all|every|each|one)) ?)', 'arguments, command line'],
     ['\b(?:in two|two|no) words\b', 'arguments'],
     ['\b[Ww]ords that (?:are|aren\'t)\b', 'arguments that ..'],
-    ['\bword that begins with\b|\bfirst word is the command\b|\bdirectly after the word\b', 'argument'],
+    ['\bword that begins with\b|\bfirst word is the command\b', 'argument'],
     ['^#+ Words$|^Words:$|\| [Ww]ords(?= \|)', 'Command line, Arguments'],
     ['\bno request\b', 'invalid command line, usage error'],
     # contents
