@@ -41,7 +41,7 @@ list_files() {
         644 docs/st2110_timing.1 share/man/man1/st2110_timing.1 \
         644 bash share/bash-completion/completions/st2110_timing \
         644 zsh "$zsh/_st2110_timing"
-    for file in README.md CHANGELOG.md docs/*.md; do
+    for file in README.md CHANGELOG.md docs/*.md docs/schema/*.json; do
         printf '644\t%s\t%s\n' "$file" "$doc/$file"
         pictures_of "$file" | while IFS= read -r file; do printf '644\t%s\t%s\n' "$file" "$doc/$file"; done
     done | sort -u

@@ -58,7 +58,7 @@ wanted_files() {
     echo "644 ./share/bash-completion/completions/st2110_timing"
     echo "644 ./share/zsh/site-functions/_st2110_timing"
     cd "$copy" || return
-    for file in README.md CHANGELOG.md docs/*.md; do
+    for file in README.md CHANGELOG.md docs/*.md docs/schema/*.json; do
         echo "644 $doc/$file"
         grep -o '!\[[^]]*\]([^)]*)' "$file" | sed 's/.*(\(.*\))/\1/' | while read -r picture; do
             echo "644 $doc/$(realpath -m --relative-to=. "$(dirname "$file")/$picture")"
