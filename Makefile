@@ -11,7 +11,7 @@ help: ## prints the targets
 test: ## runs the tests of the program in dist/
 	tests/run
 
-prove: ## runs the gate: every proof and every test; needs the Rattle kit, and takes an hour or two from nothing
+prove: ## runs the gate: every proof and every test; needs the Rattle kit, and takes an hour and a half from nothing
 	.ci/run
 
 install: ## installs program, man page, completions, pages and examples below PREFIX (/usr/local); DESTDIR= stages them
