@@ -5,7 +5,7 @@ use Rattle.std.proofs.Common.{refl, arith, ap, ap₂, ◌∙◌, sym, subst, app
 use Rattle.std.specs.Global.{Global}
 use Rattle.std.specs.List.{cons_option}
 use Rattle.std.specs.declared.vec.Vec.{Vec}
-use Rattle.std.proofs.lemmas.List.{drop-map, length-map, map-append, take-map}
+use Rattle.std.proofs.lemmas.List.{drop-map, length-map, take-map}
 use Rattle.std.proofs.lemmas.List.Elements.{All-push}
 use Rattle.std.proofs.lemmas.Nat.{mul-le}
 use Rattle.timing_base.specs.Captures.{IsStamp, Record}
@@ -27,7 +27,7 @@ use Rattle.timing_reach.specs.shape.Keeping.{AreKept, Keeps, came_text, record_t
 use Rattle.timing_reach.specs.shape.Readings.{IsKeptFlow, IsKeptIn, IsRead, IsReading, ReadsOn, count_read, flow-on, records-on}
 use Rattle.timing_reach.specs.shape.Shaping.{CanShape, IsRunOf, in_tai, judged_stamps}
 use Rattle.timing_reach.specs.declared.shape.kept.Kept.{Kept}
-use Rattle.timing_reach.specs.declared.shape.kept.Kept.TheVariants.{Capture, Stamps}
+use Rattle.timing_reach.specs.declared.shape.kept.Kept.TheVariants.{Capture}
 use Rattle.timing_reach.specs.declared.shape.reading.KeptFlow.{KeptFlow}
 use Rattle.timing_reach.specs.declared.shape.reading.Reading.{Reading}
 use Rattle.timing_reach.proofs.Judgings.{judged-of, one-run, within-run}
@@ -42,17 +42,7 @@ came-more (x ∷ xs) r =
     ∙ ap (λ l. head ++ l) (sym (append_assoc x.bytes (came_text xs) (record_text r)))
     ∙ sym (append_assoc head (x.bytes ++ came_text xs) (record_text r))
 
--- a stamp more is kept, or a record
-pub keeps-stamp : (at : ℕ) (frame : List ℕ) (old : Kept) (was now : Vec ℕ Global) → old ≡ Stamps was → now.items ≡ was.items ++ at ∷ []
-    → Keeps at frame old (Stamps now)
-keeps-stamp at frame old was now e more = λ list records r came is h. by list records r came (subst (λ k. AreKept list k records) e h)
-  where
-    by : (list : Bool) (records : List Record) (r : Record) → r.stamp ≡ at → AreKept list (Stamps was) records → AreKept list (Stamps now) (records ++ r ∷ [])
-    by true records r came h =
-        more ∙ ap (λ l. l ++ at ∷ []) h ∙ ap (λ x. stamps_of records ++ x ∷ []) (sym came)
-        ∙ sym (map-append (λ (x : Record). x.stamp) records (r ∷ []))
-    by false records r came h = absurd h
-
+-- a record more is kept
 pub keeps-record : (at : ℕ) (frame : List ℕ) (old : Kept) (was now : Vec ℕ Global) → old ≡ Capture was
     → now.items ≡ was.items ++ (record_head at (length frame) ++ frame) → Keeps at frame old (Capture now)
 keeps-record at frame old was now e more = λ list records r came is h. by list records r came is (subst (λ k. AreKept list k records) e h)
@@ -97,9 +87,8 @@ kept-in text m key tai list old new f start t finish =
 -- some records were read, and few
 pub kept-some : (m : Media) (key : FlowKey) (tai most : ℕ) (list : Bool) (old new : Reading) (f : KeptFlow) → IsReading m key tai list old []
     → TakesFew (ReadsOn m) most old new → ((items : List Record) → IsReading m key tai list new items → IsKeptFlow m tai list items f)
-    → IsRead m tai f
-kept-some m key tai most list old new f start t finish =
-    record { list = list; items = t.items; flow_is = finish t.items (t.taken key tai list [] start) }
+    → IsRead m tai list f
+kept-some m key tai most list old new f start t finish = record { items = t.items; flow_is = finish t.items (t.taken key tai list [] start) }
 
 pub read-few : (m : Media) (key : FlowKey) (tai most : ℕ) (list : Bool) (old new : Reading) → IsReading m key tai list old [] → TakesFew (ReadsOn m) most old new
     → count_read new ≤ most
@@ -172,7 +161,8 @@ run-kept m tai list items f j is h =
       },
     )
 
-pub can-shape : (m : Media) (tai : ℕ) (f : KeptFlow) (j : Judged) → f.verdict ≡ verdict.Judged j → IsRead m tai f → CanShape m tai j f.packets
-can-shape m tai f j is h =
-    let run = run-kept m tai h.list h.items f j is h.flow_is in
-    record { list = h.list; items = h.items; run = run.0; run_is = run.2; kept = h.flow_is.packets }
+pub can-shape : (m : Media) (tai : ℕ) (list : Bool) (f : KeptFlow) (j : Judged) → f.verdict ≡ verdict.Judged j → IsRead m tai list f
+    → CanShape m tai j f.packets
+can-shape m tai list f j is h =
+    let run = run-kept m tai list h.items f j is h.flow_is in
+    record { list = list; items = h.items; run = run.0; run_is = run.2; kept = h.flow_is.packets }

@@ -39,10 +39,6 @@ pub some-packet : (tai : ℕ) (j : Judged) (records : List Record) (run : Judged
 some-packet tai j records run h =
     omega (arith, h.count, h.grouped.whole, mul-le 1 1 run.n run.groups h.grouped.some h.grouped.some_groups)
 
--- few are
-pub few-packets : (tai : ℕ) (j : Judged) (records : List Record) (run : JudgedRun) → IsRunOf tai j records run → j.packets ≤ 2 ^ 41
-few-packets tai j records run h = omega (arith, h.count, h.grouped.bounded)
-
 -- they can be shaped from the first one on
 run-fit : (tai first : ℕ) (run : JudgedRun) → IsGrouped run → (0 < length run.stamps → slice_index run.stamps 0 ≡ first + tai * 10 ^ 9)
     → IsFit (first + tai * 10 ^ 9) run.stamps
@@ -169,16 +165,6 @@ pub kept-before : (m : Media) (list : Bool) (bytes : Vec ℕ Global) (items : Li
 kept-before m list bytes items begun new kept =
     new (flow_records m items) (kept-capture list bytes (flow_records m items) kept.kept).1 kept.held
 
-pub can-skip-head : (m : Media) (tai : ℕ) (j : Judged) (bytes : Vec ℕ Global) (begun : Walk)
-    → ((records : List Record) → bytes.items ≡ file_head ++ came_text records → All CanBeHeld records → IsBefore begun file_head records)
-    → CanShape m tai j (Capture bytes) → CanSkip j.head begun
-can-skip-head m tai j bytes begun new can = record {
-  done = file_head;
-  rest = flow_records m can.items;
-  before = kept-before m can.list bytes can.items begun new can.kept;
-  many = omega (arith, can.run_is.within);
-}
-
 pub can-depart : (m : Media) (tai : ℕ) (j : Judged) (bytes : Vec ℕ Global) (begun walk : Walk)
     → ((records : List Record) → bytes.items ≡ file_head ++ came_text records → All CanBeHeld records → IsBefore begun file_head records)
     → PassesAll j.head begun walk → CanShape m tai j (Capture bytes) → CanSkip j.packets walk
@@ -187,11 +173,11 @@ can-depart m tai j bytes begun walk new passed can =
     let at = at-run tai j begun walk records can.run (kept-before m can.list bytes can.items begun new can.kept) passed can.run_is in
     record { done = _; rest = drop j.head records; before = at.before; many = at.many }
 
-pub first-head : (m : Media) (kind : Kind) (tai : ℕ) (j : Judged) (bytes : Vec ℕ Global) (begun walk : Walk)
+pub first-head : (m : Media) (tai : ℕ) (j : Judged) (bytes : Vec ℕ Global) (begun walk : Walk)
     → ((records : List Record) → bytes.items ≡ file_head ++ came_text records → All CanBeHeld records → IsBefore begun file_head records)
     → PassesAll j.head begun walk → CanShape m tai j (Capture bytes)
     → (done : List ℕ) × (r : Record) × (rest : List Record) × IsBefore walk done (r ∷ rest)
-first-head m kind tai j bytes begun walk new passed can =
+first-head m tai j bytes begun walk new passed can =
     let records = flow_records m can.items in
     let skip = can-depart m tai j bytes begun walk new passed can in
     let some = some-packet tai j records can.run can.run_is in

@@ -1,7 +1,7 @@
 -- The judged packets of a kept flow leave, and what is printed of them is made.
 use Rattle.std.specs.Prelude.{cond, max, nat_lt, slice_index, slice_index_or, string_bytes, Ok, Err}
 use Rattle.std.proofs.Common.{◌≡◌, ◌≤◌, ◌<◌, ◌+◌, ◌-◌, ◌*◌, ◌^◌, ℕ, Bool, true, false, List, [], ◌∷◌, ◌++◌, length, take, drop, refl, arith, ap, ◌∙◌, sym, subst, inl, inr}
-use Rattle.std.proofs.Common.{append-nil, append_assoc, length-append}
+use Rattle.std.proofs.Common.{append_assoc, length-append}
 use Rattle.std.specs.List.{count_by}
 use Rattle.std.proofs.Math.Seq.{get_or-append_seam}
 use Rattle.std.proofs.lemmas.List.{drop_more, get_or-map, get_or-take, length-map, length-take-le, take_all, take_more}
@@ -22,7 +22,7 @@ use Rattle.timing_reach.specs.declared.shape.leaver.Leaver.{Leaver}
 use Rattle.timing_reach.specs.declared.shape.walk.Walk.{Walk}
 use Rattle.timing_reach.proofs.Copies.{capture-judged}
 use Rattle.timing_reach.proofs.Leavings.{let-in-time, next-late, next-leaves}
-use Rattle.timing_reach.proofs.Listings.{bounds-more, bounds-none, count-more, delays-more, greatest-more, length-delays, lines-more}
+use Rattle.timing_reach.proofs.Listings.{bounds-more, count-more, delays-more, greatest-more, length-delays, lines-more}
 
 -- so many left
 let-count : (w : Part) (l : Leaver) (stamps departures : List ℕ) → HasLet w l stamps departures → length departures ≡ length stamps
@@ -31,15 +31,6 @@ let-count w l stamps departures h = h.stands.shaped.plan.each
 pub at-most-one : (b : Bool) → cond b 1 0 ≤ 1
 at-most-one true = omega arith
 at-most-one false = omega arith
-
--- before the first packet of a list
-pub listed-none : (w : Part) (l : Leaver) (d : Delays) (stamps : List ℕ) → string_bytes d.lines ≡ [] → d.delayed ≡ 0 → d.greatest ≡ 0 → HasLet w l [] []
-    → HasListed w l d stamps 0
-listed-none w l d stamps lines delayed most h = record {
-  departures = [];
-  left = h;
-  listed = record { bounds = []; are = bounds-none w.media w.n w.kind; lines = lines; delayed = delayed; most = most };
-}
 
 -- a packet more is listed
 listed-more : (w : Part) (stamps departures : List ℕ) (old new : Delays) (packet at delay : ℕ) (d : Departure) → length departures ≡ length stamps
@@ -144,16 +135,6 @@ lists-all w l d stamps answer is h =
 -- no record
 abbrev no_record : Record
 no_record = record { number = 0; stamp = 0; bytes = [] }
-
--- before the first packet of a capture
-pub left-none : (w : Part) (l : Leaver) (walk : Walk) (left : ℕ) (head records : List Record) (stamps : List ℕ) → left ≡ 0
-    → HasLet w l [] [] → IsBefore walk (shaped_capture w.tai (length head) [] head) records → HasLeft w l walk left head records stamps 0
-left-none w l walk left head records stamps zero h before = record {
-  departures = [];
-  let_go = h;
-  last = omega (arith, zero);
-  before = subst (λ (rs : List Record). IsBefore walk (shaped_capture w.tai (length head) [] rs) records) (sym (append-nil head)) before;
-}
 
 -- the judged packets, by their records
 judged-at : (tai count i : ℕ) (records : List Record) → i < count → count ≤ length records

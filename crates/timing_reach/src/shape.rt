@@ -22,7 +22,7 @@ ghost use Rattle.timing_reach.specs.steps.Ran.{HasCause, Ran, output_of};
 ghost use Rattle.timing_reach.specs.Asked.{FlowInputRose, OnRun, ReadsCapture};
 ghost use Rattle.timing_reach.specs.Shaped.{FollowsShape, HasShapeIn};
 ghost use Rattle.timing_reach.specs.Shapes.{HasShape};
-ghost use Rattle.timing_reach.specs.shape.Readings.{IsKeptFlow, IsKeptIn, IsRead};
+ghost use Rattle.timing_reach.specs.shape.Readings.{AnswersSome, IsKeptFlow, IsKeptIn, IsRead};
 
 use crate::judged::find_media;
 use crate::judged::flows::take_flow;
@@ -44,7 +44,7 @@ fn told_of(
     kept: KeptFlow,
 ) -> Result<Answer, OutOfMemory>
     requires tai { tai ≤ 1000 }
-    requires read { IsRead media.now tai kept }
+    requires read { (list : Bool) × IsRead media.now tai list kept }
     ensures answered { IfOk result (HasStatus look_ends) }
     ensures answers { IfOk result (λ answer. (list : Bool) (items : List Record)
         → IsKeptFlow media.now tai list items kept
@@ -68,7 +68,7 @@ fn read<H: Shelf>(
     ensures told { IfOk result (λ kept. (text : List ℕ)
         → classic_texts (H.text shelf.old) job.now.flow.capture ≡ Some text
         → IsKeptIn media.now job.now.flow.tai job.now.list text kept) }
-    ensures read { IfOk result (λ kept. IsRead media.now job.now.flow.tai kept) }
+    ensures read { IfOk result (λ kept. IsRead media.now job.now.flow.tai job.now.list kept) }
     ensures cause { IfErr result (λ e. OnReadFault e (λ i. (i ≡ Input.Capture 0)
         × Rose (H.faults shelf.old job.now.flow.capture) (H.faults shelf.new job.now.flow.capture))) }
     ensures there { IfOk result (λ _. ¬ H.lacks shelf.old job.now.flow.capture) }
@@ -87,17 +87,19 @@ fn answer_kept(
     media: &Media,
     kept: KeptFlow,
 ) -> Result<Answer, Failure>
-    requires { IsRead media.now job.now.flow.tai kept }
+    requires { IsRead media.now job.now.flow.tai job.now.list kept }
     ensures answered { IfOk result (HasStatus look_ends) }
+    ensures some { IfOk result (λ answer. AnswersSome job.now media.now answer) }
     ensures answers { IfOk result (λ answer. (text : List ℕ)
         → IsKeptIn media.now job.now.flow.tai job.now.list text kept
         → HasShapeIn job.now media.now text answer) }
     ensures cause { IfErr result (λ e. OnReadFault e (λ _. ⊥)) }
 {
-    Ok(told_of(alloc, media, job.kind, job.flow.tai, kept)?)
+    let flow = &job.flow;
+    Ok(told_of(alloc, media, job.kind, flow.tai, kept)?)
 }
 
-/// The answer on the flow of this media.
+/// The answer on the flow of this media: on what was read, also where the shelf doesn't tell the text of the capture.
 fn answer_on<H: Shelf>(
     alloc: Global,
     job: &ShapeJob,
@@ -106,6 +108,7 @@ fn answer_on<H: Shelf>(
 ) -> Result<Answer, Failure>
     ensures follows { Yields result (ReadsCapture (seen_of H.Shelf shelf.old shelf.new)
         result job.now.flow.capture (λ text. Gives result (HasShapeIn job.now media.now text))) }
+    ensures some { IfOk result (λ answer. AnswersSome job.now media.now answer) }
     ensures answers { IfOk result (HasStatus look_ends) }
     ensures cause { HasCause result
         (FlowInputRose job.now.flow (seen_of H.Shelf shelf.old shelf.new)) }

@@ -5,6 +5,7 @@ use Rattle.std.proofs.Common.{arith, sym, subst, append-nil, append_assoc, ap, �
 use Rattle.std.proofs.lemmas.List.Elements.{filter-append, filter_map-append}
 use Rattle.timing_base.specs.Captures.{Record}
 use Rattle.timing_base.specs.Grouped.{IsGroupedVerdict}
+use Rattle.timing_base.specs.Jobs.{ShapeJob}
 use Rattle.timing_base.specs.Judged.{judged}
 use Rattle.timing_base.specs.Media.{Media}
 use Rattle.timing_base.specs.declared.capture.FileNote.{FileNote}
@@ -17,7 +18,9 @@ use Rattle.fail_interval.specs.Taken.{IsExpected}
 use Rattle.pcap_reader.specs.Records.{Records}
 use Rattle.udp_rtp.specs.Flow.{flow, flow_packet}
 use Rattle.timing_reach.specs.ShapedAgain.{CanBeHeld}
-use Rattle.timing_reach.specs.Shapes.{flow_records}
+use Rattle.timing_reach.specs.steps.Answers.{Answer}
+use Rattle.timing_reach.specs.Asked.{OnRun}
+use Rattle.timing_reach.specs.Shapes.{HasShape, flow_records}
 use Rattle.timing_reach.specs.shape.Keeping.{AreKept}
 use Rattle.timing_reach.specs.declared.shape.kept.Kept.{Kept}
 use Rattle.timing_reach.specs.declared.shape.reading.KeptFlow.{KeptFlow}
@@ -104,7 +107,11 @@ pub record IsKeptIn (m : Media) (tai : ℕ) (list : Bool) (text : List ℕ) (f :
   pub flow_is : IsKeptFlow m tai list items f
 
 -- some records were read
-pub record IsRead (m : Media) (tai : ℕ) (f : KeptFlow) : Type 0 where
-  pub list : Bool
+pub record IsRead (m : Media) (tai : ℕ) (list : Bool) (f : KeptFlow) : Type 0 where
   pub items : List Record
   pub flow_is : IsKeptFlow m tai list items f
+
+-- the answer of `shape` is that on the flow of this media in some records
+pub record AnswersSome (job : ShapeJob) (m : Media) (answer : Answer) : Type 0 where
+  pub items : List Record
+  pub on_run : OnRun m (HasShape job.list job.flow.tai job.kind m items) (judged (flow items m) m.pt job.flow.tai) answer

@@ -24,7 +24,9 @@ returns-clause-told g c = λ text whole.
 pub returns-clause-read : goal.returns-clause-read
 returns-clause-read g c =
     let seconds : c.flow.inside.tai ≡ c.args.job.now.flow.tai = search rules in
-    subst (λ (x : ℕ). IsRead c.args.media.now x c.finish.result) seconds
+    let listed : c.job.inside.list ≡ c.args.job.now.list = search rules in
+    subst (λ (x : ℕ). IsRead c.args.media.now x c.args.job.now.list c.finish.result) seconds
+    (subst (λ (b : Bool). IsRead c.args.media.now c.flow.inside.tai b c.finish.result) listed
     (kept-some c.args.media.now _ c.flow.inside.tai (2 ^ 36) c.job.inside.list c.in_ok-reading.reading _ c.finish.result c.in_ok-reading.ensures.stands
     c.in_ok-reading-2.ensures.fed
-    (λ items h. c.finish.ensures c.args.media.now _ c.flow.inside.tai c.job.inside.list items c.flow.invariant.tai_most h))
+    (λ items h. c.finish.ensures c.args.media.now _ c.flow.inside.tai c.job.inside.list items c.flow.invariant.tai_most h)))

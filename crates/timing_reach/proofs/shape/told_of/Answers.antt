@@ -11,7 +11,7 @@ use Rattle.timing_reach.proofs.shape.told_of.Goals as goal
 
 pub shape_kept-requires-clause-can : goal.shape_kept-requires-clause-can
 shape_kept-requires-clause-can c =
-    can-shape c.args.media.now c.args.tai c.args.kept c.in-Judged.judged c.in-Judged.is c.requires.read
+    can-shape c.args.media.now c.args.tai c.requires.read.0 c.args.kept c.in-Judged.judged c.in-Judged.is c.requires.read.1
 
 pub returns-in-Judged-clause-answers : goal.returns-in-Judged-clause-answers
 returns-in-Judged-clause-answers c =

@@ -12,7 +12,7 @@ stamp-requires c =
     let head : c.judged.inside.head ≡ j.head = search rules in
     let passed = subst (λ (k : ℕ). PassesAll k c.new-walk.result c.skip.new.self) head c.skip.ensures in
     let some =
-    first-head c.args.media.now c.args.kind c.args.tai j c.args.bytes c.new-walk.result c.skip.new.self c.new-walk.ensures passed c.requires.can in
+    first-head c.args.media.now c.args.tai j c.args.bytes c.new-walk.result c.skip.new.self c.new-walk.ensures passed c.requires.can in
     has-head c.skip.new.self some.0 some.1 some.2 some.3
 
 pub new-leaver-requires-clause-first : goal.new-leaver-requires-clause-first
@@ -21,7 +21,7 @@ new-leaver-requires-clause-first c =
     let head : c.judged.inside.head ≡ j.head = search rules in
     let passed = subst (λ (k : ℕ). PassesAll k c.new-walk.result c.skip.new.self) head c.skip.ensures in
     let some =
-    first-head c.args.media.now c.args.kind c.args.tai j c.args.bytes c.new-walk.result c.skip.new.self c.new-walk.ensures passed c.requires.can in
+    first-head c.args.media.now c.args.tai j c.args.bytes c.new-walk.result c.skip.new.self c.new-walk.ensures passed c.requires.can in
     stamp-held c.skip.new.self c.stamp.result some.0 some.1 some.2 some.3 (c.stamp.ensures some.0 some.1 some.2 some.3)
 
 pub depart-requires-clause-can : goal.depart-requires-clause-can
