@@ -2,14 +2,11 @@
 
 mod compare;
 
-// Words, two flows, what is measured and found, and texts.
+// Command lines, two flows, what a capture holds, and reports that are read.
 mod json;
 mod lines;
-mod measures;
-mod report;
 mod scan;
 mod skew;
-mod texts;
 
 // Intakes and workers.
 mod intakes;

@@ -9,6 +9,9 @@ use Rattle.std.proofs.lemmas.List.{get_or_append_left}
 use Rattle.pcap_reader.specs.WrittenHeads.{file_head, record_head}
 use Rattle.timing_base.specs.Captures.{Record}
 use Rattle.timing_reach.specs.Shapes.{leaves_at, records_text, shaped_capture}
+use Rattle.timing_reach.specs.shape.Keeping.{came_text}
+use Rattle.timing_reach.specs.shape.Shaping.{last_left}
+use Rattle.timing_reach.specs.shape.Walking.{held_back}
 
 -- the record of a packet that leaves at this instant
 abbrev pub record_at : ℕ → Record → List ℕ
@@ -115,3 +118,37 @@ capture-beside tai head left departures records r last ahead behind =
     ] in
     ap (λ l. file_head ++ l) (copy-more (leaves_at tai head departures) records r (max r.stamp left) here)
     ∙ sym (append_assoc file_head (records_text (leaves_at tai head departures) 0 records) (record_at (max r.stamp left) r))
+
+-- records that keep their stamps
+records-came : (leaves : ℕ → ℕ → ℕ) (k : ℕ) (rs : List Record) → ((j stamp : ℕ) → j < k + length rs → leaves j stamp ≡ stamp)
+    → records_text leaves k rs ≡ came_text rs
+records-came leaves k [] same = refl
+records-came leaves k (x ∷ xs) same =
+    ap (λ at. record_head at (length x.bytes) ++ (x.bytes ++ records_text leaves (k + 1) xs)) (same k x.stamp (omega arith))
+    ∙ ap (λ l. record_head x.stamp (length x.bytes) ++ (x.bytes ++ l))
+    (records-came leaves (k + 1) xs (λ j stamp few. same j stamp (omega (arith, few))))
+
+-- the packets of a head keep their stamps
+pub capture-head : (tai head : ℕ) (records : List Record) → length records ≤ head → shaped_capture tai head [] records ≡ file_head ++ came_text records
+capture-head tai head records few =
+    ap (λ l. file_head ++ l)
+    (records-came (leaves_at tai head []) 0 records
+    (λ j stamp low. let first : nat_lt j head ≡ true = grind (arith, nat_tests) in
+    leaves-by tai head [] j stamp true (nat_lt j (head + 0)) first refl))
+
+-- with all packets behind the judged ones
+pub capture-tail : (tai head left : ℕ) (departures : List ℕ) (front rest : List Record) → left ≡ last_left tai departures
+    → head + length departures ≤ length front
+    → shaped_capture tai head departures front ++ came_text (held_back left rest) ≡ shaped_capture tai head departures (front ++ rest)
+capture-tail tai head left departures front [] last behind =
+    append-nil (shaped_capture tai head departures front) ∙ ap (shaped_capture tai head departures) (sym (append-nil front))
+capture-tail tai head left departures front (r ∷ rs) last behind =
+    let at = max r.stamp left in
+    let here = shaped_capture tai head departures front in
+    let more = came_text (held_back left rs) in
+    let one : length (front ++ r ∷ []) ≡ length front + 1 = length-append front (r ∷ []) in
+    ap (λ l. here ++ l) (sym (append_assoc (record_head at (length r.bytes)) r.bytes more))
+    ∙ sym (append_assoc here (record_at at r) more)
+    ∙ ap (λ l. l ++ more) (sym (capture-beside tai head left departures front r last (λ few. absurd (omega (arith, few, behind))) (λ _. behind)))
+    ∙ capture-tail tai head left departures (front ++ r ∷ []) rs last (omega (arith, behind, one))
+    ∙ ap (shaped_capture tai head departures) (append_assoc front (r ∷ []) rs)

@@ -1,12 +1,10 @@
--- A flow that is judged in one run: its markers, its first stamp and its number of packets.
-use Rattle.std.proofs.Common.{◌≡◌, ◌≤◌, ◌<◌, ◌+◌, ◌-◌, ◌*◌, ◌^◌, ℕ, Bool, true, false, if◌then◌else◌, nat_lt, List, ◌∷◌, length, map, take, drop, min, Option}
+-- A flow that is judged in one run: its markers, and its judged packets.
+use Rattle.std.proofs.Common.{◌≡◌, ◌≤◌, ◌+◌, ◌-◌, ℕ, Bool, true, false, if◌then◌else◌, nat_lt, List, length, map, take, drop, min, Option}
 use Rattle.std.proofs.Common.{Some, None, refl, arith, ap, ◌∙◌, sym, subst}
 use Rattle.std.specs.Prelude.{◌==◌, slice_index}
 use Rattle.std.proofs.lemmas.Bool.Decides.{nat_tests}
-use Rattle.std.proofs.lemmas.List.{get_or-drop, get_or-map, get_or-take, length-drop, length-map, length-take}
-use Rattle.std.proofs.lemmas.Nat.{mul-le}
-use Rattle.timing_base.specs.Flows.{AreStamped, FirstFault, cuts, first_fault, last_place, markers, no_packet, packet}
-use Rattle.timing_base.specs.Grouped.{IsGrouped, IsGroupedVerdict}
+use Rattle.std.proofs.lemmas.List.{length-drop, length-map, length-take}
+use Rattle.timing_base.specs.Flows.{FirstFault, cuts, first_fault, last_place, markers, packet}
 use Rattle.timing_base.specs.Judged.{FlowRun, FlowVerdict, JudgedRun, RunOutcome, absent, gap, head_len, in_one_run, in_runs, judged, judged_run}
 use Rattle.timing_base.specs.Judged.{no_whole_frame, refusal, refused, refused_or, run_outcome, runs, stamp_of, whole_frames}
 use Rattle.timing_base.specs.Media.{Media}
@@ -16,12 +14,8 @@ use Rattle.timing_base.specs.declared.packet.PacketFault.{PacketFault}
 use Rattle.timing_base.specs.declared.packet.PacketFault.TheVariants.{Number}
 use Rattle.timing_base.specs.declared.row.Verdict.{Verdict}
 use Rattle.timing_base.specs.declared.row.Verdict.TheVariants as verdict
-use Rattle.timing_base.proofs.Grouped.{judged-grouped}
 use Rattle.fail_interval.specs.Row.{judged_values, verdict_of}
-use Rattle.sender_params.specs.Ticks.{NeverFall}
-use Rattle.timing_reach.specs.judged.Runs.{gauged}
-use Rattle.timing_reach.specs.judged.Opening.{OpensBy}
-use Rattle.timing_reach.proofs.Gauges.{gauged-all}
+use Rattle.timing_reach.proofs.Gauges.{take-again}
 
 -- of one run
 abbrev IsOne : RunOutcome → FlowVerdict → Type 0
@@ -94,77 +88,10 @@ has-run m j (in_runs runs) h = absurd h
 pub judged-of : (m : Media) (j : Judged) (v : FlowVerdict) (seen : Verdict) → seen ≡ verdict_of m v → seen ≡ verdict.Judged j → HasRun m j v
 judged-of m j v seen e is = has-run m j v (subst (IsValues j) (sym is ∙ e) refl)
 
--- the judged packets are among those of the flow
-length-part : (tai k head : ℕ) (packets : List FlowPacket) → length (map (stamp_of tai) (take k (drop head packets))) + head ≤ length packets + head
-length-part tai k head packets =
-    let part = take k (drop head packets) in
-    let mapped : length (map (stamp_of tai) part) ≡ length part = length-map part (stamp_of tai) in
-    let long : length part ≡ min k (length (drop head packets)) = length-take k (drop head packets) in
-    let rest : length (drop head packets) ≡ length packets - head = length-drop head packets in
-    omega (arith, mapped, long, rest)
-
-pub judged-few : (m : Media) (j : Judged) (packets : List FlowPacket) (tai : ℕ) (run : JudgedRun) → IsOneRun packets tai run → judged_values m run ≡ j
-    → j.packets ≤ length packets
-judged-few m j packets tai run one e =
-    let marks = markers packets 0 (length packets) in
-    let is : j.packets ≡ length run.stamps = ap (λ (x : Judged). x.packets) (sym e) in
-    let same : length run.stamps ≡ length (judged_run packets tai 0 (length packets)).stamps = ap (λ (x : JudgedRun). length x.stamps) (sym one.run_is) in
-    let few = length-part tai (last_place marks + 1 - (slice_index marks 0 + 1)) (slice_index marks 0 + 1) packets in
-    omega (arith, is, same, few)
-
--- some packet is judged
-pub some-judged : (packets : List FlowPacket) (pt tai : ℕ) (run : JudgedRun) → length packets < 2 ^ 41 → tai ≤ 1000 → AreStamped packets
-    → judged packets pt tai ≡ in_one_run (whole_frames run) → 1 ≤ length run.stamps
-some-judged packets pt tai run few seconds stamped e =
-    let g : IsGrouped run = subst IsGroupedVerdict e (judged-grouped packets pt tai few seconds stamped) in
-    let some : 1 * 1 ≤ run.n * run.groups = mul-le 1 1 run.n run.groups g.some g.some_groups in
-    omega (arith, g.whole, some)
-
--- the judged stamps never fall
-pub judged-rises : (packets : List FlowPacket) (pt tai : ℕ) (run : JudgedRun) → length packets < 2 ^ 41 → tai ≤ 1000 → AreStamped packets
-    → judged packets pt tai ≡ in_one_run (whole_frames run) → NeverFall run.stamps
-judged-rises packets pt tai run few seconds stamped e =
-    let g : IsGrouped run = subst IsGroupedVerdict e (judged-grouped packets pt tai few seconds stamped) in
-    λ j i order low. g.rising j i 0 order low
-
--- the first judged stamp is that of the packet behind the first marker
-opened : (packets : List FlowPacket) (tai i k at : ℕ) → 1 ≤ length (map (stamp_of tai) (take k (drop (i + 1) packets))) → (packet packets (i + 1)).at ≡ at
-    → slice_index (map (stamp_of tai) (take k (drop (i + 1) packets))) 0 ≡ at + tai * 10 ^ 9
-opened packets tai i k at some is =
-    let rest = drop (i + 1) packets in
-    let part = take k rest in
-    let mapped : length (map (stamp_of tai) part) ≡ length part = length-map part (stamp_of tai) in
-    let long : length part ≡ min k (length rest) = length-take k rest in
-    let zero : i + 1 + 0 ≡ i + 1 = omega arith in
-    get_or-map (stamp_of tai) part 0 no_packet 0 (omega (arith, some, mapped))
-    ∙ ap (stamp_of tai) (get_or-take k rest 0 no_packet (omega (arith, some, mapped, long)) ∙ get_or-drop (i + 1) packets 0 no_packet
-    ∙ ap (packet packets) zero)
-    ∙ ap (λ x. x + tai * 10 ^ 9) is
-
-one-first : (packets : List FlowPacket) (tai : ℕ) (run : JudgedRun) (i : ℕ) (later : List ℕ) (at : ℕ) → IsOneRun packets tai run → 1 ≤ length run.stamps
-    → markers packets 0 (length packets) ≡ i ∷ later
-    → (packet packets (i + 1)).at ≡ at → slice_index run.stamps 0 ≡ at + tai * 10 ^ 9
-one-first packets tai run i later at one some marks is =
-    let all = markers packets 0 (length packets) in
-    let first : slice_index all 0 ≡ i = ap (λ l. slice_index l 0) marks in
-    let stamps : run.stamps ≡ map (stamp_of tai) (take (last_place all + 1 - (i + 1)) (drop (i + 1) packets)) =
-    ap (λ (x : JudgedRun). x.stamps) (sym one.run_is) ∙ ap (λ f. map (stamp_of tai) (take (last_place all + 1 - (f + 1)) (drop (f + 1) packets))) first in
-    ap (λ l. slice_index l 0) stamps ∙ opened packets tai i (last_place all + 1 - (i + 1)) at (subst (λ l. 1 ≤ length l) stamps some) is
-
-pub first-stamp : (packets : List FlowPacket) (tai : ℕ) (run : JudgedRun) (marked : Bool) (first : Option ℕ) (stamp : ℕ) → IsOneRun packets tai run
-    → 1 ≤ length run.stamps
-    → OpensBy packets marked first → ((at : ℕ) → first ≡ Some at → stamp ≡ at) → slice_index run.stamps 0 ≡ stamp + tai * 10 ^ 9
-first-stamp packets tai run false None stamp one some h is =
-    let none : length (markers packets 0 (length packets)) ≡ 0 = ap length h in absurd (omega (arith, one.marked, none))
-first-stamp packets tai run true None stamp one some h is =
-    let alone : length (markers packets 0 (length packets)) ≡ 1 = ap length h.2 in absurd (omega (arith, one.marked, alone))
-first-stamp packets tai run marked (Some at) stamp one some h is =
-    one-first packets tai run h.0 h.1 at one some h.3 h.4 ∙ ap (λ x. x + tai * 10 ^ 9) (sym (is at refl))
-
 -- the judged packets stand behind the head, and are all there
 pub record IsWithin (packets : List FlowPacket) (tai : ℕ) (run : JudgedRun) : Type 0 where
   pub few : length run.stamps ≤ length packets - run.head
-  pub gauged_is : gauged tai run.head (length run.stamps) packets ≡ run.stamps
+  pub stamps_are : map (stamp_of tai) (take (length run.stamps) (drop run.head packets)) ≡ run.stamps
 
 pub head-some : (marks : List ℕ) (to : ℕ) → 2 ≤ length marks → head_len marks 0 to ≡ slice_index marks 0 + 1
 head-some marks to h =
@@ -182,4 +109,8 @@ within-run packets tai run one =
     let same : length run.stamps ≡ length part = ap length stamps ∙ length-map part (stamp_of tai) in
     let long : length part ≡ min k (length (drop run.head packets)) = length-take k (drop run.head packets) in
     let rest : length (drop run.head packets) ≡ length packets - run.head = length-drop run.head packets in
-    record { few = omega (arith, same, long, rest); gauged_is = gauged-all tai run.head k packets run.stamps stamps }
+    record {
+      few = omega (arith, same, long, rest);
+      stamps_are = ap (λ n. map (stamp_of tai) (take n (drop run.head packets))) same ∙ ap (map (stamp_of tai)) (take-again k (drop run.head packets))
+          ∙ sym stamps;
+    }

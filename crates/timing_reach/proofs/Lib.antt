@@ -1,5 +1,5 @@
 pub mod Takings
-mod Openings
+mod Markers
 mod Feedings
 pub mod Gauges
 pub mod Packets
@@ -9,7 +9,6 @@ pub mod SomeShape
 mod Judgments
 mod WindowGauges
 pub mod WindowReadings
-mod SecondReadings
 pub mod Following
 pub mod Unique
 mod Listings
@@ -18,9 +17,10 @@ mod Resent
 mod Rejudged
 pub mod OneShape
 mod Leavings
-mod ShapeFronts
+mod Keepings
+mod Walkings
 mod Shapings
-mod ShapeEnds
+mod KeptShapes
 mod Pairings
 mod Comparings
 mod Skewing

@@ -33,10 +33,10 @@ written : Layout
 written = record { order = Little; fraction = Nanos }
 
 -- four bytes of a number, read as one
-abbrev four : ℕ → ℕ
+abbrev pub four : ℕ → ℕ
 four x = x % 256 + 256 * (x / 256 ^ 1 % 256 + 256 * (x / 256 ^ 2 % 256 + 256 * (x / 256 ^ 3 % 256 + 256 * 0)))
 
-four-bytes : (x : ℕ) → x < 2 ^ 32 → four x ≡ x
+pub four-bytes : (x : ℕ) → x < 2 ^ 32 → four x ≡ x
 four-bytes x few = omega (arith, few)
 
 written-captured : (s n : ℕ) (rest : List ℕ) → n < 2 ^ 32 → captured written (record_head s n ++ rest) ≡ n

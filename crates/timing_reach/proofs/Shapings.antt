@@ -1,220 +1,258 @@
--- One packet more of a flow that is shaped, and one record more of its capture.
-use Rattle.std.specs.Prelude.{cond, is_some, slice_index, string_bytes, nat_lt, max, if◌then◌else◌, IfOk, Result, Ok, Err}
-use Rattle.std.proofs.Common.{◌≡◌, ◌+◌, ◌-◌, ◌*◌, ◌^◌, ℕ, Bool, true, false, List, [], ◌∷◌, ◌++◌, length, min, Option, Some, None}
-use Rattle.std.proofs.Common.{refl, arith, ap, ◌∙◌, sym, subst, append-nil, length-append}
-use Rattle.std.specs.List.{cons_option, count_by}
+-- The judged packets of a kept flow leave, and what is printed of them is made.
+use Rattle.std.specs.Prelude.{cond, max, nat_lt, slice_index, slice_index_or, string_bytes, Ok, Err}
+use Rattle.std.proofs.Common.{◌≡◌, ◌≤◌, ◌<◌, ◌+◌, ◌-◌, ◌*◌, ◌^◌, ℕ, Bool, true, false, List, [], ◌∷◌, ◌++◌, length, take, drop, refl, arith, ap, ◌∙◌, sym, subst, inl, inr}
+use Rattle.std.proofs.Common.{append_assoc, length-append}
+use Rattle.std.specs.List.{count_by}
 use Rattle.std.proofs.Math.Seq.{get_or-append_seam}
-use Rattle.pcap_reader.specs.WrittenHeads.{file_head, record_head}
+use Rattle.std.proofs.lemmas.List.{drop_more, get_or-map, get_or-take, length-map, length-take-le, take_all, take_more}
+use Rattle.flow_shaper.specs.Bounds.{BoundAt}
 use Rattle.flow_shaper.specs.declared.departure.Departure.{Departure}
 use Rattle.flow_shaper.specs.declared.departure.Late.{Late}
 use Rattle.timing_base.specs.Captures.{Record}
-use Rattle.timing_base.specs.Media.{Media}
-use Rattle.timing_base.specs.declared.packet.FlowPacket.{FlowPacket}
-use Rattle.udp_rtp.specs.Flow.{flow, flow_packet}
-use Rattle.timing_reach.specs.shape.Leaving.{HasGiven, HasLeft, IsFit, Part, Takes, stamps_in}
-use Rattle.timing_reach.specs.Shapes.{IsLate, delays, end_of, flow_records, greatest}
+use Rattle.timing_report.specs.declared.status.Status.TheVariants as status
+use Rattle.timing_reach.specs.steps.Answers.{Answer}
+use Rattle.timing_reach.specs.Shapes.{IsLate, IsList, delays, delays_line, end_of, greatest, not_shaped}
 use Rattle.timing_reach.specs.Shapes.{packet_line, packet_lines, shaped_capture}
-use Rattle.timing_reach.specs.shape.Shaping.{Copies, HasMade, IsGoing, IsListed, IsShaping, OnLate, Passes, ShapesOn, Tells}
+use Rattle.timing_reach.specs.shape.Keeping.{record_text, restamped, stamps_of}
+use Rattle.timing_reach.specs.shape.Leaving.{HasLet, IsFit, Leaves, Part}
+use Rattle.timing_reach.specs.shape.Shaping.{DepartsSo, HasLeft, HasListed, IsListed, ListsSo, in_tai}
+use Rattle.timing_reach.specs.shape.Walking.{CanSkip, IsBefore, PassesOne}
 use Rattle.timing_reach.specs.declared.shape.delays.Delays.{Delays}
 use Rattle.timing_reach.specs.declared.shape.leaver.Leaver.{Leaver}
-use Rattle.timing_reach.specs.declared.shape.leaver.Turn.TheVariants as turn
-use Rattle.timing_reach.specs.declared.shape.shaping.Shaping.{Shaping}
-use Rattle.timing_reach.proofs.Copies.{capture-beside, capture-judged, record_at}
-use Rattle.timing_reach.proofs.Gauges.{gauged-none}
-use Rattle.timing_reach.proofs.Leavings.{length-stamps}
-use Rattle.timing_reach.proofs.Packets.{packet-of}
-use Rattle.timing_reach.proofs.Listings.{bounds-more, bounds-none, count-more, delays-more, greatest-more, length-delays, lines-more}
-use Rattle.timing_reach.proofs.ShapeFronts.{fit-first, late-first, each-more}
+use Rattle.timing_reach.specs.declared.shape.walk.Walk.{Walk}
+use Rattle.timing_reach.proofs.Copies.{capture-judged}
+use Rattle.timing_reach.proofs.Leavings.{let-in-time, next-late, next-leaves}
+use Rattle.timing_reach.proofs.Listings.{bounds-more, count-more, delays-more, greatest-more, length-delays, lines-more}
 
--- before the first packet
-made-none : (list : Bool) (w : Part) (s : Shaping) → string_bytes s.delays.lines ≡ [] → s.delays.delayed ≡ 0 → s.delays.greatest ≡ 0 → s.bytes.items ≡ file_head
-    → HasMade list w s [] [] []
-made-none true w s lines delayed most bytes = record { bounds = []; are = bounds-none w.media w.n w.kind; lines = lines; delayed = delayed; most = most }
-made-none false w s lines delayed most bytes = bytes ∙ sym (append-nil file_head)
+-- so many left
+let-count : (w : Part) (l : Leaver) (stamps departures : List ℕ) → HasLet w l stamps departures → length departures ≡ length stamps
+let-count w l stamps departures h = h.stands.shaped.plan.each
 
-pub shaping-none : (w : Part) (list : Bool) (s : Shaping) → s.late ≡ None → s.left ≡ 0 → s.list ≡ list → string_bytes s.delays.lines ≡ [] → s.delays.delayed ≡ 0
-    → s.delays.greatest ≡ 0 → s.bytes.items ≡ file_head
-    → HasGiven w s.leaver [] [] → IsShaping w list s [] []
-shaping-none w list s none left is lines delayed most bytes given = record {
-  each = refl;
-  state = λ fit. subst (λ (o : Option Late). OnLate o (IsGoing w list s [] []) (IsLate w.media w.n w.kind (end_of w.tai) (stamps_in w []))) (sym none) (record {
-    departures = [];
-    given = given;
-    left = omega (arith, left);
-    list_is = is;
-    made = subst (λ l. HasMade list w s l [] []) (sym (gauged-none w.tai w.head w.count)) (made-none list w s lines delayed most bytes);
-  });
-}
+pub at-most-one : (b : Bool) → cond b 1 0 ≤ 1
+at-most-one true = omega arith
+at-most-one false = omega arith
 
--- what a flow has come to, where no packet was late
-pub going-of : (w : Part) (list : Bool) (s : Shaping) (packets : List FlowPacket) (records : List Record) → s.late ≡ None → IsFit w.origin (stamps_in w packets)
-    → IsShaping w list s packets records → IsGoing w list s packets records
-going-of w list s packets records none fit h =
-    subst (λ (o : Option Late). OnLate o (IsGoing w list s packets records) (IsLate w.media w.n w.kind (end_of w.tai) (stamps_in w packets))) none (h.state fit)
-
-of-going : (w : Part) (list : Bool) (s : Shaping) (packets : List FlowPacket) (records : List Record) → s.late ≡ None → IsGoing w list s packets records
-    → OnLate s.late (IsGoing w list s packets records) (IsLate w.media w.n w.kind (end_of w.tai) (stamps_in w packets))
-of-going w list s packets records none h =
-    subst (λ (o : Option Late). OnLate o (IsGoing w list s packets records) (IsLate w.media w.n w.kind (end_of w.tai) (stamps_in w packets))) (sym none) h
-
--- only what counts the packets has changed
-pub record Turned (old mid : Shaping) : Type 0 where
-  pub list : mid.list ≡ old.list
-  pub delays : mid.delays ≡ old.delays
-  pub bytes : mid.bytes.items ≡ old.bytes.items
-  pub left : mid.left ≡ old.left
-  pub late : mid.late ≡ old.late
-
--- how many judged packets left
-left-count : (w : Part) (l : Leaver) (packets : List FlowPacket) (departures : List ℕ) → HasGiven w l packets departures
-    → length departures ≡ min w.count (length packets - w.head)
-left-count w l packets departures h = h.stands.shaped.plan.each ∙ length-stamps w packets
-
-no-length : (xs : List ℕ) → length xs ≡ 0 → xs ≡ []
-no-length [] h = refl
-no-length (x ∷ xs) h = absurd (omega (arith, h))
-
--- what is made, with a packet beside the judged ones
-made-beside : (list : Bool) (w : Part) (old mid new : Shaping) (at : ℕ) (frame : List ℕ) (packets : List FlowPacket) (records : List Record) (r : Record)
-    (departures : List ℕ) → r.stamp ≡ at → r.bytes ≡ frame
-    → Turned old mid → Copies (max at mid.left) frame mid new → old.list ≡ list → length records ≡ length packets
-    → old.left ≡ slice_index departures (length departures - 1) - w.tai * 10 ^ 9
-    → length departures ≡ min w.count (length packets - w.head) → HasMade list w old (stamps_in w packets) records departures
-    → HasMade list w new (stamps_in w packets) (records ++ r ∷ []) departures
-made-beside true w old mid new at frame packets records r departures came is turned copies listed each left count h =
-    subst (λ (d : Delays). IsListed w (stamps_in w packets) departures d) (sym (copies.delays ∙ turned.delays)) h
-made-beside false w old mid new at frame packets records r departures came is turned copies listed each left count h =
-    copies.copied (turned.list ∙ listed) ∙ ap (λ l. l ++ (record_head (max at mid.left) (length frame) ++ frame)) (turned.bytes ∙ h)
-    ∙ ap (λ x. shaped_capture w.tai w.head departures records ++ (record_head (max x mid.left) (length frame) ++ frame)) (sym came)
-    ∙ ap (λ b. shaped_capture w.tai w.head departures records ++ (record_head (max r.stamp mid.left) (length b) ++ b)) (sym is)
-    ∙ sym (capture-beside w.tai w.head mid.left departures records r (turned.left ∙ left) (λ few. no-length departures (omega (arith, count, few, each)))
-    (λ behind. omega (arith, count, behind, each)))
-
-passes-turned : (at : ℕ) (frame : List ℕ) (old mid new : Shaping) → Takes at old.leaver mid.leaver turn.Beside → Turned old mid
-    → Copies (max at mid.left) frame mid new → Passes at frame old new
-passes-turned at frame old mid new takes turned copies = λ w list packets records p r is came frame_is none h. record {
-  each = omega (arith, h.each, length-append records (r ∷ []), length-append packets (p ∷ []));
-  state = λ fit.
-      let g = going-of w list old packets records none (fit-first w packets (p ∷ []) fit) h in
-      let t = takes w packets p g.departures is fit g.given in
-      of-going w list new (packets ++ p ∷ []) (records ++ r ∷ []) (copies.late ∙ turned.late ∙ none) (record {
-        departures = g.departures;
-        given = subst (λ (l : Leaver). HasGiven w l (packets ++ p ∷ []) g.departures) (sym copies.leaver) t.1;
-        left = copies.left ∙ turned.left ∙ g.left;
-        list_is = copies.list ∙ turned.list ∙ g.list_is;
-        made = subst (λ l. HasMade list w new l (records ++ r ∷ []) g.departures) (sym t.0)
-            (made-beside list w old mid new at frame packets records r g.departures came frame_is turned copies g.list_is h.each g.left
-            (left-count w old.leaver packets g.departures g.given) g.made);
-      });
-}
-
-pub passes-beside : (at reach : ℕ) (frame : List ℕ) (old mid new : Shaping) → Takes at old.leaver mid.leaver turn.Beside → Turned old mid
-    → reach ≡ max at mid.left → Copies reach frame mid new → Passes at frame old new
-passes-beside at reach frame old mid new takes turned e copies = passes-turned at frame old mid new takes turned (subst (λ x. Copies x frame mid new) e copies)
-
--- what is made, with a judged packet
-made-judged : (list : Bool) (w : Part) (old mid told new : Shaping) (frame : List ℕ) (packets : List FlowPacket) (records : List Record) (p : FlowPacket)
-    (r : Record) (departures : List ℕ) (packet stamp : ℕ) (d : Departure) → r.bytes ≡ frame
-    → Turned old mid → Tells packet stamp d mid told → Copies told.left frame told new → old.list ≡ list → length records ≡ length packets
-    → told.left ≡ d.at - w.tai * 10 ^ 9
-    → length departures ≡ length (stamps_in w packets) → HasLeft w packets p departures packet stamp d
-    → HasMade list w old (stamps_in w packets) records departures → HasMade list w new (stamps_in w packets ++ stamp ∷ []) (records ++ r ∷ [])
-    (departures ++ d.at ∷ [])
-made-judged true w old mid told new frame packets records p r departures packet stamp d is turned tells copies listed each left same here h =
-    let stamps = stamps_in w packets in
-    let adds = tells.told (turned.list ∙ listed) in
+-- a packet more is listed
+listed-more : (w : Part) (stamps departures : List ℕ) (old new : Delays) (packet at delay : ℕ) (d : Departure) → length departures ≡ length stamps
+    → packet ≡ length stamps → delay ≡ d.at - at
+    → BoundAt w.media w.n w.kind (stamps ++ at ∷ []) (departures ++ d.at ∷ []) (length stamps) d.bound
+    → string_bytes new.lines ≡ string_bytes old.lines ++ packet_line packet delay d.bound
+    → new.delayed ≡ old.delayed + cond (nat_lt 0 delay) 1 0 → new.greatest ≡ max old.greatest delay
+    → IsListed w stamps departures old → IsListed w (stamps ++ at ∷ []) (departures ++ d.at ∷ []) new
+listed-more w stamps departures old new packet at delay d same number late bound lines delayed most h =
     let ds = delays stamps departures in
     let size : length ds ≡ length stamps = length-delays stamps departures same in
-    let more : delays (stamps ++ stamp ∷ []) (departures ++ d.at ∷ []) ≡ ds ++ (d.at - stamp) ∷ [] = delays-more stamps departures stamp d.at same in
-    let number : packet ≡ 0 + length ds = omega (arith, here.packet_is, size) in
-    subst (λ (x : Delays). IsListed w (stamps ++ stamp ∷ []) (departures ++ d.at ∷ []) x) (sym copies.delays)
-    (record {
-      bounds = h.bounds ++ d.bound ∷ [];
-      are = bounds-more w.media w.n w.kind stamps departures h.bounds stamp d.at d.bound same here.bound h.are;
-      lines = adds.lines
-          ∙ ap (λ (x : Delays). string_bytes x.lines ++ packet_line packet (d.at - stamp) d.bound) turned.delays
-          ∙ ap (λ l. l ++ packet_line packet (d.at - stamp) d.bound) h.lines
-          ∙ ap (λ k. packet_lines 0 ds h.bounds ++ packet_line k (d.at - stamp) d.bound) number
-          ∙ sym (lines-more 0 ds h.bounds (d.at - stamp) d.bound (h.are.each ∙ sym size))
-          ∙ ap (λ l. packet_lines 0 l (h.bounds ++ d.bound ∷ [])) (sym more);
-      delayed = adds.delayed
-          ∙ ap (λ (x : Delays). x.delayed + cond (nat_lt 0 (d.at - stamp)) 1 0) turned.delays
-          ∙ ap (λ k. k + cond (nat_lt 0 (d.at - stamp)) 1 0) h.delayed
-          ∙ sym (count-more ds (d.at - stamp)) ∙ ap (count_by (nat_lt 0)) (sym more);
-      most = adds.most ∙ ap (λ (x : Delays). max x.greatest (d.at - stamp)) turned.delays ∙ ap (λ k. max k (d.at - stamp)) h.most
-          ∙ sym (greatest-more ds (d.at - stamp)) ∙ ap greatest (sym more);
-    })
-made-judged false w old mid told new frame packets records p r departures packet stamp d is turned tells copies listed each left same here h =
-    copies.copied (tells.list ∙ turned.list ∙ listed)
-    ∙ ap (λ l. l ++ (record_head told.left (length frame) ++ frame)) (bytes-of told mid tells.bytes ∙ turned.bytes ∙ h)
-    ∙ ap (λ b. shaped_capture w.tai w.head departures records ++ (record_head told.left (length b) ++ b)) (sym is)
-    ∙ ap (λ x. shaped_capture w.tai w.head departures records ++ record_at x r) left
-    ∙ sym (capture-judged w.tai w.head departures d.at records r (omega (arith, each, here.place, here.packet_is, same)))
-  where
-    bytes-of : (a b : Shaping) → a.bytes ≡ b.bytes → a.bytes.items ≡ b.bytes.items
-    bytes-of a b e = ap (λ x. x.items) e
-
-pub passes-judged : (at : ℕ) (frame : List ℕ) (old mid told new : Shaping) (packet stamp : ℕ) (d : Departure)
-    → Takes at old.leaver mid.leaver (turn.Leaves packet stamp d) → Turned old mid
-    → Tells packet stamp d mid told → Copies told.left frame told new → Passes at frame old new
-passes-judged at frame old mid told new packet stamp d takes turned tells copies = λ w list packets records p r is came frame_is none h. record {
-  each = omega (arith, h.each, length-append records (r ∷ []), length-append packets (p ∷ []));
-  state = λ fit.
-      let g = going-of w list old packets records none (fit-first w packets (p ∷ []) fit) h in
-      let t = takes w packets p g.departures is fit g.given in
-      let leave = g.departures ++ d.at ∷ [] in
-      let left : told.left ≡ d.at - w.tai * 10 ^ 9 = tells.left ∙ ap (λ x. d.at - x) t.1.added in
-      let count : length leave - 1 ≡ length g.departures = omega (arith, length-append g.departures (d.at ∷ [])) in
-      of-going w list new (packets ++ p ∷ []) (records ++ r ∷ []) (copies.late ∙ tells.late ∙ turned.late ∙ none) (record {
-        departures = leave;
-        given = subst (λ (l : Leaver). HasGiven w l (packets ++ p ∷ []) leave) (sym (copies.leaver ∙ tells.leaver)) t.1;
-        left = copies.left ∙ left ∙ ap (λ x. x - w.tai * 10 ^ 9) (sym (ap (slice_index leave) count ∙ get_or-append_seam g.departures d.at [] 0));
-        list_is = copies.list ∙ tells.list ∙ turned.list ∙ g.list_is;
-        made = subst (λ l. HasMade list w new l (records ++ r ∷ []) leave) (sym t.0.stamps_are)
-            (made-judged list w old mid told new frame packets records p r g.departures packet stamp d frame_is turned tells copies g.list_is h.each left
-            g.given.stands.shaped.plan.each t.0 g.made);
-      });
-}
-
-pub passes-late : (at : ℕ) (frame : List ℕ) (old new : Shaping) (late : Late) → Takes at old.leaver new.leaver (turn.Late late) → new.late ≡ Some late
-    → Passes at frame old new
-passes-late at frame old new late takes stops = λ w list packets records p r is came frame_is none h. record {
-  each = omega (arith, h.each, length-append records (r ∷ []), length-append packets (p ∷ []));
-  state = λ fit.
-      let g = going-of w list old packets records none (fit-first w packets (p ∷ []) fit) h in
-      subst (λ (o : Option Late). OnLate o (IsGoing w list new (packets ++ p ∷ []) (records ++ r ∷ []))
-      (IsLate w.media w.n w.kind (end_of w.tai) (stamps_in w (packets ++ p ∷ [])))) (sym stops)
-      (takes w packets p g.departures is fit g.given);
-}
-
--- a packet behind one that is late
-pub behind-late : (old : Shaping) (late : Late) (p : FlowPacket) (frame : List ℕ) → old.late ≡ Some late → (m : Media) (r : Record) → flow_packet m r ≡ Some p
-    → r.bytes ≡ frame → ShapesOn m old old (r ∷ [])
-behind-late old late p frame stopped m r is carried = λ w list packets records of h.
-    let more = r ∷ [] in
-    let all = packets ++ flow more w.media in
-    let both = records ++ flow_records w.media more in
+    let more : delays (stamps ++ at ∷ []) (departures ++ d.at ∷ []) ≡ ds ++ delay ∷ [] =
+    delays-more stamps departures at d.at same ∙ ap (λ x. ds ++ x ∷ []) (sym late) in
+    let place : packet ≡ 0 + length ds = omega (arith, number, size) in
     record {
-      each = each-more w.media packets records more h.each;
-      state = λ fit.
-          let was : IsLate w.media w.n w.kind (end_of w.tai) (stamps_in w packets) late.packet =
-          subst (λ (o : Option Late). OnLate o (IsGoing w list old packets records) (IsLate w.media w.n w.kind (end_of w.tai) (stamps_in w packets))) stopped
-          (h.state (fit-first w packets (flow more w.media) fit)) in
-          subst (λ (o : Option Late). OnLate o (IsGoing w list old all both) (IsLate w.media w.n w.kind (end_of w.tai) (stamps_in w all))) (sym stopped)
-          (late-first w packets (flow more w.media) late.packet was);
+      bounds = h.bounds ++ d.bound ∷ [];
+      are = bounds-more w.media w.n w.kind stamps departures h.bounds at d.at d.bound same bound h.are;
+      lines = lines
+          ∙ ap (λ l. l ++ packet_line packet delay d.bound) h.lines
+          ∙ ap (λ k. packet_lines 0 ds h.bounds ++ packet_line k delay d.bound) place
+          ∙ sym (lines-more 0 ds h.bounds delay d.bound (h.are.each ∙ sym size))
+          ∙ ap (λ l. packet_lines 0 l (h.bounds ++ d.bound ∷ [])) (sym more);
+      delayed = delayed ∙ ap (λ k. k + cond (nat_lt 0 delay) 1 0) h.delayed ∙ sym (count-more ds delay) ∙ ap (count_by (nat_lt 0)) (sym more);
+      most = most ∙ ap (λ k. max k delay) h.most ∙ sym (greatest-more ds delay) ∙ ap greatest (sym more);
     }
 
--- a record that is a packet of the flow
-on-record : (w : Part) (list : Bool) (s : Shaping) (packets : List FlowPacket) (records : List Record) (r : Record) (o also : Option FlowPacket) → also ≡ o
-    → IsShaping w list s (packets ++ cons_option o []) (records ++ (if is_some o then r ∷ [] else []))
-    → IsShaping w list s (packets ++ cons_option also []) (records ++ (if is_some also then r ∷ [] else []))
-on-record w list s packets records r o also e h =
-    subst (λ x. IsShaping w list s (packets ++ cons_option x []) (records ++ (if is_some x then r ∷ [] else []))) (sym e) h
+-- the stamp of packet i in TAI
+pub tai-at : (tai : ℕ) (stamps : List ℕ) (i : ℕ) → i < length stamps → slice_index stamps i + tai * 10 ^ 9 ≡ slice_index (in_tai tai stamps) i
+tai-at tai stamps i within = sym (get_or-map (λ at. at + tai * 10 ^ 9) stamps i 0 0 within)
 
-pub shapes-packet : {T E : Type 0} (result : Result T E) (old new : Shaping) (p : FlowPacket) (frame : List ℕ) → old.late ≡ None
-    → IfOk result (λ _. Passes p.at frame old new)
-    → IfOk result (λ _. (m : Media) (r : Record) → flow_packet m r ≡ Some p → r.bytes ≡ frame → ShapesOn m old new (r ∷ []))
-shapes-packet (Ok x) old new p frame none passes = λ m r is carried w list packets records of h.
-    on-record w list new packets records r (Some p) (flow_packet w.media r) (ap (λ (n : Media). flow_packet n r) of ∙ is)
-    (passes w list packets records p r refl (sym (packet-of m r p is).at) carried none h)
-shapes-packet (Err e) old new p frame none passes = tt
+pub listed-next : (w : Part) (old new : Leaver) (before after : Delays) (stamps : List ℕ) (i at delay : ℕ) (d : Departure) → i < length stamps
+    → at ≡ slice_index stamps i → new.added ≡ old.added → delay ≡ d.at - (at + new.added)
+    → ((w : Part) (stamps departures : List ℕ) → HasLet w old stamps departures → Leaves w new stamps departures (at + w.tai * 10 ^ 9) (Ok d))
+    → string_bytes after.lines ≡ string_bytes before.lines ++ packet_line i delay d.bound
+    → after.delayed ≡ before.delayed + cond (nat_lt 0 delay) 1 0 → after.greatest ≡ max before.greatest delay
+    → IsFit w.origin (in_tai w.tai stamps) → HasListed w old before (in_tai w.tai stamps) i → HasListed w new after (in_tai w.tai stamps) (i + 1)
+listed-next w old new before after stamps i at delay d within is added late leaves lines delayed most fit h =
+    let all = in_tai w.tai stamps in
+    let long : length all ≡ length stamps = length-map stamps (λ at. at + w.tai * 10 ^ 9) in
+    let came : at + w.tai * 10 ^ 9 ≡ slice_index all i = ap (λ x. x + w.tai * 10 ^ 9) is ∙ tai-at w.tai stamps i within in
+    let next = next-leaves w old new all h.departures i (at + w.tai * 10 ^ 9) d (omega (arith, within, long)) came fit
+    (leaves w (take i all) h.departures h.left) in
+    let size : length (take i all) ≡ i = length-take-le i all (omega (arith, within, long)) in
+    let more : take (i + 1) all ≡ take i all ++ (at + w.tai * 10 ^ 9) ∷ [] =
+    take_more all i 0 (omega (arith, within, long)) ∙ ap (λ x. take i all ++ x ∷ []) (sym came) in
+    record {
+      departures = h.departures ++ d.at ∷ [];
+      left = next.1;
+      listed = subst (λ l. IsListed w l (h.departures ++ d.at ∷ []) after) (sym more)
+          (listed-more w (take i all) h.departures before after i (at + w.tai * 10 ^ 9) delay d (let-count w old (take i all) h.departures h.left) (sym size)
+          (late ∙ ap (λ x. d.at - (at + x)) (added ∙ h.left.added)) next.0 lines delayed most h.listed);
+    }
+
+-- a packet is late
+pub lists-late : (w : Part) (old new : Leaver) (before : Delays) (stamps : List ℕ) (i at : ℕ) (late : Late) (answer : Answer) → i < length stamps
+    → at ≡ slice_index stamps i → answer ≡ not_shaped late.packet
+    → ((w : Part) (stamps departures : List ℕ) → HasLet w old stamps departures → Leaves w new stamps departures (at + w.tai * 10 ^ 9) (Err late))
+    → IsFit w.origin (in_tai w.tai stamps) → HasListed w old before (in_tai w.tai stamps) i → ListsSo w (in_tai w.tai stamps) answer
+lists-late w old new before stamps i at late answer within is e leaves fit h =
+    let all = in_tai w.tai stamps in
+    let long : length all ≡ length stamps = length-map stamps (λ at. at + w.tai * 10 ^ 9) in
+    let came : at + w.tai * 10 ^ 9 ≡ slice_index all i = ap (λ x. x + w.tai * 10 ^ 9) is ∙ tai-at w.tai stamps i within in
+    inr (record {
+      packet = late.packet;
+      late = next-late w old new all h.departures i (at + w.tai * 10 ^ 9) late (omega (arith, within, long)) came fit (leaves w (take i all) h.departures h.left);
+      answer_is = e;
+    })
+
+-- all are listed
+listed-text : (w : Part) (stamps departures : List ℕ) (packets : ℕ) (d : Delays) → length departures ≡ length stamps → length stamps ≡ packets
+    → IsListed w stamps departures d
+    → IsList w.media w.n w.kind stamps departures (string_bytes d.lines ++ delays_line d.delayed packets d.greatest)
+listed-text w stamps departures packets d each size h =
+    let ds = delays stamps departures in
+    let count : packets ≡ length ds = omega (arith, size, length-delays stamps departures each) in
+    record {
+      bounds = h.bounds;
+      are = h.are;
+      text_is = ap (λ l. l ++ delays_line d.delayed packets d.greatest) h.lines
+          ∙ ap (λ k. packet_lines 0 ds h.bounds ++ delays_line k packets d.greatest) h.delayed
+          ∙ ap (λ k. packet_lines 0 ds h.bounds ++ delays_line (count_by (nat_lt 0) ds) k d.greatest) count
+          ∙ ap (λ k. packet_lines 0 ds h.bounds ++ delays_line (count_by (nat_lt 0) ds) (length ds) k) h.most;
+    }
+
+pub lists-all : (w : Part) (l : Leaver) (d : Delays) (stamps : List ℕ) (answer : Answer)
+    → answer ≡ record { text = string_bytes d.lines ++ delays_line d.delayed (length stamps) d.greatest; status = status.Pass }
+    → HasListed w l d (in_tai w.tai stamps) (length stamps) → ListsSo w (in_tai w.tai stamps) answer
+lists-all w l d stamps answer is h =
+    let all = in_tai w.tai stamps in
+    let long : length all ≡ length stamps = length-map stamps (λ at. at + w.tai * 10 ^ 9) in
+    let whole : take (length stamps) all ≡ all = take_all (length stamps) all (omega (arith, long)) in
+    let left : HasLet w l all h.departures = subst (λ x. HasLet w l x h.departures) whole h.left in
+    let listed : IsListed w all h.departures d = subst (λ x. IsListed w x h.departures d) whole h.listed in
+    inl (record {
+      departures = h.departures;
+      leave = let-in-time w l all h.departures left;
+      text = string_bytes d.lines ++ delays_line d.delayed (length stamps) d.greatest;
+      list = listed-text w all h.departures (length stamps) d (let-count w l all h.departures left) long listed;
+      answer_is = is;
+    })
+
+-- no record
+abbrev no_record : Record
+no_record = record { number = 0; stamp = 0; bytes = [] }
+
+-- the judged packets, by their records
+judged-at : (tai count i : ℕ) (records : List Record) → i < count → count ≤ length records
+    → slice_index (in_tai tai (stamps_of (take count records))) i ≡ (slice_index_or records i no_record).stamp + tai * 10 ^ 9
+judged-at tai count i records low few =
+    let part = take count records in
+    let size : length part ≡ count = length-take-le count records few in
+    let long : length (stamps_of part) ≡ count = length-map part (λ (r : Record). r.stamp) ∙ size in
+    get_or-map (λ at. at + tai * 10 ^ 9) (stamps_of part) i 0 0 (omega (arith, low, long))
+    ∙ ap (λ x. x + tai * 10 ^ 9) (get_or-map (λ (r : Record). r.stamp) part i no_record 0 (omega (arith, low, size)))
+    ∙ ap (λ (r : Record). r.stamp + tai * 10 ^ 9) (get_or-take count records i no_record low)
+
+judged-count : (tai count : ℕ) (records : List Record) → count ≤ length records → length (in_tai tai (stamps_of (take count records))) ≡ count
+judged-count tai count records few =
+    length-map (stamps_of (take count records)) (λ at. at + tai * 10 ^ 9) ∙ length-map (take count records) (λ (r : Record). r.stamp)
+    ∙ length-take-le count records few
+
+-- what is known of the next packet
+pub record IsNext (w : Part) (walk : Walk) (stamp : ℕ) (done : List ℕ) (records : List Record) (stamps : List ℕ) (i : ℕ) : Type 0 where
+  pub within : i < length stamps
+  pub came : stamp + w.tai * 10 ^ 9 ≡ slice_index stamps i
+  pub before : IsBefore walk done (slice_index_or records i no_record ∷ drop (i + 1) records)
+
+pub next-one : (w : Part) (walk : Walk) (stamp : ℕ) (done : List ℕ) (records : List Record) (stamps : List ℕ) (count i : ℕ) → i < count → count ≤ length records
+    → stamps ≡ in_tai w.tai (stamps_of (take count records))
+    → ((done : List ℕ) (r : Record) (rest : List Record) → IsBefore walk done (r ∷ rest) → stamp ≡ r.stamp)
+    → IsBefore walk done (drop i records) → IsNext w walk stamp done records stamps i
+next-one w walk stamp done records stamps count i low few are is h =
+    let r = slice_index_or records i no_record in
+    let before : IsBefore walk done (r ∷ drop (i + 1) records) =
+    subst (λ (l : List Record). IsBefore walk done l) (drop_more records i no_record (omega (arith, low, few))) h in
+    record {
+      within = omega (arith, low, ap length are, judged-count w.tai count records few);
+      came = ap (λ x. x + w.tai * 10 ^ 9) (is done r (drop (i + 1) records) before) ∙ sym (judged-at w.tai count i records low few)
+          ∙ ap (λ l. slice_index l i) (sym are);
+      before = before;
+    }
+
+-- a judged packet more leaves
+pub left-next : (w : Part) (old new : Leaver) (walk mid next : Walk) (before stamp left : ℕ) (head records : List Record) (stamps : List ℕ) (count i : ℕ)
+    (d : Departure) → i < count → count ≤ length records → stamps ≡ in_tai w.tai (stamps_of (take count records)) → IsFit w.origin stamps
+    → ((done : List ℕ) (r : Record) (rest : List Record) → IsBefore walk done (r ∷ rest) → stamp ≡ r.stamp)
+    → ((w : Part) (stamps departures : List ℕ) → HasLet w old stamps departures → Leaves w new stamps departures (stamp + w.tai * 10 ^ 9) (Ok d))
+    → new.added ≡ old.added → left ≡ d.at - new.added
+    → ((done : List ℕ) (r : Record) (rest : List Record) → IsBefore walk done (r ∷ rest) → IsBefore mid done (restamped left r ∷ rest))
+    → PassesOne mid next → HasLeft w old walk before head records stamps i → HasLeft w new next left head records stamps (i + 1)
+left-next w old new walk mid next before stamp left head records stamps count i d low few are fit is leaves added at stamped one h =
+    let r = slice_index_or records i no_record in
+    let ds = h.departures in
+    let more = ds ++ d.at ∷ [] in
+    let front = head ++ take i records in
+    let done = shaped_capture w.tai (length head) ds front in
+    let known = next-one w walk stamp done records stamps count i low few are is h.before in
+    let gone = next-leaves w old new stamps ds i (stamp + w.tai * 10 ^ 9) d known.within known.came fit (leaves w (take i stamps) ds h.let_go) in
+    let within : i < length records = omega (arith, low, few) in
+    let size : length (take i records) ≡ i = length-take-le i records (omega (arith, within)) in
+    let seen : length (take i stamps) ≡ i = length-take-le i stamps (omega (arith, known.within)) in
+    let place : length front ≡ length head + length ds =
+    omega (arith, length-append head (take i records), size, seen, let-count w old (take i stamps) ds h.let_go) in
+    let here : left ≡ d.at - w.tai * 10 ^ 9 = at ∙ ap (λ x. d.at - x) (added ∙ h.let_go.added) in
+    let last : length more - 1 ≡ length ds = omega (arith, length-append ds (d.at ∷ [])) in
+    let text : done ++ record_text (restamped left r) ≡ shaped_capture w.tai (length head) more (head ++ take (i + 1) records) =
+    ap (λ x. done ++ record_text (restamped x r)) here ∙ sym (capture-judged w.tai (length head) ds d.at front r place)
+    ∙ ap (shaped_capture w.tai (length head) more) (append_assoc head (take i records) (r ∷ [])
+    ∙ ap (λ (l : List Record). head ++ l) (sym (take_more records i no_record within))) in
+    record {
+      departures = more;
+      let_go = gone.1;
+      last = here ∙ ap (λ x. x - w.tai * 10 ^ 9) (sym (ap (slice_index more) last ∙ get_or-append_seam ds d.at [] 0));
+      before = subst (λ l. IsBefore next l (drop (i + 1) records)) text
+          (one done (restamped left r) (drop (i + 1) records) (stamped done r (drop (i + 1) records) known.before));
+    }
+
+-- one is late
+pub departs-late : (w : Part) (old new : Leaver) (walk : Walk) (before stamp : ℕ) (head records : List Record) (stamps : List ℕ) (count i : ℕ) (late : Late)
+    → i < count → count ≤ length records → stamps ≡ in_tai w.tai (stamps_of (take count records)) → IsFit w.origin stamps
+    → ((done : List ℕ) (r : Record) (rest : List Record) → IsBefore walk done (r ∷ rest) → stamp ≡ r.stamp)
+    → ((w : Part) (stamps departures : List ℕ) → HasLet w old stamps departures → Leaves w new stamps departures (stamp + w.tai * 10 ^ 9) (Err late))
+    → HasLeft w old walk before head records stamps i → IsLate w.media w.n w.kind (end_of w.tai) stamps late.packet
+departs-late w old new walk before stamp head records stamps count i late low few are fit is leaves h =
+    let known =
+    next-one w walk stamp (shaped_capture w.tai (length head) h.departures (head ++ take i records)) records stamps count i low few are is h.before in
+    next-late w old new stamps h.departures i (stamp + w.tai * 10 ^ 9) late known.within known.came fit (leaves w (take i stamps) h.departures h.let_go)
+
+-- all left
+pub departs-all : (w : Part) (l : Leaver) (walk : Walk) (left : ℕ) (head records : List Record) (stamps : List ℕ) (count : ℕ) → count ≤ length records
+    → stamps ≡ in_tai w.tai (stamps_of (take count records)) → HasLeft w l walk left head records stamps count
+    → DepartsSo w walk head records stamps count (Ok left)
+departs-all w l walk left head records stamps count few are h =
+    let whole : take count stamps ≡ stamps = take_all count stamps (omega (arith, ap length are, judged-count w.tai count records few)) in
+    let gone : HasLet w l stamps h.departures = subst (λ x. HasLet w l x h.departures) whole h.let_go in
+    (h.departures, let-in-time w l stamps h.departures gone, h.last, h.before)
+
+-- it can go on
+pub skips-more : (walk : Walk) (done : List ℕ) (rest : List Record) (n : ℕ) → n + 1 ≤ length rest → (r : Record) × (more : List Record) × (rest ≡ r ∷ more)
+skips-more walk done [] n few = absurd (omega (arith, few))
+skips-more walk done (r ∷ more) n few = (r, more, refl)
+
+pub skip-record : (walk : Walk) (count i : ℕ) → i < count → CanSkip (count - i) walk
+    → (done : List ℕ) × (r : Record) × (rest : List Record) × (count - (i + 1) ≤ length rest) × IsBefore walk done (r ∷ rest)
+skip-record walk count i low can =
+    let few : count - (i + 1) + 1 ≤ length can.rest = omega (arith, low, can.many) in
+    let some = skips-more walk can.done can.rest (count - (i + 1)) few in (
+      can.done,
+      some.0,
+      some.1,
+      omega (arith, few, ap length some.2),
+      subst (λ (l : List Record). IsBefore walk can.done l) some.2 can.before,
+    )
+
+pub skip-on : (walk mid next : Walk) (at count i : ℕ) → i < count → CanSkip (count - i) walk
+    → ((done : List ℕ) (r : Record) (rest : List Record) → IsBefore walk done (r ∷ rest) → IsBefore mid done (restamped at r ∷ rest)) → PassesOne mid next
+    → CanSkip (count - (i + 1)) next
+skip-on walk mid next at count i low can stamped one =
+    let some = skip-record walk count i low can in
+    record {
+      done = some.0 ++ record_text (restamped at some.1);
+      rest = some.2;
+      before = one some.0 (restamped at some.1) some.2 (stamped some.0 some.1 some.2 some.4);
+      many = some.3;
+    }

@@ -21,7 +21,7 @@ use Rattle.timing_reach.specs.declared.window.gauge.GroupGauge.{GroupGauge}
 use Rattle.timing_reach.specs.declared.window.gauge.Part.{Part}
 use Rattle.timing_reach.specs.declared.window.gauge.Part.TheVariants.{First, Groups}
 use Rattle.timing_reach.specs.declared.window.meters.WindowMeters.{WindowMeters}
-use Rattle.timing_reach.proofs.Openings.{markers-before, packet-last}
+use Rattle.timing_reach.proofs.Markers.{markers-before, packet-last}
 
 -- the packets up to a place, where one packet more comes behind them
 stamps-before : (packets : List FlowPacket) (p : FlowPacket) (tai from to : ℕ) → to ≤ length packets

@@ -1,2 +1,5 @@
+pub mod Keeping
+pub mod Readings
 pub mod Leaving
+pub mod Walking
 pub mod Shaping

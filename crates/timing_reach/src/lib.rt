@@ -2,9 +2,8 @@
 //! flow, `shape`, when its packets would leave if they were delayed as little as the limits of a sender type
 //! allow, and `skew`, how far two flows with the same packets lie apart; and `scan`, what a capture holds.
 //!
-//! `window` measures a flow while it is judged. For `shape` a flow is judged first, and where that comes to one run
-//! its capture is read a second time. Captures, media and judged packets count from 0, and records from 1; stamps
-//! are nanoseconds.
+//! Each capture is read once: `window` measures a flow while it is judged, and `shape` keeps it until it is known which
+//! packets are judged. Captures, media and judged packets count from 0, and records from 1; stamps are nanoseconds.
 //!
 //! - `judged`: what commands over one flow share.
 //! - `laws`: texts have one answer; what `shape` writes is read back; answers worked by hand.

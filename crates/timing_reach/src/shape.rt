@@ -2,61 +2,120 @@
 
 mod copy;
 mod delays;
+mod kept;
 mod leaver;
+mod reading;
 mod shaping;
+mod walk;
 mod words;
 
-ghost use Rattle.std.specs.Prelude.{IfOk};
+ghost use Rattle.std.specs.Prelude.{◌≡◌, ◌≤◌, Bool, List, Some, IfErr, IfOk, ℕ};
+ghost use Rattle.timing_base.specs.Captures.{Record};
+ghost use Rattle.timing_base.specs.Judged.{judged};
+ghost use Rattle.timing_outside.specs.Causes.{Rose};
 ghost use Rattle.timing_outside.specs.Shelves.{StaysAs};
-ghost use Rattle.timing_reach.specs.steps.Answers.{seen_of};
+ghost use Rattle.pcapng_reader.specs.Classic.{classic_texts};
+ghost use Rattle.udp_rtp.specs.Flow.{flow};
+ghost use Rattle.timing_reach.specs.steps.Answers.{Gives, OnReadFault, Yields, seen_of};
 ghost use Rattle.timing_reach.specs.steps.Ends.{EndsWith, HasStatus, look_ends};
 ghost use Rattle.timing_reach.specs.steps.Ran.{HasCause, Ran, output_of};
-ghost use Rattle.timing_reach.specs.Asked.{FlowInputRose};
-ghost use Rattle.timing_reach.specs.Shaped.{FollowsShape};
+ghost use Rattle.timing_reach.specs.Asked.{FlowInputRose, OnRun, ReadsCapture};
+ghost use Rattle.timing_reach.specs.Shaped.{FollowsShape, HasShapeIn};
+ghost use Rattle.timing_reach.specs.Shapes.{HasShape};
+ghost use Rattle.timing_reach.specs.shape.Readings.{AnswersSome, IsKeptFlow, IsKeptIn, IsRead};
 
-use crate::judged::{Look, SeenRun, answer_twice, find_media};
-use crate::shape::leaver::Leaver;
-use crate::shape::shaping::Shaping;
+use crate::judged::find_media;
+use crate::judged::flows::take_flow;
+use crate::judged::words::not_judged;
+use crate::shape::reading::{KeptFlow, Reading};
+use crate::shape::shaping::shape_kept;
 use crate::steps::{Answer, Failure, conclude};
 use std::alloc::{AllocError as OutOfMemory, Global};
-use timing_base::{Judged, Kind, Media, ShapeJob};
+use timing_base::{Kind, Media, ShapeJob, Verdict};
 use timing_outside::{Shelf, Sink};
-use timing_report::Status;
+use timing_report::{Input, Status};
 
-/// A flow is shaped.
-#[derive(Clone, Copy)]
-struct ShapeLook {
+/// The answer on a flow that is kept: on its judged packets, where it is judged in one run, or the verdict on another.
+fn told_of(
+    alloc: Global,
+    media: &Media,
     kind: Kind,
-    /// Whether the delayed packets are listed, in place of a capture.
-    list: bool,
+    tai: u64,
+    kept: KeptFlow,
+) -> Result<Answer, OutOfMemory>
+    requires tai { tai ≤ 1000 }
+    requires read { (list : Bool) × IsRead media.now tai list kept }
+    ensures answered { IfOk result (HasStatus look_ends) }
+    ensures answers { IfOk result (λ answer. (list : Bool) (items : List Record)
+        → IsKeptFlow media.now tai list items kept
+        → OnRun media.now (HasShape list tai kind media.now items)
+        (judged (flow items media.now) media.now.pt tai) answer) }
+{
+    let KeptFlow { verdict, packets } = kept;
+    match &verdict {
+        Verdict::Judged(judged) => shape_kept(alloc, media, kind, tai, judged, packets),
+        verdict => not_judged(alloc, media, verdict),
+    }
 }
 
-impl Look for ShapeLook {
-    ghost use Rattle.std.specs.Prelude.{[]};
-    ghost use Rattle.timing_reach.specs.Shapes.{HasShape};
-    ghost use Rattle.timing_reach.specs.shape.Leaving.{part_of};
-    ghost use Rattle.timing_reach.specs.shape.Shaping.{IsShaping};
+/// Reads the flow of a job, and keeps it while it is judged: its capture is fetched for that.
+fn read<H: Shelf>(
+    alloc: Global,
+    job: &ShapeJob,
+    shelf: &mut H,
+    media: &Media,
+) -> Result<KeptFlow, Failure>
+    ensures told { IfOk result (λ kept. (text : List ℕ)
+        → classic_texts (H.text shelf.old) job.now.flow.capture ≡ Some text
+        → IsKeptIn media.now job.now.flow.tai job.now.list text kept) }
+    ensures read { IfOk result (λ kept. IsRead media.now job.now.flow.tai job.now.list kept) }
+    ensures cause { IfErr result (λ e. OnReadFault e (λ i. (i ≡ Input.Capture 0)
+        × Rose (H.faults shelf.old job.now.flow.capture) (H.faults shelf.new job.now.flow.capture))) }
+    ensures there { IfOk result (λ _. ¬ H.lacks shelf.old job.now.flow.capture) }
+    ensures stays { StaysAs H.text H.lacks H.faults shelf.old shelf.new }
+{
+    let flow = &job.flow;
+    let reading = Reading::new(alloc, media, flow.media, flow.tai, job.list)?;
+    let reading = take_flow(alloc, shelf, flow.capture.as_str(), media, reading)?;
+    Ok(reading.finish())
+}
 
-    type Meter = Shaping;
+/// The answer on a flow of which a reading came to this.
+fn answer_kept(
+    alloc: Global,
+    job: &ShapeJob,
+    media: &Media,
+    kept: KeptFlow,
+) -> Result<Answer, Failure>
+    requires { IsRead media.now job.now.flow.tai job.now.list kept }
+    ensures answered { IfOk result (HasStatus look_ends) }
+    ensures some { IfOk result (λ answer. AnswersSome job.now media.now answer) }
+    ensures answers { IfOk result (λ answer. (text : List ℕ)
+        → IsKeptIn media.now job.now.flow.tai job.now.list text kept
+        → HasShapeIn job.now media.now text answer) }
+    ensures cause { IfErr result (λ e. OnReadFault e (λ _. ⊥)) }
+{
+    let flow = &job.flow;
+    Ok(told_of(alloc, media, job.kind, flow.tai, kept)?)
+}
 
-    ghost answers = { λ look tai m. HasShape look.list tai look.kind m };
-
-    ghost fresh = { λ look tai m judged first shaping.
-        IsShaping (part_of m look.kind tai first judged) look.list shaping [] [] };
-
-    fn begin(&self, alloc: Global, media: &Media, run: &SeenRun) -> Result<Shaping, OutOfMemory> {
-        let leaver = Leaver::new(media, &run.judged, self.kind, run.first, run.tai);
-        Shaping::new(alloc, leaver, self.list)
-    }
-
-    fn finish(
-        &self,
-        alloc: Global,
-        judged: &Judged,
-        shaping: Shaping,
-    ) -> Result<Answer, OutOfMemory> {
-        shaping.finish(alloc, judged.packets)
-    }
+/// The answer on the flow of this media: on what was read, also where the shelf doesn't tell the text of the capture.
+fn answer_on<H: Shelf>(
+    alloc: Global,
+    job: &ShapeJob,
+    shelf: &mut H,
+    media: &Media,
+) -> Result<Answer, Failure>
+    ensures follows { Yields result (ReadsCapture (seen_of H.Shelf shelf.old shelf.new)
+        result job.now.flow.capture (λ text. Gives result (HasShapeIn job.now media.now text))) }
+    ensures some { IfOk result (λ answer. AnswersSome job.now media.now answer) }
+    ensures answers { IfOk result (HasStatus look_ends) }
+    ensures cause { HasCause result
+        (FlowInputRose job.now.flow (seen_of H.Shelf shelf.old shelf.new)) }
+    ensures stays { StaysAs H.text H.lacks H.faults shelf.old shelf.new }
+{
+    let kept = read(alloc, job, shelf, media)?;
+    answer_kept(alloc, job, media, kept)
 }
 
 /// The answer of a job, or why there is none.
@@ -67,12 +126,8 @@ fn answer_shape<H: Shelf>(alloc: Global, job: &ShapeJob, shelf: &mut H) -> Resul
         (FlowInputRose job.now.flow (seen_of H.Shelf shelf.old shelf.new)) }
     ensures stays { StaysAs H.text H.lacks H.faults shelf.old shelf.new }
 {
-    let look = ShapeLook {
-        kind: job.kind,
-        list: job.list,
-    };
     match find_media(alloc, &job.flow, shelf)? {
-        Ok(media) => answer_twice(alloc, &job.flow, &look, shelf, &media),
+        Ok(media) => answer_on(alloc, job, shelf, &media),
         Err(answer) => Ok(answer),
     }
 }

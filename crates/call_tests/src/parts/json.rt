@@ -1,50 +1,10 @@
-//! Reports in JSON that are worked by hand, with ample memory, and texts on both sides of each limit
-//! of what is read.
+//! Reports in JSON on both sides of each limit of what is read, with ample memory.
 
 use std::alloc::{AllocError, Global};
 use std::process::Abort;
 use std::test::Fail;
-use timing_base::worked::{LATE, LINEAR, check_of, plain_session};
-use timing_base::{Broken, FailProof, FileNote, FlowKey, Kind, Row, Unjudged, Verdict};
-use timing_report::json_report::{ReportError, ReportProof, json_of, read_json};
-
-// The report of one capture that ends whole, with this verdict on its flow.
-fn report(alloc: Global, verdict: Verdict) -> Result<String, AllocError> {
-    let job = check_of(alloc, "e.pcap", true)?;
-    let session = plain_session(alloc)?;
-    let row = Row {
-        key: FlowKey { file: 0, media: 0 },
-        verdict,
-    };
-    json_of(alloc, &job, &session, &[FileNote::End], &[row])
-}
-
-#[test]
-fn json_absent(rt: HostRuntime) -> Result<(), Fail> {
-    let text = report(rt.alloc(), Verdict::Unjudged(Unjudged::Absent))?;
-    let expected =
-        "{\"files\":[{\"end\":\"end\",\"name\":\"e.pcap\"}],\"flows\":[{\"file\":1,\"media\":1,\"target\":\"239.0.0.1:50000\",\"verdict\":\"absent\"}],\"status\":4}\n";
-    assert_eq!(rt; text.as_str(), expected);
-    Ok(())
-}
-
-#[test]
-fn verify_report(rt: HostRuntime) -> Result<(), Fail> {
-    let alloc = rt.alloc();
-    let text = report(alloc, Verdict::Judged(LINEAR))?;
-    let told = ReportProof {
-        key: FlowKey { file: 0, media: 0 },
-        run: 0,
-        kind: Kind::N,
-        proof: LATE,
-    };
-    match read_json(alloc, text.as_bytes()) {
-        Ok(proofs) => assert!(rt; proofs.as_slice() == [told].as_slice()),
-        Err(_) => assert!(rt; false, "the report is not read"),
-    }
-    assert!(rt; !is_read(&rt, alloc, b"[]"));
-    Ok(())
-}
+use timing_base::{Broken, FailProof, FlowKey, Kind};
+use timing_report::json_report::{ReportError, ReportProof, read_json};
 
 // Whether the bytes are in the form of a report. Memory is ample.
 fn is_read(rt: &impl Abort, alloc: Global, bytes: &[u8]) -> bool {

@@ -148,13 +148,6 @@ fn are_none(rt: &impl Abort, alloc: Global, words: &[String]) {
 }
 
 #[test]
-fn no_capture(rt: HostRuntime) -> Result<(), Fail> {
-    let words = words_of(rt.alloc(), "check|--sdp|p.sdp")?;
-    are_none(&rt, rt.alloc(), &words);
-    Ok(())
-}
-
-#[test]
 fn no_words(rt: HostRuntime) {
     are_none(&rt, rt.alloc(), &[]);
 }
@@ -174,19 +167,6 @@ fn are_read(rt: &impl Abort, alloc: Global, rows: &str) -> Result<(), AllocError
         is_read(rt, alloc, line, want)?;
     }
     Ok(())
-}
-
-static OUT_OF_RANGE: &str = concat!(
-    "check|--workers|17|--sdp|p|c => Usage\n",
-    "check|--sdp|p|c|c|c|c|c|c|c|c|c|c|c|c|c|c|c|c|c => Usage\n",
-    "check|--tai|1001|--sdp|p|c => Usage\n",
-    "selftest|1 => Usage\n",
-    "selftest|20001 => Usage\n",
-);
-
-#[test]
-fn out_of_range_words(rt: HostRuntime) -> Result<(), AllocError> {
-    are_read(&rt, rt.alloc(), OUT_OF_RANGE)
 }
 
 static ROWS: &str = concat!(

@@ -1,4 +1,4 @@
-//! The worked rows of two flows, from their packets to their row.
+//! Two flows, from their packets to their row.
 
 ghost use Rattle.std.specs.Prelude.{◌≡◌, ◌<◌, ◌^◌};
 ghost use Rattle.path_skew.specs.Stands.{count_first, count_second};
@@ -69,66 +69,6 @@ impl Pair {
         let Pair { skew, .. } = self;
         skew.finish()
     }
-}
-
-// The stamp of record `rec` of a made capture: a head 1 ms before the first frame, and two frames of 20
-// packets each.
-fn stamp(rec: u64) -> u64
-    ensures { result < 2 ^ 62 }
-{
-    let second = 1_600_000_000_000_000_000;
-    if rec < 2 {
-        return second - 1_000_000;
-    }
-    let place = (rec - 2) % 64;
-    second + 20_000_000 * (place / 20) + 764_000 + 960_000 * (place % 20)
-}
-
-// When a record comes by a path that is 150 ns longer, and 900 ns for record 5.
-fn later(rec: u64) -> u64 {
-    stamp(rec) + if rec == 5 { 900 } else { 150 }
-}
-
-#[test]
-fn skew_pair(rt: HostRuntime) {
-    let mut pair = Pair::new(rt.alloc());
-    for rec in 1..42u32 {
-        pair.first(&rt, came(u64::from(rec), stamp(u64::from(rec)), rec - 1));
-    }
-    for rec in 1..41u32 {
-        pair.second(&rt, came(u64::from(rec), later(u64::from(rec)), rec - 1));
-    }
-    let row = SkewRow {
-        matched: 40,
-        first_only: 1,
-        second_only: 0,
-        repeated: 0,
-        unread: 0,
-        least: extreme(150, 1, 1),
-        greatest: extreme(900, 5, 5),
-    };
-    same(&rt, &pair.finish(), &row);
-}
-
-// The packets of the two flows come in turn.
-#[test]
-fn skew_swapped(rt: HostRuntime) {
-    let mut pair = Pair::new(rt.alloc());
-    for rec in 1..41u32 {
-        pair.second(&rt, came(u64::from(rec), stamp(u64::from(rec)), rec - 1));
-        pair.first(&rt, came(u64::from(rec), later(u64::from(rec)), rec - 1));
-    }
-    pair.second(&rt, came(41, stamp(41), 40));
-    let row = SkewRow {
-        matched: 40,
-        first_only: 0,
-        second_only: 1,
-        repeated: 0,
-        unread: 0,
-        least: extreme(-900, 5, 5),
-        greatest: extreme(-150, 1, 1),
-    };
-    same(&rt, &pair.finish(), &row);
 }
 
 // Two packets of each flow, of which one each isn't read.

@@ -13,18 +13,14 @@ pub const WINDOW: Row = Row {
     ..PASS
 };
 
-pub const LIST_LINE: &str = "shape --sdp p.sdp --media 1 --type N --list a.pcap";
-
 pub const LISTED: Row = Row {
-    line: LIST_LINE,
+    line: "shape --sdp p.sdp --media 1 --type N --list a.pcap",
     out: &["delayed 0 of 40, greatest 0 ns\n"],
     ..WINDOW
 };
 
-pub const SHAPE_LINE: &str = "shape --sdp p.sdp --media 1 --type N a.pcap";
-
 pub const SHAPED: Row = Row {
-    line: SHAPE_LINE,
+    line: "shape --sdp p.sdp --media 1 --type N a.pcap",
     out: &[],
     file: &[PLAIN],
     ..WINDOW

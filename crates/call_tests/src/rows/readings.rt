@@ -5,8 +5,8 @@ ghost use Rattle.std.specs.Prelude.{◌≡◌, IfSome};
 ghost use Rattle.timing_outside.specs.MemorySources.{faults_of, name_of};
 
 use super::plain::{
-    FRAMES, FRAMES_LINE, LIST_LINE, LISTED, MEASURE_LINE, MEASURED, PACKETS, PAGE_LINE,
-    SERIES_LINE, SHAPE_LINE, SHAPED, WINDOW,
+    FRAMES, FRAMES_LINE, LISTED, MEASURE_LINE, MEASURED, PACKETS, PAGE_LINE, SERIES_LINE, SHAPED,
+    WINDOW,
 };
 use crate::call::{Outcome, PASS, PLAIN, Row, Step, UntoldSource, WHOLE, Watch, answered, shelve};
 use std::process::Abort;
@@ -140,40 +140,24 @@ fn hold_changing<R: Abort + AllocGlobal + Wait + Threads + Sync>(
 }
 
 // The later text is read, and answered on as if it had been there before.
-const LISTED_AGAIN: Changing = Changing {
-    row: LISTED,
+const MEASURED_AGAIN: Changing = Changing {
+    row: MEASURED,
     later: &[PLAIN],
     fetched: 2,
     noted: 0,
 };
 
-const SHAPED_AGAIN: Changing = Changing {
-    row: SHAPED,
-    ..LISTED_AGAIN
-};
-
-const MEASURED_AGAIN: Changing = Changing {
-    row: MEASURED,
-    ..LISTED_AGAIN
-};
-
 const PACKETS_AGAIN: Changing = Changing {
     row: PACKETS,
-    ..LISTED_AGAIN
+    ..MEASURED_AGAIN
 };
 
 const FRAMES_AGAIN: Changing = Changing {
     row: FRAMES,
-    ..LISTED_AGAIN
+    ..MEASURED_AGAIN
 };
 
-static THE_SAME_AGAIN: [Changing; 5] = [
-    LISTED_AGAIN,
-    SHAPED_AGAIN,
-    MEASURED_AGAIN,
-    PACKETS_AGAIN,
-    FRAMES_AGAIN,
-];
+static THE_SAME_AGAIN: [Changing; 3] = [MEASURED_AGAIN, PACKETS_AGAIN, FRAMES_AGAIN];
 
 #[test]
 fn the_same_again(rt: HostRuntime) -> Result<(), Fail> {
@@ -181,7 +165,7 @@ fn the_same_again(rt: HostRuntime) -> Result<(), Fail> {
 }
 
 // The commands that read a capture twice, and print once all is read.
-const TWICE: &[&str] = &[LIST_LINE, SHAPE_LINE, MEASURE_LINE, PAGE_LINE];
+const TWICE: &[&str] = &[MEASURE_LINE, PAGE_LINE];
 
 // And those that read it twice and print meanwhile: what stands on standard output isn't compared.
 const MEANWHILE: &[&str] = &[SERIES_LINE, FRAMES_LINE];
@@ -195,15 +179,27 @@ const CHANGED: Changing = Changing {
         ..PASS
     },
     noted: 1,
-    ..LISTED_AGAIN
+    ..MEASURED_AGAIN
 };
 
-// And `window` answers on the first.
+// And `window` and `shape` answer on the first.
 const WINDOW_ONCE: Changing = Changing {
     row: WINDOW,
     fetched: 1,
-    ..LISTED_AGAIN
+    ..MEASURED_AGAIN
 };
+
+const LISTED_ONCE: Changing = Changing {
+    row: LISTED,
+    ..WINDOW_ONCE
+};
+
+const SHAPED_ONCE: Changing = Changing {
+    row: SHAPED,
+    ..WINDOW_ONCE
+};
+
+const ONCE: &[Changing] = &[WINDOW_ONCE, LISTED_ONCE, SHAPED_ONCE];
 
 // The row of a capture that differs from its later text, with these words.
 fn changed(line: &'static str, later: &'static [Step]) -> Changing {
@@ -217,7 +213,7 @@ fn changed(line: &'static str, later: &'static [Step]) -> Changing {
     }
 }
 
-// The later text is read by the commands that read a capture twice, and by `window`.
+// The later text is read by the commands that read a capture twice, and by no other.
 fn differs<R: Abort + AllocGlobal + Wait + Threads + Sync>(
     rt: &R,
     later: &'static [Step],
@@ -228,11 +224,10 @@ fn differs<R: Abort + AllocGlobal + Wait + Threads + Sync>(
     for line in MEANWHILE {
         changed(*line, later).ended(rt)?;
     }
-    let window = Changing {
-        later,
-        ..WINDOW_ONCE
-    };
-    window.holds(rt)
+    for once in ONCE {
+        Changing { later, ..*once }.holds(rt)?;
+    }
+    Ok(())
 }
 
 // Nothing more, as from a pipe; without the last packet; and with a frame more.

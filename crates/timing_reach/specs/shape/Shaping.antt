@@ -1,23 +1,59 @@
--- What the second reading of a flow that is shaped makes of it. Packets count from 0.
-use Rattle.std.specs.Prelude.{◌≡◌, ◌≤◌, ◌-◌, ◌*◌, ◌^◌, ◌+◌, ℕ, Bool, true, false, cond, max, nat_lt, List, [], ◌∷◌}
-use Rattle.std.specs.Prelude.{◌++◌, length, slice_index, Option, Some, None, is_some, if◌then◌else◌, string_bytes}
-use Rattle.std.specs.List.{cons_option, count_by}
-use Rattle.std.proofs.Common.{sym, subst, append-nil, append_assoc, ap, ◌∙◌}
-use Rattle.std.proofs.lemmas.List.Elements.{filter-append, filter_map-append}
-use Rattle.pcap_reader.specs.WrittenHeads.{record_head}
+-- What is made of a flow that is kept, where it is judged in one run of whole frames. Packets count from 0.
+use Rattle.std.specs.Prelude.{◌≡◌, ◌⊎◌, ◌≤◌, ◌-◌, ◌*◌, ◌^◌, ◌+◌, ℕ, Bool, nat_lt, List, [], ◌++◌, drop, length, map}
+use Rattle.std.specs.Prelude.{slice_index, string_bytes, take, Result, Ok, Err}
+use Rattle.std.specs.List.{count_by}
 use Rattle.flow_shaper.specs.declared.departure.Bound.{Bound}
-use Rattle.flow_shaper.specs.declared.departure.Departure.{Departure}
 use Rattle.flow_shaper.specs.declared.departure.Late.{Late}
 use Rattle.timing_base.specs.Captures.{Record}
+use Rattle.timing_base.specs.Grouped.{IsGrouped}
 use Rattle.timing_base.specs.Judged.{JudgedRun}
 use Rattle.timing_base.specs.Media.{Media}
-use Rattle.timing_base.specs.declared.packet.FlowPacket.{FlowPacket}
-use Rattle.timing_reach.specs.shape.Leaving.{HasGiven, IsFit, Part, stamps_in}
-use Rattle.timing_reach.specs.Shapes.{AreBounds, IsLate, delays, end_of, flow_records, greatest, packet_line}
-use Rattle.timing_reach.specs.Shapes.{packet_lines, shaped_capture}
+use Rattle.timing_base.specs.Verdicts.{Judged}
+use Rattle.timing_base.specs.declared.media.Kind.{Kind}
+use Rattle.timing_report.specs.declared.status.Status.TheVariants as status
+use Rattle.timing_reach.specs.steps.Answers.{Answer}
+use Rattle.timing_reach.specs.shape.Keeping.{stamps_of}
+use Rattle.timing_reach.specs.shape.Leaving.{HasLet, IsFit, Part}
+use Rattle.timing_reach.specs.shape.Readings.{IsKept}
+use Rattle.timing_reach.specs.shape.Walking.{IsBefore}
+use Rattle.timing_reach.specs.Shapes.{AreBounds, HasShape, IsLate, IsList, LeaveInTime, delays, end_of, flow_records}
+use Rattle.timing_reach.specs.Shapes.{greatest, not_shaped, packet_lines, shaped_capture}
 use Rattle.timing_reach.specs.declared.shape.delays.Delays.{Delays}
-use Rattle.timing_reach.specs.declared.shape.shaping.Shaping.{Shaping}
-use Rattle.udp_rtp.specs.Flow.{flow, flow_packet}
+use Rattle.timing_reach.specs.declared.shape.kept.Kept.{Kept}
+use Rattle.timing_reach.specs.declared.shape.leaver.Leaver.{Leaver}
+use Rattle.timing_reach.specs.declared.shape.walk.Walk.{Walk}
+
+-- stamps in nanoseconds of TAI
+abbrev pub in_tai : (tai : ℕ) → List ℕ → List ℕ
+in_tai tai stamps = map (λ at. at + tai * 10 ^ 9) stamps
+
+-- the judged packets behind a head of so many, as their stamps
+abbrev pub judged_stamps : (tai head count : ℕ) → List Record → List ℕ
+judged_stamps tai head count records = in_tai tai (stamps_of (take count (drop head records)))
+
+-- a flow with these records is judged in this run, of as many packets in each group, before the judged ones and among
+-- them as these values say
+pub record IsRunOf (tai : ℕ) (j : Judged) (records : List Record) (run : JudgedRun) : Type 0 where
+  pub group : j.n ≡ run.n
+  pub head : j.head ≡ run.head
+  pub count : j.packets ≡ length run.stamps
+  pub within : j.head + j.packets ≤ length records
+  pub stamps : judged_stamps tai j.head j.packets records ≡ run.stamps
+  pub grouped : IsGrouped run
+
+-- a flow is kept that was judged so
+pub record CanShape (m : Media) (tai : ℕ) (j : Judged) (packets : Kept) : Type 0 where
+  pub list : Bool
+  pub items : List Record
+  pub run : JudgedRun
+  pub run_is : IsRunOf tai j (flow_records m items) run
+  pub kept : IsKept m list packets items
+
+-- whatever flow is kept that was judged so, the answer is on its run
+abbrev pub IsShapeOf : Media → Kind → (tai : ℕ) → Judged → Kept → Answer → Type 0
+IsShapeOf m kind tai j packets answer =
+    (list : Bool) (items : List Record) (run : JudgedRun) → IsRunOf tai j (flow_records m items) run
+    → IsKept m list packets items → HasShape list tai kind m items run answer
 
 -- the list of packets that leave so
 pub record IsListed (w : Part) (stamps departures : List ℕ) (d : Delays) : Type 0 where
@@ -27,100 +63,52 @@ pub record IsListed (w : Part) (stamps departures : List ℕ) (d : Delays) : Typ
   pub delayed : d.delayed ≡ count_by (nat_lt 0) (delays stamps departures)
   pub most : d.greatest ≡ greatest (delays stamps departures)
 
--- the list is made, or the capture
-abbrev pub HasMade : Bool → Part → Shaping → (stamps : List ℕ) → List Record → (departures : List ℕ) → Type 0
-HasMade true w s stamps records departures = IsListed w stamps departures s.delays
-HasMade false w s stamps records departures = s.bytes.items ≡ shaped_capture w.tai w.head departures records
-
--- no packet of these is late
-pub record IsGoing (w : Part) (list : Bool) (s : Shaping) (packets : List FlowPacket)
-    (records : List Record) : Type 0 where
+-- the first i packets with these stamps left, and are listed
+pub record HasListed (w : Part) (l : Leaver) (d : Delays) (stamps : List ℕ) (i : ℕ) : Type 0 where
   pub departures : List ℕ
-  pub given : HasGiven w s.leaver packets departures
-  pub left : s.left ≡ slice_index departures (length departures - 1) - w.tai * 10 ^ 9
-  pub list_is : s.list ≡ list
-  pub made : HasMade list w s (stamps_in w packets) records departures
+  pub left : HasLet w l (take i stamps) departures
+  pub listed : IsListed w (take i stamps) departures d
 
-abbrev pub OnLate : Option Late → (going : Type 0) → (ℕ → Type 0) → Type 0
-OnLate None going late = going
-OnLate (Some l) going late = late l.packet
+-- the answer with the list of packets with these stamps, or that on the first that is late
+pub record ListsAll (w : Part) (stamps : List ℕ) (answer : Answer) : Type 0 where
+  pub departures : List ℕ
+  pub leave : LeaveInTime w.media w.n w.kind (end_of w.tai) stamps departures
+  pub text : List ℕ
+  pub list : IsList w.media w.n w.kind stamps departures text
+  pub answer_is : answer ≡ record { text = text; status = status.Pass }
 
--- the packets with these records were passed, and no others
-pub record IsShaping (w : Part) (list : Bool) (s : Shaping) (packets : List FlowPacket)
-    (records : List Record) : Type 0 where
-  pub each : length records ≡ length packets
-  pub state : IsFit w.origin (stamps_in w packets)
-      → OnLate s.late (IsGoing w list s packets records) (IsLate w.media w.n w.kind (end_of w.tai)
-      (stamps_in w packets))
+pub record TellsLate (w : Part) (stamps : List ℕ) (answer : Answer) : Type 0 where
+  pub packet : ℕ
+  pub late : IsLate w.media w.n w.kind (end_of w.tai) stamps packet
+  pub answer_is : answer ≡ not_shaped packet
 
--- whatever packets were passed, this one was passed then
-abbrev pub Passes : (at : ℕ) → (frame : List ℕ) → (old new : Shaping) → Type 0
-Passes at frame old new =
-    (w : Part) (list : Bool) (packets : List FlowPacket) (records : List Record) (p : FlowPacket) (r : Record)
-    → p.at ≡ at → r.stamp ≡ at → r.bytes ≡ frame → old.late ≡ None
-    → IsShaping w list old packets records → IsShaping w list new (packets ++ p ∷ []) (records ++ r ∷ [])
+abbrev pub ListsSo : Part → (stamps : List ℕ) → Answer → Type 0
+ListsSo w stamps answer = ListsAll w stamps answer ⊎ TellsLate w stamps answer
 
--- a packet was added to the list
-pub record Adds (packet delay : ℕ) (bound : Bound) (old new : Delays) : Type 0 where
-  pub lines : string_bytes new.lines ≡ string_bytes old.lines ++ packet_line packet delay bound
-  pub delayed : new.delayed ≡ old.delayed + cond (nat_lt 0 delay) 1 0
-  pub most : new.greatest ≡ max old.greatest delay
+-- when the last of these packets left, as their capture has it; 0 where there is none
+abbrev pub last_left : (tai : ℕ) → (departures : List ℕ) → ℕ
+last_left tai departures = slice_index departures (length departures - 1) - tai * 10 ^ 9
 
--- a packet that leaves so was told
-pub record Tells (packet stamp : ℕ) (d : Departure) (old new : Shaping) : Type 0 where
-  pub leaver : new.leaver ≡ old.leaver
-  pub list : new.list ≡ old.list
-  pub bytes : new.bytes ≡ old.bytes
-  pub late : new.late ≡ old.late
-  pub left : new.left ≡ d.at - old.leaver.added
-  pub told : old.list ≡ true → Adds packet (d.at - stamp) d.bound old.delays new.delays
+-- behind the packets of a head the first i packets with these records left, and have the stamps with which they did
+pub record HasLeft (w : Part) (l : Leaver) (walk : Walk) (left : ℕ) (head records : List Record) (stamps : List ℕ)
+    (i : ℕ) : Type 0 where
+  pub departures : List ℕ
+  pub let_go : HasLet w l (take i stamps) departures
+  pub last : left ≡ last_left w.tai departures
+  pub before : IsBefore walk (shaped_capture w.tai (length head) departures (head ++ take i records)) (drop i records)
 
--- the record of a packet was copied
-pub record Copies (at : ℕ) (frame : List ℕ) (old new : Shaping) : Type 0 where
-  pub leaver : new.leaver ≡ old.leaver
-  pub list : new.list ≡ old.list
-  pub delays : new.delays ≡ old.delays
-  pub late : new.late ≡ old.late
-  pub left : new.left ≡ old.left
-  pub copied : old.list ≡ false → new.bytes.items ≡ old.bytes.items ++ (record_head at (length frame) ++ frame)
+-- these packets left so behind a head, or one of them is late
+abbrev pub DepartsSo : Part → (new : Walk) → (head records : List Record) → (stamps : List ℕ) → (count : ℕ)
+    → Result ℕ Late → Type 0
+DepartsSo w new head records stamps count (Ok left) = (departures : List ℕ)
+    × LeaveInTime w.media w.n w.kind (end_of w.tai) stamps departures × (left ≡ last_left w.tai departures)
+    × IsBefore new (shaped_capture w.tai (length head) departures (head ++ take count records)) (drop count records)
+DepartsSo w new head records stamps count (Err late) = IsLate w.media w.n w.kind (end_of w.tai) stamps late.packet
 
--- whatever packets were passed, the flow of this media in these records was passed then, and nothing else
-abbrev pub ShapesOn : Media → (old new : Shaping) → List Record → Type 0
-ShapesOn m old new more =
-    (w : Part) (list : Bool) (packets : List FlowPacket) (records : List Record) → w.media ≡ m
-    → IsShaping w list old packets records
-    → IsShaping w list new (packets ++ flow more w.media) (records ++ flow_records w.media more)
-
--- all packets were passed, so many judged ones among them, which are this run
-pub record Ends (w : Part) (list : Bool) (s : Shaping) (passed : List FlowPacket) (items : List Record)
-    (run : JudgedRun) (packets : ℕ) : Type 0 where
-  pub shaping : IsShaping w list s passed (flow_records w.media items)
-  pub group : w.n ≡ run.n
-  pub head : w.head ≡ run.head
-  pub count : w.count ≡ packets
-  pub all : w.count ≤ length passed - w.head
-  pub stamps : stamps_in w passed ≡ run.stamps
-  pub fit : IsFit w.origin run.stamps
-
--- no record, one that is no packet of the flow, and some records and then others
-pub shapes_none : (m : Media) (x : Shaping) → ShapesOn m x x []
-shapes_none m x w list packets records of h =
-    subst (λ l. IsShaping w list x l (records ++ [])) (sym (append-nil packets))
-    (subst (IsShaping w list x packets) (sym (append-nil records)) h)
-
-pub shapes_other : (m : Media) (x : Shaping) (r : Record) → flow_packet m r ≡ None → ShapesOn m x x (r ∷ [])
-shapes_other m x r is w list packets records of h =
-    subst (λ (o : Option FlowPacket). IsShaping w list x (packets ++ cons_option o [])
-    (records ++ (if is_some o then r ∷ [] else [])))
-    (sym (ap (λ (n : Media). flow_packet n r) of ∙ is)) (shapes_none m x w list packets records of h)
-
-pub shapes_more : (m : Media) (x y z : Shaping) (a b : List Record) → ShapesOn m x y a → ShapesOn m y z b
-    → ShapesOn m x z (a ++ b)
-shapes_more m x y z a b first second w list packets records of h =
-    let n = w.media in
-    subst (λ l. IsShaping w list z l (records ++ flow_records n (a ++ b)))
-    (append_assoc packets (flow a n) (flow b n) ∙ ap (λ l. packets ++ l)
-    (sym (filter_map-append (flow_packet n) a b)))
-    (subst (IsShaping w list z ((packets ++ flow a n) ++ flow b n))
-    (append_assoc records (flow_records n a) (flow_records n b) ∙ ap (λ l. records ++ l) (sym (filter-append _ a b)))
-    (second w list (packets ++ flow a n) (records ++ flow_records n a) of (first w list packets records of h)))
+-- whatever records the walk stood before, behind whatever head: so many of them left
+abbrev pub Departs : (count : ℕ) → Leaver → (old new : Walk) → Result ℕ Late → Type 0
+Departs count leaver old new result =
+    (w : Part) (head records : List Record) (stamps : List ℕ) → HasLet w leaver [] []
+    → IsBefore old (shaped_capture w.tai (length head) [] head) records
+    → count ≤ length records → stamps ≡ in_tai w.tai (stamps_of (take count records)) → IsFit w.origin stamps
+    → DepartsSo w new head records stamps count result

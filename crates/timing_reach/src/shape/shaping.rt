@@ -1,200 +1,131 @@
-//! The judged packets of a flow leave as planned, and what is printed of them is made.
+//! The judged packets of a kept flow leave as planned, and what is printed of them is made.
 
-ghost use Rattle.std.specs.Prelude.{◌≡◌, ◌≤◌, ◌<◌, ◌+◌, ◌*◌, ◌^◌, [], List, None, Some, IfOk, length};
-ghost use Rattle.timing_base.specs.Captures.{IsStamp, Record};
-ghost use Rattle.timing_base.specs.Judged.{JudgedRun};
+ghost use Rattle.std.specs.Prelude.{◌≡◌, ◌≤◌, ◌+◌, ◌*◌, ◌^◌, [], List, All, IfOk, length};
+ghost use Rattle.timing_base.specs.Captures.{IsStamp};
 ghost use Rattle.timing_reach.specs.steps.Ends.{HasStatus, look_ends};
-ghost use Rattle.timing_reach.specs.shape.Leaving.{HasGiven, Part};
 ghost use Rattle.timing_reach.specs.Shapes.{HasShape};
+ghost use Rattle.timing_reach.specs.shape.Leaving.{HasLet, IsFit, Part, count_left};
+ghost use Rattle.timing_reach.specs.shape.Shaping.{CanShape, Departs, IsShapeOf, ListsSo, in_tai};
+ghost use Rattle.timing_reach.specs.shape.Walking.{CanSkip, CanWalk};
+ghost use Rattle.timing_reach.specs.declared.shape.kept.Kept.TheVariants.{Capture, Stamps};
 
-use crate::judged::flows::FlowTaker;
-use crate::shape::copy::{add_record, begin};
 use crate::shape::delays::Delays;
-use crate::shape::leaver::{Leaver, Turn};
+use crate::shape::kept::Kept;
+use crate::shape::leaver::Leaver;
+use crate::shape::walk::Walk;
 use crate::shape::words::not_shaped;
 use crate::steps::Answer;
-use flow_shaper::{Departure, Late};
+use flow_shaper::Late;
 use std::alloc::{AllocError as OutOfMemory, Global};
-use timing_base::{FlowPacket, Rtp};
+use timing_base::{Judged, Kind, Media};
 use timing_report::Status;
 
-/// What is made of a flow that is shaped, as far as the flow has come.
-#[derive(Drop)]
-pub struct Shaping {
-    pub leaver: Leaver,
-    /// Whether the delayed packets are listed, in place of a capture.
-    pub list: bool,
-    pub delays: Delays,
-    /// The capture.
-    pub bytes: Vec<u8>,
-    /// When the last judged packet left, in nanoseconds, as the capture has it; 0 before the first.
-    pub left: u64,
-    /// The judged packet that can't leave in time.
-    pub late: Option<Late>,
-    ghost left_early: { IsStamp left },
-    ghost few: { delays.delayed + leaver.due ≤ 2 ^ 40 },
+/// The list of judged packets that came so, in nanoseconds, as the capture has them.
+fn list_delays(alloc: Global, mut leaver: Leaver, stamps: &[u64]) -> Result<Answer, OutOfMemory>
+    requires none { count_left leaver ≡ 0 }
+    requires stamps { All IsStamp stamps.now }
+    requires few { length stamps.now ≤ 2 ^ 41 }
+    ensures answered { IfOk result (HasStatus look_ends) }
+    ensures lists { IfOk result (λ answer. (w : Part) → HasLet w leaver [] []
+        → IsFit w.origin (in_tai w.tai stamps.now)
+        → ListsSo w (in_tai w.tai stamps.now) answer) }
+{
+    let mut delays = Delays::new(alloc);
+    for (packet, at) in stamps.iter().enumerate() {
+        match leaver.leave(*at) {
+            Ok(departure) => {
+                let delay = departure.at.saturating_sub(*at + leaver.added);
+                delays.add(packet as u64, delay, departure.bound)?;
+            }
+            Err(late) => return not_shaped(alloc, late.packet),
+        }
+    }
+    delays.finish(stamps.len() as u64)
 }
 
-impl Shaping {
-    ghost use Rattle.flow_shaper.specs.declared.departure.Late.{Late};
-    ghost use Rattle.timing_reach.specs.shape.Shaping.{Copies, Ends, IsShaping, Passes, Tells};
-    ghost use Rattle.timing_reach.specs.declared.shape.leaver.Leaver.{Leaver};
-
-    /// Before the first record.
-    pub fn new(alloc: Global, leaver: Leaver, list: bool) -> Result<Shaping, OutOfMemory>
-        requires { leaver.due ≤ 2 ^ 40 }
-        ensures { IfOk result (λ s. (w : Part) → HasGiven w leaver [] []
-            → IsShaping w list s [] []) }
-    {
-        Ok(Shaping {
-            leaver,
-            list,
-            delays: Delays::new(alloc),
-            bytes: begin(alloc)?,
-            left: 0,
-            late: None,
-        })
+/// Lets so many packets leave, the next ones of a capture, and answers when the last one left, in nanoseconds, as the
+/// capture has it. `Err` is the first that can't leave in time.
+fn depart(walk: &mut Walk, mut leaver: Leaver, count: u64) -> Result<u64, Late>
+    requires none { count_left leaver ≡ 0 }
+    requires few { count ≤ 2 ^ 41 }
+    requires can { CanSkip count walk.old }
+    ensures stamp { IfOk result IsStamp }
+    ensures can { IfOk result (λ _. CanWalk walk.new) }
+    ensures departs { Departs count leaver walk.old walk.new result }
+{
+    let mut left = 0;
+    for _ in 0..count {
+        let departure = leaver.leave(walk.stamp())?;
+        left = departure.at.saturating_sub(leaver.added);
+        walk.restamp(left);
+        walk.pass();
     }
-
-    /// Passes the next packet of the flow, which came at `at`, in nanoseconds, as the capture has it.
-    #[inline(always)]
-    fn pass(&mut self, at: u64, frame: &[u8]) -> Result<(), OutOfMemory>
-        requires stamp { IsStamp at }
-        requires short { length frame.now ≤ 262144 }
-        ensures { IfOk result (λ _. Passes at frame.now self.old self.new) }
-    {
-        match self.leaver.turn(at) {
-            Turn::Beside => self.copy(at.max(self.left), frame),
-            Turn::Leaves {
-                packet,
-                stamp,
-                departure,
-            } => {
-                self.tell(packet, stamp, departure)?;
-                self.copy(self.left, frame)
-            }
-            Turn::Late(late) => {
-                self.late = Some(late);
-                Ok(())
-            }
-        }
-    }
-
-    /// Adds a packet that leaves so to the list, where it is made.
-    #[inline(always)]
-    fn tell(&mut self, packet: u64, stamp: u64, departure: Departure) -> Result<(), OutOfMemory>
-        requires in_time { departure.at < 2 ^ 32 * 10 ^ 9 + self.old.leaver.added }
-        requires few { self.old.delays.delayed + self.old.leaver.due < 2 ^ 40 }
-        ensures leaver { self.new.leaver ≡ self.old.leaver }
-        ensures tells { IfOk result (λ _. Tells packet stamp departure self.old self.new) }
-    {
-        self.left = departure.at.saturating_sub(self.leaver.added);
-        if !self.list {
-            return Ok(());
-        }
-        let delay = departure.at.saturating_sub(stamp);
-        self.delays.add(packet, delay, departure.bound)
-    }
-
-    /// Adds the record of a packet to the capture, where it is made.
-    #[inline(always)]
-    fn copy(&mut self, at: u64, frame: &[u8]) -> Result<(), OutOfMemory>
-        requires stamp { IsStamp at }
-        requires short { length frame.now ≤ 262144 }
-        ensures { IfOk result (λ _. Copies at frame.now self.old self.new) }
-    {
-        if self.list {
-            return Ok(());
-        }
-        add_record(&mut self.bytes, at, frame)
-    }
-
-    /// Puts the packet before in the place of each judged one that didn't come, or the first one, where
-    /// none came. A capture that reads as it did when the flow was judged leaves none of them out.
-    fn fill(&mut self) -> Result<(), OutOfMemory>
-        ensures whole { self.old.leaver.due ≡ 0 → self.new ≡ self.old }
-        ensures late { (late : Late) → self.old.late ≡ Some late → self.new ≡ self.old }
-    {
-        if self.late.is_some() {
-            return Ok(());
-        }
-        for _ in 0..self.leaver.due {
-            let last = self.leaver.last;
-            match self.leaver.leave(last) {
-                Turn::Beside => {}
-                Turn::Leaves {
-                    packet,
-                    stamp,
-                    departure,
-                } => self.tell(packet, stamp, departure)?,
-                Turn::Late(late) => {
-                    self.late = Some(late);
-                }
-            }
-        }
-        Ok(())
-    }
-
-    /// The answer on so many judged packets.
-    pub fn finish(mut self, alloc: Global, packets: u64) -> Result<Answer, OutOfMemory>
-        ensures answers { IfOk result (HasStatus look_ends) }
-        ensures shape { IfOk result (λ answer. (w : Part) (list : _) (passed : List _)
-            (items : List Record) (run : JudgedRun) → Ends w list self passed items run packets
-            → HasShape list w.tai w.kind w.media items run answer) }
-    {
-        self.fill()?;
-        let Shaping {
-            leaver: _,
-            list,
-            delays,
-            bytes,
-            left: _,
-            late,
-        } = self;
-        if let Some(late) = late {
-            return not_shaped(alloc, late.packet);
-        }
-        if list {
-            return delays.finish(packets);
-        }
-        Ok(Answer {
-            text: bytes,
-            status: Status::Pass,
-        })
-    }
+    Ok(left)
 }
 
-impl FlowTaker for Shaping {
-    ghost use Rattle.std.specs.Prelude.{⊤};
-    ghost use Rattle.timing_reach.specs.shape.Shaping.{ShapesOn, shapes_more, shapes_none, shapes_other};
+/// The list of the delayed packets of a flow that was judged so, of which the stamps are kept.
+fn shape_list(
+    alloc: Global,
+    media: &Media,
+    kind: Kind,
+    tai: u64,
+    judged: &Judged,
+    stamps: Vec<u64>,
+) -> Result<Answer, OutOfMemory>
+    requires tai { tai ≤ 1000 }
+    requires can { CanShape media.now tai judged.now (Stamps stamps) }
+    ensures answered { IfOk result (HasStatus look_ends) }
+    ensures shape { IfOk result (λ answer. IsShapeOf media.now kind tai judged.now (Stamps stamps) answer) }
+{
+    let head = judged.head as usize;
+    let judged_stamps = &stamps[head..head + judged.packets as usize];
+    let leaver = Leaver::new(media, judged, kind, judged_stamps[0], tai);
+    list_delays(alloc, leaver, judged_stamps)
+}
 
-    ghost takes = { ShapesOn };
-
-    ghost room = { λ _ _. ⊤ };
-
-    ghost expects = { λ _ _. ⊤ };
-
-    ghost none = { shapes_none };
-
-    ghost other = { shapes_other };
-
-    ghost more = { shapes_more };
-
-    ghost less = { λ _ _ _ _ _. tt };
-
-    fn expected(&self) -> Option<Rtp> {
-        None
+/// The capture of a flow that was judged so, of which the packets are kept as they came.
+fn shape_capture(
+    alloc: Global,
+    media: &Media,
+    kind: Kind,
+    tai: u64,
+    judged: &Judged,
+    bytes: Vec<u8>,
+) -> Result<Answer, OutOfMemory>
+    requires tai { tai ≤ 1000 }
+    requires can { CanShape media.now tai judged.now (Capture bytes) }
+    ensures answered { IfOk result (HasStatus look_ends) }
+    ensures shape { IfOk result (λ answer. IsShapeOf media.now kind tai judged.now (Capture bytes) answer) }
+{
+    let mut walk = Walk::new(bytes);
+    walk.skip(judged.head);
+    let leaver = Leaver::new(media, judged, kind, walk.stamp(), tai);
+    match depart(&mut walk, leaver, judged.packets) {
+        Ok(left) => walk.hold_back(left),
+        Err(late) => return not_shaped(alloc, late.packet),
     }
+    Ok(Answer {
+        text: walk.bytes,
+        status: Status::Pass,
+    })
+}
 
-    #[inline(always)]
-    fn take(&mut self, packet: &FlowPacket, frame: &[u8]) -> Result<(), OutOfMemory> {
-        if self.late.is_some() {
-            return Ok(());
-        }
-        self.pass(packet.at, frame)
-    }
-
-    fn take_expected(&mut self, packet: &FlowPacket, frame: &[u8]) -> Result<(), OutOfMemory> {
-        self.take(packet, frame)
+/// The answer on a flow that was judged so, of which the packets are kept.
+pub fn shape_kept(
+    alloc: Global,
+    media: &Media,
+    kind: Kind,
+    tai: u64,
+    judged: &Judged,
+    packets: Kept,
+) -> Result<Answer, OutOfMemory>
+    requires tai { tai ≤ 1000 }
+    requires can { CanShape media.now tai judged.now packets }
+    ensures answered { IfOk result (HasStatus look_ends) }
+    ensures shape { IfOk result (λ answer. IsShapeOf media.now kind tai judged.now packets answer) }
+{
+    match packets {
+        Kept::Stamps(stamps) => shape_list(alloc, media, kind, tai, judged, stamps),
+        Kept::Capture(bytes) => shape_capture(alloc, media, kind, tai, judged, bytes),
     }
 }

@@ -2,10 +2,10 @@
 
 ghost use Rattle.std.specs.Prelude.{◌≡◌, ◌≤◌, ◌<◌, ◌+◌, ◌*◌, ◌^◌, ◌++◌, ◌∷◌, [], ℕ, List, All, IfOk, length};
 ghost use Rattle.timing_base.specs.Captures.{IsStamp};
+ghost use Rattle.timing_base.specs.Flows.{read_or_zeros};
 ghost use Rattle.timing_base.specs.Media.{Media as MediaValue};
 ghost use Rattle.fail_interval.specs.SoFar.{Groups, SoFar, groups_first, groups_next, outcome_of, so_far_next};
 
-use crate::judged::opening::is_last_of_group;
 use crate::window::meters::WindowMeters;
 use crate::window::windows::Windows;
 use sender_params::Params;
@@ -14,6 +14,17 @@ use timing_base::{FlowPacket, Media};
 
 /// The most packets that a group may have (this project's profile).
 const MOST: usize = 262_144;
+
+/// Whether a packet has the marker; one that wasn't read has none.
+#[inline]
+fn is_last_of_group(packet: &FlowPacket) -> bool
+    ensures { result ≡ (read_or_zeros packet.now.rtp).marker }
+{
+    match packet.rtp {
+        Ok(rtp) => rtp.marker,
+        Err(_) => false,
+    }
+}
 
 /// The packets of a first group so far.
 #[derive(Drop)]

@@ -1,0 +1,32 @@
+use Rattle.std.proofs.Common.{arith, rules, subst, ℕ, Bool, ◌≡◌, ◌^◌}
+use Rattle.timing_reach.specs.shape.Readings.{IsKeptIn, IsRead}
+use Rattle.timing_reach.proofs.Keepings.{kept-in, kept-some, read-few}
+use Rattle.timing_reach.proofs.shape.read.Goals as goal
+
+pub finish-requires : goal.finish-requires
+finish-requires g c =
+    omega (
+      arith,
+      read-few c.args.media.now _ c.flow.inside.tai (2 ^ 36) c.job.inside.list c.in_ok-reading.reading _ c.in_ok-reading.ensures.stands
+          c.in_ok-reading-2.ensures.fed,
+    )
+
+pub returns-clause-told : goal.returns-clause-told
+returns-clause-told g c = λ text whole.
+    let seconds : c.flow.inside.tai ≡ c.args.job.now.flow.tai = search rules in
+    let listed : c.job.inside.list ≡ c.args.job.now.list = search rules in
+    subst (λ (x : ℕ). IsKeptIn c.args.media.now x c.args.job.now.list text c.finish.result) seconds
+    (subst (λ (b : Bool). IsKeptIn c.args.media.now c.flow.inside.tai b text c.finish.result) listed
+    (kept-in text c.args.media.now _ c.flow.inside.tai c.job.inside.list c.in_ok-reading.reading _ c.finish.result c.in_ok-reading.ensures.stands
+    (c.in_ok-reading-2.ensures.told text (search rules))
+    (λ items h. c.finish.ensures c.args.media.now _ c.flow.inside.tai c.job.inside.list items c.flow.invariant.tai_most h)))
+
+pub returns-clause-read : goal.returns-clause-read
+returns-clause-read g c =
+    let seconds : c.flow.inside.tai ≡ c.args.job.now.flow.tai = search rules in
+    let listed : c.job.inside.list ≡ c.args.job.now.list = search rules in
+    subst (λ (x : ℕ). IsRead c.args.media.now x c.args.job.now.list c.finish.result) seconds
+    (subst (λ (b : Bool). IsRead c.args.media.now c.flow.inside.tai b c.finish.result) listed
+    (kept-some c.args.media.now _ c.flow.inside.tai (2 ^ 36) c.job.inside.list c.in_ok-reading.reading _ c.finish.result c.in_ok-reading.ensures.stands
+    c.in_ok-reading-2.ensures.fed
+    (λ items h. c.finish.ensures c.args.media.now _ c.flow.inside.tai c.job.inside.list items c.flow.invariant.tai_most h)))

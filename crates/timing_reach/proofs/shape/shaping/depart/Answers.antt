@@ -1,0 +1,60 @@
+use Rattle.std.proofs.Common.{rules, arith, ◌<◌, ◌≡◌, ℕ, ap, ◌∙◌, subst, sym, Err, Result}
+use Rattle.flow_shaper.specs.declared.departure.Late.{Late}
+use Rattle.std.proofs.lemmas.Result.{err_from_is_err_and}
+use Rattle.timing_reach.specs.shape.Shaping.{DepartsSo, HasLeft}
+use Rattle.timing_reach.proofs.Shapings.{departs-all, departs-late, left-next, skip-on, skip-record}
+use Rattle.timing_reach.proofs.Walkings.{has-head, stamp-held}
+use Rattle.timing_reach.proofs.shape.shaping.depart.Goals as goal
+
+pub stamp-requires : goal.stamp-requires
+stamp-requires c =
+    let walk = c.loop.walk in
+    let low : c.loop.counter < c.args.count = search rules in
+    let some = skip-record walk c.args.count c.loop.counter low c.loop.invariant.can in
+    has-head walk some.0 some.1 some.2 some.4
+
+pub leave-requires-clause-stamp : goal.leave-requires-clause-stamp
+leave-requires-clause-stamp c =
+    let walk = c.loop.walk in
+    let low : c.loop.counter < c.args.count = search rules in
+    let some = skip-record walk c.args.count c.loop.counter low c.loop.invariant.can in
+    stamp-held walk c.stamp.result some.0 some.1 some.2 some.4 (c.stamp.ensures some.0 some.1 some.2 some.4)
+
+pub returns-in_err-departure-clause-departs : goal.returns-in_err-departure-clause-departs
+returns-in_err-departure-clause-departs c = λ w head records stamps given before few are fit.
+    let low : c.loop.counter < c.args.count = search rules in
+    let p = err_from_is_err_and c.from_residual.result c.from_residual.ensures.1 in
+    let late =
+    departs-late w c.loop.leaver c.leave.new.self c.loop.walk c.loop.left c.stamp.result head records stamps c.args.count c.loop.counter
+    c.in_err-departure.field-0.0 low few are fit c.stamp.ensures c.in_err-departure.ensures.leaves
+    (c.loop.invariant.departs w head records stamps given before few are fit) in
+    subst (λ (r : Result ℕ Late). DepartsSo w c.loop.walk head records stamps c.args.count r) (sym (p.1 ∙ ap (λ (x : Late). Err x) p.2)) late
+
+pub restamp-requires-clause-head : goal.restamp-requires-clause-head
+restamp-requires-clause-head c =
+    let walk = c.loop.walk in
+    let low : c.loop.counter < c.args.count = search rules in
+    let some = skip-record walk c.args.count c.loop.counter low c.loop.invariant.can in
+    has-head walk some.0 some.1 some.2 some.4
+
+pub loop-preserved : goal.loop-preserved
+loop-preserved c =
+    let low : c.loop.counter < c.args.count = search rules in
+    record {
+      few = omega (arith, c.leave.ensures.count, c.loop.invariant.few);
+      stamp = omega (arith, c.in_ok-departure.ensures.in_time, c.saturating_sub-left.ensures, c.leave.ensures.added);
+      can = skip-on c.loop.walk c.restamp.new.self c.pass.new.self c.saturating_sub-left.result c.args.count c.loop.counter low c.loop.invariant.can
+          c.restamp.ensures.restamps c.pass.ensures.passes;
+      departs = λ w head records stamps given before few are fit.
+          left-next w c.loop.leaver c.leave.new.self c.loop.walk c.restamp.new.self c.pass.new.self c.loop.left c.stamp.result c.saturating_sub-left.result
+          head records stamps c.args.count c.loop.counter c.in_ok-departure.departure low few are fit c.stamp.ensures c.in_ok-departure.ensures.leaves
+          c.leave.ensures.added c.saturating_sub-left.ensures c.restamp.ensures.restamps c.pass.ensures.passes
+          (c.loop.invariant.departs w head records stamps given before few are fit);
+    }
+
+pub returns-clause-departs : goal.returns-clause-departs
+returns-clause-departs c = λ w head records stamps given before few are fit.
+    let end : c.loop.counter ≡ c.args.count = search rules in
+    departs-all w c.loop.leaver c.loop.walk c.loop.left head records stamps c.args.count few are
+    (subst (λ k. HasLeft w c.loop.leaver c.loop.walk c.loop.left head records stamps k) end
+    (c.loop.invariant.departs w head records stamps given before few are fit))
