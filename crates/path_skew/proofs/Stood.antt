@@ -8,6 +8,7 @@ use Rattle.std.proofs.lemmas.Bool.Decides.{nat_tests}
 use Rattle.std.proofs.lemmas.Grind.{common_steps}
 use Rattle.std.proofs.lemmas.List.Concat.{flat_map-append}
 use Rattle.std.proofs.lemmas.List.{length-append}
+use Rattle.std.proofs.lemmas.Nat.{xor_comm}
 use Rattle.timing_base.specs.declared.packet.Rtp.{Rtp}
 use Rattle.timing_base.specs.declared.packet.FlowPacket.{FlowPacket}
 use Rattle.timing_base.specs.declared.packet.PacketFault.{PacketFault}
@@ -23,6 +24,7 @@ use Rattle.path_skew.specs.Pair.{has_number, packet_with, number_of, is_unread, 
 use Rattle.path_skew.specs.Pair.{alone}
 use Rattle.path_skew.specs.Kept.{IsCounted, opposite, page_of, page_view, view}
 use Rattle.path_skew.specs.Holds.{HoldsSkews}
+use Rattle.path_skew.specs.Slots.{arrival_at, arrivals_in}
 use Rattle.path_skew.specs.Step.{Comes, Steps}
 use Rattle.path_skew.specs.Stands.{CountsFlow, HoldsNumbers, Keeps, StandsFor}
 use Rattle.path_skew.specs.View.{IsOpened, IsSame, View, Waits}
@@ -223,24 +225,24 @@ other-opposite Second (Some p) i = refl
 
 kept-opposite : (side : Side) (p : Option Page) (i : ℕ) → (page_view (opposite side) p).kept i ≡ (page_view side p).kept i
 kept-opposite First None i = refl
-kept-opposite First (Some p) i = refl
+kept-opposite First (Some p) i = ap (λ bits. arrival_at bits (arrivals_in p.arrivals) i) (xor_comm p.second p.first)
 kept-opposite Second None i = refl
-kept-opposite Second (Some p) i = refl
+kept-opposite Second (Some p) i = ap (λ bits. arrival_at bits (arrivals_in p.arrivals) i) (xor_comm p.first p.second)
 
 pub holds-opposite : (side : Side) (pages : Pages) (flow pair : List FlowPacket) → HoldsNumbers (view side pages) flow pair
     → HoldsNumbers (view (opposite side) pages) pair flow
 holds-opposite side pages flow pair h = record {
-  own = λ n. own-opposite side (page_of pages n) (n % 64) ∙ h.other n;
-  other = λ n. other-opposite side (page_of pages n) (n % 64) ∙ h.own n;
-  own_waits = λ n q is none. keeps-at _ _ q q (kept-opposite side (page_of pages n) (n % 64)) refl (h.other_waits n q is none);
-  other_waits = λ n q is none. keeps-at _ _ q q (kept-opposite side (page_of pages n) (n % 64)) refl (h.own_waits n q is none);
+  own = λ n. own-opposite side (page_of pages n) (n % 32) ∙ h.other n;
+  other = λ n. other-opposite side (page_of pages n) (n % 32) ∙ h.own n;
+  own_waits = λ n q is none. keeps-at _ _ q q (kept-opposite side (page_of pages n) (n % 32)) refl (h.other_waits n q is none);
+  other_waits = λ n q is none. keeps-at _ _ q q (kept-opposite side (page_of pages n) (n % 32)) refl (h.own_waits n q is none);
 }
 
 -- no number stands in no packet
 pub holds-none : (pages : Pages) → ((side : Side) (n : ℕ) → (view side pages).own n ≡ false) → HoldsNumbers (view First pages) [] []
 holds-none pages none = record {
   own = none First;
-  other = λ n. sym (own-opposite First (page_of pages n) (n % 64)) ∙ none Second n;
+  other = λ n. sym (own-opposite First (page_of pages n) (n % 32)) ∙ none Second n;
   own_waits = λ n q is lone. absurd (let bad : None ≡ Some q = is in cc);
   other_waits = λ n q is lone. absurd (let bad : None ≡ Some q = is in cc);
 }
