@@ -1,3 +1,4 @@
+pub mod Counted
 pub mod Elements
 pub mod Extremes
 pub mod Flows
@@ -5,4 +6,3 @@ pub mod Orders
 pub mod Searches
 pub mod Stood
 pub mod Views
-pub mod Waiting

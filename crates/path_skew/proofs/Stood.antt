@@ -8,7 +8,6 @@ use Rattle.std.proofs.lemmas.Bool.Decides.{nat_tests}
 use Rattle.std.proofs.lemmas.Grind.{common_steps}
 use Rattle.std.proofs.lemmas.List.Concat.{flat_map-append}
 use Rattle.std.proofs.lemmas.List.{length-append}
-use Rattle.std.proofs.lemmas.Nat.{xor_comm}
 use Rattle.timing_base.specs.declared.packet.Rtp.{Rtp}
 use Rattle.timing_base.specs.declared.packet.FlowPacket.{FlowPacket}
 use Rattle.timing_base.specs.declared.packet.PacketFault.{PacketFault}
@@ -24,7 +23,6 @@ use Rattle.path_skew.specs.Pair.{has_number, packet_with, number_of, is_unread, 
 use Rattle.path_skew.specs.Pair.{alone}
 use Rattle.path_skew.specs.Kept.{IsCounted, opposite, page_of, page_view, view}
 use Rattle.path_skew.specs.Holds.{HoldsSkews}
-use Rattle.path_skew.specs.Slots.{arrival_at, arrivals_in}
 use Rattle.path_skew.specs.Step.{Comes, Steps}
 use Rattle.path_skew.specs.Stands.{CountsFlow, HoldsNumbers, Keeps, StandsFor}
 use Rattle.path_skew.specs.View.{IsOpened, IsSame, View, Waits}
@@ -225,9 +223,9 @@ other-opposite Second (Some p) i = refl
 
 kept-opposite : (side : Side) (p : Option Page) (i : ℕ) → (page_view (opposite side) p).kept i ≡ (page_view side p).kept i
 kept-opposite First None i = refl
-kept-opposite First (Some p) i = ap (λ bits. arrival_at bits (arrivals_in p.arrivals) i) (xor_comm p.second p.first)
+kept-opposite First (Some p) i = refl
 kept-opposite Second None i = refl
-kept-opposite Second (Some p) i = ap (λ bits. arrival_at bits (arrivals_in p.arrivals) i) (xor_comm p.first p.second)
+kept-opposite Second (Some p) i = refl
 
 pub holds-opposite : (side : Side) (pages : Pages) (flow pair : List FlowPacket) → HoldsNumbers (view side pages) flow pair
     → HoldsNumbers (view (opposite side) pages) pair flow

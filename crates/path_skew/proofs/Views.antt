@@ -51,6 +51,35 @@ pub same-meets : (u v w : View) (number : ℕ) (arrival : Arrival) (r : Found) �
 same-meets u v w number arrival Again s m = (sym (s.own number) ∙ m.0, same-more u v w s m.1)
 same-meets u v w number arrival (Opens found) s m = same-opened u v w number arrival found s m
 
+opened-same : (u v w : View) (number : ℕ) (arrival : Arrival) (found : Option Arrival) → IsOpened u v number arrival found → IsSame v w
+    → IsOpened u w number arrival found
+opened-same u v w number arrival found o s = record {
+  absent = o.absent;
+  own = λ n. s.own n ∙ o.own n;
+  other = λ n. s.other n ∙ o.other n;
+  kept = λ n x differs waits is. s.kept n x (waits-opened u v n number arrival found o differs waits) (o.kept n x differs waits is);
+  alone = λ lone. (
+    (o.alone lone).0,
+    s.kept number arrival (own_now ∙ ap not (sym (o.other number ∙ lone))) (o.alone lone).1,
+  );
+  both = o.both;
+}
+  where
+    own_now : v.own number ≡ true
+    own_now =
+        let one : (number == number) ≡ true = grind (arith, nat_tests) in
+        o.own number ∙ ap (λ b. if b then true else u.own number) one
+
+    waits-opened : (u v : View) (n number : ℕ) (arrival : Arrival) (found : Option Arrival) → IsOpened u v number arrival found → n ≢ number → Waits u n
+        → Waits v n
+    waits-opened u v n number arrival found o differs waits =
+        let none : (n == number) ≡ false = grind (arith, nat_tests, differs) in
+        o.own n ∙ ap (λ b. if b then true else u.own n) none ∙ waits ∙ ap not (sym (o.other n))
+
+pub meets-same : (u v w : View) (number : ℕ) (arrival : Arrival) (r : Found) → Meets u v number arrival r → IsSame v w → Meets u w number arrival r
+meets-same u v w number arrival Again m s = (m.0, same-more u v w m.1 s)
+meets-same u v w number arrival (Opens found) m s = opened-same u v w number arrival found m s
+
 -- a number by its page and its place there
 same_number : (n number : ℕ) → n / 32 ≡ number / 32 → n % 32 ≡ number % 32 → n ≡ number
 same_number n number page place = sym (div-add-mod' n 32) ∙ ap (λ q. q * 32 + n % 32) page ∙ ap (λ r. number / 32 * 32 + r) place ∙ div-add-mod' number 32

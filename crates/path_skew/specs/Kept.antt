@@ -2,7 +2,6 @@
 use Rattle.std.specs.Prelude.{◌≡◌, ℕ, ◌+◌, ◌/◌, ◌%◌, false, nat_eq, slice_get, Option, Some, None}
 use Rattle.std.specs.List.{position_or_len}
 use Rattle.path_skew.specs.Listed.{pages_of}
-use Rattle.path_skew.specs.Slots.{arrivals_in}
 use Rattle.path_skew.specs.View.{View, of_parts}
 use Rattle.path_skew.specs.declared.pages.Page.{Page}
 use Rattle.path_skew.specs.declared.pages.Pages.{Pages}
@@ -22,7 +21,7 @@ opposite Second = First
 -- a page as a side sees it; one that isn't there has nothing
 abbrev pub page_view : Side → Option Page → View
 page_view side None = record { own = λ _. false; other = λ _. false; kept = λ _. None }
-page_view side (Some page) = of_parts (bits_of side page) (bits_of (opposite side) page) (arrivals_in page.arrivals)
+page_view side (Some page) = of_parts (bits_of side page) (bits_of (opposite side) page) page.arrivals
 
 -- the page that stands at the place of this one
 abbrev pub page_at : Pages → (page : ℕ) → Option Page

@@ -3,6 +3,7 @@ pub mod Pair
 pub mod Stands
 -- what is kept of one flow, of which `Stands` is made
 pub mod Holds
+pub mod Items
 pub mod Kept
 pub mod Listed
 pub mod Search

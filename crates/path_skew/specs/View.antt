@@ -1,8 +1,9 @@
 -- What is kept of two flows, seen from one of them: by packet number, or by the place of a number on its page.
-use Rattle.std.specs.Prelude.{◌≡◌, ◌≢◌, ℕ, Bool, true, false, not, ◌==◌, if◌then◌else◌, bit_xor, List, Option, Some, None}
+use Rattle.std.specs.Prelude.{◌≡◌, ◌≢◌, ℕ, Bool, true, false, not, ◌==◌, if◌then◌else◌, Option, Some, None}
 use Rattle.std.specs.Int.{bit_at}
 use Rattle.path_skew.specs.Slots.{arrival_at}
 use Rattle.path_skew.specs.declared.arrival.Arrival.{Arrival}
+use Rattle.path_skew.specs.declared.arrivals.Arrivals.{Arrivals}
 use Rattle.path_skew.specs.declared.pages.Found.{Found}
 use Rattle.path_skew.specs.declared.pages.Found.TheVariants.{Again, Opens}
 
@@ -13,11 +14,11 @@ pub record View : Type 0 where
   pub kept : ℕ → Option Arrival
 
 -- what a page has, by the bits of the flow, those of the other, and its arrivals
-abbrev pub of_parts : (own other : ℕ) → List Arrival → View
+abbrev pub of_parts : (own other : ℕ) → Arrivals → View
 of_parts own other arrivals = record {
   own = λ i. bit_at own i == 1;
   other = λ i. bit_at other i == 1;
-  kept = arrival_at (bit_xor own other) arrivals;
+  kept = arrival_at arrivals;
 }
 
 -- one flow had the number, and one had it not

@@ -1,25 +1,116 @@
 //! The arrivals of a page.
 
-ghost use Rattle.std.specs.Prelude.{◌≡◌, ◌≤◌, ◌<◌, [], ◌∷◌, Some, insert, length, remove, slice_get, OnErr, OnOk, IfOk};
-ghost use Rattle.path_skew.specs.Slots.{arrivals_in};
+ghost use Rattle.std.specs.Prelude.{◌≡◌, ◌≢◌, ◌≤◌, ◌<◌, [], ◌∷◌, ℕ, Some, None, insert, length, slice_get, slice_set, OnErr, OnOk, IfOk};
+ghost use Rattle.path_skew.specs.Items.{Leaves, items_in, ones_below, places_in};
 
 use crate::arrival::Arrival;
-
+use crate::bits::{has, ones_below, with, without};
 use std::alloc::{AllocError as OutOfMemory, Global};
 
-/// Arrivals in the order of their numbers. Up to one takes no memory of its own.
+/// How many places there are.
+pub const PLACES: u32 = 32;
+
+/// Arrivals in the order of their places, and a bit for each place that has one. Up to one takes no memory of its own.
 #[derive(Drop)]
-pub enum Arrivals {
+enum Slots {
     Empty,
-    One(Arrival),
-    Many(Vec<Arrival>),
+    One(u32, Arrival),
+    Many(u32, Vec<Arrival>),
 }
 
+impl Slots {
+    /// A bit for each place that has an arrival.
+    #[inline(always)]
+    fn places(&self) -> u32
+        ensures { result ≡ places_in self.now }
+    {
+        match self {
+            Slots::Empty => 0,
+            Slots::One(places, _) => *places,
+            Slots::Many(places, _) => *places,
+        }
+    }
 
+    /// Puts an arrival in at this index, after which these are the places.
+    ///
+    /// `Err` is want of memory.
+    #[inline(always)]
+    fn insert(
+        &mut self,
+        alloc: Global,
+        index: usize,
+        arrival: Arrival,
+        after: u32,
+    ) -> Result<(), OutOfMemory>
+        requires { index ≤ length (items_in self.old) }
+        ensures items { OnOk result (items_in self.new ≡ insert (items_in self.old) index arrival) }
+        ensures places { OnOk result (places_in self.new ≡ after) }
+        ensures same_items { OnErr result (items_in self.new ≡ items_in self.old) }
+        ensures same_places { OnErr result (places_in self.new ≡ places_in self.old) }
+    {
+        match self {
+            Slots::Empty => *self = Slots::One(after, arrival),
+            Slots::One(_, first) => {
+                let items = two(alloc, *first, index, arrival)?;
+                *self = Slots::Many(after, items);
+            }
+            Slots::Many(places, items) => {
+                put(items, index, arrival)?;
+                *places = after;
+            }
+        }
+        Ok(())
+    }
+
+    /// Puts an arrival in the place of the one of this index.
+    #[cold]
+    #[inline(never)]
+    fn replace(&mut self, index: usize, arrival: Arrival)
+        requires { index < length (items_in self.old) }
+        ensures items { items_in self.new ≡ slice_set (items_in self.old) index arrival }
+        ensures places { places_in self.new ≡ places_in self.old }
+    {
+        match self {
+            Slots::Empty => unreachable!(),
+            Slots::One(_, only) => *only = arrival,
+            Slots::Many(_, items) => items[index] = arrival,
+        }
+    }
+
+    /// Takes the arrival of this index. Where it is the last, it leaves these places; where others stand behind it,
+    /// all stay where they are.
+    #[inline(always)]
+    fn take(&mut self, index: usize, rest: u32) -> Arrival
+        requires { index < length (items_in self.old) }
+        ensures value { slice_get (items_in self.old) index ≡ Some result }
+        ensures left { Leaves self.old self.new index rest }
+    {
+        match self {
+            Slots::Empty => unreachable!(),
+            Slots::One(_, only) => {
+                let arrival = *only;
+                *self = Slots::Empty;
+                arrival
+            }
+            Slots::Many(places, items) => {
+                let arrival = items[index];
+                if items.len() == 1 {
+                    *self = Slots::Empty;
+                } else if index + 1 == items.len() {
+                    items.truncate(index);
+                    *places = rest;
+                }
+                arrival
+            }
+        }
+    }
+}
 
 /// An arrival, and another that is put in at this index.
 ///
 /// `Err` is want of memory.
+#[cold]
+#[inline(never)]
 fn two(
     alloc: Global,
     first: Arrival,
@@ -35,53 +126,101 @@ fn two(
     Ok(items)
 }
 
+/// Puts an arrival in at this index, which mostly is the end.
+///
+/// `Err` is want of memory.
+#[inline(always)]
+fn put(items: &mut Vec<Arrival>, index: usize, arrival: Arrival) -> Result<(), OutOfMemory>
+    requires { index ≤ length items.old.items }
+    ensures here { OnOk result (items.new.items ≡ insert items.old.items index arrival) }
+    ensures kept { OnErr result (items.new.items ≡ items.old.items) }
+{
+    if index == items.len() {
+        items.push(arrival)?;
+    } else {
+        put_before(items, index, arrival)?;
+    }
+    Ok(())
+}
+
+/// Puts an arrival in before the one of this index.
+///
+/// `Err` is want of memory.
+#[cold]
+#[inline(never)]
+fn put_before(items: &mut Vec<Arrival>, index: usize, arrival: Arrival) -> Result<(), OutOfMemory>
+    requires { index ≤ length items.old.items }
+    ensures here { OnOk result (items.new.items ≡ insert items.old.items index arrival) }
+    ensures kept { OnErr result (items.new.items ≡ items.old.items) }
+{
+    items.insert(index, arrival)?;
+    Ok(())
+}
+
+/// Arrivals by place.
+#[derive(Drop)]
+pub struct Arrivals {
+    slots: Slots,
+    ghost counted: { length (items_in slots) ≡ ones_below (places_in slots) 32 },
+}
+
 impl Arrivals {
-    /// Puts an arrival in at this index.
+    ghost use Rattle.path_skew.specs.Slots.{arrival_at};
+
+    /// No arrival.
+    pub fn new() -> Arrivals
+        ensures none { (place : ℕ) → arrival_at result place ≡ None }
+    {
+        Arrivals {
+            slots: Slots::Empty,
+        }
+    }
+
+    /// No arrival, and room for one at each place.
+    ///
+    /// `Err` is want of memory.
+    pub fn with_room(alloc: Global) -> Result<Arrivals, OutOfMemory>
+        ensures none { IfOk result (λ arrivals. (place : ℕ) → arrival_at arrivals place ≡ None) }
+    {
+        Ok(Arrivals {
+            slots: Slots::Many(0, Vec::with_capacity(alloc, PLACES as usize)?),
+        })
+    }
+
+    /// Takes the arrival at a place.
+    #[inline(always)]
+    pub fn take(&mut self, place: u32) -> Option<Arrival>
+        requires { place < 32 }
+        ensures value { result ≡ arrival_at self.old place }
+        ensures others { (i : ℕ) (x : Arrival) → i ≢ place
+            → arrival_at self.old i ≡ Some x → arrival_at self.new i ≡ Some x }
+    {
+        let places = self.slots.places();
+        if !has(places, place) {
+            return None;
+        }
+        let index = ones_below(places, place);
+        Some(self.slots.take(index, without(places, place)))
+    }
+
+    /// Keeps an arrival at a place, whatever stood there.
     ///
     /// `Err` is want of memory.
     #[inline(always)]
-    pub fn insert(
-        &mut self,
-        alloc: Global,
-        index: usize,
-        arrival: Arrival,
-    ) -> Result<(), OutOfMemory>
-        requires { index ≤ length (arrivals_in self.old) }
-        ensures here { OnOk result (arrivals_in self.new ≡ insert (arrivals_in self.old) index arrival) }
-        ensures kept { OnErr result (arrivals_in self.new ≡ arrivals_in self.old) }
+    pub fn keep(&mut self, alloc: Global, place: u32, arrival: Arrival) -> Result<(), OutOfMemory>
+        requires { place < 32 }
+        ensures here { OnOk result (arrival_at self.new place ≡ Some arrival) }
+        ensures others { OnOk result ((i : ℕ) (x : Arrival) → i ≢ place
+            → arrival_at self.old i ≡ Some x → arrival_at self.new i ≡ Some x) }
     {
-        match self {
-            Arrivals::Empty => *self = Arrivals::One(arrival),
-            Arrivals::One(first) => {
-                let items = two(alloc, *first, index, arrival)?;
-                *self = Arrivals::Many(items);
-            }
-            Arrivals::Many(items) => items.insert(index, arrival)?,
+        let places = self.slots.places();
+        let index = ones_below(places, place);
+        if has(places, place) {
+            self.slots.replace(index, arrival);
+            return Ok(());
         }
+        self.slots
+            .insert(alloc, index, arrival, with(places, place))?;
         Ok(())
-    }
-
-    /// Takes the arrival of this index out.
-    #[inline(always)]
-    pub fn remove(&mut self, index: usize) -> Arrival
-        requires { index < length (arrivals_in self.old) }
-        ensures value { slice_get (arrivals_in self.old) index ≡ Some result }
-        ensures rest { arrivals_in self.new ≡ remove (arrivals_in self.old) index }
-    {
-        match self {
-            Arrivals::Empty => unreachable!(),
-            Arrivals::One(arrival) => {
-                let arrival = *arrival;
-                *self = Arrivals::Empty;
-                arrival
-            }
-            Arrivals::Many(items) => {
-                let arrival = items.remove(index);
-                if items.is_empty() {
-                    *self = Arrivals::Empty;
-                }
-                arrival
-            }
-        }
     }
 }

@@ -4,6 +4,7 @@
 
 mod arrival;
 mod arrivals;
+mod bits;
 mod directory;
 mod flow;
 pub mod laws;

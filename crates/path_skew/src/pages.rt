@@ -1,19 +1,16 @@
 //! What is kept of the packet numbers of two flows.
 
-ghost use Rattle.std.specs.Prelude.{◌≡◌, ◌≢◌, ◌≤◌, ◌<◌, ◌==◌, ℕ, None, Some, false, true, bit_xor, insert, length, remove, slice_get, IfOk, OnErr, OnOk};
-ghost use Rattle.std.specs.Int.{bit_at};
-ghost use Rattle.path_skew.specs.Slots.{arrivals_in, ones_below};
+ghost use Rattle.std.specs.Prelude.{◌≡◌, ◌≢◌, ◌<◌, ℕ, None, Some, false, true, length, IfOk, OnOk};
+ghost use Rattle.path_skew.specs.Slots.{arrival_at};
 ghost use Rattle.path_skew.specs.View.{IsSame, Meets, of_parts};
 ghost use Rattle.path_skew.specs.Listed.{pages_of};
 
 use crate::arrival::Arrival;
-use crate::arrivals::Arrivals;
+use crate::arrivals::{Arrivals, PLACES};
+use crate::bits::{has, with};
 use crate::directory::Directory;
 
 use std::alloc::{AllocError as OutOfMemory, Global};
-
-/// How many numbers stand on a page.
-const NUMBERS: u32 = 32;
 
 /// Which of the two flows.
 #[derive(Clone, Copy, Debug)]
@@ -38,41 +35,12 @@ pub struct Page {
     first: u32,
     /// A bit for each number that the second flow had, from the lowest on.
     second: u32,
-    /// The first packets of the numbers that one flow had and the other had not.
+    /// The first packets of the numbers, each at the place of its number. One counts only while one of
+    /// the flows had the number and the other had it not.
     arrivals: Arrivals,
-    ghost kept: { length (arrivals_in arrivals) ≡ ones_below (bit_xor first second) 32 },
 }
 
-
-/// Whether the number at this place was had.
-#[inline(always)]
-fn has(bits: u32, place: u32) -> bool
-    requires { place < 32 }
-    ensures { result ≡ (bit_at bits place == 1) }
-{
-    bits >> place & 1 == 1
-}
-
-/// These bits, with the number at this place.
-#[inline(always)]
-fn with(bits: u32, place: u32) -> u32
-    requires { place < 32 }
-    ensures here { bit_at result place ≡ 1 }
-    ensures others { (i : ℕ) → i ≢ place → bit_at result i ≡ bit_at bits i }
-{
-    bits | 1 << place
-}
-
-/// How many numbers below this place were had.
-#[inline(always)]
-fn had_below(bits: u32, place: u32) -> usize
-    requires { place < 32 }
-    ensures { result ≡ ones_below bits place }
-{
-    (bits % (1 << place)).count_ones() as usize
-}
-
-/// Takes the other flow's arrival of a number out where that had it, and else puts this one in, at this index.
+/// Answers the other flow's arrival of the number at this place where that had it, and else keeps this.
 ///
 /// `Err` is want of memory.
 #[inline(always)]
@@ -80,22 +48,21 @@ fn exchange(
     arrivals: &mut Arrivals,
     alloc: Global,
     had: bool,
-    index: usize,
+    place: u32,
     arrival: Arrival,
 ) -> Result<Option<Arrival>, OutOfMemory>
-    requires within { index ≤ length (arrivals_in arrivals.old) }
-    requires there { had ≡ true → index < length (arrivals_in arrivals.old) }
+    requires { place < 32 }
     ensures alone { IfOk result (λ found. had ≡ false
-        → (found ≡ None) × (arrivals_in arrivals.new ≡ insert (arrivals_in arrivals.old) index arrival)) }
-    ensures both { IfOk result (λ found. had ≡ true
-        → (found ≡ slice_get (arrivals_in arrivals.old) index)
-        × (arrivals_in arrivals.new ≡ remove (arrivals_in arrivals.old) index)) }
-    ensures kept { OnErr result (arrivals_in arrivals.new ≡ arrivals_in arrivals.old) }
+        → (found ≡ None) × (arrival_at arrivals.new place ≡ Some arrival)) }
+    ensures both { IfOk result (λ found. had ≡ true → (x : Arrival)
+        → arrival_at arrivals.old place ≡ Some x → found ≡ Some x) }
+    ensures others { OnOk result ((i : ℕ) (x : Arrival) → i ≢ place
+        → arrival_at arrivals.old i ≡ Some x → arrival_at arrivals.new i ≡ Some x) }
 {
     if had {
-        return Ok(Some(arrivals.remove(index)));
+        return Ok(arrivals.take(place));
     }
-    arrivals.insert(alloc, index, arrival)?;
+    arrivals.keep(alloc, place, arrival)?;
     Ok(None)
 }
 
@@ -111,17 +78,14 @@ fn meet(
     place: u32,
     arrival: Arrival,
 ) -> Result<Found, OutOfMemory>
-    requires place { place < 32 }
-    requires kept { length (arrivals_in arrivals.old) ≡ ones_below (bit_xor own.old other) 32 }
-    ensures meets { IfOk result (Meets (of_parts own.old other (arrivals_in arrivals.old))
-        (of_parts own.new other (arrivals_in arrivals.new)) place arrival) }
-    ensures kept { length (arrivals_in arrivals.new) ≡ ones_below (bit_xor own.new other) 32 }
+    requires { place < 32 }
+    ensures meets { IfOk result (Meets (of_parts own.old other arrivals.old)
+        (of_parts own.new other arrivals.new) place arrival) }
 {
     if has(*own, place) {
         return Ok(Found::Again);
     }
-    let index = had_below(*own ^ other, place);
-    let found = exchange(arrivals, alloc, has(other, place), index, arrival)?;
+    let found = exchange(arrivals, alloc, has(other, place), place, arrival)?;
     *own = with(*own, place);
     Ok(Found::Opens(found))
 }
@@ -129,14 +93,24 @@ fn meet(
 impl Page {
     ghost use Rattle.path_skew.specs.Kept.{page_view};
 
-    /// No number of either flow.
-    fn new() -> Page
+    /// No number of either flow, and these arrivals.
+    fn new(arrivals: Arrivals) -> Page
         ensures { (side : Side) (place : ℕ) → (page_view side (Some result)).own place ≡ false }
     {
         Page {
             first: 0,
             second: 0,
-            arrivals: Arrivals::Empty,
+            arrivals,
+        }
+    }
+
+    /// Forgets the arrivals where both flows had the same numbers.
+    #[inline(always)]
+    fn release(&mut self)
+        ensures same { (side : Side) → IsSame (page_view side (Some self.old)) (page_view side (Some self.new)) }
+    {
+        if self.first == self.second {
+            self.arrivals = Arrivals::new();
         }
     }
 
@@ -144,7 +118,7 @@ impl Page {
     ///
     /// `Err` is want of memory.
     #[inline(always)]
-    fn meet(
+    fn take(
         &mut self,
         alloc: Global,
         side: Side,
@@ -173,6 +147,31 @@ impl Page {
                 arrival,
             ),
         }
+    }
+
+    /// Takes a packet of this side with the number at this place, and forgets what no number waits for.
+    ///
+    /// `Err` is want of memory.
+    #[inline(always)]
+    fn meet(
+        &mut self,
+        alloc: Global,
+        side: Side,
+        place: u32,
+        arrival: Arrival,
+    ) -> Result<Found, OutOfMemory>
+        requires { place < 32 }
+        ensures meets { IfOk result (Meets (page_view side (Some self.old))
+            (page_view side (Some self.new)) place arrival) }
+    {
+        let found = self.take(alloc, side, place, arrival)?;
+        self.release();
+        Ok(found)
+    }
+
+    /// Whether one flow had all numbers, and the other none.
+    fn is_waiting(&self) -> bool {
+        self.first ^ self.second == u32::MAX
     }
 }
 
@@ -215,9 +214,10 @@ impl Pages {
             return Ok(next);
         }
         self.pages.reserve(1)?;
+        let arrivals = Arrivals::new();
         let place = self.directory.enter(page)?;
         if place == self.pages.len() {
-            self.pages.push(Page::new())?;
+            self.pages.push(Page::new(arrivals))?;
         }
         Ok(place)
     }
@@ -250,8 +250,8 @@ impl Pages {
     ) -> Result<Found, OutOfMemory>
         ensures meets { IfOk result (Meets (view side self.old) (view side self.new) number arrival) }
     {
-        self.come_to(near, number / NUMBERS)?;
+        self.come_to(near, number / PLACES)?;
         let alloc = self.alloc;
-        self.pages[*near].meet(alloc, side, number % NUMBERS, arrival)
+        self.pages[*near].meet(alloc, side, number % PLACES, arrival)
     }
 }

@@ -1,6 +1,6 @@
 use Rattle.std.proofs.Common.{w32}
 use Rattle.std.proofs.lemmas.Nat.Bits.{bit_at_set_same, bit_at_set_other}
-use Rattle.path_skew.proofs.pages.with.Goals as goal
+use Rattle.path_skew.proofs.bits.with.Goals as goal
 
 -- the bit at the place is set, and no other
 pub returns-clause-here : goal.returns-clause-here
