@@ -1,14 +1,14 @@
 -- Arrivals by place, after one was put in, replaced or taken out.
 use Rattle.std.proofs.Common.{◌≡◌, ◌≢◌, ◌⊎◌, ℕ, zero, suc, ◌+◌, ◌-◌, ◌*◌, ◌<◌, ◌≤◌, ◌/◌, ◌%◌, ◌^◌, ◌==◌, Bool, true, false, if◌then◌else◌, count_ones, length}
-use Rattle.std.proofs.Common.{insert, take, get_or, slice_get, slice_set, List, [], Option, Some, None, Result, Ok, Err, OnErr, OnOk, refl, sym, ap, ap₂, subst, ◌∙◌, arith, inl, inr}
+use Rattle.std.proofs.Common.{insert, take, get_or, slice_get, slice_set, List, [], ◌∷◌, ◌++◌, Option, Some, None, Result, Ok, Err, OnErr, OnOk, refl, sym, ap, ap₂, subst, ◌∙◌, arith, inl, inr}
 use Rattle.std.specs.Int.{bit_at}
-use Rattle.std.proofs.Math.Nat.{zero-mod}
+use Rattle.std.proofs.Math.Nat.{mod-eq_of_lt, zero-mod}
 use Rattle.std.proofs.lemmas.Bool.{cases_eq, cases_lt}
 use Rattle.std.proofs.lemmas.Bool.Decides.{nat_tests}
 use Rattle.std.proofs.lemmas.List.{get_or-take, length-set, length-take}
-use Rattle.std.proofs.lemmas.List.Edits.{get_or-insert_above, get_or-insert_at, get_or-insert_below, length-insert}
-use Rattle.std.proofs.lemmas.Nat.{mod-pow-add, mod_below, ones_cat, ones_le_self, pow_pos, zero_from_ones}
-use Rattle.std.proofs.lemmas.Nat.Bits.{bit_at-lt}
+use Rattle.std.proofs.lemmas.List.Edits.{get_or-insert_above, get_or-insert_at, get_or-insert_below, insert_end, length-insert}
+use Rattle.std.proofs.lemmas.Nat.{mod-pow-add, mod_below, ones_cat, ones_le_self, pow_pos, shr_split, zero_from_ones}
+use Rattle.std.proofs.lemmas.Nat.Bits.{bit_at-lt, bit_at_above}
 use Rattle.std.proofs.lemmas.Option.{get_or_from_slice_get, slice_get-get_or, slice_get_within}
 use Rattle.path_skew.specs.declared.arrival.Arrival.{Arrival}
 use Rattle.path_skew.specs.declared.arrivals.Slots.{Slots}
@@ -18,6 +18,11 @@ use Rattle.path_skew.proofs.Elements.{slice_get-set_other, slice_get-set_same}
 -- the arrival at a place, by the bits of the places and the arrivals
 abbrev pub at_place : (places : ℕ) → List Arrival → (place : ℕ) → Option Arrival
 at_place places xs place = if bit_at places place == 1 then slice_get xs (ones_below places place) else None
+
+-- what holds where a call succeeded holds in other words
+on_ok-more : {T E : Type 0} (r : Result T E) (P Q : Type 0) → (P → Q) → OnOk r P → OnOk r Q
+on_ok-more (Ok x) P Q more p = more p
+on_ok-more (Err e) P Q more p = tt
 
 -- a bit has as many ones as its value
 ones_of_bit : (b : ℕ) → b < 2 → count_ones b ≡ b
@@ -256,3 +261,37 @@ module _ (old : Slots) (places place index : ℕ) (has : Bool) (within : place <
         → at_place (places_in old) (items_in old) i ≡ Some y → at_place (places_in new) (items_in new) i ≡ Some y
     insert-others items now i y differs was = ap (λ b. at_place b (items_in new) i) now ∙ ap (λ xs. at_place after xs i) (stands items)
         ∙ put-other (places_in old) after place unset_before set_after others_before (items_in old) x y i (omega (arith, at, index-within)) differs was
+
+-- where no place stands at this one or behind it, all arrivals stand before it
+module _ (old : Slots) (places place : ℕ) (within : place < 32) (counted : length (items_in old) ≡ ones_below (places_in old) 32)
+    (are : places ≡ places_in old) (fits : places < 2 ^ 32) (none : places / 2 ^ place ≡ 0) where
+  none-above : places < 2 ^ place
+  none-above =
+      let split : 0 * 2 ^ place + places % 2 ^ place ≡ places = ap (λ q. q * 2 ^ place + places % 2 ^ place) (sym none) ∙ shr_split places place in
+      omega (arith, split, mod_below places (2 ^ place) (pow_pos place))
+
+  all-below : length (items_in old) ≡ ones_below places place
+  all-below = counted ∙ ap (λ b. ones_below b 32) (sym are) ∙ ap count_ones (mod-eq_of_lt fits ∙ sym (mod-eq_of_lt none-above))
+
+  not_set : false ≡ (bit_at places place == 1)
+  not_set =
+      let unset : bit_at places place ≡ 0 = bit_at_above places place place none-above (omega arith) in
+      grind (arith, nat_tests, unset)
+
+  module _ (new : Slots) (after : ℕ) (x : Arrival) (set_after : bit_at after place ≡ 1) (others : (i : ℕ) → i ≢ place → bit_at after i ≡ bit_at places i) where
+    at_end : items_in new ≡ items_in old ++ x ∷ [] → items_in new ≡ insert (items_in old) (length (items_in old)) x
+    at_end items = items ∙ sym (insert_end (items_in old) x)
+
+    pub push-counted : {T E : Type 0} (r : Result T E) → OnOk r (items_in new ≡ items_in old ++ x ∷ []) → OnOk r (places_in new ≡ after)
+        → OnErr r (items_in new ≡ items_in old) → OnErr r (places_in new ≡ places_in old) → length (items_in new) ≡ ones_below (places_in new) 32
+    push-counted r items now same_items same_places = insert-counted old places place (length (items_in old)) false within counted are not_set all-below refl new
+        after x set_after others r (on_ok-more r _ _ at_end items) now same_items same_places
+
+    pub push-here : items_in new ≡ items_in old ++ x ∷ [] → places_in new ≡ after → at_place (places_in new) (items_in new) place ≡ Some x
+    push-here items now = insert-here old places place (length (items_in old)) false within counted are not_set all-below refl new after x set_after others
+        (at_end items) now
+
+    pub push-others : items_in new ≡ items_in old ++ x ∷ [] → places_in new ≡ after → (i : ℕ) (y : Arrival) → i ≢ place
+        → at_place (places_in old) (items_in old) i ≡ Some y → at_place (places_in new) (items_in new) i ≡ Some y
+    push-others items now = insert-others old places place (length (items_in old)) false within counted are not_set all-below refl new after x set_after others
+        (at_end items) now

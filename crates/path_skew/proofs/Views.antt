@@ -284,7 +284,3 @@ module _ (m n : Pages) (page : ℕ) (new : Page) (found : ∥ IsFound n.director
 pub if_ok-more : {T E : Type 0} (r : Result T E) (P Q : T → Type 0) → ((x : T) → P x → Q x) → IfOk r P → IfOk r Q
 if_ok-more (Ok x) P Q more p = more x p
 if_ok-more (Err e) P Q more p = tt
-
-pub on_ok-more : {T E : Type 0} (r : Result T E) (P Q : Type 0) → (P → Q) → OnOk r P → OnOk r Q
-on_ok-more (Ok x) P Q more p = more p
-on_ok-more (Err e) P Q more p = tt

@@ -1,6 +1,6 @@
 //! The arrivals of a page.
 
-ghost use Rattle.std.specs.Prelude.{◌≡◌, ◌≢◌, ◌≤◌, ◌<◌, [], ◌∷◌, ℕ, Some, None, insert, length, slice_get, slice_set, OnErr, OnOk, IfOk};
+ghost use Rattle.std.specs.Prelude.{◌≡◌, ◌≢◌, ◌≤◌, ◌<◌, [], ◌∷◌, ◌++◌, ℕ, Some, None, insert, length, slice_get, slice_set, OnErr, OnOk, IfOk};
 ghost use Rattle.path_skew.specs.Items.{Leaves, items_in, ones_below, places_in};
 
 use crate::arrival::Arrival;
@@ -31,10 +31,35 @@ impl Slots {
         }
     }
 
-    /// Puts an arrival in at this index, after which these are the places.
+    /// Puts an arrival in behind all others, after which these are the places.
     ///
     /// `Err` is want of memory.
     #[inline(always)]
+    fn push(&mut self, alloc: Global, arrival: Arrival, after: u32) -> Result<(), OutOfMemory>
+        ensures items { OnOk result (items_in self.new ≡ items_in self.old ++ arrival ∷ []) }
+        ensures places { OnOk result (places_in self.new ≡ after) }
+        ensures same_items { OnErr result (items_in self.new ≡ items_in self.old) }
+        ensures same_places { OnErr result (places_in self.new ≡ places_in self.old) }
+    {
+        match self {
+            Slots::Empty => *self = Slots::One(after, arrival),
+            Slots::One(_, first) => {
+                let items = two(alloc, *first, 1, arrival)?;
+                *self = Slots::Many(after, items);
+            }
+            Slots::Many(places, items) => {
+                items.push(arrival)?;
+                *places = after;
+            }
+        }
+        Ok(())
+    }
+
+    /// Puts an arrival in at this index, after which these are the places.
+    ///
+    /// `Err` is want of memory.
+    #[cold]
+    #[inline(never)]
     fn insert(
         &mut self,
         alloc: Global,
@@ -55,7 +80,7 @@ impl Slots {
                 *self = Slots::Many(after, items);
             }
             Slots::Many(places, items) => {
-                put(items, index, arrival)?;
+                items.insert(index, arrival)?;
                 *places = after;
             }
         }
@@ -126,37 +151,6 @@ fn two(
     Ok(items)
 }
 
-/// Puts an arrival in at this index, which mostly is the end.
-///
-/// `Err` is want of memory.
-#[inline(always)]
-fn put(items: &mut Vec<Arrival>, index: usize, arrival: Arrival) -> Result<(), OutOfMemory>
-    requires { index ≤ length items.old.items }
-    ensures here { OnOk result (items.new.items ≡ insert items.old.items index arrival) }
-    ensures kept { OnErr result (items.new.items ≡ items.old.items) }
-{
-    if index == items.len() {
-        items.push(arrival)?;
-    } else {
-        put_before(items, index, arrival)?;
-    }
-    Ok(())
-}
-
-/// Puts an arrival in before the one of this index.
-///
-/// `Err` is want of memory.
-#[cold]
-#[inline(never)]
-fn put_before(items: &mut Vec<Arrival>, index: usize, arrival: Arrival) -> Result<(), OutOfMemory>
-    requires { index ≤ length items.old.items }
-    ensures here { OnOk result (items.new.items ≡ insert items.old.items index arrival) }
-    ensures kept { OnErr result (items.new.items ≡ items.old.items) }
-{
-    items.insert(index, arrival)?;
-    Ok(())
-}
-
 /// Arrivals by place.
 #[derive(Drop)]
 pub struct Arrivals {
@@ -203,11 +197,17 @@ impl Arrivals {
         Some(self.slots.take(index, without(places, place)))
     }
 
-    /// Keeps an arrival at a place, whatever stood there.
+    /// Keeps an arrival at a place, whatever stands there or behind.
     ///
     /// `Err` is want of memory.
-    #[inline(always)]
-    pub fn keep(&mut self, alloc: Global, place: u32, arrival: Arrival) -> Result<(), OutOfMemory>
+    #[cold]
+    #[inline(never)]
+    fn keep_before(
+        &mut self,
+        alloc: Global,
+        place: u32,
+        arrival: Arrival,
+    ) -> Result<(), OutOfMemory>
         requires { place < 32 }
         ensures here { OnOk result (arrival_at self.new place ≡ Some arrival) }
         ensures others { OnOk result ((i : ℕ) (x : Arrival) → i ≢ place
@@ -222,5 +222,23 @@ impl Arrivals {
         self.slots
             .insert(alloc, index, arrival, with(places, place))?;
         Ok(())
+    }
+
+    /// Keeps an arrival at a place, whatever stood there.
+    ///
+    /// `Err` is want of memory.
+    #[inline(always)]
+    pub fn keep(&mut self, alloc: Global, place: u32, arrival: Arrival) -> Result<(), OutOfMemory>
+        requires { place < 32 }
+        ensures here { OnOk result (arrival_at self.new place ≡ Some arrival) }
+        ensures others { OnOk result ((i : ℕ) (x : Arrival) → i ≢ place
+            → arrival_at self.old i ≡ Some x → arrival_at self.new i ≡ Some x) }
+    {
+        let places = self.slots.places();
+        if places >> place == 0 {
+            self.slots.push(alloc, arrival, with(places, place))?;
+            return Ok(());
+        }
+        self.keep_before(alloc, place, arrival)
     }
 }

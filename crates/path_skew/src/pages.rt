@@ -104,13 +104,15 @@ impl Page {
         }
     }
 
-    /// Forgets the arrivals where both flows had the same numbers.
+    /// Forgets the arrivals where a packet was found, and both flows have had the same numbers.
     #[inline(always)]
-    fn release(&mut self)
+    fn release(&mut self, found: Found)
         ensures same { (side : Side) → IsSame (page_view side (Some self.old)) (page_view side (Some self.new)) }
     {
-        if self.first == self.second {
-            self.arrivals = Arrivals::new();
+        if let Found::Opens(Some(_)) = found {
+            if self.first == self.second {
+                self.arrivals = Arrivals::new();
+            }
         }
     }
 
@@ -165,7 +167,7 @@ impl Page {
             (page_view side (Some self.new)) place arrival) }
     {
         let found = self.take(alloc, side, place, arrival)?;
-        self.release();
+        self.release(found);
         Ok(found)
     }
 
@@ -200,7 +202,23 @@ impl Pages {
         }
     }
 
-    /// Leaves the page at the place `near` for this one, and answers its place.
+    /// Whether a page beside this one stands at this place.
+    fn is_beside(&self, place: usize, page: u32) -> bool {
+        self.directory.is_at(place, page.wrapping_sub(1))
+            || self.directory.is_at(place, page.wrapping_add(1))
+    }
+
+    /// Whether a flow that goes on to this page from the one beside it, at the place `near`, is ahead of the other
+    /// flow by all numbers of that.
+    fn is_ahead(&self, near: usize, page: u32) -> bool {
+        match self.pages.get(near) {
+            Some(last) => last.is_waiting() && self.is_beside(near, page),
+            None => false,
+        }
+    }
+
+    /// Leaves the page at the place `near` for this one, and answers its place. A page that is opened has room for
+    /// the arrivals of all its numbers where the flow is ahead.
     ///
     /// `Err` is want of memory.
     #[cold]
@@ -214,7 +232,11 @@ impl Pages {
             return Ok(next);
         }
         self.pages.reserve(1)?;
-        let arrivals = Arrivals::new();
+        let arrivals = if self.is_ahead(near, page) {
+            Arrivals::with_room(self.alloc)?
+        } else {
+            Arrivals::new()
+        };
         let place = self.directory.enter(page)?;
         if place == self.pages.len() {
             self.pages.push(Page::new(arrivals))?;
