@@ -1,6 +1,6 @@
 -- Arrivals by place, after one was put in, replaced or taken out.
-use Rattle.std.proofs.Common.{◌≡◌, ◌≢◌, ◌⊎◌, ℕ, zero, suc, ◌+◌, ◌-◌, ◌*◌, ◌<◌, ◌≤◌, ◌/◌, ◌%◌, ◌^◌, ◌==◌, Bool, true, false, if◌then◌else◌, count_ones, length}
-use Rattle.std.proofs.Common.{insert, take, get_or, slice_get, slice_set, List, [], ◌∷◌, ◌++◌, Option, Some, None, Result, Ok, Err, OnErr, OnOk, refl, sym, ap, ap₂, subst, ◌∙◌, arith, inl, inr}
+use Rattle.std.proofs.Common.{◌≡◌, ◌≢◌, ℕ, zero, suc, ◌+◌, ◌*◌, ◌<◌, ◌≤◌, ◌/◌, ◌%◌, ◌^◌, ◌==◌, Bool, true, false, if◌then◌else◌, count_ones, length}
+use Rattle.std.proofs.Common.{insert, take, slice_get, slice_set, List, [], ◌∷◌, ◌++◌, Option, Some, None, Result, Ok, Err, OnErr, OnOk, refl, sym, ap, ap₂, subst, ◌∙◌, arith, inl, inr}
 use Rattle.std.specs.Int.{bit_at}
 use Rattle.std.proofs.Math.Nat.{mod-eq_of_lt, zero-mod}
 use Rattle.std.proofs.lemmas.Bool.{cases_eq, cases_lt}
@@ -125,8 +125,12 @@ module _ (less more place : ℕ) (unset : bit_at less place ≡ 0) (set : bit_at
   put-length : (xs : List Arrival) (x : Arrival) (n : ℕ) → place < n → length xs ≡ ones_below less n
       → length (insert xs (ones_below less place) x) ≡ ones_below more n
   put-length xs x n lt counted =
-      omega (arith, counted, length-insert xs (ones_below less place) x (omega (arith, counted, ones_below-le less place n (omega (arith, lt)))),
-      ones-more n lt)
+      omega (
+        arith,
+        counted,
+        length-insert xs (ones_below less place) x (omega (arith, counted, ones_below-le less place n (omega (arith, lt)))),
+        ones-more n lt,
+      )
 
   -- or the last is taken out
   taken-length : (xs : List Arrival) (n : ℕ) → place < n → length xs ≡ ones_below more n → ones_below more place + 1 ≡ length xs

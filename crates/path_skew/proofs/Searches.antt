@@ -1,5 +1,5 @@
 -- The search in a directory finds each entry, also after one more was hung in.
-use Rattle.std.proofs.Common.{◌≡◌, ◌≢◌, ℕ, zero, suc, ◌+◌, ◌<◌, ◌≤◌, ◌/◌, ◌%◌, ◌==◌, Bool, true, false, if◌then◌else◌, map, List, [], ◌∷◌, ◌++◌, length}
+use Rattle.std.proofs.Common.{◌≡◌, ◌≢◌, ℕ, zero, suc, ◌+◌, ◌<◌, ◌≤◌, ◌/◌, ◌%◌, ◌==◌, Bool, true, false, if◌then◌else◌, List, [], ◌∷◌, ◌++◌, length}
 use Rattle.std.proofs.Common.{get_or, nat_lt, slice_get, slice_set, Option, Some, None, refl, sym, ap, subst, ◌∙◌, arith, inl, inr}
 use Rattle.std.specs.Option.{option_map, option_map_or}
 use Rattle.std.proofs.Math.Logic.{∥∥₁_elim}
@@ -9,7 +9,7 @@ use Rattle.std.proofs.lemmas.Bool.Decides.{nat_tests}
 use Rattle.std.proofs.lemmas.List.{length_push, length-set, map-append}
 use Rattle.std.proofs.lemmas.Option.{same_Some, slice_get-map, slice_get_read, slice_get_within}
 use Rattle.path_skew.specs.declared.directory.Entry.{Entry}
-use Rattle.path_skew.specs.Search.{below, digits_after, pages_in, place_after, with_below, Ends, Enters, GoesOn, IsAt, IsBehind, IsEnd, IsFound, IsLinked, IsWay}
+use Rattle.path_skew.specs.Search.{below, digits_after, pages_in, place_after, with_below, Enters, GoesOn, IsAt, IsBehind, IsEnd, IsFound, IsLinked, IsWay}
 use Rattle.path_skew.proofs.Elements.{slice_get-append, slice_get-set_other, slice_get-set_same, slice_get_push}
 
 -- one entry stands at a place
@@ -197,7 +197,7 @@ module _ (es fs : List Entry) (page place digits : ℕ) (a : Entry) (at : slice_
         let next : place_after fs q (suc k) ≡ place_after es q (suc k) = hung-place q (suc k) (λ j less. way.goes_on j (omega (arith, less, lt))) in
         let on = hung-goes_on q (place_after es q k) (digits_after q k) (place_after es q (suc k)) (way.goes_on k lt) in
         subst (λ i. GoesOn fs q i (digits_after q k) (place_after fs q (suc k))) (sym here)
-            (subst (GoesOn fs q (place_after es q k) (digits_after q k)) (sym next) on);
+        (subst (GoesOn fs q (place_after es q k) (digits_after q k)) (sym next) on);
   }
 
   -- each entry is found
@@ -218,15 +218,15 @@ module _ (es fs : List Entry) (page place digits : ℕ) (a : Entry) (at : slice_
         )
     | inr (inl inside) ↦
         let old : (x : Entry) × (slice_get es i ≡ Some x) × (x.page ≡ e.page) = elim (cases_eq i place) as
-            (λ _. (x : Entry) × (slice_get es i ≡ Some x) × (x.page ≡ e.page)) [
-              | inl same ↦ (
-                a,
-                ap (slice_get es) same ∙ at,
-                sym (page-with_below a digits (length es)) ∙ ap (λ x. x.page)
-                    (same_entry fs place (with_below a digits (length es)) e hung-at (ap (slice_get fs) (sym same) ∙ here)),
-              )
-              | inr differs ↦ (e, sym (hung-other i inside differs) ∙ here, refl)
-            ] in
+        (λ _. (x : Entry) × (slice_get es i ≡ Some x) × (x.page ≡ e.page)) [
+          | inl same ↦ (
+            a,
+            ap (slice_get es) same ∙ at,
+            sym (page-with_below a digits (length es)) ∙ ap (λ x. x.page)
+                (same_entry fs place (with_below a digits (length es)) e hung-at (ap (slice_get fs) (sym same) ∙ here)),
+          )
+          | inr differs ↦ (e, sym (hung-other i inside differs) ∙ here, refl)
+        ] in
         let way = found i old.0 old.1 in (
           way.0,
           subst (λ q. IsWay fs q way.0 i) old.2 (hung-way old.0.page way.0 i way.1),
@@ -241,12 +241,12 @@ module _ (es fs : List Entry) (page place digits : ℕ) (a : Entry) (at : slice_
         | inl last ↦
             let it : lone page ≡ e = same_entry fs (length es) (lone page) e hung-last (ap (slice_get fs) (sym last) ∙ here) in
             subst (λ x. IsBehind i (length es + 1) x.zero × IsBehind i (length es + 1) x.one) it
-                ((λ some. absurd (some refl)), (λ some. absurd (some refl)))
+            ((λ some. absurd (some refl)), (λ some. absurd (some refl)))
         | inr (inl inside) ↦ elim (cases_eq i place) as (λ _. IsBehind i (length es + 1) e.zero × IsBehind i (length es + 1) e.one) [
           | inl same ↦
               let it = same_entry fs place (with_below a digits (length es)) e hung-at (ap (slice_get fs) (sym same) ∙ here) in
               subst (λ x. IsBehind i (length es + 1) x.zero × IsBehind i (length es + 1) x.one) it
-                  (behind-with_below a digits i (length es) inside (linked i a (ap (slice_get es) same ∙ at)))
+              (behind-with_below a digits i (length es) inside (linked i a (ap (slice_get es) same ∙ at)))
           | inr differs ↦
               let old = linked i e (sym (hung-other i inside differs) ∙ here) in
               ((λ some. ((old.0 some).0, omega (arith, (old.0 some).1))), (λ some. ((old.1 some).0, omega (arith, (old.1 some).1))))
@@ -264,7 +264,7 @@ pages-hung : (es : List Entry) (page place digits : ℕ) (a : Entry) → slice_g
     → pages_in (slice_set (es ++ lone page ∷ []) place (with_below a digits (length es))) ≡ pages_in es ++ page ∷ []
 pages-hung es page place digits a at =
     pages-set (es ++ lone page ∷ []) place a (with_below a digits (length es)) (slice_get-append es (lone page ∷ []) place (slice_get_within es place a at) ∙ at)
-        (page-with_below a digits (length es)) ∙ map-append (λ e. e.page) es (lone page ∷ [])
+    (page-with_below a digits (length es)) ∙ map-append (λ e. e.page) es (lone page ∷ [])
 
 -- the search in a directory stays inside it, unless that has no entry
 pub end-inside : (es : List Entry) (page place digits : ℕ) → IsLinked es → IsEnd es page place digits → length es ≤ place → length es ≡ 0

@@ -1,6 +1,6 @@
 -- What is kept of two flows after one page was written to, and after steps that follow each other.
-use Rattle.std.proofs.Common.{◌≡◌, ◌≢◌, ℕ, ◌+◌, ◌*◌, ◌/◌, ◌%◌, ◌==◌, true, false, not, cond, if◌then◌else◌, nat_eq, List, [], ◌∷◌, ◌++◌, length, slice_get, slice_set}
-use Rattle.std.proofs.Common.{get_or, ◌<◌, Option, Some, None, Result, Ok, Err, IfOk, OnOk, refl, sym, ap, subst, ◌∙◌, arith, inl, inr}
+use Rattle.std.proofs.Common.{◌≡◌, ◌≢◌, ℕ, ◌+◌, ◌*◌, ◌/◌, ◌%◌, ◌==◌, true, false, not, cond, if◌then◌else◌, nat_eq, [], ◌∷◌, ◌++◌, length, slice_get, slice_set}
+use Rattle.std.proofs.Common.{get_or, ◌<◌, Option, Some, None, Result, Ok, Err, IfOk, refl, sym, ap, subst, ◌∙◌, arith, inl, inr}
 use Rattle.std.specs.List.{position_or_len}
 use Rattle.std.proofs.lemmas.Bool.{cases_Bool, cases_eq}
 use Rattle.std.proofs.lemmas.Bool.Decides.{nat_tests}
@@ -193,14 +193,14 @@ module _ (m n : Pages) (place page : ℕ) (here new : Page) (found : ∥ IsFound
         | inr differs ↦
             let none : nat_eq page q ≡ false = grind (arith, nat_tests, differs) in
             let apart : position_or_len (nat_eq q) (pages_of m.directory) ≢ place = λ same.
-                let within : position_or_len (nat_eq q) (pages_of m.directory) < length (pages_of m.directory) =
-                omega (arith, same, slice_get_within (pages_of m.directory) place page stands)
-                in
-                let passes = passes_at_first (nat_eq q) (pages_of m.directory) page within in
-                let read : get_or (pages_of m.directory) (position_or_len (nat_eq q) (pages_of m.directory)) page ≡ page =
-                ap (λ k. get_or (pages_of m.directory) k page) same ∙ get_or_from_slice_get (pages_of m.directory) place page page stands
-                in
-                differs (grind (arith, nat_tests, passes, read)) in
+            let within : position_or_len (nat_eq q) (pages_of m.directory) < length (pages_of m.directory) =
+            omega (arith, same, slice_get_within (pages_of m.directory) place page stands)
+            in
+            let passes = passes_at_first (nat_eq q) (pages_of m.directory) page within in
+            let read : get_or (pages_of m.directory) (position_or_len (nat_eq q) (pages_of m.directory)) page ≡ page =
+            ap (λ k. get_or (pages_of m.directory) k page) same ∙ get_or_from_slice_get (pages_of m.directory) place page page stands
+            in
+            differs (grind (arith, nat_tests, passes, read)) in
             looked ∙ slice_get-set_other m.pages.items place (position_or_len (nat_eq q) (pages_of m.directory)) new apart
             ∙ sym (ap (λ b. cond b (Some new) (page_at m q)) none)
       ]

@@ -1,5 +1,5 @@
 -- Pages in a directory, and the search for one: a digital search tree, by the binary digits of a page's number from the lowest on.
-use Rattle.std.specs.Prelude.{◌≡◌, ◌≢◌, ℕ, zero, suc, ◌/◌, ◌%◌, ◌<◌, ◌==◌, if◌then◌else◌, map, nat_lt, List, [], ◌∷◌, ◌++◌, length, slice_get, Option, Some}
+use Rattle.std.specs.Prelude.{◌≡◌, ◌≢◌, ℕ, zero, suc, ◌/◌, ◌%◌, ◌<◌, ◌==◌, if◌then◌else◌, map, nat_lt, List, [], ◌∷◌, ◌++◌, length, slice_get, Some}
 use Rattle.std.specs.Option.{option_map_or}
 use Rattle.path_skew.specs.declared.directory.Entry.{Entry}
 

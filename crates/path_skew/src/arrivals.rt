@@ -10,10 +10,11 @@ use std::alloc::{AllocError as OutOfMemory, Global};
 /// How many places there are.
 pub const PLACES: u32 = 32;
 
-/// Arrivals in the order of their places, and a bit for each place that has one. Up to one takes no memory of its own.
+/// Arrivals in the order of their places, with a bit for each place that has one.
 #[derive(Drop)]
 enum Slots {
     Empty,
+    /// One arrival, which takes no memory of its own.
     One(u32, Arrival),
     Many(u32, Vec<Arrival>),
 }
@@ -31,7 +32,7 @@ impl Slots {
         }
     }
 
-    /// Puts an arrival in behind all others, after which these are the places.
+    /// Puts an arrival in behind all others. The places are these after it.
     ///
     /// `Err` is want of memory.
     #[inline(always)]
@@ -55,7 +56,7 @@ impl Slots {
         Ok(())
     }
 
-    /// Puts an arrival in at this index, after which these are the places.
+    /// Puts an arrival in at this index. The places are these after it.
     ///
     /// `Err` is want of memory.
     #[cold]
@@ -87,7 +88,7 @@ impl Slots {
         Ok(())
     }
 
-    /// Puts an arrival in the place of the one of this index.
+    /// Replaces the arrival of this index.
     #[cold]
     #[inline(never)]
     fn replace(&mut self, index: usize, arrival: Arrival)
@@ -102,8 +103,8 @@ impl Slots {
         }
     }
 
-    /// Takes the arrival of this index. Where it is the last, it leaves these places; where others stand behind it,
-    /// all stay where they are.
+    /// Takes the arrival of this index. If it is the last, it leaves, and the places are these after it. If others
+    /// stand behind it, all stay, so that none has to move.
     #[inline(always)]
     fn take(&mut self, index: usize, rest: u32) -> Arrival
         requires { index < length (items_in self.old) }
@@ -131,7 +132,7 @@ impl Slots {
     }
 }
 
-/// An arrival, and another that is put in at this index.
+/// An arrival, and another at this index beside it.
 ///
 /// `Err` is want of memory.
 #[cold]
@@ -197,7 +198,7 @@ impl Arrivals {
         Some(self.slots.take(index, without(places, place)))
     }
 
-    /// Keeps an arrival at a place, whatever stands there or behind.
+    /// Keeps an arrival at a place, whatever stood there or stands behind.
     ///
     /// `Err` is want of memory.
     #[cold]

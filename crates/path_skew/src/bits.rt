@@ -1,4 +1,4 @@
-//! Bits by place, of 32 that stand in a number.
+//! The bits of a number, by place.
 
 ghost use Rattle.std.specs.Prelude.{◌≡◌, ◌≢◌, ◌<◌, ◌==◌, ℕ};
 ghost use Rattle.std.specs.Int.{bit_at};

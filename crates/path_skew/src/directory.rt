@@ -5,19 +5,19 @@ ghost use Rattle.path_skew.specs.Search.{Ends, Enters, GoesOn, IsEnd, IsFound, I
 
 use std::alloc::{AllocError as OutOfMemory, Global};
 
-/// A page, and the places of the two entries below it. The first entry stands below none, so 0 says that there is none.
+/// A page, and the entries below it. The first entry stands below none, so the place 0 says that there is none.
 #[derive(Clone, Copy, Debug)]
 pub struct Entry {
     /// The number of the page.
     page: u32,
-    /// The place of the entry where a search goes on that has 0 as its next digit.
+    /// The place where a search goes on whose next digit is 0.
     zero: u32,
-    /// The place of the entry where a search goes on that has 1 as its next digit.
+    /// The place where a search goes on whose next digit is 1.
     one: u32,
 }
 
 impl Entry {
-    /// The place of the entry where a search goes on that has these digits left, and 0 where there is none.
+    /// The place where a search goes on that has these digits left, and 0 where it ends.
     #[inline(always)]
     fn below(&self, digits: u32) -> u32
         ensures { result ≡ below self.now digits }
@@ -30,7 +30,10 @@ impl Entry {
         ensures { result ≡ with_below self digits place }
     {
         if digits % 2 == 0 {
-            Entry { zero: place, ..self }
+            Entry {
+                zero: place,
+                ..self
+            }
         } else {
             Entry { one: place, ..self }
         }
@@ -44,12 +47,12 @@ struct End {
     digits: u32,
 }
 
-/// Pages in the order in which they came, as a digital search tree: a search begins at the first entry, and goes on
-/// below it by the binary digits of the page's number, from the lowest on. So it passes as many entries as the number
-/// has digits at most, whatever pages there are.
+/// Pages in the order in which they came, in a digital search tree: a search begins at the first entry, and goes on
+/// below it by the binary digits of the page's number, from the lowest on. So it passes no more entries than a page
+/// number has digits, whatever pages there are.
 #[derive(Drop)]
 pub struct Directory {
-    /// The entries, each behind that which it stands below.
+    /// The entries. What stands below one stands behind it.
     entries: Vec<Entry>,
     ghost linked: { IsLinked entries.items },
     ghost found: { ∥ IsFound entries.items ∥₁ },

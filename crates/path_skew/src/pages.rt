@@ -9,7 +9,6 @@ use crate::arrival::Arrival;
 use crate::arrivals::{Arrivals, PLACES};
 use crate::bits::{has, with};
 use crate::directory::Directory;
-
 use std::alloc::{AllocError as OutOfMemory, Global};
 
 /// Which of the two flows.
@@ -35,8 +34,8 @@ pub struct Page {
     first: u32,
     /// A bit for each number that the second flow had, from the lowest on.
     second: u32,
-    /// The first packets of the numbers, each at the place of its number. One counts only while one of
-    /// the flows had the number and the other had it not.
+    /// The first packets of the numbers, each at the place of its number. One counts only while its number waits:
+    /// one of the flows had it, and the other had it not.
     arrivals: Arrivals,
 }
 
@@ -104,7 +103,7 @@ impl Page {
         }
     }
 
-    /// Forgets the arrivals where a packet was found, and both flows have had the same numbers.
+    /// Forgets all arrivals where this found one, and no number waits for another any more.
     #[inline(always)]
     fn release(&mut self, found: Found)
         ensures same { (side : Side) → IsSame (page_view side (Some self.old)) (page_view side (Some self.new)) }
@@ -151,7 +150,7 @@ impl Page {
         }
     }
 
-    /// Takes a packet of this side with the number at this place, and forgets what no number waits for.
+    /// Takes a packet of this side with the number at this place. Where none waits after it, all arrivals are let go.
     ///
     /// `Err` is want of memory.
     #[inline(always)]
@@ -171,7 +170,7 @@ impl Page {
         Ok(found)
     }
 
-    /// Whether one flow had all numbers, and the other none.
+    /// Whether each number waits.
     fn is_waiting(&self) -> bool {
         self.first ^ self.second == u32::MAX
     }

@@ -1,4 +1,4 @@
-use Rattle.path_skew.proofs.Counted.{index-inside, index-within, insert-counted, insert-here, insert-others, replace-counted, replace-here, replace-others}
+use Rattle.path_skew.proofs.Counted.{index-inside, index-within, insert-counted, insert-here, insert-others, replace-here, replace-others}
 use Rattle.path_skew.proofs.arrivals.Arrivals.keep_before.Goals as goal
 
 -- one that stood there is replaced
@@ -32,7 +32,7 @@ invariant_of-self-2 c =
     let s = c.args.self.now in
     record {
       counted = insert-counted s.slots c.places-places.result c.args.place c.ones_below-index.result c.has.result c.requires s.counted c.places-places.ensures
-    c.has.ensures c.ones_below-index.ensures c.if-has.false c.insert.new.self c.with.result c.args.arrival c.with.ensures.here c.with.ensures.others
+          c.has.ensures c.ones_below-index.ensures c.if-has.false c.insert.new.self c.with.result c.args.arrival c.with.ensures.here c.with.ensures.others
           c.insert.result c.insert.ensures.items c.insert.ensures.places c.insert.ensures.same_items c.insert.ensures.same_places;
     }
 

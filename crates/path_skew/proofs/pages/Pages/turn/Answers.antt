@@ -11,7 +11,7 @@ pub returns-in_ok-push-clause-same : goal.returns-in_ok-push-clause-same
 returns-in_ok-push-clause-same c =
     let m = c.args.self.now in
     let last = entered-last (pages_of m.directory) (pages_of c.enter.new.self) c.args.page c.in_ok-place.place c.in_ok-place.ensures.enters
-        (omega (arith, c.if-place-len.true, c.len.ensures, c.reserve.ensures.len, m.pages.ok.0, m.listed)) in
+    (omega (arith, c.if-place-len.true, c.len.ensures, c.reserve.ensures.len, m.pages.ok.0, m.listed)) in
     let pushed : c.push.new.self.items ≡ m.pages.items ++ c.new.result ∷ [] =
     c.in_ok-push.ensures.items ∙ ap (λ xs. xs ++ c.new.result ∷ []) c.reserve.ensures.items
     in
