@@ -7,6 +7,7 @@
 #   tests/capture.pl media [NAME=NUMBER..] > a.pcap
 #   tests/capture.pl sdp [media=NUMBER] > a.sdp
 #   tests/capture.pl packets [NAME=NUMBER..] [then [NAME=NUMBER..]].. > a.pcap
+#   tests/capture.pl colliding [count=NUMBER] > a.pcap
 #
 # `sender` is the plain sender: groups (frames or fields) of packets behind one packet that ends the group before them. These change it:
 #
@@ -38,6 +39,9 @@
 #   count=1             the packets
 #   timestamp=1800      their RTP timestamp
 #   marker=0            1: they have the marker
+#
+# `colliding` is 200,000 packets at that instant, or so many, whose numbers a sender chose for a reader that keeps 64 numbers together in a table
+# of 32,768 places by a hash that is known, that of the kit's maps: all of them begin their search in the first eighth of the table.
 use strict;
 use warnings;
 use File::Basename qw(dirname);
@@ -68,6 +72,7 @@ usage: capture.pl sender [NAME=NUMBER..]
        capture.pl media [NAME=NUMBER..]
        capture.pl sdp [media=NUMBER]
        capture.pl packets [NAME=NUMBER..] [then [NAME=NUMBER..]]..
+       capture.pl colliding [count=NUMBER]
 END
     exit 2;
 }
@@ -179,7 +184,33 @@ sub packets {
     return $file_head, $records;
 }
 
-my %made = (sender => \&sender, flaw => \&flaw, usual => \&usual, media => \&media, sdp => \&sdp, packets => \&packets);
+# The 32 bits by which a map finds a key of 32 bits: the key twice is mixed with a seed and multiplied, and the parts of the product are joined.
+sub hash_of {
+    my ($key) = @_;
+    my ($low, $high) = ($key ^ 0x85a3_08d3, $key ^ 0x243f_6a88);
+    my ($by_low, $by_high) = (0x7f4a_7c1d, 0x9e37_79b9);
+    my ($first, $last) = ($low * $by_low, $high * $by_high);
+    my ($inner, $outer) = ($low * $by_high, $high * $by_low);
+    my $carried = ($first >> 32) + ($inner & 0xffff_ffff) + ($outer & 0xffff_ffff);
+    my $below = ($carried & 0xffff_ffff) << 32 | $first & 0xffff_ffff;
+    my $hash = $below ^ $last + ($inner >> 32) + ($outer >> 32) + ($carried >> 32);
+    return ($hash ^ $hash >> 32) & 0xffff_ffff;
+}
+
+sub colliding {
+    my $is = numbers({ count => 200_000 }, @_);
+    my $records = "";
+    my $place = 0;
+    for (1 .. $is->{count}) {
+        $place++ while hash_of($place) % 32_768 >= 4_096;
+        $records .= record($start, 1800, 0, 64 * $place++);
+    }
+    return $file_head, $records;
+}
+
+my %made = (
+    sender => \&sender, flaw => \&flaw, usual => \&usual, media => \&media, sdp => \&sdp, packets => \&packets, colliding => \&colliding,
+);
 my $kind = shift // usage();
 my @pieces = ($made{$kind} // usage())->(@ARGV);
 binmode STDOUT;

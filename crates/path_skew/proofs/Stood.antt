@@ -230,17 +230,17 @@ kept-opposite Second (Some p) i = refl
 pub holds-opposite : (side : Side) (pages : Pages) (flow pair : List FlowPacket) → HoldsNumbers (view side pages) flow pair
     → HoldsNumbers (view (opposite side) pages) pair flow
 holds-opposite side pages flow pair h = record {
-  own = λ n. own-opposite side (page_of pages n) (n % 64) ∙ h.other n;
-  other = λ n. other-opposite side (page_of pages n) (n % 64) ∙ h.own n;
-  own_waits = λ n q is none. keeps-at _ _ q q (kept-opposite side (page_of pages n) (n % 64)) refl (h.other_waits n q is none);
-  other_waits = λ n q is none. keeps-at _ _ q q (kept-opposite side (page_of pages n) (n % 64)) refl (h.own_waits n q is none);
+  own = λ n. own-opposite side (page_of pages n) (n % 32) ∙ h.other n;
+  other = λ n. other-opposite side (page_of pages n) (n % 32) ∙ h.own n;
+  own_waits = λ n q is none. keeps-at _ _ q q (kept-opposite side (page_of pages n) (n % 32)) refl (h.other_waits n q is none);
+  other_waits = λ n q is none. keeps-at _ _ q q (kept-opposite side (page_of pages n) (n % 32)) refl (h.own_waits n q is none);
 }
 
 -- no number stands in no packet
 pub holds-none : (pages : Pages) → ((side : Side) (n : ℕ) → (view side pages).own n ≡ false) → HoldsNumbers (view First pages) [] []
 holds-none pages none = record {
   own = none First;
-  other = λ n. sym (own-opposite First (page_of pages n) (n % 64)) ∙ none Second n;
+  other = λ n. sym (own-opposite First (page_of pages n) (n % 32)) ∙ none Second n;
   own_waits = λ n q is lone. absurd (let bad : None ≡ Some q = is in cc);
   other_waits = λ n q is lone. absurd (let bad : None ≡ Some q = is in cc);
 }

@@ -1,6 +1,7 @@
 -- What is kept of two flows: the pages of their numbers, and the counts of each flow.
 use Rattle.std.specs.Prelude.{◌≡◌, ℕ, ◌+◌, ◌/◌, ◌%◌, false, nat_eq, slice_get, Option, Some, None}
-use Rattle.indexmap.specs.IndexMap.{get}
+use Rattle.std.specs.List.{position_or_len}
+use Rattle.path_skew.specs.Listed.{pages_of}
 use Rattle.path_skew.specs.View.{View, of_parts}
 use Rattle.path_skew.specs.declared.pages.Page.{Page}
 use Rattle.path_skew.specs.declared.pages.Pages.{Pages}
@@ -22,21 +23,25 @@ abbrev pub page_view : Side → Option Page → View
 page_view side None = record { own = λ _. false; other = λ _. false; kept = λ _. None }
 page_view side (Some page) = of_parts (bits_of side page) (bits_of (opposite side) page) page.arrivals
 
+-- the page that stands at the place of this one
+abbrev pub page_at : Pages → (page : ℕ) → Option Page
+page_at pages page = slice_get pages.pages.items (position_or_len (nat_eq page) (pages_of pages.directory))
+
 -- the page of a number
 abbrev pub page_of : Pages → ℕ → Option Page
-page_of pages number = get nat_eq pages.pages (number / 64)
+page_of pages number = page_at pages (number / 32)
 
 -- the pages as a side sees them
 abbrev pub view : Side → Pages → View
 view side pages = record {
-  own = λ n. (page_view side (page_of pages n)).own (n % 64);
-  other = λ n. (page_view side (page_of pages n)).other (n % 64);
-  kept = λ n. (page_view side (page_of pages n)).kept (n % 64);
+  own = λ n. (page_view side (page_of pages n)).own (n % 32);
+  other = λ n. (page_view side (page_of pages n)).other (n % 32);
+  kept = λ n. (page_view side (page_of pages n)).kept (n % 32);
 }
 
 -- this page stands at this place
 abbrev pub HasPage : Pages → (page place : ℕ) → Type 0
-HasPage pages page place = (here : Page) × (slice_get pages.pages.entries place ≡ Some (page, here))
+HasPage pages page place = slice_get (pages_of pages.directory) place ≡ Some page
 
 -- how many packets of a flow were given
 abbrev pub count_given : Flow → ℕ

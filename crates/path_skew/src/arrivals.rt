@@ -1,109 +1,227 @@
 //! The arrivals of a page.
 
-ghost use Rattle.std.specs.Prelude.{◌≡◌, ◌≢◌, ◌≤◌, ◌<◌, ◌+◌, ◌^◌, ℕ, None, Some, IfOk, OnOk};
+ghost use Rattle.std.specs.Prelude.{◌≡◌, ◌≢◌, ◌≤◌, ◌<◌, [], ◌∷◌, ◌++◌, ℕ, Some, None, insert, length, slice_get, slice_set, OnErr, OnOk, IfOk};
+ghost use Rattle.path_skew.specs.Items.{Leaves, items_in, ones_below, places_in};
 
 use crate::arrival::Arrival;
+use crate::bits::{has, ones_below, with, without};
 use std::alloc::{AllocError as OutOfMemory, Global};
 
-/// Arrivals by place. Between the least place and the greatest each has one, whether it was kept there
-/// or not.
+/// How many places there are.
+pub const PLACES: u32 = 32;
+
+/// Arrivals in the order of their places, with a bit for each place that has one.
+#[derive(Drop)]
+enum Slots {
+    Empty,
+    /// One arrival, which takes no memory of its own.
+    One(u32, Arrival),
+    Many(u32, Vec<Arrival>),
+}
+
+impl Slots {
+    /// A bit for each place that has an arrival.
+    #[inline(always)]
+    fn places(&self) -> u32
+        ensures { result ≡ places_in self.now }
+    {
+        match self {
+            Slots::Empty => 0,
+            Slots::One(places, _) => *places,
+            Slots::Many(places, _) => *places,
+        }
+    }
+
+    /// Puts an arrival in behind all others. The places are these after it.
+    ///
+    /// `Err` is want of memory.
+    #[inline(always)]
+    fn push(&mut self, alloc: Global, arrival: Arrival, after: u32) -> Result<(), OutOfMemory>
+        ensures items { OnOk result (items_in self.new ≡ items_in self.old ++ arrival ∷ []) }
+        ensures places { OnOk result (places_in self.new ≡ after) }
+        ensures same_items { OnErr result (items_in self.new ≡ items_in self.old) }
+        ensures same_places { OnErr result (places_in self.new ≡ places_in self.old) }
+    {
+        match self {
+            Slots::Empty => *self = Slots::One(after, arrival),
+            Slots::One(_, first) => {
+                let items = two(alloc, *first, 1, arrival)?;
+                *self = Slots::Many(after, items);
+            }
+            Slots::Many(places, items) => {
+                items.push(arrival)?;
+                *places = after;
+            }
+        }
+        Ok(())
+    }
+
+    /// Puts an arrival in at this index. The places are these after it.
+    ///
+    /// `Err` is want of memory.
+    #[cold]
+    #[inline(never)]
+    fn insert(
+        &mut self,
+        alloc: Global,
+        index: usize,
+        arrival: Arrival,
+        after: u32,
+    ) -> Result<(), OutOfMemory>
+        requires { index ≤ length (items_in self.old) }
+        ensures items { OnOk result (items_in self.new ≡ insert (items_in self.old) index arrival) }
+        ensures places { OnOk result (places_in self.new ≡ after) }
+        ensures same_items { OnErr result (items_in self.new ≡ items_in self.old) }
+        ensures same_places { OnErr result (places_in self.new ≡ places_in self.old) }
+    {
+        match self {
+            Slots::Empty => *self = Slots::One(after, arrival),
+            Slots::One(_, first) => {
+                let items = two(alloc, *first, index, arrival)?;
+                *self = Slots::Many(after, items);
+            }
+            Slots::Many(places, items) => {
+                items.insert(index, arrival)?;
+                *places = after;
+            }
+        }
+        Ok(())
+    }
+
+    /// Replaces the arrival of this index.
+    #[cold]
+    #[inline(never)]
+    fn replace(&mut self, index: usize, arrival: Arrival)
+        requires { index < length (items_in self.old) }
+        ensures items { items_in self.new ≡ slice_set (items_in self.old) index arrival }
+        ensures places { places_in self.new ≡ places_in self.old }
+    {
+        match self {
+            Slots::Empty => unreachable!(),
+            Slots::One(_, only) => *only = arrival,
+            Slots::Many(_, items) => items[index] = arrival,
+        }
+    }
+
+    /// Takes the arrival of this index. If it is the last, it leaves, and the places are these after it. If others
+    /// stand behind it, all stay, so that none has to move.
+    #[inline(always)]
+    fn take(&mut self, index: usize, rest: u32) -> Arrival
+        requires { index < length (items_in self.old) }
+        ensures value { slice_get (items_in self.old) index ≡ Some result }
+        ensures left { Leaves self.old self.new index rest }
+    {
+        match self {
+            Slots::Empty => unreachable!(),
+            Slots::One(_, only) => {
+                let arrival = *only;
+                *self = Slots::Empty;
+                arrival
+            }
+            Slots::Many(places, items) => {
+                let arrival = items[index];
+                if items.len() == 1 {
+                    *self = Slots::Empty;
+                } else if index + 1 == items.len() {
+                    items.truncate(index);
+                    *places = rest;
+                }
+                arrival
+            }
+        }
+    }
+}
+
+/// An arrival, and another at this index beside it.
+///
+/// `Err` is want of memory.
+#[cold]
+#[inline(never)]
+fn two(
+    alloc: Global,
+    first: Arrival,
+    index: usize,
+    arrival: Arrival,
+) -> Result<Vec<Arrival>, OutOfMemory>
+    requires { index ≤ 1 }
+    ensures { IfOk result (λ items. items.items ≡ insert (first ∷ []) index arrival) }
+{
+    let mut items = Vec::with_capacity(alloc, 2)?;
+    items.push(first)?;
+    items.insert(index, arrival)?;
+    Ok(items)
+}
+
+/// Arrivals by place.
 #[derive(Drop)]
 pub struct Arrivals {
-    /// The least place.
-    from: u32,
-    /// The arrivals from the least place on.
-    items: Vec<Arrival>,
+    slots: Slots,
+    ghost counted: { length (items_in slots) ≡ ones_below (places_in slots) 32 },
 }
 
 impl Arrivals {
     ghost use Rattle.path_skew.specs.Slots.{arrival_at};
 
     /// No arrival.
-    pub fn new(alloc: Global) -> Arrivals
+    pub fn new() -> Arrivals
         ensures none { (place : ℕ) → arrival_at result place ≡ None }
     {
         Arrivals {
-            from: 0,
-            items: Vec::new(alloc),
+            slots: Slots::Empty,
         }
     }
 
-    /// No arrival, and room for so many.
+    /// No arrival, and room for one at each place.
     ///
     /// `Err` is want of memory.
-    pub fn with_room(alloc: Global, count: usize) -> Result<Arrivals, OutOfMemory>
+    pub fn with_room(alloc: Global) -> Result<Arrivals, OutOfMemory>
         ensures none { IfOk result (λ arrivals. (place : ℕ) → arrival_at arrivals place ≡ None) }
     {
         Ok(Arrivals {
-            from: 0,
-            items: Vec::with_capacity(alloc, count)?,
+            slots: Slots::Many(0, Vec::with_capacity(alloc, PLACES as usize)?),
         })
     }
 
-    /// The arrival at a place.
+    /// Takes the arrival at a place.
     #[inline(always)]
-    pub fn get(&self, place: u32) -> Option<Arrival>
-        ensures { result ≡ arrival_at self.now place }
+    pub fn take(&mut self, place: u32) -> Option<Arrival>
+        requires { place < 32 }
+        ensures value { result ≡ arrival_at self.old place }
+        ensures others { (i : ℕ) (x : Arrival) → i ≢ place
+            → arrival_at self.old i ≡ Some x → arrival_at self.new i ≡ Some x }
     {
-        if place < self.from {
+        let places = self.slots.places();
+        if !has(places, place) {
             return None;
         }
-        self.items.get((place - self.from) as usize).copied()
+        let index = ones_below(places, place);
+        Some(self.slots.take(index, without(places, place)))
     }
 
-    /// Keeps the arrival of this index, which is not the next one.
+    /// Keeps an arrival at a place, whatever stood there or stands behind.
     ///
     /// `Err` is want of memory.
     #[cold]
     #[inline(never)]
-    fn keep_apart(&mut self, index: usize, arrival: Arrival) -> Result<(), OutOfMemory>
-        requires { index < 2 ^ 32 }
-        ensures here { OnOk result (arrival_at self.new (self.old.from + index) ≡ Some arrival) }
-        ensures others { OnOk result ((i : ℕ) (x : Arrival) → i ≢ self.old.from + index
-            → arrival_at self.old i ≡ Some x → arrival_at self.new i ≡ Some x) }
-    {
-        if index < self.items.len() {
-            self.items[index] = arrival;
-            Ok(())
-        } else {
-            self.items.resize(index + 1, arrival)
-        }
-    }
-
-    /// Keeps an arrival at a place that is not below the least.
-    ///
-    /// `Err` is want of memory.
-    #[inline(always)]
-    fn keep_behind(&mut self, place: u32, arrival: Arrival) -> Result<(), OutOfMemory>
-        requires { self.old.from ≤ place }
+    fn keep_before(
+        &mut self,
+        alloc: Global,
+        place: u32,
+        arrival: Arrival,
+    ) -> Result<(), OutOfMemory>
+        requires { place < 32 }
         ensures here { OnOk result (arrival_at self.new place ≡ Some arrival) }
         ensures others { OnOk result ((i : ℕ) (x : Arrival) → i ≢ place
             → arrival_at self.old i ≡ Some x → arrival_at self.new i ≡ Some x) }
     {
-        let index = (place - self.from) as usize;
-        if index == self.items.len() {
-            self.items.push(arrival)?;
+        let places = self.slots.places();
+        let index = ones_below(places, place);
+        if has(places, place) {
+            self.slots.replace(index, arrival);
             return Ok(());
         }
-        self.keep_apart(index, arrival)
-    }
-
-    /// Keeps an arrival at a place below the least.
-    ///
-    /// `Err` is want of memory.
-    #[cold]
-    #[inline(never)]
-    fn keep_before(&mut self, place: u32, arrival: Arrival) -> Result<(), OutOfMemory>
-        requires { place < self.old.from }
-        ensures here { OnOk result (arrival_at self.new place ≡ Some arrival) }
-        ensures others { OnOk result ((i : ℕ) (x : Arrival) → i ≢ place
-            → arrival_at self.old i ≡ Some x → arrival_at self.new i ≡ Some x) }
-    {
-        let gap = (self.from - place) as usize;
-        let count = self.items.len();
-        self.items.resize(count + gap, arrival)?;
-        self.items.rotate_right(gap);
-        self.from = place;
+        self.slots
+            .insert(alloc, index, arrival, with(places, place))?;
         Ok(())
     }
 
@@ -111,18 +229,17 @@ impl Arrivals {
     ///
     /// `Err` is want of memory.
     #[inline(always)]
-    pub fn keep(&mut self, place: u32, arrival: Arrival) -> Result<(), OutOfMemory>
+    pub fn keep(&mut self, alloc: Global, place: u32, arrival: Arrival) -> Result<(), OutOfMemory>
+        requires { place < 32 }
         ensures here { OnOk result (arrival_at self.new place ≡ Some arrival) }
         ensures others { OnOk result ((i : ℕ) (x : Arrival) → i ≢ place
             → arrival_at self.old i ≡ Some x → arrival_at self.new i ≡ Some x) }
     {
-        if self.items.is_empty() {
-            self.from = place;
+        let places = self.slots.places();
+        if places >> place == 0 {
+            self.slots.push(alloc, arrival, with(places, place))?;
+            return Ok(());
         }
-        if place < self.from {
-            self.keep_before(place, arrival)
-        } else {
-            self.keep_behind(place, arrival)
-        }
+        self.keep_before(alloc, place, arrival)
     }
 }

@@ -4,6 +4,8 @@
 
 mod arrival;
 mod arrivals;
+mod bits;
+mod directory;
 mod flow;
 pub mod laws;
 mod matches;

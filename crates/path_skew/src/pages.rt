@@ -1,18 +1,15 @@
 //! What is kept of the packet numbers of two flows.
 
-ghost use Rattle.std.specs.Prelude.{◌≡◌, ◌≢◌, ◌<◌, ◌==◌, ℕ, None, Some, false, true, nat_eq, IfOk, OnOk};
-ghost use Rattle.std.specs.Int.{bit_at};
-ghost use Rattle.indexmap.specs.IndexMap.{get};
+ghost use Rattle.std.specs.Prelude.{◌≡◌, ◌≢◌, ◌<◌, ℕ, None, Some, false, true, length, IfOk, OnOk};
 ghost use Rattle.path_skew.specs.Slots.{arrival_at};
 ghost use Rattle.path_skew.specs.View.{IsSame, Meets, of_parts};
+ghost use Rattle.path_skew.specs.Listed.{pages_of};
 
 use crate::arrival::Arrival;
-use crate::arrivals::Arrivals;
-use indexmap::IndexMap;
+use crate::arrivals::{Arrivals, PLACES};
+use crate::bits::{has, with};
+use crate::directory::Directory;
 use std::alloc::{AllocError as OutOfMemory, Global};
-
-/// How many numbers stand on a page.
-const NUMBERS: u32 = 64;
 
 /// Which of the two flows.
 #[derive(Clone, Copy, Debug)]
@@ -30,35 +27,16 @@ pub enum Found {
     Opens(Option<Arrival>),
 }
 
-/// 64 numbers that follow each other.
+/// 32 numbers that follow each other.
 #[derive(Drop)]
 pub struct Page {
     /// A bit for each number that the first flow had, from the lowest on.
-    first: u64,
+    first: u32,
     /// A bit for each number that the second flow had, from the lowest on.
-    second: u64,
-    /// The first packets of the numbers, each at the place of its number. One counts only while one of
-    /// the flows had the number and the other had it not.
+    second: u32,
+    /// The first packets of the numbers, each at the place of its number. One counts only while its number waits:
+    /// one of the flows had it, and the other had it not.
     arrivals: Arrivals,
-}
-
-/// Whether the number at this place was had.
-#[inline(always)]
-fn has(bits: u64, place: u32) -> bool
-    requires { place < 64 }
-    ensures { result ≡ (bit_at bits place == 1) }
-{
-    bits >> place & 1 == 1
-}
-
-/// These bits, with the number at this place.
-#[inline(always)]
-fn with(bits: u64, place: u32) -> u64
-    requires { place < 64 }
-    ensures here { bit_at result place ≡ 1 }
-    ensures others { (i : ℕ) → i ≢ place → bit_at result i ≡ bit_at bits i }
-{
-    bits | 1 << place
 }
 
 /// Answers the other flow's arrival of the number at this place where that had it, and else keeps this.
@@ -67,10 +45,12 @@ fn with(bits: u64, place: u32) -> u64
 #[inline(always)]
 fn exchange(
     arrivals: &mut Arrivals,
+    alloc: Global,
     had: bool,
     place: u32,
     arrival: Arrival,
 ) -> Result<Option<Arrival>, OutOfMemory>
+    requires { place < 32 }
     ensures alone { IfOk result (λ found. had ≡ false
         → (found ≡ None) × (arrival_at arrivals.new place ≡ Some arrival)) }
     ensures both { IfOk result (λ found. had ≡ true → (x : Arrival)
@@ -79,9 +59,9 @@ fn exchange(
         → arrival_at arrivals.old i ≡ Some x → arrival_at arrivals.new i ≡ Some x) }
 {
     if had {
-        return Ok(arrivals.get(place));
+        return Ok(arrivals.take(place));
     }
-    arrivals.keep(place, arrival)?;
+    arrivals.keep(alloc, place, arrival)?;
     Ok(None)
 }
 
@@ -90,20 +70,21 @@ fn exchange(
 /// `Err` is want of memory.
 #[inline(always)]
 fn meet(
-    own: &mut u64,
-    other: u64,
+    own: &mut u32,
+    other: u32,
     arrivals: &mut Arrivals,
+    alloc: Global,
     place: u32,
     arrival: Arrival,
 ) -> Result<Found, OutOfMemory>
-    requires { place < 64 }
+    requires { place < 32 }
     ensures meets { IfOk result (Meets (of_parts own.old other arrivals.old)
         (of_parts own.new other arrivals.new) place arrival) }
 {
     if has(*own, place) {
         return Ok(Found::Again);
     }
-    let found = exchange(arrivals, has(other, place), place, arrival)?;
+    let found = exchange(arrivals, alloc, has(other, place), place, arrival)?;
     *own = with(*own, place);
     Ok(Found::Opens(found))
 }
@@ -111,12 +92,41 @@ fn meet(
 impl Page {
     ghost use Rattle.path_skew.specs.Kept.{page_view};
 
+    /// No number of either flow, and these arrivals.
+    fn new(arrivals: Arrivals) -> Page
+        ensures { (side : Side) (place : ℕ) → (page_view side (Some result)).own place ≡ false }
+    {
+        Page {
+            first: 0,
+            second: 0,
+            arrivals,
+        }
+    }
+
+    /// Forgets all arrivals where this found one, and no number waits for another any more.
+    #[inline(always)]
+    fn release(&mut self, found: Found)
+        ensures same { (side : Side) → IsSame (page_view side (Some self.old)) (page_view side (Some self.new)) }
+    {
+        if let Found::Opens(Some(_)) = found {
+            if self.first == self.second {
+                self.arrivals = Arrivals::new();
+            }
+        }
+    }
+
     /// Takes a packet of this side with the number at this place.
     ///
     /// `Err` is want of memory.
     #[inline(always)]
-    fn meet(&mut self, side: Side, place: u32, arrival: Arrival) -> Result<Found, OutOfMemory>
-        requires { place < 64 }
+    fn take(
+        &mut self,
+        alloc: Global,
+        side: Side,
+        place: u32,
+        arrival: Arrival,
+    ) -> Result<Found, OutOfMemory>
+        requires { place < 32 }
         ensures meets { IfOk result (Meets (page_view side (Some self.old))
             (page_view side (Some self.new)) place arrival) }
     {
@@ -125,6 +135,7 @@ impl Page {
                 &mut self.first,
                 self.second,
                 &mut self.arrivals,
+                alloc,
                 place,
                 arrival,
             ),
@@ -132,31 +143,48 @@ impl Page {
                 &mut self.second,
                 self.first,
                 &mut self.arrivals,
+                alloc,
                 place,
                 arrival,
             ),
         }
     }
 
-    /// Forgets the arrivals where both flows had the same numbers.
-    fn release(&mut self, alloc: Global)
-        ensures same { (side : Side) → IsSame (page_view side (Some self.old)) (page_view side (Some self.new)) }
+    /// Takes a packet of this side with the number at this place. Where none waits after it, all arrivals are let go.
+    ///
+    /// `Err` is want of memory.
+    #[inline(always)]
+    fn meet(
+        &mut self,
+        alloc: Global,
+        side: Side,
+        place: u32,
+        arrival: Arrival,
+    ) -> Result<Found, OutOfMemory>
+        requires { place < 32 }
+        ensures meets { IfOk result (Meets (page_view side (Some self.old))
+            (page_view side (Some self.new)) place arrival) }
     {
-        if self.first == self.second {
-            self.arrivals = Arrivals::new(alloc);
-        }
+        let found = self.take(alloc, side, place, arrival)?;
+        self.release(found);
+        Ok(found)
+    }
+
+    /// Whether each number waits.
+    fn is_waiting(&self) -> bool {
+        self.first ^ self.second == u32::MAX
     }
 }
 
 /// The numbers of two flows, on pages.
-///
-/// When a flow leaves a page of which both had the same numbers, the arrivals of the page are let go.
 #[derive(Drop)]
 pub struct Pages {
-    /// The pages, in the order in which they were opened. The key is the high part of its numbers: a
-    /// number divided by how many stand on a page.
-    pages: IndexMap<u32, Page>,
+    /// Where each page stands, by the high part of its numbers: a number divided by how many stand on a page.
+    directory: Directory,
+    /// The pages, in the order in which they were opened.
+    pages: Vec<Page>,
     alloc: Global,
+    ghost listed: { length (pages_of directory) ≡ length pages.items },
 }
 
 impl Pages {
@@ -167,68 +195,29 @@ impl Pages {
         ensures none { (side : Side) (number : ℕ) → (view side result).own number ≡ false }
     {
         Pages {
-            pages: IndexMap::new(alloc),
+            directory: Directory::new(alloc),
+            pages: Vec::new(alloc),
             alloc,
         }
     }
 
-    /// Whether this page stands at this place.
-    #[inline(always)]
-    fn is_at(&self, place: usize, page: u32) -> bool
-        ensures { result ≡ true → HasPage self.now page place }
-    {
-        match self.pages.get_index(place) {
-            Some((&other, _)) => other == page,
+    /// Whether a page beside this one stands at this place.
+    fn is_beside(&self, place: usize, page: u32) -> bool {
+        self.directory.is_at(place, page.wrapping_sub(1))
+            || self.directory.is_at(place, page.wrapping_add(1))
+    }
+
+    /// Whether a flow that goes on to this page from the one beside it, at the place `near`, is ahead of the other
+    /// flow by all numbers of that.
+    fn is_ahead(&self, near: usize, page: u32) -> bool {
+        match self.pages.get(near) {
+            Some(last) => last.is_waiting() && self.is_beside(near, page),
             None => false,
         }
     }
 
-    /// Whether a flow had all numbers of the page at this place.
-    fn is_full(&self, place: usize) -> bool {
-        match self.pages.get_index(place) {
-            Some((_, page)) => page.first == u64::MAX || page.second == u64::MAX,
-            None => false,
-        }
-    }
-
-    /// Opens a page that isn't there, and answers its place. Where `room` is said, it has room for the
-    /// arrivals of all its numbers.
-    ///
-    /// `Err` is want of memory.
-    #[cold]
-    #[inline(never)]
-    fn open(&mut self, page: u32, room: bool) -> Result<usize, OutOfMemory>
-        requires { get nat_eq self.old.pages page ≡ None }
-        ensures at { IfOk result (HasPage self.new page) }
-        ensures same { OnOk result ((side : Side) → IsSame (view side self.old) (view side self.new)) }
-    {
-        let place = self.pages.len();
-        let arrivals = if room {
-            Arrivals::with_room(self.alloc, NUMBERS as usize)?
-        } else {
-            Arrivals::new(self.alloc)
-        };
-        let empty = Page {
-            first: 0,
-            second: 0,
-            arrivals,
-        };
-        self.pages.insert(page, empty)?;
-        Ok(place)
-    }
-
-    /// Forgets the arrivals of the page at this place where both flows had the same numbers of it.
-    fn release(&mut self, place: usize)
-        ensures same { (side : Side) → IsSame (view side self.old) (view side self.new) }
-    {
-        if place < self.pages.len() {
-            let alloc = self.alloc;
-            let (_, page) = self.pages.pair_mut(place);
-            page.release(alloc);
-        }
-    }
-
-    /// Leaves the page at the place `near` for this one, and answers its place.
+    /// Leaves the page at the place `near` for this one, and answers its place. A page that is opened has room for
+    /// the arrivals of all its numbers where the flow is ahead.
     ///
     /// `Err` is want of memory.
     #[cold]
@@ -237,16 +226,21 @@ impl Pages {
         ensures at { IfOk result (HasPage self.new page) }
         ensures same { OnOk result ((side : Side) → IsSame (view side self.old) (view side self.new)) }
     {
-        let full = self.is_full(near);
-        self.release(near);
         let next = near.saturating_add(1);
-        if self.is_at(next, page) {
+        if self.directory.is_at(next, page) {
             return Ok(next);
         }
-        match self.pages.get_index_of(&page) {
-            Some(place) => Ok(place),
-            None => self.open(page, full),
+        self.pages.reserve(1)?;
+        let arrivals = if self.is_ahead(near, page) {
+            Arrivals::with_room(self.alloc)?
+        } else {
+            Arrivals::new()
+        };
+        let place = self.directory.enter(page)?;
+        if place == self.pages.len() {
+            self.pages.push(Page::new(arrivals))?;
         }
+        Ok(place)
     }
 
     /// Comes to the page of a number, which is looked for first at the place `near`. That becomes its own.
@@ -257,7 +251,7 @@ impl Pages {
         ensures at { OnOk result (HasPage self.new page near.new) }
         ensures same { OnOk result ((side : Side) → IsSame (view side self.old) (view side self.new)) }
     {
-        if !self.is_at(*near, page) {
+        if !self.directory.is_at(*near, page) {
             *near = self.turn(*near, page)?;
         }
         Ok(())
@@ -277,8 +271,8 @@ impl Pages {
     ) -> Result<Found, OutOfMemory>
         ensures meets { IfOk result (Meets (view side self.old) (view side self.new) number arrival) }
     {
-        self.come_to(near, number / NUMBERS)?;
-        let (_, page) = self.pages.pair_mut(*near);
-        page.meet(side, number % NUMBERS, arrival)
+        self.come_to(near, number / PLACES)?;
+        let alloc = self.alloc;
+        self.pages[*near].meet(alloc, side, number % PLACES, arrival)
     }
 }

@@ -116,6 +116,10 @@ enum Numbers {
     Alternating,
     // The high half stays 0.
     Low,
+    // By twos far from all others, with equal low digits.
+    Apart,
+    // Each far from the one before.
+    Turned,
 }
 
 fn number(numbers: Numbers, i: u32) -> u32 {
@@ -130,6 +134,8 @@ fn number(numbers: Numbers, i: u32) -> u32 {
             }
         }
         Numbers::Low => i % 65_536,
+        Numbers::Apart => i / 2 << 15 | i % 2 * 31,
+        Numbers::Turned => i.reverse_bits(),
     }
 }
 
@@ -180,6 +186,20 @@ fn many_out_of_order(rt: HostRuntime) {
     same(
         &rt,
         &many(&rt, rt.alloc(), Numbers::Alternating),
+        &matched(100_000),
+    );
+}
+
+#[test]
+fn many_far_apart(rt: HostRuntime) {
+    same(
+        &rt,
+        &many(&rt, rt.alloc(), Numbers::Apart),
+        &matched(100_000),
+    );
+    same(
+        &rt,
+        &many(&rt, rt.alloc(), Numbers::Turned),
         &matched(100_000),
     );
 }

@@ -1,9 +1,24 @@
-use Rattle.path_skew.proofs.Views.{entry-found, on_ok-more, same-more}
+use Rattle.std.proofs.Common.{◌≡◌, ap, ◌∙◌, ◌++◌, ◌∷◌, [], length, arith}
+use Rattle.std.proofs.lemmas.List.{length_push}
+use Rattle.path_skew.specs.Listed.{pages_of}
+use Rattle.path_skew.specs.declared.pages.Pages.{Pages}
+use Rattle.path_skew.proofs.Searches.{entered-last}
+use Rattle.path_skew.proofs.Views.{same-opened_page}
 use Rattle.path_skew.proofs.pages.Pages.turn.Goals as goal
 
--- the page was found, or it was opened
-pub returns-in-Some-clause-at : goal.returns-in-Some-clause-at
-returns-in-Some-clause-at c = entry-found c.release.new.self.pages.entries c.in-Some.place c.args.page c.in-Some.ensures.index
-
-pub returns-in-None-clause-same : goal.returns-in-None-clause-same
-returns-in-None-clause-same c = on_ok-more c.open.result _ _ (λ same side. same-more _ _ _ (c.release.ensures.same side) (same side)) c.open.ensures.same
+-- a page was opened
+pub returns-in_ok-push-clause-same : goal.returns-in_ok-push-clause-same
+returns-in_ok-push-clause-same c =
+    let m = c.args.self.now in
+    let last = entered-last (pages_of m.directory) (pages_of c.enter.new.self) c.args.page c.in_ok-place.place c.in_ok-place.ensures.enters
+    (omega (arith, c.if-place-len.true, c.len.ensures, c.reserve.ensures.len, m.pages.ok.0, m.listed)) in
+    let pushed : c.push.new.self.items ≡ m.pages.items ++ c.new.result ∷ [] =
+    c.in_ok-push.ensures.items ∙ ap (λ xs. xs ++ c.new.result ∷ []) c.reserve.ensures.items
+    in
+    let n : Pages = record {
+      directory = c.enter.new.self;
+      pages = c.push.new.self;
+      alloc = m.alloc;
+      listed = omega (arith, ap length last, ap length pushed, length_push (pages_of m.directory) c.args.page, length_push m.pages.items c.new.result, m.listed);
+    } in
+    same-opened_page m n c.args.page c.new.result c.enter.new.self.found m.listed last pushed c.new.ensures
