@@ -27,11 +27,11 @@ meaning n =
     if bytes_eq n (codes "sdp") then codes "the session description"
     else if bytes_eq n (codes "report") then codes "a report of check --json"
     else if bytes_eq n (codes "workers") then codes "so many threads judge, 1 to 16"
-    else if bytes_eq n (codes "tai") then codes "are added to the stamps, 0 to 1000"
+    else if bytes_eq n (codes "tai") then codes "are added to the capture timestamps, 0 to 1000"
     else if bytes_eq n (codes "media") then codes "a video of the description, 1 to 64"
     else if bytes_eq n (codes "pair") then codes "the video of the other flow, 1 to 64"
     else if bytes_eq n (codes "type") then codes "of the sender: N, NL or W"
-    else if bytes_eq n (codes "model") then codes "that is broken: Bucket, Over or Empty"
+    else if bytes_eq n (codes "model") then codes "that is violated: Bucket, Over or Empty"
     else if bytes_eq n (codes "from") then codes "the first packet of the interval; judged packets count from 0"
     else if bytes_eq n (codes "to") then codes "the last packet of the interval"
     else if bytes_eq n (codes "count") then codes "the packets that are counted"
@@ -96,13 +96,13 @@ names_shape command.Page = codes "CAPTURE"
 -- what it does
 abbrev pub about : Command → Text
 about command.Check = codes "judges each video of the description in each capture"
-about command.Verify = codes "checks one fail that is claimed of a sender, from the capture alone"
-about command.VerifyReport = codes "checks in that way each fail that a JSON report has"
+about command.Verify = codes "checks one violation that is claimed of a sender, from the capture alone"
+about command.VerifyReport = codes "checks in that way each violation of a JSON report"
 about command.SelfTest = codes "makes five captures of so many frames, four of them with a flaw, and judges each"
 about command.Window = codes "says with which offsets a flow would keep its receiver buffer, for each type"
 about command.Shape = codes "delays a flow as little as the limits allow, and writes it as a capture"
 about command.Skew = codes "says how far two flows that carry the same packets are apart, packet by packet"
-about command.Scan = codes "says what a capture holds, before there is a description"
+about command.Scan = codes "says what a capture holds, without a description"
 about command.Measure = codes "says how near each video comes to its limits, when, and where in the frame"
 about command.Series = codes "lists the numbers of a flow as CSV, packet by packet or frame by frame"
 about command.Page = codes "writes the report of a capture as one page with pictures"
@@ -114,7 +114,7 @@ printed command.Check =
     ++ codes "narrow linear or wide sender, and the interval of packets that breaks them first; then the status.\n"
 printed command.Verify = codes "Prints `confirmed`, `not confirmed`, or `not judged` and why.\n"
 printed command.VerifyReport =
-    codes "Prints for each fail `confirmed`, `not confirmed` or `not judged`; then the status.\n"
+    codes "Prints for each violation `confirmed`, `not confirmed` or `not judged`; then the status.\n"
 printed command.SelfTest = codes "Prints for each capture what is found in it, and the status of its report.\n"
 printed command.Window =
     codes "Prints for each type the least and the greatest offset in microseconds, and the packets that bind.\n"
@@ -122,11 +122,11 @@ printed command.Shape = codes "Prints a capture in pcap, or with --list each del
 printed command.Skew =
     codes "Prints how each capture ends, how many packets match, and the least and the greatest distance.\n"
 printed command.Scan =
-    codes "Prints how the capture ends, what is passed over, and of each stream who sends to whom, its packets, rate\n"
+    codes "Prints how the capture ends, what is ignored, and of each stream who sends to whom, its packets, rate\n"
     ++ codes "and loss; with --json the same as JSON, with --draft a session description. The two exclude each other.\n"
 printed command.Measure =
     codes "Prints as JSON how the capture ends, and of each judged run what bucket and buffers hold, how near that is\n"
-    ++ codes "to each type's limits, when frames begin and end, their RTP timestamps, and the gaps between packets.\n"
+    ++ codes "to each type's limits, when frames begin and end, their RTP timestamps, and the times between packets.\n"
 printed command.Series =
     codes "Prints a header and for each judged packet when it comes, its place in the frame, and what bucket and\n"
     ++ codes "buffers hold; with --frames for each frame when it begins and ends, its RTP timestamp and its extremes.\n"
@@ -176,21 +176,21 @@ summaries = flat_map summary commands
 abbrev pub front_text : Text
 front_text =
     codes "st2110_timing 1.0.0: judges the timing of video senders from packet captures, after SMPTE ST 2110-21:2017.\n"
-    ++ codes "\nWords:\n"
+    ++ codes "\nCommands:\n"
 
 -- and those after them
 abbrev pub back_text : Text
 back_text =
-    codes "  help [COMMAND]\n      prints this text, or more of one command\n\nStatuses:\n"
-    ++ (codes "  0 every declared type passes, or what was asked for was printed\n"
-    ++ (codes "  1 a declared type fails, or a fail isn't confirmed\n"
-    ++ (codes "  2 the words are no request\n"
-    ++ (codes "  3 the session description is refused\n"
-    ++ (codes "  4 a flow isn't judged as one run, or a capture is refused\n"
+    codes "  help [COMMAND]\n      prints this text, or more of one command\n\nExit statuses:\n"
+    ++ (codes "  0 every declared type passes, or the output was printed\n"
+    ++ (codes "  1 a declared type fails, or a violation isn't confirmed\n"
+    ++ (codes "  2 the command line is invalid\n"
+    ++ (codes "  3 the session description is invalid\n"
+    ++ (codes "  4 a flow isn't judged as one run, or a capture is malformed\n"
     ++ (codes "  5 an input couldn't be read\n"
     ++ (codes "  6 a write on standard output failed\n"
     ++ (codes "  7 memory ran out\n"
-    ++ (codes "  9 the report isn't in the form of one\n\n"
+    ++ (codes "  9 the report is invalid\n\n"
     ++ codes "Read on in docs/GUIDE.md, docs/FORMATS.md and docs/st2110_timing.1.\n")))))))))
 
 -- the text of one command

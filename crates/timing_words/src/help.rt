@@ -33,11 +33,11 @@ fn meaning(name: &str) -> &'static str
         "sdp" => "the session description",
         "report" => "a report of check --json",
         "workers" => "so many threads judge, 1 to 16",
-        "tai" => "are added to the stamps, 0 to 1000",
+        "tai" => "are added to the capture timestamps, 0 to 1000",
         "media" => "a video of the description, 1 to 64",
         "pair" => "the video of the other flow, 1 to 64",
         "type" => "of the sender: N, NL or W",
-        "model" => "that is broken: Bucket, Over or Empty",
+        "model" => "that is violated: Bucket, Over or Empty",
         "from" => "the first packet of the interval; judged packets count from 0",
         "to" => "the last packet of the interval",
         "count" => "the packets that are counted",
@@ -193,9 +193,9 @@ impl Command {
         match self {
             Command::Check => "judges each video of the description in each capture",
             Command::Verify => {
-                "checks one fail that is claimed of a sender, from the capture alone"
+                "checks one violation that is claimed of a sender, from the capture alone"
             }
-            Command::VerifyReport => "checks in that way each fail that a JSON report has",
+            Command::VerifyReport => "checks in that way each violation of a JSON report",
             Command::SelfTest => {
                 "makes five captures of so many frames, four of them with a flaw, and judges each"
             }
@@ -208,7 +208,7 @@ impl Command {
             Command::Skew => {
                 "says how far two flows that carry the same packets are apart, packet by packet"
             }
-            Command::Scan => "says what a capture holds, before there is a description",
+            Command::Scan => "says what a capture holds, without a description",
             Command::Measure => {
                 "says how near each video comes to its limits, when, and where in the frame"
             }
@@ -229,7 +229,7 @@ impl Command {
             }
             Command::Verify => "Prints `confirmed`, `not confirmed`, or `not judged` and why.\n",
             Command::VerifyReport => {
-                "Prints for each fail `confirmed`, `not confirmed` or `not judged`; then the status.\n"
+                "Prints for each violation `confirmed`, `not confirmed` or `not judged`; then the status.\n"
             }
             Command::SelfTest => {
                 "Prints for each capture what is found in it, and the status of its report.\n"
@@ -244,10 +244,10 @@ impl Command {
                 "Prints how each capture ends, how many packets match, and the least and the greatest distance.\n"
             }
             Command::Scan => {
-                "Prints how the capture ends, what is passed over, and of each stream who sends to whom, its packets, rate\nand loss; with --json the same as JSON, with --draft a session description. The two exclude each other.\n"
+                "Prints how the capture ends, what is ignored, and of each stream who sends to whom, its packets, rate\nand loss; with --json the same as JSON, with --draft a session description. The two exclude each other.\n"
             }
             Command::Measure => {
-                "Prints as JSON how the capture ends, and of each judged run what bucket and buffers hold, how near that is\nto each type's limits, when frames begin and end, their RTP timestamps, and the gaps between packets.\n"
+                "Prints as JSON how the capture ends, and of each judged run what bucket and buffers hold, how near that is\nto each type's limits, when frames begin and end, their RTP timestamps, and the times between packets.\n"
             }
             Command::Series => {
                 "Prints a header and for each judged packet when it comes, its place in the frame, and what bucket and\nbuffers hold; with --frames for each frame when it begins and ends, its RTP timestamp and its extremes.\n"
@@ -345,14 +345,14 @@ fn summaries(alloc: Global) -> Result<String, OutOfMemory>
 fn front_text() -> &'static str
     ensures { result.now ≡ page.front_text }
 {
-    "st2110_timing 1.0.0: judges the timing of video senders from packet captures, after SMPTE ST 2110-21:2017.\n\nWords:\n"
+    "st2110_timing 1.0.0: judges the timing of video senders from packet captures, after SMPTE ST 2110-21:2017.\n\nCommands:\n"
 }
 
 /// And those after them.
 fn back_text() -> &'static str
     ensures { result.now ≡ page.back_text }
 {
-    "  help [COMMAND]\n      prints this text, or more of one command\n\nStatuses:\n  0 every declared type passes, or what was asked for was printed\n  1 a declared type fails, or a fail isn't confirmed\n  2 the words are no request\n  3 the session description is refused\n  4 a flow isn't judged as one run, or a capture is refused\n  5 an input couldn't be read\n  6 a write on standard output failed\n  7 memory ran out\n  9 the report isn't in the form of one\n\nRead on in docs/GUIDE.md, docs/FORMATS.md and docs/st2110_timing.1.\n"
+    "  help [COMMAND]\n      prints this text, or more of one command\n\nExit statuses:\n  0 every declared type passes, or the output was printed\n  1 a declared type fails, or a violation isn't confirmed\n  2 the command line is invalid\n  3 the session description is invalid\n  4 a flow isn't judged as one run, or a capture is malformed\n  5 an input couldn't be read\n  6 a write on standard output failed\n  7 memory ran out\n  9 the report is invalid\n\nRead on in docs/GUIDE.md, docs/FORMATS.md and docs/st2110_timing.1.\n"
 }
 
 /// The text of one command.
