@@ -1,6 +1,8 @@
 -- for other crates
 pub mod Confirmed
+pub mod JudgeTold
 pub mod Judges
+pub mod PartsTold
 pub mod Runs
 -- of this crate alone
 mod Awaiting
@@ -8,6 +10,7 @@ mod Banks
 mod Expecting
 mod Feeding
 mod Fit
+mod FlowTold
 mod Flows
 mod Going
 mod HandWorked
@@ -15,11 +18,13 @@ mod Judging
 mod Limits
 mod Lulls
 mod Targets
+mod Told
 mod Metering
 mod OneTakes
 mod Prefixes
 mod Readings
 mod Rows
+mod RunTold
 mod SenderTypes
 mod Verdicts
 mod Whole

@@ -1,6 +1,11 @@
 -- what is promised
 pub mod Row
 pub mod Rows
+pub mod Parts
+pub mod Metered
+pub mod Telling
+pub mod Measured
+pub mod Meterings
 pub mod Fails
 pub mod Stands
 pub mod BankStands

@@ -2,7 +2,7 @@ use Rattle.std.proofs.Common.{refl}
 use Rattle.fail_interval.proofs.judge.State.feed_on.Goals as goal
 
 pub returns-in-Going-clause-goes_on : goal.returns-in-Going-clause-goes_on
-returns-in-Going-clause-goes_on c = λ took. record {
+returns-in-Going-clause-goes_on g c = λ took. record {
   flow = c.in-Going.flow;
   later = c.feed_on.new.self;
   is = c.in-Going.is;
@@ -10,4 +10,15 @@ returns-in-Going-clause-goes_on c = λ took. record {
   media = c.feed_on.ensures.media;
   tai = c.feed_on.ensures.tai;
   goes = c.feed_on.ensures.goes_on took;
+}
+
+pub returns-in-Going-clause-tells : goal.returns-in-Going-clause-tells
+returns-in-Going-clause-tells g c = λ took wants. record {
+  flow = c.in-Going.flow;
+  later = c.feed_on.new.self;
+  is = c.in-Going.is;
+  becomes = refl;
+  media = c.feed_on.ensures.media;
+  tai = c.feed_on.ensures.tai;
+  goes = c.feed_on.ensures.tells took wants;
 }
