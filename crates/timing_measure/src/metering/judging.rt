@@ -24,7 +24,7 @@ pub struct Findings {
 /// The judge of a flow in one of its readings, and beside it how the judged packets of its runs begin and end.
 #[derive(Drop)]
 pub struct Judging {
-    pub judge: FlowJudge,
+    pub judge: FlowJudge<()>,
     pub edges: EdgeMeter,
 }
 
@@ -65,7 +65,8 @@ impl Judging {
         ensures stands { IfOk result (λ _. JudgesOn self.old self.new packet.now) }
     {
         self.edges.pass(packet)?;
-        self.judge.feed(packet.rec, packet.at, packet.rtp)
+        self.judge
+            .feed(packet.rec, packet.at, packet.rtp, &mut ())
     }
 
     /// Takes the next packet as `feed` does, where it is the one that is expected.
@@ -79,7 +80,8 @@ impl Judging {
         ensures stands { IfOk result (λ _. JudgesOn self.old self.new packet.now) }
     {
         self.edges.pass(packet)?;
-        feed_expected(&mut self.judge, packet)
+        feed_expected(&mut self.judge, packet)?;
+        Ok(())
     }
 
     /// What the reading finds, where the flow ends here. `Err` is want of memory.
@@ -89,7 +91,7 @@ impl Judging {
     {
         let Judging { judge, edges } = self;
         Ok(Findings {
-            verdict: judge.finish().verdict,
+            verdict: judge.finish(&mut ())?.verdict,
             edges: Items::from_vec(edges.finish()?),
         })
     }

@@ -5,6 +5,6 @@ use Rattle.fail_interval.specs.BankStands.{StandsFor}
 use Rattle.fail_interval.specs.Taken.{HasRows}
 use Rattle.fail_interval.proofs.bank.Bank.finish.Given as goal
 
-abbrev pub invariant-loop-judge : goal.invariant-loop-judge
-invariant-loop-judge l = (media : List Media) (file tai : ℕ) (items : List Record) → StandsFor media file tai l.fn.self items
-    → HasRows tai file media items l.fn.rows.items l.rows.items l.judge-iterator.rest.items
+abbrev pub invariant-loop-flow : goal.invariant-loop-flow
+invariant-loop-flow l = (media : List Media) (file tai : ℕ) (items : List Record) → StandsFor media file tai l.fn.self items
+    → HasRows tai file media items l.fn.rows.items l.rows.items l.flow-iterator.rest.items

@@ -1,38 +1,29 @@
-use Rattle.std.proofs.Common.{◌≤◌, [], List, rules, sym, subst, take_all}
-use Rattle.std.proofs.lemmas.List.Elements.{All-nil, All-same}
-use Rattle.timing_base.specs.Media.{Media}
-use Rattle.fail_interval.specs.Stands.{count_fed}
-use Rattle.fail_interval.specs.BankStands.{AreJudgesOf}
-use Rattle.fail_interval.specs.declared.media_judge.MediaJudge.{MediaJudge}
-use Rattle.fail_interval.proofs.Banks.{few-more, judges-more}
-use Rattle.fail_interval.proofs.OneTakes.{order-made}
+use Rattle.std.proofs.Common.{[], ◌∷◌, ◌++◌, ap, rules, subst, sym, ◌∙◌}
+use Rattle.std.proofs.lemmas.List.Elements.{All-push, All-same}
+use Rattle.timing_base.specs.Keys.{key_of}
+use Rattle.flow_demux.specs.Awaits.{AwaitsExpected}
+use Rattle.fail_interval.specs.Meterings.{expected_next}
+use Rattle.fail_interval.specs.Stands.{StandsFor, count_fed}
+use Rattle.fail_interval.proofs.Banks.{judges-more, most-push}
+use Rattle.fail_interval.specs.BankStands.{Judging, most_fed}
 use Rattle.fail_interval.proofs.bank.Bank.new.Goals as goal
 
-pub loop-number-init : goal.loop-number-init
-loop-number-init c = record {
-  stands = subst (λ (l : List MediaJudge). AreJudgesOf c.args.tai c.args.file 0 [] l []) (sym c.new-judges.ensures.items) tt;
-  few = All-same (λ j. count_fed j.judge ≤ 0) c.new-judges.result.items [] c.new-judges.ensures.items (All-nil (λ (j : MediaJudge). count_fed j.judge ≤ 0));
-}
-
 pub loop-number-preserved : goal.loop-number-preserved
-loop-number-preserved c = record {
-  stands = judges-more c.args.tai c.args.file c.loop-number.number c.args.media.now c.loop-number.judges.items c.push.new.self.items []
-      c.index-media-number.result c.new.result (search rules)
-      (sym c.index-media-number.is) c.loop-number.invariant.stands c.new.ensures.stands c.in_ok-push.ensures.items;
-  few = few-more c.loop-number.judges.items c.push.new.self.items c.new.result c.loop-number.invariant.few c.new.ensures.fed c.in_ok-push.ensures.items;
-}
-
-pub invariant_of-result : goal.invariant_of-result
-invariant_of-result c =
-    let stands =
-    subst (λ (l : List Media). AreJudgesOf c.args.tai c.args.file 0 l c.loop-number.judges.items [])
-    (take_all c.loop-number.number c.args.media.now c.loop-number-test.false) c.loop-number.invariant.stands in
+loop-number-preserved c =
+    let m = c.index-media-number.result in
+    let key = key_of c.args.file c.loop-number.number in
+    let flow = c.new-in-loop-number.result in
     record {
-      few = c.loop-number.invariant.few;
-      ordered = order-made c.in_ok-order.order c.args.tai c.args.file c.args.media.now c.loop-number.judges.items [] c.in_ok-order.ensures stands;
+      stands = judges-more c.args.tai c.args.file c.loop-number.number c.args.media.now c.loop-number.flows.items c.push.new.self.items []
+          m flow (search rules) (sym c.index-media-number.is) c.loop-number.invariant.stands
+          record {
+            media = c.new-in-loop-number.ensures.media;
+            judge = subst (λ (j : Judging). StandsFor m key c.args.tai j.judge []) (sym c.new-in-loop-number.ensures.taker) c.new.ensures.stands;
+          }
+          c.in_ok-push.ensures.items;
+      awaits = All-same (AwaitsExpected expected_next) c.push.new.self.items (c.loop-number.flows.items ++ flow ∷ []) c.in_ok-push.ensures.items
+          (All-push (AwaitsExpected expected_next) c.loop-number.flows.items flow c.loop-number.invariant.awaits c.new-in-loop-number.ensures.awaits);
+      none = ap most_fed c.in_ok-push.ensures.items
+          ∙ most-push c.loop-number.flows.items flow c.loop-number.invariant.none
+          (ap (λ (j : Judging). count_fed j.judge) c.new-in-loop-number.ensures.taker ∙ c.new.ensures.none);
     }
-
-pub returns-clause-stands : goal.returns-clause-stands
-returns-clause-stands c =
-    subst (λ (l : List Media). AreJudgesOf c.args.tai c.args.file 0 l c.loop-number.judges.items [])
-    (take_all c.loop-number.number c.args.media.now c.loop-number-test.false) c.loop-number.invariant.stands

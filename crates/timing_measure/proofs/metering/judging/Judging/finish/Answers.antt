@@ -5,6 +5,6 @@ use Rattle.timing_measure.proofs.metering.judging.Judging.finish.Goals as goal
 
 pub returns : goal.returns
 returns c = λ m number tai packets h. record {
-  verdict_is = ap (λ (r : Row). r.verdict) (c.finish.ensures m (key_of 0 number) tai packets h.judge_is);
-  edges_are = c.from_vec.ensures ∙ c.in_ok-finish.ensures packets h.edges_are;
+  verdict_is = ap (λ (r : Row). r.verdict) (c.in_ok-finish.ensures.row m (key_of 0 number) tai packets h.judge_is);
+  edges_are = c.from_vec.ensures ∙ c.in_ok-finish-2.ensures packets h.edges_are;
 }
