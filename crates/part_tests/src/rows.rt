@@ -25,6 +25,7 @@ mod window;
 // Flows and claims.
 mod bank;
 mod checker;
+mod demux;
 mod judge;
 
 // What runs beside each other.
