@@ -1,10 +1,15 @@
+use Rattle.std.proofs.Common.{Ok, ap, subst}
+use Rattle.fail_interval.specs.Stands.{Takes}
 use Rattle.timing_reach.proofs.Feedings.{takes-expected, takes-if}
 use Rattle.timing_reach.proofs.judged.feeding.feed_expected.Goals as goal
 
-pub returns-then-in_ok-feed_judged-clause-takes : goal.returns-then-in_ok-feed_judged-clause-takes
-returns-then-in_ok-feed_judged-clause-takes c =
+pub returns-then-branch-clause-takes : goal.returns-then-branch-clause-takes
+returns-then-branch-clause-takes c =
     takes-expected c.args.judge.now c.feed_judged.new.self c.args.packet.now.rec c.args.packet.now.at c.args.packet.now.rtp c.requires.expected
-    (c.in_ok-feed_judged.ensures.took c.if-feed_judged.true)
+    (c.in_ok-feed_judged.ensures.took (ap Ok c.if-branch.true))
 
 pub returns-clause-takes : goal.returns-clause-takes
-returns-clause-takes c = takes-if c.args.judge.now _ c.args.packet.now c.feed.result c.feed.ensures.takes
+returns-clause-takes c =
+    takes-if c.args.judge.now _ c.args.packet.now c.feed.result
+    (subst (λ old. Takes old c.feed.new.self c.args.packet.now c.feed.result) (c.in_ok-feed_judged.ensures.other (ap Ok c.if-branch.false))
+    c.feed.ensures.takes)
