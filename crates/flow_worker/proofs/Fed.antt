@@ -1,7 +1,7 @@
 -- What the judges of a file are fed: when they are made, when a packet comes, and packets.
 use Rattle.std.proofs.Common.{◌≡◌, ◌≤◌, ◌<◌, ◌+◌, ℕ, Bool, true, false, if◌then◌else◌, eqb, List, [], ◌∷◌, ◌++◌, length, map, get_or, set, take, Some, None}
 use Rattle.std.proofs.Common.{refl, sym, ap, ◌∙◌, subst, eq-eqb, ne_eqb, append_assoc, append-nil, length-set, arith, ◌^◌, drop, length-append}
-use Rattle.std.specs.Prelude.{⊤, ◌==◌, ◌&&◌, Option, Result, Ok, Err, IfOk, IfSome, IfNone, OnOk, IsTrue}
+use Rattle.std.specs.Prelude.{◌==◌, ◌&&◌, Option, Result, Ok, Err, IfOk, IfSome, IfNone, OnOk, IsTrue}
 use Rattle.std.specs.List.{cons_option}
 use Rattle.std.proofs.Math.Bool.{beq}
 use Rattle.std.proofs.lemmas.Bool.{and_parts, eqb-true}

@@ -1,8 +1,7 @@
-use Rattle.std.proofs.Common.{◌≡◌, ◌<◌, ◌+◌, length, true, ap, subst, sym, ◌∙◌, arith, rules}
+use Rattle.std.proofs.Common.{◌≡◌, ◌<◌, ◌+◌, length, ap, subst, sym, ◌∙◌, arith, rules}
 use Rattle.std.specs.Prelude.{Some, Ok}
 use Rattle.timing_base.specs.Captures.{Record}
 use Rattle.ruled_intake.specs.Packets.{Packet, packet_of}
-use Rattle.udp_rtp.specs.Awaited.{awaited}
 use Rattle.udp_rtp.proofs.Awaiting.{goes-on-to, packet-awaited}
 use Rattle.flow_worker.specs.Targeted.{media_to}
 use Rattle.flow_worker.proofs.Expecting.{ahead, carried-ahead, expected_ahead, expected-put, packet-expected}
