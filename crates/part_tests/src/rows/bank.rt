@@ -24,7 +24,12 @@ pub fn frame(more: u8, number: u8, marker: bool, group: u8) -> [u8; 56] {
 }
 
 // A record of the first bytes of a frame, all of them or fewer.
-pub fn put(text: &mut Vec<u8>, nanos: u32, frame: &[u8; 56], captured: u8) -> Result<(), AllocError> {
+pub fn put(
+    text: &mut Vec<u8>,
+    nanos: u32,
+    frame: &[u8; 56],
+    captured: u8,
+) -> Result<(), AllocError> {
     let captured = captured.min(56);
     for number in [1_600_000_000, nanos, u32::from(captured), 56] {
         text.extend_from_slice(&number.to_le_bytes())?;
@@ -47,7 +52,11 @@ fn capture(alloc: Global) -> Result<Vec<u8>, AllocError> {
 }
 
 // A reader of this text, which comes in pieces of 100 bytes. The reads of these numbers fail.
-pub fn open(alloc: Global, text: &[u8], fails: &[u32]) -> Result<PcapReader<MemorySource>, OpenFault>
+pub fn open(
+    alloc: Global,
+    text: &[u8],
+    fails: &[u32],
+) -> Result<PcapReader<MemorySource>, OpenFault>
     ensures fresh { IfOk result (λ reader. end_note reader ≡ None) }
     ensures first { IfOk result (λ reader. frame_count reader ≡ 0) }
     ensures most { IfOk result (λ reader. most_of reader ≤ 2 ^ 40) }

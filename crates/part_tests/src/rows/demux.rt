@@ -146,8 +146,16 @@ fn two_flows_in_turn(rt: HostRuntime) -> Result<(), Fail> {
     let first = [(1, false), (3, false), (5, true), (8, false), (10, false)];
     let second = [(2, false), (4, true), (7, true), (9, false)];
     same(&rt, &given.len(), &2);
-    same(&rt, &given.get(0).map(|all| all.as_slice()), &Some(&first[..]));
-    same(&rt, &given.get(1).map(|all| all.as_slice()), &Some(&second[..]));
+    same(
+        &rt,
+        &given.get(0).map(|all| all.as_slice()),
+        &Some(&first[..]),
+    );
+    same(
+        &rt,
+        &given.get(1).map(|all| all.as_slice()),
+        &Some(&second[..]),
+    );
     Ok(())
 }
 
