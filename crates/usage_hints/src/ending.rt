@@ -1,5 +1,8 @@
 //! What is printed after the line of a status.
 
+ghost use Rattle.std.specs.Prelude.{◌≡◌, ◌≤◌, IfOk, length, string_bytes, true};
+ghost use Rattle.usage_hints.specs.Lines.{ends_line};
+
 use crate::sdp::expected;
 use crate::escape::shown;
 use crate::usage::{not_text_lines, usage_hint};
@@ -163,7 +166,9 @@ fn lines(alloc: Global, ending: Ending<'_>) -> Result<String, OutOfMemory> {
 }
 
 /// Whether a text is nothing, or ends with the end of a line.
-fn ends_line(text: &str) -> bool {
+fn ends_line(text: &str) -> bool
+    ensures { result ≡ ends_line text.now }
+{
     match text.as_bytes().last() {
         Some(byte) => *byte == 10,
         None => true,
@@ -171,7 +176,10 @@ fn ends_line(text: &str) -> bool {
 }
 
 /// The lines that are printed after that of a status, or nothing where there is nothing to add. `Err` is want of memory.
-pub fn hint(alloc: Global, ending: Ending<'_>) -> Result<String, OutOfMemory> {
+pub fn hint(alloc: Global, ending: Ending<'_>) -> Result<String, OutOfMemory>
+    ensures few { IfOk result (λ s. length (string_bytes s) ≤ 4096) }
+    ensures lines { IfOk result (λ s. ends_line (string_bytes s) ≡ true) }
+{
     let text = lines(alloc, ending)?;
     if text.len() <= MOST && ends_line(text.as_str()) {
         Ok(text)

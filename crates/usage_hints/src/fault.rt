@@ -38,7 +38,7 @@ pub(crate) enum Mistake<'a> {
     /// No capture is named.
     NoCapture,
     /// So many captures are the most.
-    TooManyCaptures(u32),
+    TooManyCaptures(usize),
     /// Without `--joined` one capture is the most.
     TooManyUnjoined,
     /// This is no name of a file.
@@ -182,7 +182,7 @@ fn bad_value(alloc: Global, name: &'static str, value: &str) -> Result<String, O
 }
 
 /// The line of a number of captures that is too great.
-fn too_many(alloc: Global, command: Command, most: u32) -> Result<String, OutOfMemory> {
+fn too_many(alloc: Global, command: Command, most: usize) -> Result<String, OutOfMemory> {
     let name = command.name();
     if most == 1 {
         format!(in alloc; "{name} takes one capture\n")

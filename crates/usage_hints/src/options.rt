@@ -1,5 +1,10 @@
 //! The options and flags of a command, as its parser has them.
 
+ghost use Rattle.std.specs.Prelude.{◌≡◌, IfOk, filter_map, map, option_map};
+ghost use Rattle.clap.specs.Walk.{rule_of};
+ghost use Rattle.timing_words.specs.Request.{sorts};
+ghost use Rattle.usage_hints.specs.Options.{sort_in, sort_of};
+
 use clap::Arg;
 use std::alloc::{AllocError as OutOfMemory, Global};
 use timing_words::Command;
@@ -13,23 +18,38 @@ pub(crate) struct Choice {
     pub(crate) valued: bool,
 }
 
-/// Adds an argument of a parser, unless it is that of the names.
-fn add_choice(choices: &mut Vec<Choice>, arg: &Arg<'static>) -> Result<(), OutOfMemory> {
-    if let Some(name) = arg.get_long() {
-        let valued = arg.get_num_args().is_none();
-        choices.push(Choice { name, valued })?;
+/// What an argument of a parser is, unless it is that of the names.
+fn choice_of(arg: &Arg<'static>) -> Option<Choice>
+    ensures { option_map sort_of result ≡ sort_in (rule_of arg.now) }
+{
+    match arg.get_long() {
+        Some(name) => Some(Choice {
+            name,
+            valued: arg.get_num_args().is_none(),
+        }),
+        None => None,
     }
-    Ok(())
+}
+
+/// The options and flags among the arguments of a parser.
+fn choices_in(alloc: Global, args: &[Arg<'static>]) -> Result<Vec<Choice>, OutOfMemory>
+    ensures { IfOk result (λ v. map sort_of v.items ≡ filter_map (λ a. sort_in (rule_of a)) args.now) }
+{
+    let mut choices = Vec::new(alloc);
+    for arg in args {
+        if let Some(choice) = choice_of(arg) {
+            choices.push(choice)?;
+        }
+    }
+    Ok(choices)
 }
 
 /// The options and flags that a command takes, in the order of its parser.
-pub(crate) fn choices_of(alloc: Global, command: Command) -> Result<Vec<Choice>, OutOfMemory> {
+pub(crate) fn choices_of(alloc: Global, command: Command) -> Result<Vec<Choice>, OutOfMemory>
+    ensures { IfOk result (λ v. map sort_of v.items ≡ sorts command) }
+{
     let parser: clap::Command<'static> = command.parser(alloc)?;
-    let mut choices = Vec::new(alloc);
-    for arg in parser.get_arguments() {
-        add_choice(&mut choices, arg)?;
-    }
-    Ok(choices)
+    choices_in(alloc, parser.get_arguments())
 }
 
 /// The one of this name.

@@ -44,14 +44,6 @@ fn is_dashed(word: &str) -> bool {
     word.len() > 1 && word.starts_with("-")
 }
 
-/// The value of an option that stands in an argument of its own.
-fn next_value<'a>(name: &'static str, next: Option<&'a String>) -> Result<&'a str, Stop<'a>> {
-    match next {
-        Some(word) if !is_dashed(word.as_str()) => Ok(word.as_str()),
-        _ => Err(Stop::Mistake(Mistake::NoValue(name))),
-    }
-}
-
 /// The name and the value of an argument `--name` or `--name=value`.
 fn name_and_value(word: &str) -> (&str, Option<&str>) {
     match word.split_once("=") {
@@ -76,40 +68,76 @@ fn choice_in<'a>(
     }
 }
 
+/// The arguments up to one of them.
+#[derive(Drop)]
+struct Cut<'a> {
+    parts: Parts<'a>,
+    /// The option whose value is due.
+    due: Option<&'static str>,
+    /// Whether `--` came, so that all others are names.
+    are_names: bool,
+}
+
+impl<'a> Cut<'a> {
+    /// Takes the argument that begins with a dash.
+    fn take_dashed(&mut self, choices: &[Choice], word: &'a str) -> Result<(), Stop<'a>> {
+        if word == "--" {
+            self.are_names = true;
+            return Ok(());
+        }
+        let (choice, value) = choice_in(choices, word)?;
+        match value {
+            Some(_) if !choice.valued => Err(Stop::Mistake(Mistake::ValueOfFlag(choice.name))),
+            None if choice.valued => {
+                self.due = Some(choice.name);
+                Ok(())
+            }
+            value => self.parts.add_use(choice.name, value),
+        }
+    }
+
+    /// Takes the next argument.
+    fn take(&mut self, choices: &[Choice], word: &'a str) -> Result<(), Stop<'a>> {
+        if let Some(name) = self.due {
+            if is_dashed(word) {
+                return Err(Stop::Mistake(Mistake::NoValue(name)));
+            }
+            self.due = None;
+            return self.parts.add_use(name, Some(word));
+        }
+        if is_dashed(word) && !self.are_names {
+            return self.take_dashed(choices, word);
+        }
+        self.parts.names.push(word)?;
+        Ok(())
+    }
+
+    /// The parts, unless a value is due.
+    fn finish(self) -> Result<Parts<'a>, Stop<'a>> {
+        match self.due {
+            Some(name) => Err(Stop::Mistake(Mistake::NoValue(name))),
+            None => Ok(self.parts),
+        }
+    }
+}
+
 /// Cuts the arguments after a command as its parser does: up to `--`, what begins with a dash is an option or a flag.
 pub(crate) fn parts_of<'a>(
     alloc: Global,
     choices: &[Choice],
     words: &'a [String],
 ) -> Result<Parts<'a>, Stop<'a>> {
-    let mut parts = Parts {
+    let parts = Parts {
         uses: Vec::new(alloc),
         names: Vec::new(alloc),
     };
-    let mut at = 0;
-    let mut are_names = false;
-    while at < words.len() {
-        let word = words[at].as_str();
-        at += 1;
-        if are_names || !is_dashed(word) {
-            parts.names.push(word)?;
-        } else if word == "--" {
-            are_names = true;
-        } else {
-            let (choice, value) = choice_in(choices, word)?;
-            if !choice.valued {
-                if value.is_some() {
-                    return Err(Stop::Mistake(Mistake::ValueOfFlag(choice.name)));
-                }
-                parts.add_use(choice.name, None)?;
-            } else if value.is_some() {
-                parts.add_use(choice.name, value)?;
-            } else {
-                let value = next_value(choice.name, words.get(at))?;
-                at += 1;
-                parts.add_use(choice.name, Some(value))?;
-            }
-        }
+    let mut cut = Cut {
+        parts,
+        due: None,
+        are_names: false,
+    };
+    for word in words {
+        cut.take(choices, word.as_str())?;
     }
-    Ok(parts)
+    cut.finish()
 }

@@ -51,7 +51,7 @@ fn most_captures(command: Command, joined: bool) -> usize {
 fn excess<'a>(command: Command, most: usize) -> Mistake<'a> {
     match command {
         Command::Verify if most == 1 => Mistake::TooManyUnjoined,
-        _ => Mistake::TooManyCaptures(most as u32),
+        _ => Mistake::TooManyCaptures(most),
     }
 }
 
