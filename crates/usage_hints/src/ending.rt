@@ -1,7 +1,8 @@
 //! What is printed after the line of a status.
 
 ghost use Rattle.std.specs.Prelude.{◌≡◌, ◌≤◌, IfOk, length, string_bytes, true};
-ghost use Rattle.usage_hints.specs.Lines.{ends_line};
+ghost use Rattle.std.specs.List.{list_all};
+ghost use Rattle.usage_hints.specs.Lines.{ends_line, is_line_byte};
 
 use crate::sdp::expected;
 use crate::escape::shown;
@@ -175,13 +176,21 @@ fn ends_line(text: &str) -> bool
     }
 }
 
+/// Whether each byte of a text ends a line, or is no control character of ASCII.
+fn are_plain(bytes: &[u8]) -> bool
+    ensures { result ≡ list_all is_line_byte bytes.now }
+{
+    bytes.iter().all(|b| *b == 10 || 32 <= *b && *b != 127)
+}
+
 /// The lines that are printed after that of a status, or nothing where there is nothing to add. `Err` is want of memory.
 pub fn hint(alloc: Global, ending: Ending<'_>) -> Result<String, OutOfMemory>
     ensures few { IfOk result (λ s. length (string_bytes s) ≤ 4096) }
     ensures lines { IfOk result (λ s. ends_line (string_bytes s) ≡ true) }
+    ensures plain { IfOk result (λ s. list_all is_line_byte (string_bytes s) ≡ true) }
 {
     let text = lines(alloc, ending)?;
-    if text.len() <= MOST && ends_line(text.as_str()) {
+    if text.len() <= MOST && ends_line(text.as_str()) && are_plain(text.as_bytes()) {
         Ok(text)
     } else {
         Ok(String::new(alloc))

@@ -96,20 +96,28 @@ impl<'a> Cut<'a> {
         }
     }
 
-    /// Takes the next argument.
-    fn take(&mut self, choices: &[Choice], word: &'a str) -> Result<(), Stop<'a>> {
-        if let Some(name) = self.due {
-            if is_dashed(word) {
-                return Err(Stop::Mistake(Mistake::NoValue(name)));
-            }
-            self.due = None;
-            return self.parts.add_use(name, Some(word));
+    /// Takes the argument as the value of an option.
+    fn take_value(&mut self, name: &'static str, word: &'a str) -> Result<(), Stop<'a>> {
+        if is_dashed(word) {
+            return Err(Stop::Mistake(Mistake::NoValue(name)));
         }
-        if is_dashed(word) && !self.are_names {
-            return self.take_dashed(choices, word);
-        }
+        self.due = None;
+        self.parts.add_use(name, Some(word))
+    }
+
+    /// Takes the argument as a name.
+    fn take_name(&mut self, word: &'a str) -> Result<(), Stop<'a>> {
         self.parts.names.push(word)?;
         Ok(())
+    }
+
+    /// Takes the next argument.
+    fn take(&mut self, choices: &[Choice], word: &'a str) -> Result<(), Stop<'a>> {
+        match self.due {
+            Some(name) => self.take_value(name, word),
+            None if is_dashed(word) && !self.are_names => self.take_dashed(choices, word),
+            None => self.take_name(word),
+        }
     }
 
     /// The parts, unless a value is due.
