@@ -68,63 +68,52 @@ fn choice_in<'a>(
     }
 }
 
-/// The arguments up to one of them.
-#[derive(Drop)]
-struct Cut<'a> {
-    parts: Parts<'a>,
-    /// The option whose value is due.
-    due: Option<&'static str>,
-    /// Whether `--` came, so that all others are names.
-    are_names: bool,
+/// What the next argument is read as.
+#[derive(Clone, Copy)]
+enum Next {
+    /// An option, a flag or a name.
+    Any,
+    /// The value of this option.
+    Value(&'static str),
+    /// A name, since `--` came.
+    Name,
 }
 
-impl<'a> Cut<'a> {
+impl<'a> Parts<'a> {
     /// Takes the argument that begins with a dash.
-    fn take_dashed(&mut self, choices: &[Choice], word: &'a str) -> Result<(), Stop<'a>> {
+    fn take_dashed(&mut self, choices: &[Choice], word: &'a str) -> Result<Next, Stop<'a>> {
         if word == "--" {
-            self.are_names = true;
-            return Ok(());
+            return Ok(Next::Name);
         }
         let (choice, value) = choice_in(choices, word)?;
         match value {
             Some(_) if !choice.valued => Err(Stop::Mistake(Mistake::ValueOfFlag(choice.name))),
-            None if choice.valued => {
-                self.due = Some(choice.name);
-                Ok(())
+            None if choice.valued => Ok(Next::Value(choice.name)),
+            value => {
+                self.add_use(choice.name, value)?;
+                Ok(Next::Any)
             }
-            value => self.parts.add_use(choice.name, value),
         }
     }
 
     /// Takes the argument as the value of an option.
-    fn take_value(&mut self, name: &'static str, word: &'a str) -> Result<(), Stop<'a>> {
+    fn take_value(&mut self, name: &'static str, word: &'a str) -> Result<Next, Stop<'a>> {
         if is_dashed(word) {
             return Err(Stop::Mistake(Mistake::NoValue(name)));
         }
-        self.due = None;
-        self.parts.add_use(name, Some(word))
+        self.add_use(name, Some(word))?;
+        Ok(Next::Any)
     }
 
-    /// Takes the argument as a name.
-    fn take_name(&mut self, word: &'a str) -> Result<(), Stop<'a>> {
-        self.parts.names.push(word)?;
-        Ok(())
-    }
-
-    /// Takes the next argument.
-    fn take(&mut self, choices: &[Choice], word: &'a str) -> Result<(), Stop<'a>> {
-        match self.due {
-            Some(name) => self.take_value(name, word),
-            None if is_dashed(word) && !self.are_names => self.take_dashed(choices, word),
-            None => self.take_name(word),
-        }
-    }
-
-    /// The parts, unless a value is due.
-    fn finish(self) -> Result<Parts<'a>, Stop<'a>> {
-        match self.due {
-            Some(name) => Err(Stop::Mistake(Mistake::NoValue(name))),
-            None => Ok(self.parts),
+    /// Takes the next argument, and returns what the one after it is read as.
+    fn take(&mut self, choices: &[Choice], next: Next, word: &'a str) -> Result<Next, Stop<'a>> {
+        match next {
+            Next::Value(name) => self.take_value(name, word),
+            Next::Any if is_dashed(word) => self.take_dashed(choices, word),
+            Next::Any | Next::Name => {
+                self.names.push(word)?;
+                Ok(next)
+            }
         }
     }
 }
@@ -135,17 +124,16 @@ pub(crate) fn parts_of<'a>(
     choices: &[Choice],
     words: &'a [String],
 ) -> Result<Parts<'a>, Stop<'a>> {
-    let parts = Parts {
+    let mut parts = Parts {
         uses: Vec::new(alloc),
         names: Vec::new(alloc),
     };
-    let mut cut = Cut {
-        parts,
-        due: None,
-        are_names: false,
-    };
+    let mut next = Next::Any;
     for word in words {
-        cut.take(choices, word.as_str())?;
+        next = parts.take(choices, next, word.as_str())?;
     }
-    cut.finish()
+    match next {
+        Next::Value(name) => Err(Stop::Mistake(Mistake::NoValue(name))),
+        _ => Ok(parts),
+    }
 }
