@@ -1,5 +1,5 @@
 -- The options and flags that are found in a parser are those that the grammar has.
-use Rattle.std.proofs.Common.{◌≡◌, ◌∙◌, refl, ap, List, [], ◌∷◌, ◌++◌, map, true, false, Bool, Option, Some, filter_map, Contains, IfOk, IfSome, Bor}
+use Rattle.std.proofs.Common.{◌≡◌, ◌∙◌, refl, ap, List, [], ◌∷◌, ◌++◌, map, true, false, Bool, Some, filter_map}
 use Rattle.std.specs.List.{cons_option}
 use Rattle.clap.specs.Words.{App, Rule}
 use Rattle.clap.specs.Walk.{rule_of}

@@ -1,5 +1,5 @@
 -- The options, flags and commands that a hint may name.
-use Rattle.std.specs.Prelude.{◌≡◌, Bool, List, Option, is_none, map, option_map}
+use Rattle.std.specs.Prelude.{◌≡◌, List, Option, is_none, map, option_map}
 use Rattle.clap.specs.Words.{Rule}
 use Rattle.timing_words.specs.Help.{name_of}
 use Rattle.timing_words.specs.Line.{Sort, Text}

@@ -4,8 +4,8 @@ ghost use Rattle.std.specs.Prelude.{◌≡◌, ◌≤◌, IfOk, length, string_b
 ghost use Rattle.std.specs.List.{list_all};
 ghost use Rattle.usage_hints.specs.Lines.{ends_line, is_line_byte};
 
-use crate::sdp::expected;
 use crate::escape::shown;
+use crate::sdp::expected;
 use crate::usage::{not_text_lines, usage_hint};
 use sdp_reader::SdpFault;
 use std::alloc::{AllocError as OutOfMemory, Global};

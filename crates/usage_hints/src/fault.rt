@@ -122,8 +122,7 @@ fn usual_option(
     }
     if asks_output(word) {
         let option = quoted(alloc, word)?;
-        let text = format!(
-            in alloc;
+        let text = format!(in alloc;
             "unknown option {option}; the output goes to standard output, so end the command with > FILE\n"
         )?;
         return Ok(Some(text));
@@ -192,7 +191,11 @@ fn too_many(alloc: Global, command: Command, most: usize) -> Result<String, OutO
 }
 
 /// The line of a mistake in the arguments of a command.
-fn mistake_in(alloc: Global, command: Command, mistake: Mistake<'_>) -> Result<String, OutOfMemory> {
+fn mistake_in(
+    alloc: Global,
+    command: Command,
+    mistake: Mistake<'_>,
+) -> Result<String, OutOfMemory> {
     match mistake {
         Mistake::UnknownOption(word) => unknown_option(alloc, command, word),
         Mistake::NoValue(name) => {
@@ -209,16 +212,21 @@ fn mistake_in(alloc: Global, command: Command, mistake: Mistake<'_>) -> Result<S
         Mistake::NoCapture => String::from_str(alloc, "no capture is named\n"),
         Mistake::TooManyCaptures(most) => too_many(alloc, command, most),
         Mistake::TooManyUnjoined => {
-            String::from_str(alloc, "verify takes one capture, and with --joined at most 16\n")
+            String::from_str(
+                alloc,
+                "verify takes one capture, and with --joined at most 16\n",
+            )
         }
         Mistake::BadName(name) => {
             let name = shown(alloc, name)?;
-            format!(
-                in alloc;
+            format!(in alloc;
                 "\"{name}\" is no name of a file: expected 1 to 4096 bytes and no control character\n"
             )
         }
-        Mistake::BadFrames => String::from_str(alloc, "selftest takes one number, 2 to 20000 frames\n"),
+        Mistake::BadFrames => String::from_str(
+            alloc,
+            "selftest takes one number, 2 to 20000 frames\n",
+        ),
         _ => String::from_str(alloc, "the arguments are invalid\n"),
     }
 }

@@ -53,10 +53,7 @@ fn name_and_value(word: &str) -> (&str, Option<&str>) {
 }
 
 /// The option or flag that an argument names, with the value that stands in it.
-fn choice_in<'a>(
-    choices: &[Choice],
-    word: &'a str,
-) -> Result<(Choice, Option<&'a str>), Stop<'a>> {
+fn choice_in<'a>(choices: &[Choice], word: &'a str) -> Result<(Choice, Option<&'a str>), Stop<'a>> {
     let (dashed, value) = name_and_value(word);
     let found = match dashed.strip_prefix("--") {
         Some(name) => choice_named(choices, name),

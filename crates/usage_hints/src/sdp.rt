@@ -9,7 +9,8 @@ pub(crate) fn expected(cause: SdpCause) -> &'static str {
             "the line has a byte 0 or a CR within it; expected text, and LF or CR LF at its end"
         }
         SdpCause::NoVersion => "expected v=0 as the first line",
-        SdpCause::BadLine => "expected a line that begins with a letter a to z and =, as in s=Camera",
+        SdpCause::BadLine =>
+            "expected a line that begins with a letter a to z and =, as in s=Camera",
         SdpCause::BadMedia => {
             "expected m=video PORT RTP/AVP FORMAT, PORT 1 to 65535, FORMAT 0 to 127, as in m=video 50000 RTP/AVP 96"
         }

@@ -1,4 +1,4 @@
-use Rattle.std.proofs.Common.{◌≡◌, ◌∙◌, ap, Contains, IfOk, IfSome}
+use Rattle.std.proofs.Common.{◌≡◌, ◌∙◌, ap}
 use Rattle.timing_words.specs.Request.{sorts}
 use Rattle.usage_hints.specs.Options.{names_in, option_names}
 use Rattle.usage_hints.proofs.Sorts.{names_same}
