@@ -56,7 +56,7 @@ compare_run() {
     local status=$1 wanted=0 wrong=0
     [ ! -e "$case/status" ] || read -r wanted < "$case/status"
     if [ "$status" != "$wanted" ]; then echo "    exit status $status, and not $wanted"; wrong=1; fi
-    compare "$case/stderr" "$out.stderr" || wrong=1
+    compare "$errors" "$out.stderr" || wrong=1
     if [ -e "$case/has" ]; then
         compare_pieces "$case/has" yes || wrong=1
         compare_pieces "$case/hasnt" no || wrong=1
@@ -90,9 +90,14 @@ run_line() {
     run_one "$program" "${words[@]}"
 }
 
+# Prints the standard error that the case wants of the numbered line of `args`. In `stderrs` a line `--` stands between two of them.
+wanted_errors() {
+    awk -v number="$1" '$0 == "--" { ends++; next } ends + 1 == number' "$case/stderrs"
+}
+
 # Runs a case in its copy, and says what is wrong.
 run_case() {
-    local line wrong=0
+    local line number=0 errors=$case/stderr wrong=0
     [ -s "$case/about" ] || { echo "  it has no file about"; return 1; }
     if [ -e make ] && ! bash -eu make > "$out.said" 2>&1; then
         echo "  its files can't be made:"; sed 's/^/    /' "$out.said"
@@ -104,6 +109,11 @@ run_case() {
     fi
     [ -s args ] || { echo "  it has neither args nor run"; return 1; }
     while IFS= read -r line || [ -n "$line" ]; do
+        number=$((number + 1))
+        if [ -e "$case/stderrs" ]; then
+            errors=$out.errors
+            wanted_errors "$number" > "$errors"
+        fi
         run_line "$line" || wrong=1
     done < "$case/args"
     return "$wrong"

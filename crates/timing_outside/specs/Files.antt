@@ -1,9 +1,10 @@
 -- How often the system has answered an error, and which names were fetched from it.
-use Rattle.std.specs.Prelude.{ℕ, List, Bool, ◌&&◌, ◌||◌, not, is_some, string_bytes}
+use Rattle.std.specs.Prelude.{ℕ, List, Bool, Option, None, ◌&&◌, ◌||◌, not, is_some, string_bytes}
 use Rattle.std.specs.Option.{option_map_or}
 use Rattle.std.specs.BTreeMap.{get_by_text}
 use Rattle.std.specs.Str.{bytes_eq}
 use Rattle.timing_outside.specs.Counts.{raised_if}
+use Rattle.timing_outside.specs.declared.files.FileFault.{FileFault}
 use Rattle.timing_outside.specs.declared.files.FileShelf.{FileShelf}
 use Rattle.timing_outside.specs.declared.files.FileSource.{FileSource}
 use Rattle.timing_outside.specs.declared.files.StdSink.{StdSink}
@@ -15,6 +16,10 @@ is_known shelf name = is_some (get_by_text shelf.names name)
 -- how often this name has failed; the names that weren't fetched have one count
 abbrev pub count_of : {R : Type 0} → FileShelf R → List ℕ → ℕ
 count_of shelf name = option_map_or (λ c. c.faults) (get_by_text shelf.names name) shelf.others
+
+-- the last fault of this name, where it was fetched and has failed
+abbrev pub fault_of : {R : Type 0} → FileShelf R → List ℕ → Option FileFault
+fault_of shelf name = option_map_or (λ c. c.fault) (get_by_text shelf.names name) None
 
 -- these are one name, or neither was fetched
 abbrev pub share_count : {R : Type 0} → FileShelf R → List ℕ → List ℕ → Bool

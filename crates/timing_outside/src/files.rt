@@ -13,7 +13,7 @@ use std::collections::BTreeMap;
 use std::io::{ErrorKind, Print, Read, Stderr, Stdout, Write};
 use std::rt::{Clock, Files};
 use std::time::Duration;
-use std::{fs, io, thread};
+use std::{fmt, fs, io, thread};
 
 /// How often a call that a signal interrupts is tried again before it counts as failed.
 const TRIES: u32 = 1000;
@@ -21,10 +21,42 @@ const TRIES: u32 = 1000;
 /// Milliseconds after which a stream that had no room is written to again.
 const REST: u64 = 1;
 
-/// How often a name has failed.
+/// Why a file couldn't be opened or read.
+#[derive(Clone, Copy)]
+pub enum FileFault {
+    /// The error of the system.
+    System(io::Error),
+    /// The name was fetched before and isn't that of a regular file, so that its contents are gone.
+    ReadBefore,
+    /// A second reading found other contents.
+    Changed,
+}
+
+impl fmt::Display for FileFault {
+    fn fmt<W: fmt::Write>(&self, f: &mut fmt::Formatter<W>) -> fmt::Result {
+        match self {
+            FileFault::System(error) => write!(f, "{error}"),
+            FileFault::ReadBefore => f.write_str(
+                "what isn't a regular file can be read only once, and this run needs it twice",
+            ),
+            FileFault::Changed => f.write_str("the file changed while it was read"),
+        }
+    }
+}
+
+/// Why a file isn't open.
+enum Unopened {
+    /// This fault, which is counted.
+    Fault(FileFault),
+    /// Memory ran out.
+    OutOfMemory,
+}
+
+/// How often a name has failed, and its last fault.
 #[derive(Drop)]
 pub(crate) struct NameCount {
     faults: u64,
+    fault: Option<FileFault>,
     ghost within: { faults < 2 ^ 64 },
 }
 
@@ -38,12 +70,13 @@ pub struct FileShelf<R: Drop> {
     others: u64,
 }
 
-/// An open file under its name. It counts each read that fails.
+/// An open file under its name. It counts each read that fails, and keeps the last cause.
 #[derive(Drop)]
 pub struct FileSource<F: Drop> {
     name: String,
     file: F,
     faults: u64,
+    fault: Option<FileFault>,
 }
 
 /// One of the two streams that a program writes to.
@@ -63,7 +96,7 @@ pub struct StdSink<C: Drop> {
 }
 
 impl<R: Files + AllocGlobal + Drop> FileShelf<R> {
-    ghost use Rattle.timing_outside.specs.Files.{count_of, count_after, is_known, name_of, source_faults};
+    ghost use Rattle.timing_outside.specs.Files.{count_of, count_after, fault_of, is_known, name_of, source_faults};
 
     /// The files that this runtime reaches, of which none was fetched.
     pub fn new(rt: R) -> FileShelf<R>
@@ -90,7 +123,11 @@ impl<R: Files + AllocGlobal + Drop> FileShelf<R> {
         }
         let key = String::from_str(self.rt.alloc(), name)?;
         let faults = self.faults_of(name);
-        self.names.insert(key, NameCount { faults })?;
+        let count = NameCount {
+            faults,
+            fault: None,
+        };
+        self.names.insert(key, count)?;
         Ok(false)
     }
 
@@ -104,13 +141,26 @@ impl<R: Files + AllocGlobal + Drop> FileShelf<R> {
         }
     }
 
-    /// Counts a fault of this name.
+    /// The last fault of this name, where it was fetched and has failed.
+    pub fn fault_of(&self, name: &str) -> Option<FileFault>
+        ensures { result ≡ fault_of self.now name.now }
+    {
+        match self.names.get(name) {
+            Some(count) => count.fault,
+            None => None,
+        }
+    }
+
+    /// Counts a fault of this name, and keeps it where the name was fetched.
     #[tactic(auto, using(std::proofs::lemmas::Map::Text::text_keys))]
-    fn raise(&mut self, name: &str)
+    fn raise(&mut self, name: &str, fault: Option<FileFault>)
         ensures { (n : List ℕ) → count_of self.new n ≡ count_after true self.old name.now n }
     {
         match self.names.get_mut(name) {
-            Some(count) => count.faults = count.faults.saturating_add(1),
+            Some(count) => {
+                count.faults = count.faults.saturating_add(1);
+                count.fault = fault;
+            }
             None => self.others = self.others.saturating_add(1),
         }
     }
@@ -125,21 +175,22 @@ impl<R: Files + AllocGlobal + Drop> FileShelf<R> {
 
     /// Opens the file of this name. Where it was fetched before, it is looked at first, and isn't
     /// opened where it isn't a regular file.
-    fn open(&self, name: String, again: bool) -> Result<FileSource<R::File>, OpenFault>
+    fn open(&self, name: String, again: bool) -> Result<FileSource<R::File>, Unopened>
         ensures named { IfOk result (λ s. name_of s ≡ string_bytes name) }
         ensures fresh { IfOk result (λ s. source_faults s ≡ 0) }
     {
         if again && !self.is_regular(name.as_str()) {
-            return Err(OpenFault::Failed);
+            return Err(Unopened::Fault(FileFault::ReadBefore));
         }
         match fs::open(&self.rt, name.as_str()) {
             Ok(file) => Ok(FileSource {
                 name,
                 file,
                 faults: 0,
+                fault: None,
             }),
-            Err(error) if error.kind() == ErrorKind::OutOfMemory => Err(OpenFault::OutOfMemory),
-            Err(_) => Err(OpenFault::Failed),
+            Err(error) if error.kind() == ErrorKind::OutOfMemory => Err(Unopened::OutOfMemory),
+            Err(error) => Err(Unopened::Fault(FileFault::System(error))),
         }
     }
 }
@@ -177,11 +228,14 @@ where
     {
         let held = String::from_str(self.rt.alloc(), name)?;
         let again = self.admit(name)?;
-        let opened = self.open(held, again);
-        if let Err(OpenFault::Failed) = opened {
-            self.raise(name);
+        match self.open(held, again) {
+            Ok(source) => Ok(source),
+            Err(Unopened::Fault(fault)) => {
+                self.raise(name, Some(fault));
+                Err(OpenFault::Failed)
+            }
+            Err(Unopened::OutOfMemory) => Err(OpenFault::OutOfMemory),
         }
-        opened
     }
 
     /// Counts a fault of the source's name where a read of the source has failed.
@@ -194,7 +248,7 @@ where
             ≡ count_after (nat_lt 0 (source_faults source)) self.old (name_of source) n }
     {
         if source.faults > 0 {
-            self.raise(source.name.as_str());
+            self.raise(source.name.as_str(), source.fault);
         }
     }
 
@@ -205,7 +259,7 @@ where
 
         ensures counts { (n : List ℕ) → count_of self.new n ≡ count_after true self.old name.now n }
     {
-        self.raise(name);
+        self.raise(name, Some(FileFault::Changed));
     }
 }
 
@@ -226,27 +280,27 @@ impl<F: Read + Send + Drop> Source for FileSource<F> {
             ≡ raised_if (is_err result) (source_faults self.old) }
     {
         match read_some(&mut self.file, buf) {
-            Some(count) => Ok(count),
-            None => {
+            Ok(count) => Ok(count),
+            Err(error) => {
                 self.faults = self.faults.saturating_add(1);
+                self.fault = Some(FileFault::System(error));
                 Err(Failed)
             }
         }
     }
 }
 
-/// Reads some of the bytes, and tries again where a signal came first. `None` is an error.
-fn read_some<F: Read>(file: &mut F, buf: &mut [u8]) -> Option<usize>
-    ensures { IfSome result (λ k. k ≤ length buf.new) }
+/// Reads some of the bytes, and tries again where a signal came first.
+fn read_some<F: Read>(file: &mut F, buf: &mut [u8]) -> io::Result<usize>
+    ensures { IfOk result (λ k. k ≤ length buf.new) }
 {
     for _ in 0..TRIES {
         match file.read(buf) {
-            Ok(count) => return Some(count),
             Err(error) if error.kind() == ErrorKind::Interrupted => {}
-            Err(_) => break,
+            answer => return answer,
         }
     }
-    None
+    Err(io::Error::from(ErrorKind::Interrupted))
 }
 
 impl Stream {

@@ -19,7 +19,7 @@ mod source;
 mod steady_shelf;
 mod text;
 
-pub use files::{FileShelf, FileSource, StdSink};
+pub use files::{FileFault, FileShelf, FileSource, StdSink};
 pub use gate::{Gate, NoGate};
 pub use memory_shelf::MemoryShelf;
 pub use memory_sink::MemorySink;

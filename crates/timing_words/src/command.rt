@@ -32,7 +32,7 @@ impl Command {
     ghost use Rattle.timing_words.specs.Request.{command_named, sorts};
 
     /// The command with this name.
-    pub(crate) fn named(text: &str) -> Option<Command>
+    pub fn named(text: &str) -> Option<Command>
         ensures { result ≡ command_named text.now }
     {
         match text {
@@ -51,8 +51,8 @@ impl Command {
         }
     }
 
-    /// What `clap` is told of the command.
-    pub(crate) fn parser<'a>(self, alloc: Global) -> Result<clap::Command<'a>, OutOfMemory>
+    /// What `clap` is told of the command: the options, the flags and the names that it takes.
+    pub fn parser<'a>(self, alloc: Global) -> Result<clap::Command<'a>, OutOfMemory>
         ensures { IfOk result (λ c. app_of c ≡ app (sorts self)) }
     {
         match self {

@@ -53,7 +53,7 @@ fn meaning(name: &str) -> &'static str
 }
 
 /// Whether an option or a flag of this name may be missing.
-fn may_be_missing(name: &str) -> bool
+pub fn may_be_missing(name: &str) -> bool
     ensures { result ≡ page.may_be_missing name.now }
 {
     matches!(
@@ -155,7 +155,7 @@ fn lines_of(alloc: Global, command: Command) -> Result<String, OutOfMemory>
 
 impl Command {
     /// The word of the command.
-    fn name(self) -> &'static str
+    pub fn name(self) -> &'static str
         ensures { result.now ≡ page.name_of self }
     {
         match self {
@@ -290,8 +290,8 @@ impl Command {
     }
 }
 
-/// The words of a command.
-fn usage_of(alloc: Global, command: Command) -> Result<String, OutOfMemory>
+/// The arguments of a command as `help` shows them, the command first.
+pub fn usage_of(alloc: Global, command: Command) -> Result<String, OutOfMemory>
     ensures { IfOk result (λ s. string_bytes s ≡ page.usage command) }
 {
     let words = words_of(alloc, command)?;

@@ -35,7 +35,7 @@ fn written(text: &str) -> Option<u64>
 }
 
 /// The number from `low` to `high` that one to twenty digits write.
-pub(crate) fn number(text: &str, low: u64, high: u64) -> Result<u64, WordFault>
+pub fn number(text: &str, low: u64, high: u64) -> Result<u64, WordFault>
     ensures value { Gives (words.number low high text.now) result }
     ensures least { IfOk result (λ n. low ≤ n) }
     ensures most { IfOk result (λ n. n ≤ high) }
@@ -47,14 +47,14 @@ pub(crate) fn number(text: &str, low: u64, high: u64) -> Result<u64, WordFault>
 }
 
 /// A count, or the number of a packet.
-pub(crate) fn count(text: &str) -> Result<u64, WordFault>
+pub fn count(text: &str) -> Result<u64, WordFault>
     ensures { Gives (words.count text.now) result }
 {
     number(text, 0, u64::MAX)
 }
 
 /// A media, counted from 1 in the text and from 0 in the answer.
-pub(crate) fn media(text: &str) -> Result<u32, WordFault>
+pub fn media(text: &str) -> Result<u32, WordFault>
     ensures value { Gives (words.media text.now) result }
     ensures few { IfOk result (λ n. n < 64) }
 {
@@ -63,7 +63,7 @@ pub(crate) fn media(text: &str) -> Result<u32, WordFault>
 }
 
 /// A sender type by its name.
-pub(crate) fn kind_named(text: &str) -> Result<Kind, WordFault>
+pub fn kind_named(text: &str) -> Result<Kind, WordFault>
     ensures { Gives (words.kind_named text.now) result }
 {
     match text {
@@ -75,7 +75,7 @@ pub(crate) fn kind_named(text: &str) -> Result<Kind, WordFault>
 }
 
 /// A model that a sender breaks, by its name.
-pub(crate) fn model_named(text: &str) -> Result<Broken, WordFault>
+pub fn model_named(text: &str) -> Result<Broken, WordFault>
     ensures { Gives (words.model_named text.now) result }
 {
     match text {
@@ -87,7 +87,7 @@ pub(crate) fn model_named(text: &str) -> Result<Broken, WordFault>
 }
 
 /// The seconds that are added to stamps.
-pub(crate) fn tai(text: Option<&str>) -> Result<u64, WordFault>
+pub fn tai(text: Option<&str>) -> Result<u64, WordFault>
     ensures value { Gives (words.tai (option_map (λ s. s.now) text.entry)) result }
     ensures most { IfOk result (λ n. n ≤ 1000) }
 {
@@ -98,7 +98,7 @@ pub(crate) fn tai(text: Option<&str>) -> Result<u64, WordFault>
 }
 
 /// The workers of `check`, 0 for one thread.
-pub(crate) fn check_workers(text: Option<&str>, serial: bool) -> Result<u32, WordFault>
+pub fn check_workers(text: Option<&str>, serial: bool) -> Result<u32, WordFault>
     ensures value { Gives (words.check_workers (option_map (λ s. s.now) text.entry) serial) result }
     ensures few { IfOk result (λ n. n ≤ 16) }
 {
@@ -147,7 +147,7 @@ fn is_file_name(text: &str) -> bool
 }
 
 /// The name of a file.
-pub(crate) fn file_name(alloc: Global, text: &str) -> Result<FileName, WordFault>
+pub fn file_name(alloc: Global, text: &str) -> Result<FileName, WordFault>
     ensures { Gives (words.file_name text.now) result }
 {
     if !is_file_name(text) {

@@ -1,0 +1,198 @@
+//! What is printed after the line of a status.
+
+ghost use Rattle.std.specs.Prelude.{◌≡◌, ◌≤◌, IfOk, length, string_bytes, true};
+ghost use Rattle.std.specs.List.{list_all};
+ghost use Rattle.usage_hints.specs.Lines.{ends_line, is_line_byte};
+
+use crate::escape::shown;
+use crate::sdp::expected;
+use crate::usage::{not_text_lines, usage_hint};
+use sdp_reader::SdpFault;
+use std::alloc::{AllocError as OutOfMemory, Global};
+use timing_base::FileName;
+use timing_report::{Input, Status};
+use timing_words::{Request, WordFault, read_words};
+
+/// The bytes that a hint has at most.
+const MOST: usize = 4096;
+
+/// How a run ended, and what is known of its cause.
+#[derive(Clone, Copy)]
+pub struct Ending<'a> {
+    /// The arguments after the program's name.
+    pub words: &'a [String],
+    /// Whether all arguments are UTF-8. Where one isn't, `words` is empty.
+    pub are_text: bool,
+    /// The status of the run.
+    pub status: Status,
+    /// The name of the input that the status speaks of.
+    pub input: Option<&'a str>,
+    /// Why that input couldn't be opened or read.
+    pub cause: Option<&'a str>,
+}
+
+/// The session description of a request.
+fn description_of(request: &Request) -> Option<&FileName> {
+    match request {
+        Request::Check(job) => Some(&job.sdp),
+        Request::Verify(job) => Some(&job.sdp),
+        Request::VerifyReport(job) => Some(&job.sdp),
+        Request::Window(job) => Some(&job.sdp),
+        Request::Shape(job) => Some(&job.flow.sdp),
+        Request::Skew(job) => Some(&job.sdp),
+        Request::Measure(job) => Some(&job.sdp),
+        Request::Series(job) => Some(&job.flow.sdp),
+        Request::Page(job) => Some(&job.sdp),
+        Request::SelfTest(_) | Request::Scan(_) | Request::Help(_) => None,
+    }
+}
+
+/// The report of a request.
+fn report_of(request: &Request) -> Option<&FileName> {
+    match request {
+        Request::VerifyReport(job) => Some(&job.report),
+        _ => None,
+    }
+}
+
+/// A capture of a request, counted from 0.
+fn capture_of(request: &Request, file: u32) -> Option<&FileName> {
+    match request {
+        Request::Check(job) => job.captures.as_slice().get(file as usize),
+        Request::Verify(job) => job.captures.as_slice().get(file as usize),
+        Request::VerifyReport(job) => job.captures.as_slice().get(file as usize),
+        Request::Skew(job) => job.captures.as_slice().get(file as usize),
+        Request::Window(job) => Some(&job.capture),
+        Request::Shape(job) => Some(&job.flow.capture),
+        Request::Scan(job) => Some(&job.capture),
+        Request::Measure(job) => Some(&job.capture),
+        Request::Series(job) => Some(&job.flow.capture),
+        Request::Page(job) => Some(&job.capture),
+        Request::SelfTest(_) | Request::Help(_) => None,
+    }
+}
+
+/// The input of a request that a status speaks of.
+fn input_of(request: &Request, status: Status) -> Option<&FileName> {
+    match status {
+        Status::SdpRefused(_) | Status::ReadFault(Input::Sdp) => description_of(request),
+        Status::ReportRefused | Status::ReadFault(Input::Report) => report_of(request),
+        Status::ReadFault(Input::Capture(file)) => capture_of(request, file),
+        _ => None,
+    }
+}
+
+/// Whether a status speaks of an input.
+fn names_input(status: Status) -> bool {
+    matches!(
+        status,
+        Status::SdpRefused(_) | Status::ReadFault(_) | Status::ReportRefused
+    )
+}
+
+/// The name of the input that a status speaks of, as the arguments have it: the session description, the report or a
+/// capture.
+pub fn input_name(
+    alloc: Global,
+    words: &[String],
+    status: Status,
+) -> Result<Option<String>, OutOfMemory> {
+    if !names_input(status) {
+        return Ok(None);
+    }
+    match read_words(alloc, words) {
+        Ok(request) => match input_of(&request, status) {
+            Some(name) => Ok(Some(String::from_str(alloc, name.as_str())?)),
+            None => Ok(None),
+        },
+        Err(WordFault::Usage) => Ok(None),
+        Err(WordFault::OutOfMemory) => Err(OutOfMemory),
+    }
+}
+
+/// A cause of the system without its number, as in `No such file or directory (os error 2)`.
+fn without_number(cause: &str) -> &str {
+    match cause.split_once(" (os error ") {
+        Some((text, _)) => text,
+        None => cause,
+    }
+}
+
+/// The line of an input that couldn't be read. A capture `-` is a file of that name, and not standard input.
+fn read_line(alloc: Global, name: &str, cause: &str) -> Result<String, OutOfMemory> {
+    let (shown, cause) = (shown(alloc, name)?, without_number(cause));
+    if name == "-" {
+        format!(in alloc; "{shown}: {cause}; for standard input write /dev/stdin\n")
+    } else {
+        format!(in alloc; "{shown}: {cause}\n")
+    }
+}
+
+/// The line of an invalid session description.
+fn description_line(alloc: Global, name: &str, fault: SdpFault) -> Result<String, OutOfMemory> {
+    let (shown, expected) = (shown(alloc, name)?, expected(fault.what));
+    if fault.line == 0 {
+        format!(in alloc; "{shown}: {expected}\n")
+    } else {
+        let line = fault.line;
+        format!(in alloc; "{shown}: line {line}: {expected}\n")
+    }
+}
+
+/// The line of a report that isn't in its form.
+fn report_line(alloc: Global, name: &str) -> Result<String, OutOfMemory> {
+    let shown = shown(alloc, name)?;
+    format!(in alloc; "{shown}: expected a report as check --json prints it\n")
+}
+
+/// The lines about an input of this name.
+fn input_lines(alloc: Global, ending: Ending<'_>, name: &str) -> Result<String, OutOfMemory> {
+    match (ending.status, ending.cause) {
+        (Status::SdpRefused(fault), _) => description_line(alloc, name, fault),
+        (Status::ReportRefused, _) => report_line(alloc, name),
+        (Status::ReadFault(_), Some(cause)) => read_line(alloc, name, cause),
+        (Status::ReadFault(_), None) => read_line(alloc, name, "it couldn't be read"),
+        _ => Ok(String::new(alloc)),
+    }
+}
+
+/// The lines about an ending.
+fn lines(alloc: Global, ending: Ending<'_>) -> Result<String, OutOfMemory> {
+    match (ending.status, ending.input) {
+        (Status::Usage, _) if ending.are_text => usage_hint(alloc, ending.words),
+        (Status::Usage, _) => not_text_lines(alloc),
+        (_, Some(name)) => input_lines(alloc, ending, name),
+        _ => Ok(String::new(alloc)),
+    }
+}
+
+/// Whether a text is nothing, or ends with the end of a line.
+fn ends_line(text: &str) -> bool
+    ensures { result ≡ ends_line text.now }
+{
+    match text.as_bytes().last() {
+        Some(byte) => *byte == 10,
+        None => true,
+    }
+}
+
+/// Whether each byte of a text ends a line, or is no control character of ASCII.
+fn are_plain(bytes: &[u8]) -> bool
+    ensures { result ≡ list_all is_line_byte bytes.now }
+{
+    bytes.iter().all(|b| *b == 10 || 32 <= *b && *b != 127)
+}
+
+/// The lines that are printed after that of a status, or nothing where there is nothing to add. `Err` is want of memory.
+pub fn hint(alloc: Global, ending: Ending<'_>) -> Result<String, OutOfMemory>
+    ensures few { IfOk result (λ s. length (string_bytes s) ≤ 4096) }
+    ensures lines { IfOk result (λ s. ends_line (string_bytes s) ≡ true) }
+    ensures plain { IfOk result (λ s. list_all is_line_byte (string_bytes s) ≡ true) }
+{
+    let text = lines(alloc, ending)?;
+    if text.len() <= MOST && ends_line(text.as_str()) && are_plain(text.as_bytes()) {
+        Ok(text)
+    } else {
+        Ok(String::new(alloc))
+    }
+}

@@ -1,0 +1,20 @@
+//! What standard error prints after the line of a status: what is wrong with the arguments or with an input, and
+//! what is valid there.
+//!
+//! The line of a status is fixed by `timing_report`. The texts here come after it, and are for people. The options,
+//! the flags and the tests of values are those of `timing_words`, so that a hint and the parser agree.
+#![tactic(auto)]
+
+mod ending;
+mod escape;
+mod fault;
+mod nearest;
+mod options;
+mod parts;
+mod sdp;
+mod usage;
+mod values;
+
+pub use ending::{Ending, hint, input_name};
+pub use escape::shown;
+pub use nearest::{nearest_command, nearest_first, nearest_option};

@@ -1,0 +1,42 @@
+//! The values that options take, by the tests of `timing_words`.
+
+use std::alloc::{AllocError as OutOfMemory, Global};
+use timing_words::{
+    WordFault, check_workers, count, file_name, kind_named, media, model_named, tai,
+};
+
+/// Whether this is the name of a file.
+pub(crate) fn is_name(alloc: Global, text: &str) -> Result<bool, OutOfMemory> {
+    match file_name(alloc, text) {
+        Ok(_) => Ok(true),
+        Err(WordFault::Usage) => Ok(false),
+        Err(WordFault::OutOfMemory) => Err(OutOfMemory),
+    }
+}
+
+/// Whether the option of this name takes this value.
+pub(crate) fn is_valid(alloc: Global, name: &str, value: &str) -> Result<bool, OutOfMemory> {
+    match name {
+        "sdp" | "report" => is_name(alloc, value),
+        "workers" => Ok(check_workers(Some(value), false).is_ok()),
+        "tai" => Ok(tai(Some(value)).is_ok()),
+        "media" | "pair" => Ok(media(value).is_ok()),
+        "type" => Ok(kind_named(value).is_ok()),
+        "model" => Ok(model_named(value).is_ok()),
+        _ => Ok(count(value).is_ok()),
+    }
+}
+
+/// What the option of this name takes.
+pub(crate) fn range(name: &str) -> &'static str {
+    match name {
+        "sdp" => "the name of a session description",
+        "report" => "the name of a report of check --json",
+        "workers" => "1 to 16",
+        "tai" => "0 to 1000",
+        "media" | "pair" => "1 to 64",
+        "type" => "N, NL or W",
+        "model" => "Bucket, Over or Empty",
+        _ => "0 to 18446744073709551615",
+    }
+}
