@@ -77,7 +77,7 @@ is_whole_in frames ticks q = q * frames % ticks == 0
 
 -- the least denominator with which the frames by the ticks are a fraction, of so many from q on: the fraction is in
 -- lowest terms
-abbrev pub denominator_from : (many q frames ticks : ℕ) → Option ℕ
+unfoldable pub denominator_from : (many q frames ticks : ℕ) → Option ℕ
 denominator_from zero q frames ticks = None
 denominator_from (suc many) q frames ticks =
     if is_whole_in frames ticks q then Some q else denominator_from many (q + 1) frames ticks

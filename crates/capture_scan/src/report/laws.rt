@@ -68,6 +68,7 @@ pub fn rates_by_hand()
 /// The rate of a draft by the mean step: known ones; 50 frames per second up to means of which its 1,800 ticks are 99 and
 /// 101 hundredths; and means that aren't within a hundredth of any: 12.5 frames per second, of frames and of fields, 2.4,
 /// 374 ticks, which are above 240 frames per second, and no tick.
+#[tactic(auto, unfolding(crate::proofs::lemmas::report::Numerals::scan_texts))]
 pub fn drafted_rates_by_hand()
     ensures whole { drafted_rate false (ticks_in 3600 2) ≡ ratio_with 50 1 }
     ensures slowed { drafted_rate false (ticks_in 3003 2) ≡ ratio_with 60000 1001 }
@@ -84,6 +85,7 @@ pub fn drafted_rates_by_hand()
 {}
 
 /// A rate whose denominator in lowest terms would be above 1001 isn't measured: of 7207 ticks 24000/1001 is the nearest.
+#[tactic(auto, unfolding(crate::proofs::lemmas::report::Numerals::scan_texts))]
 pub fn long_denominator_by_hand()
     ensures { drafted_rate false (ticks_in 7207 1) ≡ ratio_with 24000 1001 }
 {}

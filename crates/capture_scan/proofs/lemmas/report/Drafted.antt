@@ -135,6 +135,7 @@ from-less many q None h = tt
 from-less many q (Some n) h = (omega (arith, h.0), omega (arith, h.1))
 
 denominator-from : (many q frames ticks : ℕ) → IsFrom many q (denominator_from many q frames ticks)
+unfolding denominator_from
 denominator-from zero q frames ticks = tt
 denominator-from (suc many) q frames ticks = by-test (is_whole_in frames ticks q) (denominator-from many (q + 1) frames ticks)
   where
