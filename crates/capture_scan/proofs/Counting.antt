@@ -128,10 +128,10 @@ lines_same (Some lines) = refl
 lines_of-push : (ls : List Line) (o : Option Line) → lines_of (ls ++ cons_option o []) ≡ lines_with (lines_of ls) o
 lines_of-push ls None = ap lines_of (append-nil ls) ∙ lines_same (lines_of ls)
 lines_of-push [] (Some l) = λ i. Some (record {
-      greatest = l.number;
-      second_field = or_false l.second_field i;
-      fits = and_true l.fits i;
-    })
+  greatest = l.number;
+  second_field = or_false l.second_field i;
+  fits = and_true l.fits i;
+})
 lines_of-push (k ∷ ks) (Some l) =
     let numbers = ap (fold max k.number) (map_push (λ x. x.number) ks l) ∙ fold_push max k.number (map (λ x. x.number) ks) l.number in
     let fields = list_any-append (λ x. x.second_field) (k ∷ ks) (l ∷ [])

@@ -1,6 +1,6 @@
 //! What a frame is counted as.
 
-ghost use Rattle.std.specs.Prelude.{◌≡◌, ◌+◌, ◌≤◌, ◌<◌, length, Ok, Some, IfSome, IsSome};
+ghost use Rattle.std.specs.Prelude.{◌≡◌, ◌+◌, ◌≤◌, ◌<◌, length, Ok, Some, IfSome, IsOk, IsSome};
 ghost use Rattle.udp_rtp.specs.Frames.{Datagram as Carried, datagram_of, udp_place};
 ghost use Rattle.udp_rtp.specs.Numbers.{number16};
 ghost use Rattle.udp_rtp.specs.Reading.{payload_place, reading};
@@ -187,8 +187,8 @@ fn first_line(stated: usize, payload: &[u8]) -> Option<Line>
 
 /// The first line header of a payload that was read as RTP.
 #[inline(always)]
-fn line_in(stated: usize, payload: &[u8], _read: Rtp) -> Option<Line>
-    requires { reading payload.now ≡ Ok _read }
+fn line_in(stated: usize, payload: &[u8]) -> Option<Line>
+    requires { IsOk (reading payload.now) }
     ensures { result ≡ first_line stated payload.now }
 {
     first_line(stated, payload)
@@ -210,7 +210,7 @@ fn packet_in(rec: u64, at: u64, frame: &[u8], datagram: &Datagram, rtp: Rtp) -> 
         target: datagram.target,
         length: sent.length,
         rtp,
-        line: line_in(sent.stated, datagram.payload, rtp),
+        line: line_in(sent.stated, datagram.payload),
     }
 }
 

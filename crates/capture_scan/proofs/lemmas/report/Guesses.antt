@@ -1,5 +1,5 @@
 -- What a draft says that is a guess, and what isn't one.
-use Rattle.std.proofs.Common.{◌≡◌, ◌∙◌, ℕ, Bool, true, false, ◌==◌, ◌||◌, ◌⊎◌, inl, inr, refl, sym, ap, subst, arith, Some, None, Option}
+use Rattle.std.proofs.Common.{◌≡◌, ◌∙◌, ℕ, Bool, true, false, ◌==◌, ◌||◌, ◌⊎◌, inl, inr, refl, sym, ap, subst, arith, Some}
 use Rattle.std.specs.Prelude.{min, nat_le, nat_lt, not, List, ◌∷◌, ◌&&◌, length}
 use Rattle.std.specs.List.{list_any}
 use Rattle.std.proofs.lemmas.Bool.Decides.{nat_tests}

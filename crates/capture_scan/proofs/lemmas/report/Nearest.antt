@@ -5,7 +5,7 @@ use Rattle.std.specs.List.{list_any}
 use Rattle.std.proofs.lemmas.Bool.Decides.{nat_tests}
 use Rattle.std.proofs.lemmas.Nat.{mul-le}
 use Rattle.capture_scan.specs.declared.stream.Rate.{Rate}
-use Rattle.capture_scan.specs.report.Rates.{exact, faster, is_known, is_slow, is_within, nearest, nearest_from, sixteenths, slowed, slowest}
+use Rattle.capture_scan.specs.report.Rates.{exact, faster, is_known, is_slow, is_within, nearest_from, sixteenths, slowed, slowest}
 use Rattle.capture_scan.specs.declared.report.rate.FrameRate.{FrameRate}
 
 -- ---- a step of x, and a mean of m
