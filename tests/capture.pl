@@ -6,6 +6,7 @@
 #   tests/capture.pl usual > a.pcap
 #   tests/capture.pl media [NAME=NUMBER..] > a.pcap
 #   tests/capture.pl sdp [media=NUMBER] > a.sdp
+#   tests/capture.pl lines [NAME=NUMBER..] > a.pcap
 #   tests/capture.pl packets [NAME=NUMBER..] [then [NAME=NUMBER..]].. > a.pcap
 #   tests/capture.pl colliding [count=NUMBER] > a.pcap
 #
@@ -31,6 +32,14 @@
 #   media=64            the senders
 #   groups=2            the frames of each
 #   begin=1             the packets of its first turn: 1, or 41 for those of two frames too
+#
+# `lines` is the plain sender with packets of 1,248 bytes of IPv4 that have a line header of 1,200 bytes each, captured up to it. These change it:
+#
+#   ticks=1800          the step of the RTP timestamp from a frame to the next
+#   last=1079           the line number of the last packet of a frame; that of the first is 0, and they rise evenly, rounded down
+#   tag=0               1: there is a VLAN tag before the type
+#   cut=62              the bytes that are captured of each packet
+#   audio=0             the packets of stereo L24 that come before at the UDP port 50002, one a millisecond, each with the marker and 48 samples
 #
 # `packets` is packets at the instant 1,600,000,000 s. After `then` come others, with the values given there:
 #
@@ -71,6 +80,7 @@ usage: capture.pl sender [NAME=NUMBER..]
        capture.pl usual
        capture.pl media [NAME=NUMBER..]
        capture.pl sdp [media=NUMBER]
+       capture.pl lines [NAME=NUMBER..]
        capture.pl packets [NAME=NUMBER..] [then [NAME=NUMBER..]]..
        capture.pl colliding [count=NUMBER]
 END
@@ -171,6 +181,36 @@ sub sdp {
     return $session, map { $video =~ s/^m=video \d+/m=video $_/r } ports($is->{media});
 }
 
+# The packet record of an RTP packet with this payload and SSRC to this port, of which so many bytes are captured.
+sub cut_record {
+    my ($at, $port, $ssrc, $rtp, $payload, $tag, $cut) = @_;
+    my $bytes = 40 + length $payload;
+    my $frame = pack "H*", "01005e000001" . "020000000001" . ($tag ? "81000005" : "") . "0800";
+    $frame .= pack "CCnNNH*", 0x45, 0, $bytes, 0x4000, 0x40110000, "c0000201" . "ef000001";
+    $frame .= pack "nnnna*Na*", $first_port, $port, $bytes - 20, 0, $rtp, $ssrc, $payload;
+    my $length = length $frame;
+    $cut = $length if $cut > $length;
+    return pack "VVVVa*", int($at / $second), $at % $second, $cut, $length, substr $frame, 0, $cut;
+}
+
+sub lines {
+    my $is = numbers({ ticks => 1800, last => 1079, tag => 0, cut => 62, audio => 0 }, @_);
+    my $records = "";
+    for my $number (0 .. $is->{audio} - 1) {
+        my $rtp = pack "CCnN", 0x80, 0xe1, $number, 48 * $number;
+        my $samples = pack("H*", "123456edcbaa") x 48;
+        $records .= cut_record($start - 100_000_000 + 1_000_000 * $number, $first_port + 2, 2, $rtp, $samples, $is->{tag}, $is->{cut});
+    }
+    for my $packet (plain_packets()) {
+        my ($at, $timestamp, $marker, $number) = @$packet;
+        my $line = int($is->{last} * (($number + 19) % 20) / 19);
+        my $rtp = pack "CCnN", 0x80, $marker ? 0xe0 : 0x60, $number, $timestamp / 1800 * $is->{ticks};
+        my $payload = pack "nnnn", 0, 1200, $line, 0;
+        $records .= cut_record($at, $first_port, 1, $rtp, $payload . "\0" x 1200, $is->{tag}, $is->{cut});
+    }
+    return $file_head, $records;
+}
+
 sub packets {
     my @runs = [];
     for my $word (@_) {
@@ -209,7 +249,8 @@ sub colliding {
 }
 
 my %made = (
-    sender => \&sender, flaw => \&flaw, usual => \&usual, media => \&media, sdp => \&sdp, packets => \&packets, colliding => \&colliding,
+    sender => \&sender, flaw => \&flaw, usual => \&usual, media => \&media, sdp => \&sdp, lines => \&lines, packets => \&packets,
+    colliding => \&colliding,
 );
 my $kind = shift // usage();
 my @pieces = ($made{$kind} // usage())->(@ARGV);

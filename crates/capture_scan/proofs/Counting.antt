@@ -1,10 +1,10 @@
 -- The numbers of a stream with one packet more are its numbers before, and that packet.
-use Rattle.std.proofs.Common.{◌≡◌, ℕ, ◌+◌, min, max, Bool, true, false, cond, ◌||◌, List, [], ◌∷◌, ◌++◌, map, filter_map, length, Option, Some, None}
+use Rattle.std.proofs.Common.{◌≡◌, ℕ, ◌+◌, min, max, Bool, true, false, cond, ◌&&◌, ◌||◌, List, [], ◌∷◌, ◌++◌, map, filter_map, length, Option, Some, None}
 use Rattle.std.proofs.Common.{option_to_list, refl, sym, ap, ◌∙◌, arith, sum_by, count_by, fold}
-use Rattle.std.specs.List.{cons_option, last_or, list_any}
+use Rattle.std.specs.List.{cons_option, last_or, list_all, list_any}
 use Rattle.std.proofs.lemmas.List.{append-nil, length-map, length_push, map_push}
 use Rattle.std.proofs.lemmas.List.Elements.{filter_map-append}
-use Rattle.std.proofs.lemmas.List.Folds.{list_any-append}
+use Rattle.std.proofs.lemmas.List.Folds.{list_all-append, list_any-append}
 use Rattle.std.proofs.lemmas.List.Sums.{fold_push, sum_by_push}
 use Rattle.timing_base.specs.declared.packet.Rtp.{Rtp}
 use Rattle.capture_scan.specs.Counting.{lines_with, mark_next, mark_of, order_next, pace_next, pace_with, range_next, stream_next}
@@ -117,18 +117,28 @@ or_false : (b : Bool) → (b || false) ≡ b
 or_false true = refl
 or_false false = refl
 
+and_true : (b : Bool) → (b && true) ≡ b
+and_true true = refl
+and_true false = refl
+
 lines_same : (lines : Option Lines) → lines ≡ lines_with lines None
 lines_same None = refl
 lines_same (Some lines) = refl
 
 lines_of-push : (ls : List Line) (o : Option Line) → lines_of (ls ++ cons_option o []) ≡ lines_with (lines_of ls) o
 lines_of-push ls None = ap lines_of (append-nil ls) ∙ lines_same (lines_of ls)
-lines_of-push [] (Some l) = λ i. Some (record { greatest = l.number; second_field = or_false l.second_field i })
+lines_of-push [] (Some l) = λ i. Some (record {
+  greatest = l.number;
+  second_field = or_false l.second_field i;
+  fits = and_true l.fits i;
+})
 lines_of-push (k ∷ ks) (Some l) =
     let numbers = ap (fold max k.number) (map_push (λ x. x.number) ks l) ∙ fold_push max k.number (map (λ x. x.number) ks) l.number in
     let fields = list_any-append (λ x. x.second_field) (k ∷ ks) (l ∷ [])
     ∙ ap (λ (b : Bool). list_any (λ x. x.second_field) (k ∷ ks) || b) (or_false l.second_field) in
-    λ i. Some (record { greatest = numbers i; second_field = fields i })
+    let fits = list_all-append (λ x. x.fits) (k ∷ ks) (l ∷ [])
+    ∙ ap (λ (b : Bool). list_all (λ x. x.fits) (k ∷ ks) && b) (and_true l.fits) in
+    λ i. Some (record { greatest = numbers i; second_field = fields i; fits = fits i })
 
 -- one packet more
 pub stream_from-push : (p : Packet) (ps : List Packet) (q : Packet) (number : ℕ) (mark : Option Mark)

@@ -1,5 +1,5 @@
 -- The numbers of a stream with one packet more, by its numbers, its last packet number and its last mark.
-use Rattle.std.specs.Prelude.{ℕ, ◌+◌, min, max, if◌then◌else◌, ◌||◌, [], Option, Some, None}
+use Rattle.std.specs.Prelude.{ℕ, ◌+◌, min, max, if◌then◌else◌, ◌&&◌, ◌||◌, [], Option, Some, None}
 use Rattle.timing_base.specs.declared.packet.Rtp.{Rtp}
 use Rattle.capture_scan.specs.Streams.{arrival, goes_back, has_other_type, is_same, lost_in, range_from, size, step}
 use Rattle.capture_scan.specs.Streams.{wraps_alone}
@@ -60,9 +60,12 @@ pace_with pace (Some before) (Some mark) = Some (pace_next pace (before, mark))
 -- lines with one packet more
 abbrev pub lines_with : Option Lines → Option Line → Option Lines
 lines_with lines None = lines
-lines_with None (Some l) = Some (record { greatest = l.number; second_field = l.second_field })
-lines_with (Some lines) (Some l) =
-    Some (record { greatest = max lines.greatest l.number; second_field = lines.second_field || l.second_field })
+lines_with None (Some l) = Some (record { greatest = l.number; second_field = l.second_field; fits = l.fits })
+lines_with (Some lines) (Some l) = Some (record {
+  greatest = max lines.greatest l.number;
+  second_field = lines.second_field || l.second_field;
+  fits = lines.fits && l.fits;
+})
 
 -- a stream with one packet more
 abbrev pub stream_next : Stream → ℕ → Option Mark → Packet → Stream

@@ -4,6 +4,7 @@ use Rattle.timing_base.specs.Captures.{Record}
 use Rattle.timing_base.specs.declared.packet.Rtp.{Rtp}
 use Rattle.timing_base.specs.declared.target.Target.{Target}
 use Rattle.udp_rtp.specs.Examples.{extended, frame_of, group, ip, ip_type, macs, plain_ip, rtp, tag, udp}
+use Rattle.capture_scan.specs.declared.packet.Line.{Line}
 use Rattle.capture_scan.specs.declared.packet.Packet.{Packet}
 use Rattle.capture_scan.specs.declared.stream.Order.{Order}
 use Rattle.capture_scan.specs.declared.stream.Pace.{Pace}
@@ -52,12 +53,31 @@ plain_at rec at = record {
 abbrev pub frame_on : ℕ → List ℕ → List ℕ
 frame_on stated more = macs ++ (ip_type ++ (plain_ip ++ (udp stated ++ (rtp 0x80 0x60 ++ (extended ++ more)))))
 
+-- a line header by number, which fits raw video or doesn't
+abbrev pub line_with : (number : ℕ) → (second_field fits : Bool) → Line
+line_with number second_field fits = record { number = number; second_field = second_field; fits = fits }
+
 -- a line header of 1,920 bytes: line 1,079 of the first field, and line 539 of the second
 abbrev pub line_header : List ℕ
 line_header = 0x07 ∷ 0x80 ∷ 0x04 ∷ 0x37 ∷ 0x00 ∷ 0x00 ∷ []
 
 abbrev pub second_header : List ℕ
 second_header = 0x07 ∷ 0x80 ∷ 0x82 ∷ 0x1b ∷ 0x00 ∷ 0x00 ∷ []
+
+-- a line header of 100 bytes, of line 1,079
+abbrev pub short_header : List ℕ
+short_header = 0x00 ∷ 0x64 ∷ 0x04 ∷ 0x37 ∷ 0x00 ∷ 0x00 ∷ []
+
+-- line headers of no byte: the last line of 4,320, and one more
+abbrev pub last_header : List ℕ
+last_header = 0x00 ∷ 0x00 ∷ 0x10 ∷ 0xdf ∷ 0x00 ∷ 0x00 ∷ []
+
+abbrev pub further_header : List ℕ
+further_header = 0x00 ∷ 0x00 ∷ 0x10 ∷ 0xe0 ∷ 0x00 ∷ 0x00 ∷ []
+
+-- six bytes of samples of L24 (RFC 3190), where a line header would stand
+abbrev pub samples : List ℕ
+samples = 0x12 ∷ 0x34 ∷ 0x56 ∷ 0xed ∷ 0xcb ∷ 0xaa ∷ []
 
 -- what is read of a packet with this timestamp and marker
 abbrev pub read_with : ℕ → Bool → Rtp

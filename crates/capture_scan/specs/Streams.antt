@@ -6,7 +6,7 @@
 -- Stamps are nanoseconds, lengths are bytes, ticks are of 90 kHz; places in a stream count from 0.
 use Rattle.std.specs.Prelude.{ℕ, ◌+◌, ◌-◌, ◌/◌, ◌%◌, ◌^◌, ◌==◌, ◌&&◌, nat_lt, min, max, not, Bool, if◌then◌else◌, List}
 use Rattle.std.specs.Prelude.{[], ◌∷◌, map, filter_map, length, Option, Some, None}
-use Rattle.std.specs.List.{count_by, fold, list_any, sum_by}
+use Rattle.std.specs.List.{count_by, fold, list_all, list_any, sum_by}
 use Rattle.timing_base.specs.declared.packet.Rtp.{Rtp}
 use Rattle.capture_scan.specs.declared.mark.Mark.{Mark}
 use Rattle.capture_scan.specs.declared.packet.Line.{Line}
@@ -98,12 +98,13 @@ pace_between (two ∷ twos) = Some (record {
 abbrev pub pace_of : List Rtp → Option Pace
 pace_of packets = pace_between (neighbours (marks_from 0 packets))
 
--- the greatest line number, and whether a line is of the second field
+-- the greatest line number, whether a line is of the second field, and whether all fit raw video
 abbrev pub lines_of : List Line → Option Lines
 lines_of [] = None
 lines_of (l ∷ ls) = Some (record {
   greatest = fold max l.number (map (λ x. x.number) ls);
   second_field = list_any (λ x. x.second_field) (l ∷ ls);
+  fits = list_all (λ x. x.fits) (l ∷ ls);
 })
 
 -- when a packet came

@@ -139,10 +139,12 @@ impl Lines {
             (Some(lines), Some(line)) => Some(Lines {
                 greatest: lines.greatest.max(line.number),
                 second_field: lines.second_field || line.second_field,
+                fits: lines.fits && line.fits,
             }),
             (None, Some(line)) => Some(Lines {
                 greatest: line.number,
                 second_field: line.second_field,
+                fits: line.fits,
             }),
             (lines, None) => lines,
         }

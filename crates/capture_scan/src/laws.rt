@@ -13,9 +13,9 @@ ghost use Rattle.udp_rtp.specs.Flow.{flow};
 ghost use Rattle.udp_rtp.specs.Frames.{Datagram, datagram_of};
 ghost use Rattle.capture_scan.specs.Classes.{class_of};
 ghost use Rattle.capture_scan.specs.Examples.{arp_type, broken_frame, came, fragment_frame, frame_of_reads, frame_on};
-ghost use Rattle.capture_scan.specs.Examples.{ipv6_type, line_header, one_of_each, order_with, pace_with, plain_at};
-ghost use Rattle.capture_scan.specs.Examples.{provider_tag, read_with, records_from, second_header, sender, tcp_frame};
-ghost use Rattle.capture_scan.specs.Examples.{ten};
+ghost use Rattle.capture_scan.specs.Examples.{further_header, ipv6_type, last_header, line_header, line_with, one_of_each};
+ghost use Rattle.capture_scan.specs.Examples.{order_with, pace_with, plain_at, provider_tag, read_with, records_from};
+ghost use Rattle.capture_scan.specs.Examples.{samples, second_header, sender, short_header, tcp_frame, ten};
 ghost use Rattle.capture_scan.specs.Frames.{first_line, seen};
 ghost use Rattle.capture_scan.specs.Groups.{count_more, told};
 ghost use Rattle.capture_scan.specs.Scans.{as_flow_packet, count_passed, is_from, more_packets, more_unread, packets};
@@ -99,30 +99,41 @@ pub fn seen_by_hand()
 {}
 
 /// Line headers worked by hand: line 1,079 of the first field and line 539 of the second; one of which a byte is
-/// missing, in the frame or by the UDP length; and one behind a header extension.
+/// missing, in the frame or by the UDP length; and one behind a header extension. Behind the 12 bytes of RTP, the
+/// extended sequence number and six of the header, 1,940 stated bytes leave the 1,920 of the header.
 pub fn lines_by_hand()
-    ensures first { first_line (packet ++ line_header)
-        ≡ Some (record { number = 1079; second_field = false }) }
-    ensures second { first_line (packet ++ second_header)
-        ≡ Some (record { number = 539; second_field = true }) }
-    ensures first_alone { first_line (packet ++ line_header ++ second_header)
-        ≡ Some (record { number = 1079; second_field = false }) }
-    ensures cut { first_line (packet ++ take 5 line_header) ≡ None }
-    ensures none { first_line packet ≡ None }
-    ensures extension { first_line (rtp 0x90 0x60 ++ extension ++ 0 ∷ 1 ∷ [] ++ second_header)
-        ≡ Some (record { number = 539; second_field = true }) }
-    ensures frame { seen (record { number = 1; stamp = 10; bytes = frame_on 28 line_header })
-        ≡ seen_as.Read (record (plain_at 1 10) {
-          line = Some (record { number = 1079; second_field = false });
-        }) }
+    ensures first { first_line 1940 (packet ++ line_header) ≡ Some (line_with 1079 false true) }
+    ensures second { first_line 1940 (packet ++ second_header) ≡ Some (line_with 539 true true) }
+    ensures first_alone { first_line 1946 (packet ++ line_header ++ second_header)
+        ≡ Some (line_with 1079 false true) }
+    ensures cut { first_line 1940 (packet ++ take 5 line_header) ≡ None }
+    ensures none { first_line 1940 packet ≡ None }
+    ensures extension { first_line 1948 (rtp 0x90 0x60 ++ extension ++ 0 ∷ 1 ∷ [] ++ second_header)
+        ≡ Some (line_with 539 true true) }
     ensures stated { seen (record { number = 1; stamp = 10; bytes = frame_on 27 line_header })
         ≡ seen_as.Read (plain_at 1 10) }
 
-    // The greatest line, and any of the second field.
-    ensures lines { lines_of (record { number = 3; second_field = false }
-        ∷ record { number = 9; second_field = true } ∷ record { number = 5; second_field = false } ∷ [])
-        ≡ Some (record { greatest = 9; second_field = true }) }
+    // The greatest line, any of the second field, and whether all fit raw video.
+    ensures lines { lines_of (line_with 3 false true ∷ line_with 9 true true ∷ line_with 5 false true ∷ [])
+        ≡ Some (record { greatest = 9; second_field = true; fits = true }) }
+    ensures misfit { lines_of (line_with 3 false true ∷ line_with 9 false false ∷ line_with 5 false true ∷ [])
+        ≡ Some (record { greatest = 9; second_field = false; fits = false }) }
     ensures no_lines { lines_of [] ≡ None }
+{}
+
+/// Which line headers fit raw video, worked by hand: one of 1,920 bytes, by the last stated byte and one less; the
+/// last line of 4,320, and one more; what stands there in a packet of L24; and one of 100 bytes in a frame that was cut
+/// behind it, by UDP lengths of 128 (8 of UDP, 12 of RTP, 2, 6 and 100) and 127.
+pub fn fits_by_hand()
+    ensures all { first_line 1940 (packet ++ line_header) ≡ Some (line_with 1079 false true) }
+    ensures one_less { first_line 1939 (packet ++ line_header) ≡ Some (line_with 1079 false false) }
+    ensures last { first_line 20 (packet ++ last_header) ≡ Some (line_with 4319 false true) }
+    ensures further { first_line 20 (packet ++ further_header) ≡ Some (line_with 4320 false false) }
+    ensures audio { first_line 302 (packet ++ samples) ≡ Some (line_with 22253 false false) }
+    ensures cut { seen (record { number = 1; stamp = 10; bytes = frame_on 128 short_header })
+        ≡ seen_as.Read (record (plain_at 1 10) { line = Some (line_with 1079 false true) }) }
+    ensures short { seen (record { number = 1; stamp = 10; bytes = frame_on 127 short_header })
+        ≡ seen_as.Read (record (plain_at 1 10) { line = Some (line_with 1079 false false) }) }
 {}
 
 /// Orders of sequence numbers, worked by hand.

@@ -1,10 +1,11 @@
 //! What a frame is counted as.
 
-ghost use Rattle.std.specs.Prelude.{◌≡◌, ◌+◌, ◌≤◌, ◌<◌, length, Ok, Some, IfSome, IsSome};
+ghost use Rattle.std.specs.Prelude.{◌≡◌, ◌+◌, ◌≤◌, ◌<◌, length, Ok, Some, IfSome, IsOk, IsSome};
 ghost use Rattle.udp_rtp.specs.Frames.{Datagram as Carried, datagram_of, udp_place};
+ghost use Rattle.udp_rtp.specs.Numbers.{number16};
 ghost use Rattle.udp_rtp.specs.Reading.{payload_place, reading};
 ghost use Rattle.timing_base.specs.declared.packet.Rtp.{Rtp as Fields};
-ghost use Rattle.capture_scan.specs.Frames.{first_line, header_place, line_at, packet_in, seen, source_at};
+ghost use Rattle.capture_scan.specs.Frames.{first_line, header_place, line_at, packet_in, seen, source_at, stated_bytes};
 
 use crate::class::{Class, TAG, class_of};
 use byteorder::{BigEndian, ByteOrder};
@@ -18,6 +19,9 @@ pub struct Line {
     pub number: u16,
     /// Whether it is a line of the second field.
     pub second_field: bool,
+    /// Whether it fits raw video: its length isn't above the bytes that the UDP length leaves behind it, and its
+    /// number isn't above 4,319.
+    pub fits: bool,
 }
 
 /// What is counted of a packet of RTP.
@@ -63,6 +67,17 @@ fn header_place(frame: &[u8]) -> usize
     }
 }
 
+/// What the headers of a frame with a target say, beside the target.
+#[derive(Clone, Copy)]
+struct Sent {
+    /// The address and the port that it comes from.
+    source: Target,
+    /// The total length of IPv4, in bytes.
+    length: u16,
+    /// The bytes of data that UDP states, also where the frame was cut behind that; 0 where it was cut before.
+    stated: usize,
+}
+
 /// The address and the port that a frame with a target comes from.
 #[inline(always)]
 fn source_at(frame: &[u8], ip: usize) -> Target
@@ -76,6 +91,48 @@ fn source_at(frame: &[u8], ip: usize) -> Target
         address: BigEndian::read_u32(&frame[ip + 12..]),
         port: BigEndian::read_u16(&frame[udp..]),
     }
+}
+
+/// The bytes of data that UDP states.
+#[inline(always)]
+fn stated_bytes(frame: &[u8], ip: usize) -> usize
+    requires high { ip ≤ 18 }
+    requires header { ip + 20 ≤ length frame.now }
+    ensures { result ≡ stated_bytes frame.now ip }
+{
+    let udp = ip + 4 * usize::from(frame[ip] % 16);
+    if frame.len() < udp + 6 {
+        return 0;
+    }
+    usize::from(BigEndian::read_u16(&frame[udp + 4..])).saturating_sub(8)
+}
+
+/// What the headers of a frame say, whose IPv4 header stands at `ip`.
+#[inline(always)]
+fn sent_at(frame: &[u8], ip: usize) -> Sent
+    requires high { ip ≤ 18 }
+    requires header { ip + 20 ≤ length frame.now }
+    requires ports { udp_place frame.now ip + 4 ≤ length frame.now }
+    ensures source { result.source ≡ source_at frame.now ip }
+    ensures length { result.length ≡ number16 frame.now (ip + 2) }
+    ensures stated { result.stated ≡ stated_bytes frame.now ip }
+{
+    Sent {
+        source: source_at(frame, ip),
+        length: BigEndian::read_u16(&frame[ip + 2..]),
+        stated: stated_bytes(frame, ip),
+    }
+}
+
+/// What the headers of a frame say that has this datagram.
+#[inline(always)]
+fn sent_in(frame: &[u8], datagram: &Datagram) -> Sent
+    requires { datagram_of frame.now ≡ Some datagram.now }
+    ensures source { result.source ≡ source_at frame.now (header_place frame.now) }
+    ensures length { result.length ≡ number16 frame.now (header_place frame.now + 2) }
+    ensures stated { result.stated ≡ stated_bytes frame.now (header_place frame.now) }
+{
+    sent_at(frame, header_place(frame))
 }
 
 /// Where the extended sequence number stands in a payload that was read.
@@ -95,31 +152,46 @@ fn payload_place(payload: &[u8]) -> usize
     }
 }
 
-/// The line header at a place.
+/// The greatest line number of raw video, counted from 0.
+const LAST_LINE: u16 = 4319;
+
+/// The line header at a place of a payload of which UDP states so many bytes.
 #[inline(always)]
-fn line_at(payload: &[u8], place: usize) -> Line
+fn line_at(stated: usize, payload: &[u8], place: usize) -> Line
     requires { place + 6 ≤ length payload.now }
-    ensures { result ≡ line_at payload.now place }
+    ensures { result ≡ line_at stated payload.now place }
 {
+    let length = usize::from(BigEndian::read_u16(&payload[place..]));
     let field_and_number = BigEndian::read_u16(&payload[place + 2..]);
+    let number = field_and_number % 0x8000;
     Line {
-        number: field_and_number % 0x8000,
+        number,
         second_field: field_and_number > 0x7fff,
+        fits: place + 6 + length <= stated && number <= LAST_LINE,
     }
 }
 
 /// The first line header of a payload that was read, where the payload reaches through it.
 #[inline(always)]
-fn first_line(payload: &[u8]) -> Option<Line>
+fn first_line(stated: usize, payload: &[u8]) -> Option<Line>
     requires least { 12 ≤ length payload.now }
     requires reached { payload_place payload.now + 2 ≤ length payload.now }
-    ensures { result ≡ first_line payload.now }
+    ensures { result ≡ first_line stated payload.now }
 {
     let place = payload_place(payload);
     if payload.len() < place + 8 {
         return None;
     }
-    Some(line_at(payload, place + 2))
+    Some(line_at(stated, payload, place + 2))
+}
+
+/// The first line header of a payload that was read as RTP.
+#[inline(always)]
+fn line_in(stated: usize, payload: &[u8]) -> Option<Line>
+    requires { IsOk (reading payload.now) }
+    ensures { result ≡ first_line stated payload.now }
+{
+    first_line(stated, payload)
 }
 
 /// What is counted of a packet: of a frame, its datagram, and what was read of its payload.
@@ -130,15 +202,15 @@ fn packet_in(rec: u64, at: u64, frame: &[u8], datagram: &Datagram, rtp: Rtp) -> 
     ensures { result ≡ packet_in (record { number = rec; stamp = at; bytes = frame.now })
         datagram.now rtp }
 {
-    let ip = header_place(frame);
+    let sent = sent_in(frame, datagram);
     Packet {
         rec,
         at,
-        source: source_at(frame, ip),
+        source: sent.source,
         target: datagram.target,
-        length: BigEndian::read_u16(&frame[ip + 2..]),
+        length: sent.length,
         rtp,
-        line: first_line(datagram.payload),
+        line: line_in(sent.stated, datagram.payload),
     }
 }
 

@@ -9,7 +9,7 @@ pub mod laws;
 mod rate;
 mod text;
 
-pub use draft::{Draft, DraftVideo};
+pub use draft::{Draft, DraftVideo, Guesses};
 pub use json::json_of;
-pub use rate::FrameRate;
+pub use rate::{FrameRate, Ratio};
 pub use text::text_of;

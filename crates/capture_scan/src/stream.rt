@@ -59,6 +59,8 @@ pub struct Lines {
     pub greatest: u16,
     /// Whether one is of the second field.
     pub second_field: bool,
+    /// Whether all of them fit raw video. If one doesn't, the stream isn't raw video, and the other two are no lines.
+    pub fits: bool,
 }
 
 /// What is told of a stream: of the packets with one target and one SSRC, in the order of their records.

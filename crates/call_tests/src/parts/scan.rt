@@ -26,7 +26,7 @@ const FRAME: [u8; 62] = [
     0x00, 0x00, 0x07, 0x08, // timestamp 1800
     0x00, 0x00, 0x00, 0x01, // SSRC
     0x00, 0x01, // extended sequence number
-    0x07, 0x80, 0x82, 0x1b, 0x00, 0x00, // line header: 1,920 bytes, line 539 of the second field
+    0x07, 0x80, 0x82, 0x1b, 0x00, 0x00, // line header: 1,920 bytes, line 539 of the second field; none of them follows
 ];
 
 const SOURCE: Target = Target {
@@ -57,6 +57,7 @@ fn sees_a_packet(rt: HostRuntime) {
         line: Some(Line {
             number: 539,
             second_field: true,
+            fits: false,
         }),
     };
     same(&rt, &look_at(7, 70, &FRAME), &Seen::Read(packet));

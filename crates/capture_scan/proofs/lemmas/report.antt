@@ -3,6 +3,8 @@ pub mod Numerals
 pub mod Rates
 mod Cutting
 mod Decimals
+mod Nearest
+pub mod Guesses
 mod DraftLines
 mod DraftParts
 pub mod DraftFaults

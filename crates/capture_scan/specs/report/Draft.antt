@@ -1,37 +1,77 @@
 -- A draft of a session description (RFC 4566) of uncompressed video (SMPTE ST 2110-20, RFC 4175), made of the streams
--- of a capture. It says no sender type, which can't be seen in packets.
+-- of a capture. It says no sender type, which can't be seen in packets, and what of a video is a guess (RFC 4566,
+-- section 5.4, a line `i=`).
 -- This project's profile: which streams have a video, and what is taken where it isn't seen. Sizes are pixels and
 -- lines.
-use Rattle.std.specs.Prelude.{ℕ, ◌+◌, ◌*◌, ◌/◌, ◌%◌, ◌^◌, ◌==◌, ◌&&◌, ◌||◌, nat_le, nat_lt, not, min, max, Bool, false}
-use Rattle.std.specs.Prelude.{if◌then◌else◌, List, [], ◌∷◌, ◌++◌, fold, length, Option, Some, None, codes}
+use Rattle.std.specs.Prelude.{ℕ, ◌+◌, ◌*◌, ◌/◌, ◌%◌, ◌^◌, ◌==◌, ◌&&◌, ◌||◌, nat_le, nat_lt, not, min, max, Bool, true, false}
+use Rattle.std.specs.Prelude.{if◌then◌else◌, List, [], ◌∷◌, ◌++◌, fold, length, Option, Some, None, is_none, codes}
 use Rattle.std.specs.Fmt.{decimal}
 use Rattle.std.specs.List.{flat_map, list_any}
 use Rattle.timing_base.specs.declared.target.Target.{Target}
 use Rattle.capture_scan.specs.declared.stream.Lines.{Lines}
 use Rattle.capture_scan.specs.declared.stream.Pace.{Pace}
 use Rattle.capture_scan.specs.declared.stream.Stream.{Stream}
-use Rattle.capture_scan.specs.report.Rates.{nearest, ratio_text, slowest}
+use Rattle.capture_scan.specs.report.Rates.{drafted_rate, is_known, ratio_of, ratio_text, slowest}
 use Rattle.capture_scan.specs.declared.report.draft.DraftVideo.{DraftVideo}
-use Rattle.capture_scan.specs.declared.report.rate.FrameRate.{FrameRate}
+use Rattle.capture_scan.specs.declared.report.draft.Guesses.{Guesses}
+use Rattle.capture_scan.specs.declared.report.rate.Ratio.{Ratio}
+
+-- no line header was seen that doesn't fit raw video
+abbrev pub is_raw : Option Lines → Bool
+is_raw None = true
+is_raw (Some lines) = lines.fits
 
 -- whether a line of a second field was seen
 abbrev pub has_fields : Option Lines → Bool
 has_fields None = false
-has_fields (Some lines) = lines.second_field
+has_fields (Some lines) = lines.fits && lines.second_field
 
--- whole frames of so many lines are in use; fields have half as many, which no frame has
-abbrev pub is_of_frames : ℕ → Bool
-is_of_frames n = (n == 2160) || ((n == 1080) || ((n == 720) || ((n == 576) || ((n == 486) || (n == 480)))))
+-- whole frames of so many lines are in use
+abbrev pub is_in_use : ℕ → Bool
+is_in_use n = (n == 2160) || ((n == 1080) || ((n == 720) || ((n == 576) || ((n == 486) || (n == 480)))))
 
--- the lines of a whole picture whose line numbers are fewer than n, with a second field or without: some senders number
--- the lines of each field by themselves, and others those of both over the whole frame
+-- so many lines are those of a height, but for four at most
+abbrev pub is_near : (lines height : ℕ) → Bool
+is_near n height = nat_le n height && nat_le height (n + 4)
+
+-- the least height in use of so many lines, or of up to four more, where there is one
+abbrev pub near_height : ℕ → Option ℕ
+near_height n =
+    if is_near n 480 then Some 480
+    else (if is_near n 486 then Some 486
+    else (if is_near n 576 then Some 576
+    else (if is_near n 720 then Some 720
+    else (if is_near n 1080 then Some 1080
+    else (if is_near n 2160 then Some 2160
+    else None)))))
+
+-- it, and else the lines
+abbrev pub near_or : ℕ → Option ℕ → ℕ
+near_or n None = n
+near_or n (Some height) = height
+
+-- fields of n lines have a frame of twice as many, which is in use at most where it has 2,160; n that are near a height
+-- in use are those of a frame
+abbrev pub are_of_fields : ℕ → Bool
+are_of_fields n = nat_le (2 * n) 2160 && is_none (near_height n)
+
+-- the lines of a whole picture whose line numbers are below n, with a second field or without, as far as they were
+-- seen: some senders number the lines of each field by themselves, and others those of both over the whole frame
 abbrev pub lines_of : Bool → ℕ → ℕ
-lines_of second_field n = if second_field && not (is_of_frames n) then 2 * n else n
+lines_of second_field n = if second_field && are_of_fields n then 2 * n else n
 
--- the lines of a whole picture, as far as they were seen
+abbrev pub seen_height : Lines → ℕ
+seen_height lines = lines_of lines.second_field (lines.greatest + 1)
+
+-- the lines of a whole picture
 abbrev pub height_of : Option Lines → ℕ
 height_of None = 1080
-height_of (Some lines) = min 32767 (lines_of lines.second_field (lines.greatest + 1))
+height_of (Some lines) = min 32767 (near_or (seen_height lines) (near_height (seen_height lines)))
+
+-- it is a guess where lines were seen, and as many aren't in use
+abbrev pub is_height_guessed : Option Lines → Bool
+is_height_guessed None = false
+is_height_guessed (Some lines) = not (is_in_use (seen_height lines))
 
 -- the pixels of a line that go with a height: those of a format that is in use, and else 16 to 9
 abbrev pub width_of : ℕ → ℕ
@@ -45,9 +85,22 @@ width_of height =
     else max 1 (min 32767 (16 * height / 9)))))))
 
 -- the rate, as far as it was seen
-abbrev pub rate_of : Bool → Option Pace → FrameRate
-rate_of fields None = slowest
-rate_of fields (Some pace) = nearest fields pace.rate
+abbrev pub rate_of : Bool → Option Pace → Ratio
+rate_of fields None = ratio_of slowest
+rate_of fields (Some pace) = drafted_rate fields pace.rate
+
+-- it is a guess where it isn't one that is known
+abbrev pub is_rate_guessed : Bool → Option Pace → Bool
+is_rate_guessed fields None = true
+is_rate_guessed fields (Some pace) = not (is_known fields pace.rate)
+
+-- what of a stream's video is a guess, beside its width
+abbrev pub guesses_of : Stream → Guesses
+guesses_of s = record {
+  height = is_height_guessed s.lines;
+  rate = is_rate_guessed (has_fields s.lines) s.pace;
+  lines = is_none s.lines;
+}
 
 -- the video of a stream
 abbrev pub video_of : Stream → DraftVideo
@@ -58,11 +111,12 @@ video_of s = record {
   height = height_of s.lines;
   interlaced = has_fields s.lines;
   rate = rate_of (has_fields s.lines) s.pace;
+  guesses = guesses_of s;
 }
 
--- a stream has two whole frames at least, and a port that a description can have
+-- a stream has two whole frames at least, a port that a description can have, and no line header that doesn't fit
 abbrev pub can_be_drafted : Stream → Bool
-can_be_drafted s = nat_le 3 s.markers && nat_lt 0 s.target.port
+can_be_drafted s = nat_le 3 s.markers && (nat_lt 0 s.target.port && is_raw s.lines)
 
 -- one of the videos has this target
 abbrev pub has_target : Target → List DraftVideo → Bool
@@ -96,6 +150,19 @@ abbrev pub media_line : DraftVideo → List ℕ
 media_line v =
     codes "m=video " ++ (decimal v.target.port ++ (codes " RTP/AVP " ++ (decimal v.pt ++ codes "\n")))
 
+-- a guess, where it is one
+abbrev pub guess_text : Bool → List ℕ → List ℕ
+guess_text is_guess what = if is_guess then what else codes ""
+
+abbrev pub guesses_text : Guesses → List ℕ
+guesses_text g =
+    guess_text g.height (codes ", height") ++ (guess_text g.rate (codes ", rate")
+    ++ (guess_text g.lines (codes ", lines not captured") ++ codes "\n"))
+
+-- what is a guess: the width always, as no packet says it
+abbrev pub guess_line : DraftVideo → List ℕ
+guess_line v = codes "i=guessed: width" ++ guesses_text v.guesses
+
 abbrev pub connection_line : DraftVideo → List ℕ
 connection_line v = codes "c=IN IP4 " ++ (octets_text v.target.address ++ codes "\n")
 
@@ -113,7 +180,7 @@ parameter_line v =
     ++ (interlace_text v.interlaced ++ codes "\n")))))))))
 
 abbrev pub video_text : DraftVideo → List ℕ
-video_text v = media_line v ++ (connection_line v ++ (map_line v ++ parameter_line v))
+video_text v = media_line v ++ (guess_line v ++ (connection_line v ++ (map_line v ++ parameter_line v)))
 
 -- the lines of the session
 abbrev pub session_text : List ℕ

@@ -70,11 +70,12 @@ pace_members None = []
 pace_members (Some pace) =
     (codes "frame", range_data pace.frame) ∷ (codes "step", range_data pace.step) ∷ rate_members pace.rate
 
--- the first line headers, where there is one
+-- the first line headers, where there is one and all fit raw video
 abbrev pub lines_members : Option Lines → List Member
 lines_members None = []
 lines_members (Some lines) =
-    (codes "line", count lines.greatest) ∷ (codes "second_field", boolean lines.second_field) ∷ []
+    if lines.fits then (codes "line", count lines.greatest) ∷ (codes "second_field", boolean lines.second_field) ∷ []
+    else []
 
 -- who sends what to whom
 abbrev pub key_members : Stream → List Member

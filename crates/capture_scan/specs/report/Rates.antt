@@ -1,13 +1,14 @@
 -- Frame rates, as they are found from the steps of RTP timestamps (RFC 3550, section 5.1) at 90 kHz (RFC 4175,
 -- section 6), from one packet with the marker to the next: a frame, or a field where there are two in a frame.
 -- Ticks are of 90 kHz; the ticks of a frame are whole eighths of a tick at each rate that is known.
--- This project's profile: which rates are known, and when one of them is told.
-use Rattle.std.specs.Prelude.{ℕ, ◌+◌, ◌*◌, ◌/◌, ◌%◌, ◌&&◌, nat_le, Bool, true, false, if◌then◌else◌, List, [], ◌∷◌}
-use Rattle.std.specs.Prelude.{◌++◌, codes}
+-- This project's profile: which rates are known, and when one of them is told; how near to one the mean step has to be.
+use Rattle.std.specs.Prelude.{ℕ, zero, suc, ◌+◌, ◌*◌, ◌/◌, ◌%◌, ◌==◌, ◌&&◌, nat_le, Bool, true, false, if◌then◌else◌, List}
+use Rattle.std.specs.Prelude.{[], ◌∷◌, ◌++◌, Option, Some, None, codes}
 use Rattle.std.specs.Fmt.{decimal}
 use Rattle.capture_scan.specs.declared.stream.Range.{Range}
 use Rattle.capture_scan.specs.declared.stream.Rate.{Rate}
 use Rattle.capture_scan.specs.declared.report.rate.FrameRate.{FrameRate}
+use Rattle.capture_scan.specs.declared.report.rate.Ratio.{Ratio}
 
 -- so many frames per second, or 1000/1001 of that, and the eighths of a tick that a frame takes
 abbrev pub exact : ℕ → ℕ → FrameRate
@@ -49,6 +50,66 @@ nearest_from fields rate slow (next ∷ rest) =
 abbrev pub nearest : Bool → Rate → FrameRate
 nearest fields rate = nearest_from fields rate slowest faster
 
+-- the step of a rate is within a hundredth of the mean: 99 hundredths of the mean at least, and 101 at most
+abbrev pub is_within : Bool → Rate → FrameRate → Bool
+is_within fields rate r =
+    nat_le (99 * (sixteenths fields * rate.ticks)) (200 * (r.eighths * rate.steps))
+    && nat_le (200 * (r.eighths * rate.steps)) (101 * (sixteenths fields * rate.ticks))
+
+-- that of the nearest is, and so that of one of the known rates
+abbrev pub is_known : Bool → Rate → Bool
+is_known fields rate = is_within fields rate (nearest fields rate)
+
+-- a rate as a fraction
+abbrev pub ratio_with : ℕ → ℕ → Ratio
+ratio_with p q = record { p = p; q = q }
+
+abbrev pub ratio_of : FrameRate → Ratio
+ratio_of r = ratio_with (numerator r) (denominator r)
+
+-- the frames of some steps, in as many seconds as they have ticks
+abbrev pub frames_in : Bool → Rate → ℕ
+frames_in fields rate = (if fields then 45000 else 90000) * rate.steps
+
+-- so many frames in a number of seconds are a whole number in q of these numbers
+abbrev pub is_whole_in : (frames ticks q : ℕ) → Bool
+is_whole_in frames ticks q = q * frames % ticks == 0
+
+-- the least denominator with which the frames by the ticks are a fraction, of so many from q on: the fraction is in
+-- lowest terms
+unfoldable pub denominator_from : (many q frames ticks : ℕ) → Option ℕ
+denominator_from zero q frames ticks = None
+denominator_from (suc many) q frames ticks =
+    if is_whole_in frames ticks q then Some q else denominator_from many (q + 1) frames ticks
+
+-- a description has rates above 0, of at most 240 frames per second
+abbrev pub limited : (p q : ℕ) → Option Ratio
+limited p q = if nat_le 1 p && nat_le p (240 * q) then Some (ratio_with p q) else None
+
+abbrev pub limited_by : (frames ticks : ℕ) → Option ℕ → Option Ratio
+limited_by frames ticks None = None
+limited_by frames ticks (Some q) = limited (q * frames / ticks) q
+
+-- the frames by the ticks, as a fraction in lowest terms that a description can have: its denominators are 1 to 1001
+abbrev pub measured_of : (frames ticks : ℕ) → Option Ratio
+measured_of frames ticks =
+    if ticks == 0 then None else limited_by frames ticks (denominator_from 1001 1 frames ticks)
+
+-- the rate by the mean step
+abbrev pub measured : Bool → Rate → Option Ratio
+measured fields rate = measured_of (frames_in fields rate) rate.ticks
+
+-- the measured rate where there is one, and else the nearest
+abbrev pub measured_or : Ratio → Option Ratio → Ratio
+measured_or nearest None = nearest
+measured_or nearest (Some ratio) = ratio
+
+-- the rate that a draft has: one that is known where its step is within a hundredth of the mean
+abbrev pub drafted_rate : Bool → Rate → Ratio
+drafted_rate fields rate =
+    if is_known fields rate then ratio_of (nearest fields rate)
+    else measured_or (ratio_of (nearest fields rate)) (measured fields rate)
+
 -- the ticks of a step at a rate, rounded down and up
 abbrev pub ticks_down : Bool → FrameRate → ℕ
 ticks_down fields r = if fields then r.eighths / 16 else r.eighths / 8
@@ -60,9 +121,9 @@ ticks_up fields r = if fields then (r.eighths + 15) / 16 else (r.eighths + 7) / 
 abbrev pub has_steps_of : Bool → Range → FrameRate → Bool
 has_steps_of fields step r = nat_le (ticks_down fields r) step.least && nat_le step.least (ticks_up fields r)
 
--- as a fraction
-abbrev pub ratio_text : FrameRate → List ℕ
-ratio_text r = if r.slowed then decimal (r.whole * 1000) ++ codes "/1001" else decimal r.whole
+-- as a fraction, or as a whole number
+abbrev pub ratio_text : Ratio → List ℕ
+ratio_text r = if r.q == 1 then decimal r.p else decimal r.p ++ (codes "/" ++ decimal r.q)
 
 -- the hundredths of a frame per second of a rate that is slowed, to the nearest
 abbrev pub hundredths : ℕ → ℕ

@@ -1,9 +1,8 @@
 -- What a reader of session descriptions makes of a draft, and which videos a draft has. Lines count from 1.
-use Rattle.std.specs.Prelude.{◌≡◌, ◌≤◌, ◌<◌, ◌+◌, ◌^◌, ℕ, ⊤, false, List, [], ◌∷◌, None}
+use Rattle.std.specs.Prelude.{◌≡◌, ◌≤◌, ◌<◌, ◌+◌, ◌*◌, ◌^◌, ℕ, ⊤, false, List, [], ◌∷◌, None}
 use Rattle.timing_base.specs.Media.{Media}
 use Rattle.capture_scan.specs.declared.stream.Stream.{Stream}
 use Rattle.capture_scan.specs.report.Draft.{has_target}
-use Rattle.capture_scan.specs.report.Rates.{denominator, numerator}
 use Rattle.capture_scan.specs.declared.report.draft.DraftVideo.{DraftVideo}
 
 -- the media of a video whose lines begin with this one; no sender type, offset or limit is declared
@@ -16,17 +15,17 @@ media_at line v = record {
   width = v.width;
   height = v.height;
   interlaced = v.interlaced;
-  p = numerator v.rate;
-  q = denominator v.rate;
+  p = v.rate.p;
+  q = v.rate.q;
   declared = None;
   troff = None;
   cmax = None;
 }
 
--- the media of videos from a line on: each has four lines
+-- the media of videos from a line on: each has five lines
 abbrev pub media_from : ℕ → List DraftVideo → List Media
 media_from line [] = []
-media_from line (v ∷ rest) = media_at line v ∷ media_from (line + 4) rest
+media_from line (v ∷ rest) = media_at line v ∷ media_from (line + 5) rest
 
 -- the media of a draft: four lines are the session's
 abbrev pub media_of : List DraftVideo → List Media
@@ -37,8 +36,8 @@ abbrev pub HaveOwnTargets : List DraftVideo → Type 0
 HaveOwnTargets [] = ⊤
 HaveOwnTargets (v ∷ rest) = (has_target v.target rest ≡ false) × HaveOwnTargets rest
 
--- a video has the ranges of a description: address, port and payload type, sizes of 1 to 32,767, and at most 240
--- frames per second
+-- a video has the ranges of a description: address, port and payload type, sizes of 1 to 32,767, and more than 0 and at
+-- most 240 frames per second, as a fraction with a denominator of 1 to 1001
 pub record IsDrafted (v : DraftVideo) : Type 0 where
   pub address : v.target.address < 2 ^ 32
   pub port_some : 1 ≤ v.target.port
@@ -48,8 +47,10 @@ pub record IsDrafted (v : DraftVideo) : Type 0 where
   pub width : v.width ≤ 32767
   pub height_some : 1 ≤ v.height
   pub height : v.height ≤ 32767
-  pub rate_some : 1 ≤ v.rate.whole
-  pub rate : v.rate.whole ≤ 240
+  pub rate_some : 1 ≤ v.rate.p
+  pub rate : v.rate.p ≤ 240 * v.rate.q
+  pub seconds_some : 1 ≤ v.rate.q
+  pub seconds : v.rate.q ≤ 1001
 
 -- a stream's address, port and payload type have 32, 16 and 7 bits, as in a packet
 pub record HasBits (s : Stream) : Type 0 where

@@ -105,11 +105,16 @@ loss_text s =
     ++ codes " wraps without the extended number")))))))))))))
 
 -- the lines of a picture, or of a field
+abbrev pub count_told : Lines → List ℕ
+count_told lines =
+    if lines.second_field then decimal (lines.greatest + 1) ++ codes " in each of two fields"
+    else decimal (lines.greatest + 1)
+
+-- a stream of something else has none
 abbrev pub lines_told : Option Lines → List ℕ
 lines_told None = codes "not seen: no line header was captured"
 lines_told (Some lines) =
-    if lines.second_field then decimal (lines.greatest + 1) ++ codes " in each of two fields"
-    else decimal (lines.greatest + 1)
+    if lines.fits then count_told lines else codes "none: not raw video, as a line header doesn't fit its packet"
 
 -- a line of a stream
 abbrev pub stream_line : ℕ → List ℕ → List ℕ → List ℕ

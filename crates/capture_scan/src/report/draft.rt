@@ -2,13 +2,24 @@
 
 ghost use Rattle.std.specs.Prelude.{◌≡◌, ◌++◌, ◌∷◌, [], ◌≤◌, IfOk, string_bytes};
 ghost use Rattle.std.specs.List.{flat_map};
-ghost use Rattle.capture_scan.specs.report.Draft.{connection_line, draft_text, has_fields, has_target, height_of, is_added, is_of_frames, map_line, media_line, parameter_line, rate_of, video_of, video_text, videos_of, width_of};
+ghost use Rattle.capture_scan.specs.report.Draft.{are_of_fields, connection_line, draft_text, guess_line, guess_text, guesses_of, guesses_text, has_fields, has_target, height_of, is_added, is_height_guessed, is_in_use, is_near, is_rate_guessed, is_raw, map_line, media_line, near_height, parameter_line, rate_of, seen_height, video_of, video_text, videos_of, width_of};
 
-use crate::report::rate::FrameRate;
+use crate::report::rate::{Ratio, is_known};
 use crate::{Lines, Pace, Stream};
 use std::alloc::{AllocError as OutOfMemory, Global};
 use std::fmt;
 use timing_base::Target;
+
+/// What of a video is a guess, beside its width, which no packet says.
+#[derive(Clone, Copy)]
+pub struct Guesses {
+    /// Lines were captured, but as many as were seen aren't in use.
+    pub height: bool,
+    /// No known rate has a step within a hundredth of the mean.
+    pub rate: bool,
+    /// No line header was captured.
+    pub lines: bool,
+}
 
 /// A video of a draft.
 #[derive(Clone, Copy)]
@@ -19,12 +30,14 @@ pub struct DraftVideo {
     pub pt: u8,
     /// In pixels; a guess from the height.
     pub width: u32,
-    /// In lines of a whole picture; 1080 where no line header was captured.
+    /// In lines of a whole picture: the least height in use with as many lines as were seen, or up to four more, and
+    /// else as many as were seen; 1080 where no line header was captured.
     pub height: u32,
     /// Whether a line of a second field was seen.
     pub interlaced: bool,
-    /// The known rate that is nearest to the mean; the slowest where no step was seen.
-    pub rate: FrameRate,
+    /// Frames per second; the slowest known rate where no step was seen.
+    pub rate: Ratio,
+    pub guesses: Guesses,
 }
 
 /// A draft of a session description: its videos, at most 64, each with a target of its own.
@@ -33,35 +46,105 @@ pub struct Draft {
     pub videos: Vec<DraftVideo>,
 }
 
+/// Whether no line header was seen that doesn't fit raw video.
+fn is_raw(lines: Option<Lines>) -> bool
+    ensures { result ≡ is_raw lines }
+{
+    match lines {
+        Some(lines) => lines.fits,
+        None => true,
+    }
+}
+
 /// Whether a line of a second field was seen.
 pub(crate) fn has_fields(lines: Option<Lines>) -> bool
     ensures { result ≡ has_fields lines }
 {
     match lines {
-        Some(lines) => lines.second_field,
+        Some(lines) => lines.fits && lines.second_field,
         None => false,
     }
 }
 
-/// Whether whole frames of so many lines are in use. Fields have half as many, which no frame has.
-fn is_of_frames(count: u32) -> bool
-    ensures { result ≡ is_of_frames count }
+/// Whether whole frames of so many lines are in use.
+fn is_in_use(count: u32) -> bool
+    ensures { result ≡ is_in_use count }
 {
     matches!(count, 2160 | 1080 | 720 | 576 | 486 | 480)
 }
 
+/// Whether so many lines are those of a height, or up to four fewer.
+fn is_near(count: u32, height: u32) -> bool
+    requires { count ≤ 131072 }
+    ensures { result ≡ is_near count height }
+{
+    count <= height && height <= count + 4
+}
+
+/// The least height in use of so many lines, or of up to four more.
+fn near_height(count: u32) -> Option<u32>
+    requires { count ≤ 131072 }
+    ensures { result ≡ near_height count }
+{
+    if is_near(count, 480) {
+        Some(480)
+    } else if is_near(count, 486) {
+        Some(486)
+    } else if is_near(count, 576) {
+        Some(576)
+    } else if is_near(count, 720) {
+        Some(720)
+    } else if is_near(count, 1080) {
+        Some(1080)
+    } else if is_near(count, 2160) {
+        Some(2160)
+    } else {
+        None
+    }
+}
+
+/// Whether so many lines are those of a field: a frame of twice as many has 2,160 at most, and they aren't near a height
+/// in use themselves.
+fn are_of_fields(count: u32) -> bool
+    requires { count ≤ 65536 }
+    ensures { result ≡ are_of_fields count }
+{
+    2 * count <= 2160 && near_height(count).is_none()
+}
+
 /// The lines of a whole picture, as far as they were seen. Some senders number the lines of each field by
 /// themselves, and others those of both over the whole frame.
+fn seen_height(lines: Lines) -> u32
+    ensures lines { result ≡ seen_height lines }
+    ensures few { result ≤ 131072 }
+{
+    let count = u32::from(lines.greatest) + 1;
+    if lines.second_field && are_of_fields(count) {
+        2 * count
+    } else {
+        count
+    }
+}
+
+/// The lines of a whole picture.
 fn height_of(lines: Option<Lines>) -> u32
     ensures { result ≡ height_of lines }
 {
     let Some(lines) = lines else {
         return 1080;
     };
-    let count = u32::from(lines.greatest) + 1;
-    let halves = lines.second_field && !is_of_frames(count);
-    let height = if halves { 2 * count } else { count };
-    height.min(32_767)
+    let seen = seen_height(lines);
+    near_height(seen).unwrap_or(seen).min(32_767)
+}
+
+/// Whether lines were seen, and as many aren't in use.
+fn is_height_guessed(lines: Option<Lines>) -> bool
+    ensures { result ≡ is_height_guessed lines }
+{
+    match lines {
+        Some(lines) => !is_in_use(seen_height(lines)),
+        None => false,
+    }
 }
 
 /// The pixels of a line that go with a height.
@@ -79,12 +162,35 @@ fn width_of(height: u32) -> u32
 }
 
 /// The rate, as far as it was seen.
-fn rate_of(fields: bool, pace: Option<Pace>) -> FrameRate
+fn rate_of(fields: bool, pace: Option<Pace>) -> Ratio
     ensures { result ≡ rate_of fields pace }
 {
     match pace {
-        Some(pace) => FrameRate::nearest(fields, pace.rate),
-        None => FrameRate::slowest(),
+        Some(pace) => Ratio::drafted(fields, pace.rate),
+        None => Ratio::slowest(),
+    }
+}
+
+/// Whether the rate isn't one that is known.
+fn is_rate_guessed(fields: bool, pace: Option<Pace>) -> bool
+    ensures { result ≡ is_rate_guessed fields pace }
+{
+    match pace {
+        Some(pace) => !is_known(fields, pace.rate),
+        None => true,
+    }
+}
+
+impl Guesses {
+    /// What of a stream's video is a guess.
+    fn of(stream: &Stream) -> Guesses
+        ensures { result ≡ guesses_of stream.now }
+    {
+        Guesses {
+            height: is_height_guessed(stream.lines),
+            rate: is_rate_guessed(has_fields(stream.lines), stream.pace),
+            lines: stream.lines.is_none(),
+        }
     }
 }
 
@@ -102,6 +208,7 @@ impl DraftVideo {
             height,
             interlaced,
             rate: rate_of(interlaced, stream.pace),
+            guesses: Guesses::of(stream),
         }
     }
 }
@@ -123,13 +230,14 @@ fn is_added(videos: &[DraftVideo], stream: &Stream) -> bool
     ensures { result ≡ is_added videos.now stream.now }
 {
     videos.len() < 64
-        && (stream.markers >= 3 && stream.target.port > 0)
+        && (stream.markers >= 3 && (stream.target.port > 0 && is_raw(stream.lines)))
         && !has_target(stream.target, videos)
 }
 
 impl Draft {
-    /// The draft of these streams: a video for each stream that has three markers or more and a target port above 0,
-    /// in order, at most 64 of them, and each target once. `Err` is want of memory.
+    /// The draft of these streams: a video for each stream that has three markers or more, a target port above 0 and
+    /// no line header that doesn't fit raw video, in order, at most 64 of them, and each target once. `Err` is want of
+    /// memory.
     pub fn of(alloc: Global, streams: &[Stream]) -> Result<Draft, OutOfMemory>
         ensures { IfOk result (λ draft. draft.videos.items ≡ videos_of streams.now) }
     {
@@ -175,28 +283,6 @@ impl fmt::Display for ConnectionText {
     }
 }
 
-/// A rate as a fraction.
-#[derive(Clone, Copy)]
-struct RatioText {
-    rate: FrameRate,
-}
-
-impl fmt::Display for RatioText {
-    ghost use Rattle.std.specs.Prelude.{Some};
-    ghost use Rattle.capture_scan.specs.report.Rates.{ratio_text};
-
-    ghost output = { λ text. Some (ratio_text text.rate) };
-
-    fn fmt<W: fmt::Write>(&self, f: &mut fmt::Formatter<W>) -> fmt::Result {
-        let whole = u32::from(self.rate.whole);
-        if self.rate.slowed {
-            write!(f, "{}/1001", whole * 1000)
-        } else {
-            write!(f, "{whole}")
-        }
-    }
-}
-
 /// That the pictures are two fields each, where they are.
 #[derive(Clone, Copy)]
 struct InterlaceText {
@@ -234,6 +320,7 @@ fn add_video(text: &mut String, video: &DraftVideo) -> Result<(), OutOfMemory>
     ensures { IfOk result (λ _. string_bytes text.new ≡ string_bytes text.old ++ video_text video.now) }
 {
     add_media(text, video)?;
+    add_guesses(text, video)?;
     add_connection(text, video)?;
     add_map(text, video)?;
     add_parameters(text, video)
@@ -244,6 +331,35 @@ fn add_media(text: &mut String, video: &DraftVideo) -> Result<(), OutOfMemory>
     ensures { IfOk result (λ _. string_bytes text.new ≡ string_bytes text.old ++ media_line video.now) }
 {
     writeln!(text, "m=video {} RTP/AVP {}", video.target.port, video.pt)
+}
+
+/// Adds a guess, if it is one.
+fn add_guess(text: &mut String, is_guess: bool, what: &str) -> Result<(), OutOfMemory>
+    ensures { IfOk result (λ _. string_bytes text.new ≡ string_bytes text.old ++ guess_text is_guess what.now) }
+{
+    if is_guess {
+        text.push_str(what)
+    } else {
+        Ok(())
+    }
+}
+
+/// Adds what is a guess beside the width, and the end of the line.
+fn add_others(text: &mut String, guesses: Guesses) -> Result<(), OutOfMemory>
+    ensures { IfOk result (λ _. string_bytes text.new ≡ string_bytes text.old ++ guesses_text guesses) }
+{
+    add_guess(text, guesses.height, ", height")?;
+    add_guess(text, guesses.rate, ", rate")?;
+    add_guess(text, guesses.lines, ", lines not captured")?;
+    text.push_str("\n")
+}
+
+/// Adds the line of what is a guess.
+fn add_guesses(text: &mut String, video: &DraftVideo) -> Result<(), OutOfMemory>
+    ensures { IfOk result (λ _. string_bytes text.new ≡ string_bytes text.old ++ guess_line video.now) }
+{
+    text.push_str("i=guessed: width")?;
+    add_others(text, video.guesses)
 }
 
 /// Adds the line of the address.
@@ -267,8 +383,7 @@ fn add_map(text: &mut String, video: &DraftVideo) -> Result<(), OutOfMemory>
 fn add_parameters(text: &mut String, video: &DraftVideo) -> Result<(), OutOfMemory>
     ensures { IfOk result (λ _. string_bytes text.new ≡ string_bytes text.old ++ parameter_line video.now) }
 {
-    let (pt, width, height) = (video.pt, video.width, video.height);
-    let rate = RatioText { rate: video.rate };
+    let (pt, width, height, rate) = (video.pt, video.width, video.height, video.rate);
     let interlace = InterlaceText {
         interlaced: video.interlaced,
     };

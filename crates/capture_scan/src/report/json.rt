@@ -128,13 +128,16 @@ fn put_pace(object: &mut Object, alloc: Global, pace: Option<Pace>) -> Result<()
     }
 }
 
-/// The first line headers, where there is one.
+/// The first line headers, where there is one and all fit raw video.
 fn put_lines(object: &mut Object, lines: Option<Lines>) -> Result<(), OutOfMemory>
     ensures { IfOk result (λ _. Puts (lines_members lines) object.old object.new) }
 {
     match lines {
         None => Ok(()),
         Some(lines) => {
+            if !lines.fits {
+                return Ok(());
+            }
             object.put_count("line", u64::from(lines.greatest))?;
             object.put_flag("second_field", lines.second_field)
         }
@@ -242,7 +245,7 @@ fn value_of(alloc: Global, name: &str, note: FileNote, found: &Found) -> Result<
 ///
 /// The keys of each object stand in byte order. Missing are `first` and `last` where there is no record; of a stream
 /// `frame`, `step` and `rate` where it hasn't two markers, `rate` also where its ticks have more than 64 bits, and
-/// `line` and `second_field` where no packet reaches through a line header.
+/// `line` and `second_field` where no packet reaches through a line header, or one of the headers doesn't fit raw video.
 pub fn json_of(
     alloc: Global,
     name: &str,

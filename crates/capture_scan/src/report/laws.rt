@@ -1,16 +1,19 @@
 //! The texts tried by hand. Each function is a theorem: it does nothing, and its clauses are proved.
 
-ghost use Rattle.std.specs.Prelude.{◌≡◌, ◌≤◌, ◌*◌, ◌++◌, ◌∷◌, [], All, List, None, Ok, codes, false, length, map, true};
+ghost use Rattle.std.specs.Prelude.{◌≡◌, ◌≤◌, ◌*◌, ◌++◌, ◌∷◌, [], All, List, None, Ok, Some, codes, false, is_none, length, map, not, true};
+ghost use Rattle.std.specs.List.{list_any};
 ghost use Rattle.sdp_reader.specs.Session.{session};
 ghost use Rattle.capture_scan.specs.report.ReadBack.{HasBits, HaveOwnTargets, IsDrafted, media_of};
+ghost use Rattle.capture_scan.specs.declared.stream.Lines.{Lines};
+ghost use Rattle.capture_scan.specs.declared.stream.Pace.{Pace};
 ghost use Rattle.capture_scan.specs.declared.stream.Stream.{Stream};
 ghost use Rattle.capture_scan.specs.declared.report.draft.DraftVideo.{DraftVideo};
 ghost use Rattle.timing_base.specs.declared.capture.FileNote.TheVariants as note;
-ghost use Rattle.capture_scan.specs.report.Draft.{draft_text, height_of, videos_of};
-ghost use Rattle.capture_scan.specs.report.Examples.{empty_contents, fields_to, frames_to, mixed_contents, plain_contents, plain_stream, stream_of_fields, ticks_in};
+ghost use Rattle.capture_scan.specs.report.Draft.{draft_text, has_fields, height_of, is_added, is_height_guessed, is_raw, seen_height, video_of, videos_of};
+ghost use Rattle.capture_scan.specs.report.Examples.{empty_contents, fields_to, frames_to, guessed_of_frames, mixed_contents, plain_contents, plain_stream, stream_of_478, stream_of_audio, stream_of_fields, ticks_in};
 ghost use Rattle.capture_scan.specs.report.Json.{json_text};
 ghost use Rattle.capture_scan.specs.report.Text.{contents_text};
-ghost use Rattle.capture_scan.specs.report.Rates.{denominator, exact, faster, nearest, numerator, rate_text, slowed, slowest};
+ghost use Rattle.capture_scan.specs.report.Rates.{denominator, drafted_rate, exact, faster, is_known, is_within, nearest, numerator, rate_text, ratio_with, slowed, slowest};
 
 /// The whole JSON of a capture with one stream.
 #[tactic(auto, unfolding(crate::proofs::lemmas::report::Numerals::scan_texts))]
@@ -62,15 +65,45 @@ pub fn rates_by_hand()
     ensures whole { rate_text (exact 50 14400) ≡ codes "50 frames per second" }
 {}
 
+/// The rate of a draft by the mean step: known ones; 50 frames per second up to means of which its 1,800 ticks are 99 and
+/// 101 hundredths; and means that aren't within a hundredth of any: 12.5 frames per second, of frames and of fields, 2.4,
+/// 374 ticks, which are above 240 frames per second, and no tick.
+#[tactic(auto, unfolding(crate::proofs::lemmas::report::Numerals::scan_texts))]
+pub fn drafted_rates_by_hand()
+    ensures whole { drafted_rate false (ticks_in 3600 2) ≡ ratio_with 50 1 }
+    ensures slowed { drafted_rate false (ticks_in 3003 2) ≡ ratio_with 60000 1001 }
+    ensures fields { drafted_rate true (ticks_in 3003 2) ≡ ratio_with 30000 1001 }
+    ensures low { is_known false (ticks_in 180000 99) ≡ true }
+    ensures lower { is_known false (ticks_in 180001 99) ≡ false }
+    ensures high { is_known false (ticks_in 180000 101) ≡ true }
+    ensures higher { is_known false (ticks_in 179999 101) ≡ false }
+    ensures slow { drafted_rate false (ticks_in 14400 2) ≡ ratio_with 25 2 }
+    ensures slow_fields { drafted_rate true (ticks_in 7200 2) ≡ ratio_with 25 2 }
+    ensures above { drafted_rate false (ticks_in 1500000 40) ≡ ratio_with 12 5 }
+    ensures fast { drafted_rate false (ticks_in 374 1) ≡ ratio_with 120 1 }
+    ensures none { drafted_rate false (ticks_in 0 1) ≡ ratio_with 120 1 }
+{}
+
+/// A rate whose denominator in lowest terms would be above 1001 isn't measured: of 7207 ticks 24000/1001 is the nearest.
+#[tactic(auto, unfolding(crate::proofs::lemmas::report::Numerals::scan_texts))]
+pub fn long_denominator_by_hand()
+    ensures { drafted_rate false (ticks_in 7207 1) ≡ ratio_with 24000 1001 }
+{}
+
 /// The height of a draft by the greatest line number and the second field: fields of 1080, 576, 486 and 480 lines that are
-/// numbered by themselves or over the whole frame, whole frames, heights that aren't in use, and no line.
+/// numbered by themselves or over the whole frame, whole frames, up to four lines fewer than a height in use and five
+/// fewer, fields that would have more than 2,160 lines, heights that aren't in use, and no line.
 pub fn heights_by_hand()
     ensures fields { map fields_to (539 ∷ 287 ∷ 242 ∷ 239 ∷ []) ≡ 1080 ∷ 576 ∷ 486 ∷ 480 ∷ [] }
     ensures over_frame { map fields_to (1079 ∷ 575 ∷ 485 ∷ 479 ∷ []) ≡ 1080 ∷ 576 ∷ 486 ∷ 480 ∷ [] }
     ensures frames { map frames_to (2159 ∷ 1079 ∷ 719 ∷ 479 ∷ []) ≡ 2160 ∷ 1080 ∷ 720 ∷ 480 ∷ [] }
-    ensures others { map fields_to (599 ∷ 1078 ∷ []) ≡ 1200 ∷ 2158 ∷ [] }
+    ensures near { map frames_to (2155 ∷ 1075 ∷ 715 ∷ 571 ∷ 481 ∷ 475 ∷ []) ≡ 2160 ∷ 1080 ∷ 720 ∷ 576 ∷ 486 ∷ 480 ∷ [] }
+    ensures fewer { map frames_to (1074 ∷ 480 ∷ 474 ∷ []) ≡ 1075 ∷ 481 ∷ 475 ∷ [] }
+    ensures near_fields { map fields_to (537 ∷ 538 ∷ 237 ∷ 1077 ∷ []) ≡ 1080 ∷ 1080 ∷ 480 ∷ 1080 ∷ [] }
+    ensures others { map fields_to (599 ∷ 1080 ∷ 1079 ∷ []) ≡ 1200 ∷ 1081 ∷ 1080 ∷ [] }
     ensures greatest { map frames_to (32767 ∷ []) ≡ 32767 ∷ [] }
     ensures no_line { height_of None ≡ 1080 }
+    ensures guessed { map guessed_of_frames (1079 ∷ 1078 ∷ 599 ∷ []) ≡ false ∷ true ∷ true ∷ [] }
 {}
 
 /// The whole draft of a stream.
@@ -78,8 +111,9 @@ pub fn heights_by_hand()
 pub fn plain_draft_by_hand()
     ensures { draft_text (videos_of plain_contents.streams)
         ≡ codes "v=0\no=- 0 0 IN IP4 0.0.0.0\ns=draft\nt=0 0\n"
-        ++ (codes "m=video 50000 RTP/AVP 96\nc=IN IP4 239.0.0.1/32\na=rtpmap:96 raw/90000\n"
-        ++ codes "a=fmtp:96 width=1920; height=1080; exactframerate=50; \n") }
+        ++ (codes "m=video 50000 RTP/AVP 96\ni=guessed: width, lines not captured\n"
+        ++ (codes "c=IN IP4 239.0.0.1/32\na=rtpmap:96 raw/90000\n"
+        ++ codes "a=fmtp:96 width=1920; height=1080; exactframerate=50; \n")) }
 {}
 
 /// The draft of a stream of fields, and of a second one to the same target, which has no video.
@@ -87,8 +121,20 @@ pub fn plain_draft_by_hand()
 pub fn fields_draft_by_hand()
     ensures { draft_text (videos_of (stream_of_fields ∷ plain_stream ∷ []))
         ≡ codes "v=0\no=- 0 0 IN IP4 0.0.0.0\ns=draft\nt=0 0\n"
-        ++ (codes "m=video 50000 RTP/AVP 96\nc=IN IP4 239.0.0.1/32\na=rtpmap:96 raw/90000\n"
-        ++ codes "a=fmtp:96 width=1920; height=1080; exactframerate=30000/1001; interlace; \n") }
+        ++ (codes "m=video 50000 RTP/AVP 96\ni=guessed: width\n"
+        ++ (codes "c=IN IP4 239.0.0.1/32\na=rtpmap:96 raw/90000\n"
+        ++ codes "a=fmtp:96 width=1920; height=1080; exactframerate=30000/1001; interlace; \n")) }
+{}
+
+/// The draft of a stream of audio, which has no video, and of one of which 478 lines were seen, at 12.5 frames per
+/// second.
+#[tactic(auto, unfolding(crate::proofs::lemmas::report::Numerals::scan_texts))]
+pub fn guessed_draft_by_hand()
+    ensures { draft_text (videos_of (stream_of_audio ∷ stream_of_478 ∷ []))
+        ≡ codes "v=0\no=- 0 0 IN IP4 0.0.0.0\ns=draft\nt=0 0\n"
+        ++ (codes "m=video 50000 RTP/AVP 96\ni=guessed: width, height, rate\n"
+        ++ (codes "c=IN IP4 239.0.0.1/32\na=rtpmap:96 raw/90000\n"
+        ++ codes "a=fmtp:96 width=720; height=480; exactframerate=25/2; \n")) }
 {}
 
 /// The whole text of a capture with one stream.
@@ -124,6 +170,23 @@ pub fn mixed_text_by_hand()
         ++ (codes "stream 1 lost    1 of 41 sent (2.43 %), 0 back, 0 repeated, "
         ++ (codes "0 wraps without the extended number\n"
         ++ codes "stream 1 lines   540 in each of two fields\n"))))))))))) }
+{}
+
+/// What is said of a stream's video to be a guess is exactly what is one. The rate: where the step of no known rate is
+/// within a hundredth of the mean. The height: where lines were seen and as many aren't in use; else it is that of the
+/// lines that were seen. That lines weren't captured: where none was.
+pub fn guesses_are_exact()
+    ensures rate { (s : Stream) (pace : Pace) → s.pace ≡ Some pace
+        → (video_of s).guesses.rate ≡ not (list_any (is_within (has_fields s.lines) pace.rate) (slowest ∷ faster)) }
+    ensures height { (s : Stream) → (video_of s).guesses.height ≡ is_height_guessed s.lines }
+    ensures seen { (s : Stream) (lines : Lines) → s.lines ≡ Some lines → (video_of s).guesses.height ≡ false
+        → (video_of s).height ≡ seen_height lines }
+    ensures lines { (s : Stream) → (video_of s).guesses.lines ≡ is_none s.lines }
+{}
+
+/// A stream of something else has no video: one of whose line headers one doesn't fit raw video.
+pub fn other_streams_have_no_video()
+    ensures { (videos : List DraftVideo) (s : Stream) → is_raw s.lines ≡ false → is_added videos s ≡ false }
 {}
 
 /// A draft is read back as the media that it was made from: videos with the ranges of a description and targets of

@@ -1,7 +1,7 @@
-//! Frame rates that are known.
+//! Frame rates: those that are known, and what a draft says.
 
-ghost use Rattle.std.specs.Prelude.{◌≡◌};
-ghost use Rattle.capture_scan.specs.report.Rates.{has_steps_of, is_slow, nearest, slowest};
+ghost use Rattle.std.specs.Prelude.{◌≡◌, ◌≢◌, ◌≤◌, ◌<◌, ◌^◌, IfSome};
+ghost use Rattle.capture_scan.specs.report.Rates.{denominator_from, drafted_rate, frames_in, has_steps_of, is_known, is_slow, is_within, limited, measured, nearest, ratio_of, slowest};
 
 use crate::{Range, Rate};
 use std::fmt;
@@ -15,6 +15,15 @@ pub struct FrameRate {
     pub slowed: bool,
     /// The ticks of a frame at 90 kHz, in eighths of a tick.
     pub eighths: u16,
+}
+
+/// A frame rate as a fraction in lowest terms: `p` frames in `q` seconds.
+#[derive(Clone, Copy)]
+pub struct Ratio {
+    /// At least 1, and at most 240 for each second.
+    pub p: u32,
+    /// 1 to 1001.
+    pub q: u32,
 }
 
 /// Whether the mean step is half-way between those of a rate and of the next faster one, or greater.
@@ -119,6 +128,125 @@ impl FrameRate {
             eighths / 16 <= step.least && step.least <= (eighths + 15) / 16
         } else {
             eighths / 8 <= step.least && step.least <= (eighths + 7) / 8
+        }
+    }
+}
+
+/// Whether the step of a rate is within a hundredth of the mean.
+fn is_within(fields: bool, rate: Rate, known: FrameRate) -> bool
+    ensures { result ≡ is_within fields rate known }
+{
+    let hundredths = 200 * (u128::from(known.eighths) * u128::from(rate.steps));
+    if fields {
+        rate.ticks <= hundredths / 3168 && hundredths.div_ceil(3232) <= rate.ticks
+    } else {
+        rate.ticks <= hundredths / 1584 && hundredths.div_ceil(1616) <= rate.ticks
+    }
+}
+
+/// Whether the mean step is within a hundredth of that of a known rate.
+pub(crate) fn is_known(fields: bool, rate: Rate) -> bool
+    ensures { result ≡ is_known fields rate }
+{
+    is_within(fields, rate, FrameRate::nearest(fields, rate))
+}
+
+/// The frames of the steps, in as many seconds as they have ticks.
+fn frames_in(fields: bool, rate: Rate) -> u128
+    ensures frames { result ≡ frames_in fields rate }
+    ensures few { result < 2 ^ 81 }
+{
+    let each = if fields { 45_000 } else { 90_000 };
+    each * u128::from(rate.steps)
+}
+
+/// The least denominator of a description with which the frames by the ticks are a fraction.
+fn least_denominator(frames: u128, ticks: u128) -> Option<u32>
+    requires some { ticks ≢ 0 }
+    requires few { frames < 2 ^ 81 }
+    ensures least { result ≡ denominator_from 1001 1 frames ticks }
+    ensures low { IfSome result (λ q. q ≤ 1001) }
+{
+    for before in 0..1001u32 {
+        let q = before + 1;
+        if u128::from(q) * frames % ticks == 0 {
+            return Some(q);
+        }
+    }
+    None
+}
+
+impl Ratio {
+    /// A rate that is known, as a fraction.
+    fn of(rate: FrameRate) -> Ratio
+        ensures { result ≡ ratio_of rate }
+    {
+        let whole = u32::from(rate.whole);
+        if rate.slowed {
+            Ratio {
+                p: whole * 1000,
+                q: 1001,
+            }
+        } else {
+            Ratio { p: whole, q: 1 }
+        }
+    }
+
+    /// The slowest rate that is known.
+    pub(crate) fn slowest() -> Ratio
+        ensures { result ≡ ratio_of slowest }
+    {
+        Ratio::of(FrameRate::slowest())
+    }
+
+    /// A fraction, if a description can have it.
+    fn limited(p: u128, q: u32) -> Option<Ratio>
+        requires { q ≤ 1001 }
+        ensures { result ≡ limited p q }
+    {
+        if 1 <= p && p <= 240 * u128::from(q) {
+            Some(Ratio { p: p as u32, q })
+        } else {
+            None
+        }
+    }
+
+    /// The rate by the mean step, if a description can have it.
+    fn measured(fields: bool, rate: Rate) -> Option<Ratio>
+        ensures { result ≡ measured fields rate }
+    {
+        if rate.ticks == 0 {
+            return None;
+        }
+        let frames = frames_in(fields, rate);
+        let q = least_denominator(frames, rate.ticks)?;
+        Ratio::limited(u128::from(q) * frames / rate.ticks, q)
+    }
+
+    /// The rate of a draft: the known one that is nearest to the mean step, if its step is within a hundredth of the
+    /// mean. Else the rate by the mean itself, if a description can have it, and else that nearest one.
+    pub(crate) fn drafted(fields: bool, rate: Rate) -> Ratio
+        ensures { result ≡ drafted_rate fields rate }
+    {
+        let nearest = Ratio::of(FrameRate::nearest(fields, rate));
+        if is_known(fields, rate) {
+            return nearest;
+        }
+        Ratio::measured(fields, rate).unwrap_or(nearest)
+    }
+}
+
+impl fmt::Display for Ratio {
+    ghost use Rattle.std.specs.Prelude.{Some};
+    ghost use Rattle.capture_scan.specs.report.Rates.{ratio_text};
+
+    ghost output = { λ ratio. Some (ratio_text ratio) };
+
+    fn fmt<W: fmt::Write>(&self, f: &mut fmt::Formatter<W>) -> fmt::Result {
+        if self.q == 1 {
+            write!(f, "{}", self.p)
+        } else {
+            write!(f, "{}/{}", self.p, self.q)
         }
     }
 }

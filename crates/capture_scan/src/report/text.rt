@@ -302,6 +302,28 @@ fn lines_in(lines: Lines) -> u32
 
 /// The lines of a picture, or of a field.
 #[derive(Clone, Copy)]
+struct CountTold {
+    lines: Lines,
+}
+
+impl fmt::Display for CountTold {
+    ghost use Rattle.std.specs.Prelude.{Some};
+    ghost use Rattle.capture_scan.specs.report.Text.{count_told};
+
+    ghost output = { λ text. Some (count_told text.lines) };
+
+    fn fmt<W: fmt::Write>(&self, f: &mut fmt::Formatter<W>) -> fmt::Result {
+        let count = lines_in(self.lines);
+        if self.lines.second_field {
+            write!(f, "{count} in each of two fields")
+        } else {
+            write!(f, "{count}")
+        }
+    }
+}
+
+/// The lines of a stream, if it has any.
+#[derive(Clone, Copy)]
 struct LinesTold {
     lines: Option<Lines>,
 }
@@ -316,11 +338,11 @@ impl fmt::Display for LinesTold {
         match self.lines {
             None => f.write_str("not seen: no line header was captured"),
             Some(lines) => {
-                let count = lines_in(lines);
-                if lines.second_field {
-                    write!(f, "{count} in each of two fields")
+                if lines.fits {
+                    let told = CountTold { lines };
+                    write!(f, "{told}")
                 } else {
-                    write!(f, "{count}")
+                    f.write_str("none: not raw video, as a line header doesn't fit its packet")
                 }
             }
         }

@@ -25,17 +25,17 @@ use Rattle.sdp_reader.specs.Session.{target_at, target_faults, too_many_faults, 
 use Rattle.sdp_reader.specs.declared.fault.SdpCause.TheVariants.{BadAddress, BadLine, BadMedia, BadParameter, BadRate, MissingParameter, NotText}
 use Rattle.sdp_reader.specs.declared.fault.SdpCause.TheVariants.{SameTarget, TooLarge}
 use Rattle.sdp_reader.specs.declared.fault.SdpFault.{SdpFault}
-use Rattle.capture_scan.specs.report.Draft.{connection_line, draft_text, has_target, interlace_text, is_multicast, map_line, media_line, octets_text}
+use Rattle.capture_scan.specs.report.Draft.{connection_line, draft_text, guess_line, has_target, interlace_text, is_multicast, map_line, media_line, octets_text}
 use Rattle.capture_scan.specs.report.Draft.{parameter_line, session_text, video_text}
 use Rattle.capture_scan.specs.report.Rates.{ratio_text}
 use Rattle.capture_scan.specs.report.ReadBack.{HaveOwnTargets, IsDrafted, media_at, media_from, media_of}
 use Rattle.capture_scan.specs.declared.report.draft.DraftVideo.{DraftVideo}
-use Rattle.capture_scan.specs.declared.report.rate.FrameRate.{FrameRate}
+use Rattle.capture_scan.specs.declared.report.rate.Ratio.{Ratio}
 use Rattle.capture_scan.proofs.lemmas.report.Cutting.{both_true}
 use Rattle.capture_scan.proofs.lemmas.report.Decimals.{at_most}
-use Rattle.capture_scan.proofs.lemmas.report.DraftLines.{body_lines, connection_text, inner-parameter, is_inner, line_at, lines-draft, list_text, map_text}
+use Rattle.capture_scan.proofs.lemmas.report.DraftLines.{IsLimited, body_lines, connection_text, ends-guess, guess_piece, inner-parameter, is_inner, limited-of, line_at, lines-draft, list_text, map_text}
 use Rattle.capture_scan.proofs.lemmas.report.DraftLines.{media_text}
-use Rattle.capture_scan.proofs.lemmas.report.DraftLines.{parameter_text, reads-connection, reads-map, reads-media, session_lines, video_lines}
+use Rattle.capture_scan.proofs.lemmas.report.DraftLines.{others_text, parameter_text, reads-connection, reads-guess, reads-map, reads-media, session_lines, video_lines}
 use Rattle.capture_scan.proofs.lemmas.report.DraftParts.{ExactFrameRate, Given, Height, Interlace, Rate, Video, Width, fields_text, interlace_items, item_with}
 use Rattle.capture_scan.proofs.lemmas.report.DraftParts.{items_found, parameters-are, rate_found, read-address, read-video}
 use Rattle.capture_scan.proofs.lemmas.report.DraftParts.{reads-raw, value-height, value-ratio, value-width, video_found}
@@ -47,30 +47,32 @@ abbrev raw_by : ℕ → DraftVideo → List Item → RawPart
 raw_by n v items = record {
   line = n;
   video = video_found v;
-  connection = Some (line_at (n + 1) (connection_text v));
+  connection = Some (line_at (n + 2) (connection_text v));
   items = items;
 }
 
 -- with its own
 abbrev raw_found : ℕ → DraftVideo → RawPart
-raw_found n v = raw_by n v (items_found (n + 3) v)
+raw_found n v = raw_by n v (items_found (n + 4) v)
 
 abbrev raws_found : ℕ → List DraftVideo → List RawPart
 raws_found n [] = []
-raws_found n (v ∷ rest) = raw_found n v ∷ raws_found (n + 4) rest
+raws_found n (v ∷ rest) = raw_found n v ∷ raws_found (n + 5) rest
 
 abbrev part_of : ℕ → DraftVideo → Part
 part_of n v = record { head = line_at n (media_text v); body = body_lines n v }
 
 abbrev parts_of : ℕ → List DraftVideo → List Part
 parts_of n [] = []
-parts_of n (v ∷ rest) = part_of n v ∷ parts_of (n + 4) rest
+parts_of n (v ∷ rest) = part_of n v ∷ parts_of (n + 5) rest
 
 -- with more lines behind its own
 abbrev part_with : ℕ → DraftVideo → List TextLine → Part
 part_with n v more = record {
   head = line_at n (media_text v);
-  body = line_at (n + 1) (connection_text v) ∷ line_at (n + 2) (map_text v) ∷ line_at (n + 3) (parameter_text v) ∷ more;
+  body =
+      line_at (n + 1) (guess_piece v) ∷ line_at (n + 2) (connection_text v) ∷ line_at (n + 3) (map_text v)
+      ∷ line_at (n + 4) (parameter_text v) ∷ more;
 }
 
 none-before : (n : ℕ) (videos : List DraftVideo) → own_lines (video_lines n videos) ≡ []
@@ -80,21 +82,21 @@ none-before n (v ∷ rest) = refl
 parts-are : (n : ℕ) (videos : List DraftVideo) → parts (video_lines n videos) ≡ parts_of n videos
 parts-are n [] = refl
 parts-are n (v ∷ rest) =
-    ap₂ (λ (own : List TextLine) (later : List Part). part_with n v own ∷ later) (none-before (n + 4) rest) (parts-are (n + 4) rest)
+    ap₂ (λ (own : List TextLine) (later : List Part). part_with n v own ∷ later) (none-before (n + 5) rest) (parts-are (n + 5) rest)
 
 raw-is : (n : ℕ) (v : DraftVideo) → IsDrafted v → raw_of None (part_of n v) ≡ Some (raw_found n v)
 raw-is n v d =
     let body = body_lines n v in
     ap (option_and_then (raw_with None n body)) (read-video v d)
-    ∙ ap (λ (t : Bool). if t || (is_raw_map v.pt (line_at (n + 3) (parameter_text v)) || false) then Some (raw_part None n body (video_found v)) else None)
-    (reads-raw (n + 2) v d)
+    ∙ ap (λ (t : Bool). if t || (is_raw_map v.pt (line_at (n + 4) (parameter_text v)) || false) then Some (raw_part None n body (video_found v)) else None)
+    (reads-raw (n + 3) v d)
     ∙ ap (λ (found : List Item). Some (raw_by n v found)) (parameters-are n v d)
 
 raws-are : (n : ℕ) (videos : List DraftVideo) → All IsDrafted videos → filter_map (raw_of None) (parts_of n videos) ≡ raws_found n videos
 raws-are n [] are = refl
 raws-are n (v ∷ rest) are =
-    filter_map-cons (raw_of None) (Some (raw_found n v)) (part_of n v) (parts_of (n + 4) rest) (sym (raw-is n v (All-head IsDrafted v rest are)))
-    ∙ ap (λ (t : List RawPart). raw_found n v ∷ t) (raws-are (n + 4) rest (All-tail IsDrafted v rest are))
+    filter_map-cons (raw_of None) (Some (raw_found n v)) (part_of n v) (parts_of (n + 5) rest) (sym (raw-is n v (All-head IsDrafted v rest are)))
+    ∙ ap (λ (t : List RawPart). raw_found n v ∷ t) (raws-are (n + 5) rest (All-tail IsDrafted v rest are))
 
 session-connects : (videos : List DraftVideo) → connection_of (own_lines (session_lines ++ video_lines 5 videos)) ≡ None
 session-connects videos = ap (λ (own : List TextLine). connection_of (session_lines ++ own)) (none-before 5 videos)
@@ -142,6 +144,9 @@ line-clean n text inner well media =
 five-none : (a b c d e : List SdpFault) → a ≡ [] → b ≡ [] → c ≡ [] → d ≡ [] → e ≡ [] → a ++ (b ++ (c ++ (d ++ e))) ≡ []
 five-none a b c d e p q r s t = rw (p, q, r, s, t) refl
 
+six-none : (a b c d e f : List SdpFault) → a ≡ [] → b ≡ [] → c ≡ [] → d ≡ [] → e ≡ [] → f ≡ [] → a ++ (b ++ (c ++ (d ++ (e ++ f)))) ≡ []
+six-none a b c d e f p q r s t u = rw (p, q, r, s, t, u) refl
+
 four-none : (a b c d : List SdpFault) → a ≡ [] → b ≡ [] → c ≡ [] → d ≡ [] → a ++ (b ++ (c ++ d)) ≡ []
 four-none a b c d p q r s = rw (p, q, r, s) refl
 
@@ -152,13 +157,16 @@ videos-clean : (n : ℕ) (videos : List DraftVideo) → All IsDrafted videos →
 videos-clean n [] are = refl
 videos-clean n (v ∷ rest) are =
     let d = All-head IsDrafted v rest are in
-    five-none (line_faults (line_at n (media_text v))) (line_faults (line_at (n + 1) (connection_text v))) (line_faults (line_at (n + 2) (map_text v)))
-    (line_faults (line_at (n + 3) (parameter_text v))) (flat_map line_faults (video_lines (n + 4) rest))
+    six-none (line_faults (line_at n (media_text v))) (line_faults (line_at (n + 1) (guess_piece v)))
+    (line_faults (line_at (n + 2) (connection_text v))) (line_faults (line_at (n + 3) (map_text v)))
+    (line_faults (line_at (n + 4) (parameter_text v))) (flat_map line_faults (video_lines (n + 5) rest))
     (line-clean n (media_text v) (reads-media v d).inner (begun 109 (fields_text v) refl) (media-good n v d))
-    (line-clean (n + 1) (connection_text v) (reads-connection v d).inner (begun 99 (codes "IN IP4 " ++ octets_text v.target.address) refl) refl)
-    (line-clean (n + 2) (map_text v) (reads-map v d).inner (begun 97 (codes "rtpmap:" ++ (decimal v.pt ++ codes " raw/90000")) refl) refl)
-    (line-clean (n + 3) (parameter_text v) (inner-parameter v d) (begun 97 (codes "fmtp:" ++ (decimal v.pt ++ (codes " " ++ list_text v))) refl) refl)
-    (videos-clean (n + 4) rest (All-tail IsDrafted v rest are))
+    (line-clean (n + 1) (guess_piece v) (reads-guess v).inner
+    (begun 105 (codes "guessed: width" ++ others_text v.guesses.height v.guesses.rate v.guesses.lines) refl) refl)
+    (line-clean (n + 2) (connection_text v) (reads-connection v d).inner (begun 99 (codes "IN IP4 " ++ octets_text v.target.address) refl) refl)
+    (line-clean (n + 3) (map_text v) (reads-map v d).inner (begun 97 (codes "rtpmap:" ++ (decimal v.pt ++ codes " raw/90000")) refl) refl)
+    (line-clean (n + 4) (parameter_text v) (inner-parameter v d) (begun 97 (codes "fmtp:" ++ (decimal v.pt ++ (codes " " ++ list_text v))) refl) refl)
+    (videos-clean (n + 5) rest (All-tail IsDrafted v rest are))
 
 -- ---- faults of parts
 
@@ -182,10 +190,10 @@ repeats-none line w h r false = refl
 
 part-clean : (n : ℕ) (v : DraftVideo) → IsDrafted v → part_faults (raw_found n v) ≡ []
 part-clean n v d =
-    let line = n + 3 in
+    let line = n + 4 in
     let items = items_found line v in
-    four-none (connection_faults n (Some (line_at (n + 1) (connection_text v)))) (at n MissingParameter (is_missing items)) (flat_map item_faults items)
-    (repeated_faults items) (ap (λ a. at (n + 1) BadAddress (is_none a)) (read-address (n + 1) v.target.address d.address)) refl
+    four-none (connection_faults n (Some (line_at (n + 2) (connection_text v)))) (at n MissingParameter (is_missing items)) (flat_map item_faults items)
+    (repeated_faults items) (ap (λ a. at (n + 2) BadAddress (is_none a)) (read-address (n + 2) v.target.address d.address)) refl
     (items-clean line (decimal v.width) (decimal v.height) (ratio_text v.rate) v.interlaced (ap is_some (value-width line v d))
     (ap is_some (value-height line v d))
     (ap is_some (value-ratio line v d)))
@@ -194,7 +202,7 @@ part-clean n v d =
 parts-clean : (n : ℕ) (videos : List DraftVideo) → All IsDrafted videos → flat_map part_faults (raws_found n videos) ≡ []
 parts-clean n [] are = refl
 parts-clean n (v ∷ rest) are =
-    ap₂ (λ (a b : List SdpFault). a ++ b) (part-clean n v (All-head IsDrafted v rest are)) (parts-clean (n + 4) rest (All-tail IsDrafted v rest are))
+    ap₂ (λ (a b : List SdpFault). a ++ b) (part-clean n v (All-head IsDrafted v rest are)) (parts-clean (n + 5) rest (All-tail IsDrafted v rest are))
 
 -- ---- targets
 
@@ -209,17 +217,17 @@ to n v = to_target n (Some (record { address = v.target.address; port = v.target
 
 abbrev destinations : ℕ → List DraftVideo → List Destination
 destinations n [] = []
-destinations n (v ∷ rest) = to n v ∷ destinations (n + 4) rest
+destinations n (v ∷ rest) = to n v ∷ destinations (n + 5) rest
 
 destination-is : (n : ℕ) (v : DraftVideo) → IsDrafted v → destination_of (raw_found n v) ≡ to n v
 destination-is n v d =
-    ap (λ (a : Option ℕ). to_target n (target_at a v.target.port)) (read-address (n + 1) v.target.address d.address)
+    ap (λ (a : Option ℕ). to_target n (target_at a v.target.port)) (read-address (n + 2) v.target.address d.address)
 
 destinations-are : (n : ℕ) (videos : List DraftVideo) → All IsDrafted videos → map destination_of (raws_found n videos) ≡ destinations n videos
 destinations-are n [] are = refl
 destinations-are n (v ∷ rest) are =
     ap₂ (λ (a : Destination) (b : List Destination). a ∷ b) (destination-is n v (All-head IsDrafted v rest are))
-    (destinations-are (n + 4) rest (All-tail IsDrafted v rest are))
+    (destinations-are (n + 5) rest (All-tail IsDrafted v rest are))
 
 same-turned : (a b : ℕ) → (a == b) ≡ (b == a)
 same-turned a b = grind (arith, nat_tests)
@@ -230,15 +238,15 @@ none-later line n v [] h = refl
 none-later line n v (w ∷ rest) h =
     let o = or_false ((w.target.address == v.target.address) && (w.target.port == v.target.port)) (has_target v.target rest) h in
     let turned = ap₂ (λ (a b : Bool). a && b) (same-turned v.target.address w.target.address) (same-turned v.target.port w.target.port) in
-    ap₂ (λ (a : Bool) (b : List SdpFault). at n SameTarget a ++ b) (turned ∙ o.0) (none-later line (n + 4) v rest o.1)
+    ap₂ (λ (a : Bool) (b : List SdpFault). at n SameTarget a ++ b) (turned ∙ o.0) (none-later line (n + 5) v rest o.1)
 
 targets-clean : (n : ℕ) (videos : List DraftVideo) → HaveOwnTargets videos → target_faults (destinations n videos) ≡ []
 targets-clean n [] own = refl
-targets-clean n (v ∷ rest) own = ap₂ (λ (a b : List SdpFault). a ++ b) (none-later n (n + 4) v rest own.0) (targets-clean (n + 4) rest own.1)
+targets-clean n (v ∷ rest) own = ap₂ (λ (a b : List SdpFault). a ++ b) (none-later n (n + 5) v rest own.0) (targets-clean (n + 5) rest own.1)
 
 length-destinations : (n : ℕ) (videos : List DraftVideo) → length (destinations n videos) ≡ length videos
 length-destinations n [] = refl
-length-destinations n (v ∷ rest) = let e = length-destinations (n + 4) rest in omega (arith, e)
+length-destinations n (v ∷ rest) = let e = length-destinations (n + 5) rest in omega (arith, e)
 
 not-many : (n : ℕ) (videos : List DraftVideo) → length videos ≤ 64 → too_many_faults (destinations n videos) ≡ []
 not-many n videos few =
@@ -297,15 +305,15 @@ media-with line n video w h r false a width height rate ew eh er =
 
 media-is : (n : ℕ) (v : DraftVideo) → IsDrafted v → media_of_part (raw_found n v) ≡ Some (media_at n v)
 media-is n v d =
-    ap (λ a. media_found n (video_found v) a (items_found (n + 3) v)) (read-address (n + 1) v.target.address d.address)
-    ∙ media-with (n + 3) n (video_found v) (decimal v.width) (decimal v.height) (ratio_text v.rate) v.interlaced v.target.address v.width v.height
-    (rate_found v.rate) (value-width (n + 3) v d) (value-height (n + 3) v d) (value-ratio (n + 3) v d)
+    ap (λ a. media_found n (video_found v) a (items_found (n + 4) v)) (read-address (n + 2) v.target.address d.address)
+    ∙ media-with (n + 4) n (video_found v) (decimal v.width) (decimal v.height) (ratio_text v.rate) v.interlaced v.target.address v.width v.height
+    (rate_found v.rate) (value-width (n + 4) v d) (value-height (n + 4) v d) (value-ratio (n + 4) v d)
 
 media-are : (n : ℕ) (videos : List DraftVideo) → All IsDrafted videos → filter_map media_of_part (raws_found n videos) ≡ media_from n videos
 media-are n [] are = refl
 media-are n (v ∷ rest) are =
-    filter_map-cons media_of_part (Some (media_at n v)) (raw_found n v) (raws_found (n + 4) rest) (sym (media-is n v (All-head IsDrafted v rest are)))
-    ∙ ap (λ (t : List Media). media_at n v ∷ t) (media-are (n + 4) rest (All-tail IsDrafted v rest are))
+    filter_map-cons media_of_part (Some (media_at n v)) (raw_found n v) (raws_found (n + 5) rest) (sym (media-is n v (All-head IsDrafted v rest are)))
+    ∙ ap (λ (t : List Media). media_at n v ∷ t) (media-are (n + 5) rest (All-tail IsDrafted v rest are))
 
 streams-are : (videos : List DraftVideo) → All IsDrafted videos → 1 ≤ length videos → streams (raws_found 5 videos) ≡ Ok (media_from 5 videos)
 streams-are [] are some = absurd (omega (arith, some))
@@ -329,14 +337,37 @@ short-append j k n xs ys h l m = let e = length-append xs ys in let o = l.most i
 short-decimal : (n : ℕ) → n < 10 ^ 10 → length (decimal n) ≤ 10
 short-decimal n small = length-decimal-le 10 n (omega arith) small (omega (arith, small))
 
-short-ratio : (r : FrameRate) → r.whole ≤ 240 → length (ratio_text r) ≤ 20
-short-ratio r most = by-test r.slowed
+short-ratio : (r : Ratio) → IsLimited r → length (ratio_text r) ≤ 21
+short-ratio r few = by-test (r.q == 1)
   where
-    by-test : (b : Bool) → length (if b then decimal (r.whole * 1000) ++ codes "/1001" else decimal r.whole) ≤ 20
-    by-test true =
-        (short-append 10 5 20 (decimal (r.whole * 1000)) (codes "/1001") (short-decimal (r.whole * 1000) (omega (arith, most))) (record { most = omega arith })
-        (omega arith)).most
-    by-test false = let e = short-decimal r.whole (omega (arith, most)) in omega (arith, e)
+    p : length (decimal r.p) ≤ 10
+    p = short-decimal r.p (omega (arith, few.most, few.seconds))
+
+    q : length (decimal r.q) ≤ 10
+    q = short-decimal r.q (omega (arith, few.seconds))
+
+    by-test : (b : Bool) → length (if b then decimal r.p else decimal r.p ++ (codes "/" ++ decimal r.q)) ≤ 21
+    by-test true = omega (arith, p)
+    by-test false =
+        (short-append 10 11 21 (decimal r.p) (codes "/" ++ decimal r.q) p
+        (short-append 1 10 11 (codes "/") (decimal r.q) (omega arith) (record { most = q }) (omega arith)) (omega arith)).most
+
+-- what is a guess
+short-others : (height rate lines : Bool) → Short 60 ((codes "i=guessed: width" ++ others_text height rate lines) ++ codes "\n")
+short-others true true true = record { most = omega arith }
+short-others true true false = record { most = omega arith }
+short-others true false true = record { most = omega arith }
+short-others true false false = record { most = omega arith }
+short-others false true true = record { most = omega arith }
+short-others false true false = record { most = omega arith }
+short-others false false true = record { most = omega arith }
+short-others false false false = record { most = omega arith }
+
+short-guess : (v : DraftVideo) → length (guess_line v) ≤ 60
+short-guess v =
+    let e = ap length (ends-guess v) in
+    let o = (short-others v.guesses.height v.guesses.rate v.guesses.lines).most in
+    omega (arith, e, o)
 
 short-ttl : (b : Bool) → Short 3 (if b then codes "/32" else codes "")
 short-ttl true = record { most = omega arith }
@@ -388,17 +419,19 @@ short-parameter v d =
     (short-append 9 87 96 (codes "; height=") _ (omega arith)
     (short-append 10 77 87 (decimal v.height) _ (short-decimal v.height (omega (arith, d.height)))
     (short-append 17 60 77 (codes "; exactframerate=") _ (omega arith)
-    (short-append 20 40 60 (ratio_text v.rate) _ (short-ratio v.rate d.rate)
-    (short-append 2 12 40 (codes "; ") _ (omega arith) (short-interlace v.interlaced) (omega arith)) (omega arith)) (omega arith)) (omega arith)) (omega arith))
+    (short-append 21 39 60 (ratio_text v.rate) _ (short-ratio v.rate (limited-of v d))
+    (short-append 2 12 39 (codes "; ") _ (omega arith) (short-interlace v.interlaced) (omega arith)) (omega arith)) (omega arith)) (omega arith)) (omega arith))
     (omega arith)) (omega arith)) (omega arith)) (omega arith)
 
-short-video : (v : DraftVideo) → IsDrafted v → Short 300 (video_text v)
+short-video : (v : DraftVideo) → IsDrafted v → Short 360 (video_text v)
 short-video v d =
-    short-append 50 250 300 (media_line v) _ (short-media v d).most
+    short-append 50 310 360 (media_line v) _ (short-media v d).most
+    (short-append 60 250 310 (guess_line v) _ (short-guess v)
     (short-append 80 170 250 (connection_line v) _ (short-connection v d).most
-    (short-append 40 130 170 (map_line v) (parameter_line v) (short-map v d).most (short-parameter v d) (omega arith)) (omega arith)) (omega arith)
+    (short-append 40 130 170 (map_line v) (parameter_line v) (short-map v d).most (short-parameter v d) (omega arith)) (omega arith)) (omega arith))
+    (omega arith)
 
-short-videos : (videos : List DraftVideo) → All IsDrafted videos → length (flat_map video_text videos) ≤ 300 * length videos
+short-videos : (videos : List DraftVideo) → All IsDrafted videos → length (flat_map video_text videos) ≤ 360 * length videos
 short-videos [] are = omega arith
 short-videos (v ∷ rest) are =
     let one = (short-video v (All-head IsDrafted v rest are)).most in
@@ -409,7 +442,7 @@ short-videos (v ∷ rest) are =
 not-large : (videos : List DraftVideo) → All IsDrafted videos → length videos ≤ 64 → nat_lt 1048576 (length (draft_text videos)) ≡ false
 not-large videos are few =
     let videos_short = short-videos videos are in
-    let whole : length (draft_text videos) ≤ 100000 = (short-append 100 20000 100000 session_text (flat_map video_text videos) (omega arith)
+    let whole : length (draft_text videos) ≤ 100000 = (short-append 100 30000 100000 session_text (flat_map video_text videos) (omega arith)
     (record { most = omega (arith, videos_short, few) }) (omega arith)).most in
     grind (arith, nat_tests)
 

@@ -9,12 +9,12 @@ use Rattle.std.proofs.lemmas.Fmt.{decimal_nonempty}
 use Rattle.sdp_reader.specs.Bytes.{is_blank, onto_trimmed, trim_end}
 use Rattle.sdp_reader.specs.Lines.{TextLine, lines, numbered, without_cr}
 use Rattle.sdp_reader.proofs.Numbering.{numbered-line}
-use Rattle.capture_scan.specs.report.Draft.{connection_line, draft_text, interlace_text, is_multicast, map_line, media_line, octets_text, parameter_line}
+use Rattle.capture_scan.specs.report.Draft.{connection_line, draft_text, guess_line, guess_text, interlace_text, is_multicast, map_line, media_line, octets_text, parameter_line}
 use Rattle.capture_scan.specs.report.Draft.{video_text}
 use Rattle.capture_scan.specs.report.Rates.{ratio_text}
 use Rattle.capture_scan.specs.report.ReadBack.{IsDrafted}
 use Rattle.capture_scan.specs.declared.report.draft.DraftVideo.{DraftVideo}
-use Rattle.capture_scan.specs.declared.report.rate.FrameRate.{FrameRate}
+use Rattle.capture_scan.specs.declared.report.rate.Ratio.{Ratio}
 use Rattle.capture_scan.proofs.lemmas.report.Cutting.{all-append, and_true, both_true, lacks, split-at}
 use Rattle.capture_scan.proofs.lemmas.report.Decimals.{digit-above, digits-all}
 
@@ -159,12 +159,50 @@ parameter_piece v =
     codes "a=fmtp:" ++ (decimal v.pt ++ (codes " width=" ++ (decimal v.width ++ (codes "; height="
     ++ (decimal v.height ++ (codes "; exactframerate=" ++ (ratio_text v.rate ++ (codes "; " ++ interlace_text v.interlaced))))))))
 
-pub inner-ratio : (r : FrameRate) → r.whole ≤ 240 → list_all is_inner (ratio_text r) ≡ true
-inner-ratio r few = by-test r.slowed
+-- a rate that a description can have
+pub record IsLimited (r : Ratio) : Type 0 where
+  pub some : 1 ≤ r.p
+  pub most : r.p ≤ 240 * r.q
+  pub whole : 1 ≤ r.q
+  pub seconds : r.q ≤ 1001
+
+pub limited-of : (v : DraftVideo) → IsDrafted v → IsLimited v.rate
+limited-of v d = record { some = d.rate_some; most = d.rate; whole = d.seconds_some; seconds = d.seconds }
+
+pub inner-ratio : (r : Ratio) → IsLimited r → list_all is_inner (ratio_text r) ≡ true
+inner-ratio r few = by-test (r.q == 1)
   where
-    by-test : (b : Bool) → list_all is_inner (if b then decimal (r.whole * 1000) ++ codes "/1001" else decimal r.whole) ≡ true
-    by-test true = all-append is_inner (decimal (r.whole * 1000)) (codes "/1001") (inner-decimal (r.whole * 1000) (omega (arith, few))) refl
-    by-test false = inner-decimal r.whole (omega (arith, few))
+    p : list_all is_inner (decimal r.p) ≡ true
+    p = inner-decimal r.p (omega (arith, few.most, few.seconds))
+
+    q : list_all is_inner (decimal r.q) ≡ true
+    q = inner-decimal r.q (omega (arith, few.seconds))
+
+    by-test : (b : Bool) → list_all is_inner (if b then decimal r.p else decimal r.p ++ (codes "/" ++ decimal r.q)) ≡ true
+    by-test true = p
+    by-test false = all-append is_inner (decimal r.p) (codes "/" ++ decimal r.q) p (all-append is_inner (codes "/") (decimal r.q) refl q)
+
+-- what is a guess, as it stands in the draft
+abbrev pub others_text : (height rate lines : Bool) → List ℕ
+others_text height rate lines =
+    guess_text height (codes ", height") ++ (guess_text rate (codes ", rate") ++ guess_text lines (codes ", lines not captured"))
+
+abbrev pub guess_piece : DraftVideo → List ℕ
+guess_piece v = codes "i=guessed: width" ++ others_text v.guesses.height v.guesses.rate v.guesses.lines
+
+reads-others : (height rate lines : Bool) → Reads (codes "i=guessed: width" ++ others_text height rate lines)
+    (codes "i=guessed: width" ++ others_text height rate lines)
+reads-others true true true = record { inner = refl; trimmed = refl }
+reads-others true true false = record { inner = refl; trimmed = refl }
+reads-others true false true = record { inner = refl; trimmed = refl }
+reads-others true false false = record { inner = refl; trimmed = refl }
+reads-others false true true = record { inner = refl; trimmed = refl }
+reads-others false true false = record { inner = refl; trimmed = refl }
+reads-others false false true = record { inner = refl; trimmed = refl }
+reads-others false false false = record { inner = refl; trimmed = refl }
+
+pub reads-guess : (v : DraftVideo) → Reads (guess_piece v) (guess_piece v)
+reads-guess v = reads-others v.guesses.height v.guesses.rate v.guesses.lines
 
 pub reads-media : (v : DraftVideo) → IsDrafted v → Reads (media_text v) (media_text v)
 reads-media v d = record {
@@ -259,7 +297,7 @@ reads-parameter v d = record {
       (inner-then (codes "; height=") _ refl
       (inner-then (decimal v.height) _ (inner-decimal v.height (omega (arith, d.height)))
       (inner-then (codes "; exactframerate=") _ refl
-      (inner-then (ratio_text v.rate) _ (inner-ratio v.rate d.rate) (record { all = inner-interlace v.interlaced }))))))))).all;
+      (inner-then (ratio_text v.rate) _ (inner-ratio v.rate (limited-of v d)) (record { all = inner-interlace v.interlaced }))))))))).all;
   trimmed = ap trim_end (piece-parameter v) ∙ trim-blank (parameter_text v)
       ∙ (stays-after (codes "a=fmtp:") _ (stays-after (decimal v.pt) _ (stays-after (codes " width=") _ (stays-after (decimal v.width) _
       (stays-after (codes "; height=") _ (stays-after (decimal v.height) _ (stays-after (codes "; exactframerate=") _
@@ -296,38 +334,50 @@ ends-parameter v =
     ∙ ap (λ t. decimal v.pt ++ (codes " width=" ++ t)) (ended (decimal v.width) e3)
     ∙ ended (decimal v.pt) e4)
 
--- the lines of a video, and what follows
-abbrev of_lines : (media connection map parameter rest : List ℕ) → List ℕ
-of_lines media connection map parameter rest = media ++ 10 ∷ (connection ++ 10 ∷ (map ++ 10 ∷ (parameter ++ 10 ∷ rest)))
+pub ends-guess : (v : DraftVideo) → guess_line v ≡ guess_piece v ++ codes "\n"
+ends-guess v = ap (λ t. codes "i=guessed: width" ++ t) (parts (guess_text v.guesses.height (codes ", height")) (guess_text v.guesses.rate (codes ", rate"))
+    (guess_text v.guesses.lines (codes ", lines not captured")))
+  where
+    parts : (a b c : List ℕ) → a ++ (b ++ (c ++ codes "\n")) ≡ (a ++ (b ++ c)) ++ codes "\n"
+    parts a b c = ap (λ t. a ++ t) (ended b c) ∙ ended a (b ++ c)
 
-four : (m c a p rest : List ℕ)
-    → ((m ++ codes "\n") ++ ((c ++ codes "\n") ++ ((a ++ codes "\n") ++ (p ++ codes "\n")))) ++ rest ≡ of_lines m c a p rest
-four m c a p rest =
+-- the lines of a video, and what follows
+abbrev of_lines : (media guess connection map parameter rest : List ℕ) → List ℕ
+of_lines media guess connection map parameter rest = media ++ 10 ∷ (guess ++ 10 ∷ (connection ++ 10 ∷ (map ++ 10 ∷ (parameter ++ 10 ∷ rest))))
+
+five : (m g c a p rest : List ℕ)
+    → ((m ++ codes "\n") ++ ((g ++ codes "\n") ++ ((c ++ codes "\n") ++ ((a ++ codes "\n") ++ (p ++ codes "\n"))))) ++ rest ≡ of_lines m g c a p rest
+five m g c a p rest =
     append_assoc (m ++ codes "\n") _ rest
     ∙ append_assoc m (codes "\n") _
-    ∙ ap (λ t. m ++ 10 ∷ t) (append_assoc (c ++ codes "\n") _ rest ∙ append_assoc c (codes "\n") _
+    ∙ ap (λ t. m ++ 10 ∷ t) (append_assoc (g ++ codes "\n") _ rest ∙ append_assoc g (codes "\n") _
+    ∙ ap (λ t. g ++ 10 ∷ t) (append_assoc (c ++ codes "\n") _ rest ∙ append_assoc c (codes "\n") _
     ∙ ap (λ t. c ++ 10 ∷ t) (append_assoc (a ++ codes "\n") _ rest ∙ append_assoc a (codes "\n") _
-    ∙ ap (λ t. a ++ 10 ∷ t) (append_assoc p (codes "\n") rest)))
+    ∙ ap (λ t. a ++ 10 ∷ t) (append_assoc p (codes "\n") rest))))
 
 ends-map : (v : DraftVideo) → map_line v ≡ map_text v ++ codes "\n"
 ends-map v = ap (λ t. codes "a=rtpmap:" ++ t) (sym (append_assoc (decimal v.pt) (codes " raw/90000") (codes "\n")))
 
 video-is : (v : DraftVideo) (rest : List ℕ)
-    → video_text v ++ rest ≡ of_lines (media_text v) (connection_text v) (map_text v) (parameter_piece v) rest
+    → video_text v ++ rest ≡ of_lines (media_text v) (guess_piece v) (connection_text v) (map_text v) (parameter_piece v) rest
 video-is v rest =
-    ap (λ t. t ++ rest) (pieces (media_line v) (connection_line v) (map_line v) (parameter_line v) _ _ _ _ (ends-media v) refl (ends-map v) (ends-parameter v))
-    ∙ four (media_text v) (connection_text v) (map_text v) (parameter_piece v) rest
+    ap (λ t. t ++ rest) (ap (λ t. t ++ (guess_line v ++ (connection_line v ++ (map_line v ++ parameter_line v)))) (ends-media v)
+    ∙ ap (λ t. (media_text v ++ codes "\n") ++ t)
+    (pieces (guess_line v) (connection_line v) (map_line v) (parameter_line v) _ _ _ _ (ends-guess v) refl (ends-map v) (ends-parameter v)))
+    ∙ five (media_text v) (guess_piece v) (connection_text v) (map_text v) (parameter_piece v) rest
   where
     pieces : (a b c d e f g h : List ℕ) → a ≡ e → b ≡ f → c ≡ g → d ≡ h → a ++ (b ++ (c ++ d)) ≡ e ++ (f ++ (g ++ h))
     pieces a b c d e f g h p q r s = rw (p, q, r, s) refl
 
 -- the lines of a video from this one on
 abbrev pub body_lines : ℕ → DraftVideo → List TextLine
-body_lines n v = line_at (n + 1) (connection_text v) ∷ line_at (n + 2) (map_text v) ∷ line_at (n + 3) (parameter_text v) ∷ []
+body_lines n v =
+    line_at (n + 1) (guess_piece v) ∷ line_at (n + 2) (connection_text v) ∷ line_at (n + 3) (map_text v)
+    ∷ line_at (n + 4) (parameter_text v) ∷ []
 
 abbrev pub video_lines : ℕ → List DraftVideo → List TextLine
 video_lines n [] = []
-video_lines n (v ∷ rest) = line_at n (media_text v) ∷ (body_lines n v ++ video_lines (n + 4) rest)
+video_lines n (v ∷ rest) = line_at n (media_text v) ∷ (body_lines n v ++ video_lines (n + 5) rest)
 
 -- the lines of all videos
 pub rest-videos : (n : ℕ) (videos : List DraftVideo) → All IsDrafted videos → rest_at n (flat_map video_text videos) ≡ video_lines n videos
@@ -336,18 +386,22 @@ rest-videos n (v ∷ rest) are =
     let d = All-head IsDrafted v rest are in
     let two : n + 1 + 1 ≡ n + 2 = omega arith in
     let three : n + 1 + 1 + 1 ≡ n + 3 = omega arith in
-    let next : n + 1 + 1 + 1 + 1 ≡ n + 4 = omega arith in
-    let m = connection_text v ++ 10 ∷ (map_text v ++ 10 ∷ (parameter_piece v ++ 10 ∷ flat_map video_text rest)) in
+    let four : n + 1 + 1 + 1 + 1 ≡ n + 4 = omega arith in
+    let next : n + 1 + 1 + 1 + 1 + 1 ≡ n + 5 = omega arith in
+    let p = parameter_piece v ++ 10 ∷ flat_map video_text rest in
+    let m = connection_text v ++ 10 ∷ (map_text v ++ 10 ∷ p) in
     ap (rest_at n) (video-is v (flat_map video_text rest))
-    ∙ read-line n (media_text v) (media_text v) m (reads-media v d)
+    ∙ read-line n (media_text v) (media_text v) (guess_piece v ++ 10 ∷ m) (reads-media v d)
     ∙ ap (λ t. line_at n (media_text v) ∷ t)
-    (read-line (n + 1) (connection_text v) (connection_text v) (map_text v ++ 10 ∷ (parameter_piece v ++ 10 ∷ flat_map video_text rest)) (reads-connection v d)
-    ∙ ap (λ t. line_at (n + 1) (connection_text v) ∷ t)
-    (read-line (n + 1 + 1) (map_text v) (map_text v) (parameter_piece v ++ 10 ∷ flat_map video_text rest) (reads-map v d)
-    ∙ ap₂ (λ (k : ℕ) (t : List TextLine). line_at k (map_text v) ∷ t) two
-    (read-line (n + 1 + 1 + 1) (parameter_piece v) (parameter_text v) (flat_map video_text rest) (reads-parameter v d)
-    ∙ ap₂ (λ (k : ℕ) (t : List TextLine). line_at k (parameter_text v) ∷ t) three
-    (ap (λ (k : ℕ). rest_at k (flat_map video_text rest)) next ∙ rest-videos (n + 4) rest (All-tail IsDrafted v rest are)))))
+    (read-line (n + 1) (guess_piece v) (guess_piece v) m (reads-guess v)
+    ∙ ap (λ t. line_at (n + 1) (guess_piece v) ∷ t)
+    (read-line (n + 1 + 1) (connection_text v) (connection_text v) (map_text v ++ 10 ∷ p) (reads-connection v d)
+    ∙ ap₂ (λ (k : ℕ) (t : List TextLine). line_at k (connection_text v) ∷ t) two
+    (read-line (n + 1 + 1 + 1) (map_text v) (map_text v) p (reads-map v d)
+    ∙ ap₂ (λ (k : ℕ) (t : List TextLine). line_at k (map_text v) ∷ t) three
+    (read-line (n + 1 + 1 + 1 + 1) (parameter_piece v) (parameter_text v) (flat_map video_text rest) (reads-parameter v d)
+    ∙ ap₂ (λ (k : ℕ) (t : List TextLine). line_at k (parameter_text v) ∷ t) four
+    (ap (λ (k : ℕ). rest_at k (flat_map video_text rest)) next ∙ rest-videos (n + 5) rest (All-tail IsDrafted v rest are))))))
 
 -- those of the session
 abbrev pub session_lines : List TextLine

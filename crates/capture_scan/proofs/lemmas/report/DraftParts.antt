@@ -16,13 +16,13 @@ use Rattle.sdp_reader.specs.Parameters.{Item, is_the, item_at, item_of, items_of
 use Rattle.sdp_reader.specs.Parameters.{value_rate, value_size}
 use Rattle.sdp_reader.specs.Parts.{address_at, address_from, RawPart, address_of, dotted, is_raw_map, is_ttl, octet}
 use Rattle.capture_scan.specs.report.Draft.{is_multicast, octets_text}
-use Rattle.capture_scan.specs.report.Rates.{denominator, numerator, ratio_text}
+use Rattle.capture_scan.specs.report.Rates.{ratio_text}
 use Rattle.capture_scan.specs.report.ReadBack.{IsDrafted}
 use Rattle.capture_scan.specs.declared.report.draft.DraftVideo.{DraftVideo}
-use Rattle.capture_scan.specs.declared.report.rate.FrameRate.{FrameRate}
+use Rattle.capture_scan.specs.declared.report.rate.Ratio.{Ratio}
 use Rattle.capture_scan.proofs.lemmas.report.Cutting.{after-at, all-append, before-at, before-lacks, holds-at, holds-lacks, lacks, split-at}
 use Rattle.capture_scan.proofs.lemmas.report.Decimals.{above-digits, at_most, below-digits, read-digits, read-number, read-within, within-is}
-use Rattle.capture_scan.proofs.lemmas.report.DraftLines.{Stays, body_lines, list_text, parameter_text, map_text, stays-after, stays-decimal, tail_text}
+use Rattle.capture_scan.proofs.lemmas.report.DraftLines.{IsLimited, Stays, body_lines, limited-of, list_text, parameter_text, map_text, stays-after, stays-decimal, tail_text}
 
 -- ---- types of the reader, by the definitions that give them
 
@@ -190,8 +190,8 @@ read-size : (n : ℕ) → 1 ≤ n → n ≤ 32767 → number_within 1 32767 (dec
 read-size n some most = read-within 1 32767 n (omega (arith, most)) some most
 
 -- the rate as it is read
-abbrev pub rate_found : FrameRate → Rate
-rate_found r = record { p = numerator r; q = denominator r }
+abbrev pub rate_found : Ratio → Rate
+rate_found r = record { p = r.p; q = r.q }
 
 abbrev rate_with : ℕ → ℕ → Rate
 rate_with p q = record { p = p; q = q }
@@ -202,25 +202,33 @@ rate-fits p q some most =
     let m : nat_le p (240 * q) ≡ true = at_most p (240 * q) most in
     ap₂ (λ (a b : Bool). if a && b then Some (rate_with p q) else None) l m
 
-pub read-rate : (r : FrameRate) → 1 ≤ r.whole → r.whole ≤ 240 → rate_of (ratio_text r) ≡ Some (rate_found r)
-read-rate r some most = by-test r.slowed
+pub read-rate : (r : Ratio) → IsLimited r → rate_of (ratio_text r) ≡ Some (rate_found r)
+read-rate r few = by-test (r.q == 1) refl
   where
-    by-test : (b : Bool) → rate_of (if b then decimal (r.whole * 1000) ++ codes "/1001" else decimal r.whole)
-        ≡ Some (rate_with (if b then r.whole * 1000 else r.whole) (if b then 1001 else 1))
-    by-test true =
-        let p = r.whole * 1000 in
-        let text = decimal p ++ codes "/1001" in
-        let lacking = below-digits 47 p (omega arith) (omega (arith, most)) in
+    small : r.p < 2 ^ 64
+    small = omega (arith, few.most, few.seconds)
+
+    lacking : lacks 47 (decimal r.p) ≡ true
+    lacking = below-digits 47 r.p (omega arith) small
+
+    p-is : number (decimal r.p) ≡ Some r.p
+    p-is = read-number r.p (omega (arith, few.most, few.seconds))
+
+    by-test : (b : Bool) → (r.q == 1) ≡ b → rate_of (if b then decimal r.p else decimal r.p ++ (codes "/" ++ decimal r.q)) ≡ Some (rate_with r.p r.q)
+    by-test false e =
+        let text = decimal r.p ++ 47 ∷ decimal r.q in
         ap (λ (t : Bool). if t then rate_at (number (before 47 text)) (number_within 1 1001 (after 47 text)) else rate_at (number text) (Some 1))
-        (holds-at 47 (decimal p) (codes "1001") lacking)
-        ∙ ap₂ (λ (a b : List ℕ). rate_at (number a) (number_within 1 1001 b)) (before-at 47 (decimal p) (codes "1001") lacking)
-        (after-at 47 (decimal p) (codes "1001") lacking)
-        ∙ ap (λ o. rate_at o (Some 1001)) (read-number p (omega (arith, most))) ∙ rate-fits p 1001 (omega (arith, some)) (omega (arith, most))
-    by-test false =
-        let text = decimal r.whole in
+        (holds-at 47 (decimal r.p) (decimal r.q) lacking)
+        ∙ ap₂ (λ (a b : List ℕ). rate_at (number a) (number_within 1 1001 b)) (before-at 47 (decimal r.p) (decimal r.q) lacking)
+        (after-at 47 (decimal r.p) (decimal r.q) lacking)
+        ∙ ap₂ (λ (o u : Option ℕ). rate_at o u) p-is (read-within 1 1001 r.q (omega (arith, few.seconds)) few.whole few.seconds)
+        ∙ rate-fits r.p r.q few.some few.most
+    by-test true e =
+        let one : 1 ≡ r.q = grind (arith, nat_tests) in
+        let text = decimal r.p in
         ap (λ (t : Bool). if t then rate_at (number (before 47 text)) (number_within 1 1001 (after 47 text)) else rate_at (number text) (Some 1))
-        (holds-lacks 47 text (below-digits 47 r.whole (omega arith) (omega (arith, most))))
-        ∙ ap (λ o. rate_at o (Some 1)) (read-number r.whole (omega (arith, most))) ∙ rate-fits r.whole 1 some (omega (arith, most))
+        (holds-lacks 47 text lacking)
+        ∙ ap₂ (λ (o : Option ℕ) (n : ℕ). rate_at o (Some n)) p-is one ∙ rate-fits r.p r.q few.some few.most
 
 -- an item of a name and a value
 abbrev pub item_with : ℕ → Name → List ℕ → Item
@@ -249,28 +257,34 @@ height-item line n small =
     item-trimmed line (codes " height=" ++ decimal n) (codes "height=" ++ decimal n) _ (stays-after (codes " height=") (decimal n) (stays-decimal n small)) refl
     (valued line (codes "height") (decimal n) Height refl refl)
 
-pub stays-ratio : (r : FrameRate) → r.whole ≤ 240 → Stays (ratio_text r)
-stays-ratio r most = by-test r.slowed
+pub stays-ratio : (r : Ratio) → IsLimited r → Stays (ratio_text r)
+stays-ratio r few = by-test (r.q == 1)
   where
-    by-test : (b : Bool) → Stays (if b then decimal (r.whole * 1000) ++ codes "/1001" else decimal r.whole)
-    by-test true = stays-after (decimal (r.whole * 1000)) (codes "/1001") (record { same = refl; some = omega arith })
-    by-test false = stays-decimal r.whole (omega (arith, most))
+    by-test : (b : Bool) → Stays (if b then decimal r.p else decimal r.p ++ (codes "/" ++ decimal r.q))
+    by-test true = stays-decimal r.p (omega (arith, few.most, few.seconds))
+    by-test false = stays-after (decimal r.p) (codes "/" ++ decimal r.q) (stays-after (codes "/") (decimal r.q) (stays-decimal r.q (omega (arith, few.seconds))))
 
-rate-item : (line : ℕ) (r : FrameRate) → r.whole ≤ 240 → item_at line (codes " exactframerate=" ++ ratio_text r)
+rate-item : (line : ℕ) (r : Ratio) → IsLimited r → item_at line (codes " exactframerate=" ++ ratio_text r)
     ≡ Some (item_with line ExactFrameRate (ratio_text r))
-rate-item line r most =
+rate-item line r few =
     item-trimmed line (codes " exactframerate=" ++ ratio_text r) (codes "exactframerate=" ++ ratio_text r) _
-    (stays-after (codes " exactframerate=") (ratio_text r) (stays-ratio r most)) refl
+    (stays-after (codes " exactframerate=") (ratio_text r) (stays-ratio r few)) refl
     (valued line (codes "exactframerate") (ratio_text r) ExactFrameRate refl refl)
 
 -- no `;` stands in a rate
-lacks-ratio : (r : FrameRate) → r.whole ≤ 240 → lacks 59 (ratio_text r) ≡ true
-lacks-ratio r most = by-test r.slowed
+lacks-ratio : (r : Ratio) → IsLimited r → lacks 59 (ratio_text r) ≡ true
+lacks-ratio r few = by-test (r.q == 1)
   where
-    by-test : (b : Bool) → lacks 59 (if b then decimal (r.whole * 1000) ++ codes "/1001" else decimal r.whole) ≡ true
-    by-test true = all-append (λ x. not (x == 59)) (decimal (r.whole * 1000)) (codes "/1001")
-        (above-digits 59 (r.whole * 1000) (omega arith) (omega (arith, most))) refl
-    by-test false = above-digits 59 r.whole (omega arith) (omega (arith, most))
+    p : lacks 59 (decimal r.p) ≡ true
+    p = above-digits 59 r.p (omega arith) (omega (arith, few.most, few.seconds))
+
+    q : lacks 59 (decimal r.q) ≡ true
+    q = above-digits 59 r.q (omega arith) (omega (arith, few.seconds))
+
+    by-test : (b : Bool) → lacks 59 (if b then decimal r.p else decimal r.p ++ (codes "/" ++ decimal r.q)) ≡ true
+    by-test true = p
+    by-test false = all-append (λ x. not (x == 59)) (decimal r.p) (codes "/" ++ decimal r.q) p
+        (all-append (λ x. not (x == 59)) (codes "/") (decimal r.q) refl q)
 
 -- the pieces behind the rate
 abbrev last_pieces : Bool → List (List ℕ)
@@ -307,7 +321,7 @@ pieces-are v d =
     ∙ ap (λ t. (codes "width=" ++ decimal v.width) ∷ t)
     (cut-one (codes " height=") (decimal v.height) three refl (above-digits 59 v.height (omega arith) (omega (arith, d.height)))
     ∙ ap (λ t. (codes " height=" ++ decimal v.height) ∷ t)
-    (cut-tail (codes " exactframerate=") (ratio_text v.rate) v.interlaced refl (lacks-ratio v.rate d.rate)))
+    (cut-tail (codes " exactframerate=") (ratio_text v.rate) v.interlaced refl (lacks-ratio v.rate (limited-of v d))))
 
 last-items : (line : ℕ) (b : Bool) → filter_map (item_at line) (last_pieces b) ≡ interlace_items line b
 last-items line true = refl
@@ -331,7 +345,7 @@ list-items line v d =
     ∙ filter-three (item_at line) (codes "width=" ++ decimal v.width) (codes " height=" ++ decimal v.height) (codes " exactframerate=" ++ ratio_text v.rate)
     (item_with line Width (decimal v.width)) (item_with line Height (decimal v.height)) (item_with line ExactFrameRate (ratio_text v.rate))
     (last_pieces v.interlaced) (interlace_items line v.interlaced)
-    (width-item line v.width (omega (arith, d.width))) (height-item line v.height (omega (arith, d.height))) (rate-item line v.rate d.rate)
+    (width-item line v.width (omega (arith, d.width))) (height-item line v.height (omega (arith, d.height))) (rate-item line v.rate (limited-of v d))
     (last-items line v.interlaced)
 
 list-is : (n : ℕ) (v : DraftVideo) → IsDrafted v → list_of v.pt (record { number = n; text = codes "a=fmtp:" ++ (decimal v.pt ++ (codes " " ++ list_text v)) })
@@ -349,10 +363,10 @@ append-none : (items : List Item) → items ++ [] ≡ items
 append-none [] = refl
 append-none (x ∷ xs) = ap (λ t. x ∷ t) (append-none xs)
 
-pub parameters-are : (n : ℕ) (v : DraftVideo) → IsDrafted v → parameters v.pt (body_lines n v) ≡ items_found (n + 3) v
+pub parameters-are : (n : ℕ) (v : DraftVideo) → IsDrafted v → parameters v.pt (body_lines n v) ≡ items_found (n + 4) v
 parameters-are n v d =
-    append-none (items_of (n + 3) (list_of v.pt (record { number = n + 3; text = parameter_text v })))
-    ∙ ap (items_of (n + 3)) (list-is (n + 3) v d) ∙ list-items (n + 3) v d
+    append-none (items_of (n + 4) (list_of v.pt (record { number = n + 4; text = parameter_text v })))
+    ∙ ap (items_of (n + 4)) (list-is (n + 4) v d) ∙ list-items (n + 4) v d
 
 pub value-width : (line : ℕ) (v : DraftVideo) → IsDrafted v → value_size (item_with line Width (decimal v.width)) ≡ Some v.width
 value-width line v d = read-size v.width d.width_some d.width
@@ -361,4 +375,4 @@ pub value-height : (line : ℕ) (v : DraftVideo) → IsDrafted v → value_size 
 value-height line v d = read-size v.height d.height_some d.height
 
 pub value-ratio : (line : ℕ) (v : DraftVideo) → IsDrafted v → value_rate (item_with line ExactFrameRate (ratio_text v.rate)) ≡ Some (rate_found v.rate)
-value-ratio line v d = read-rate v.rate d.rate_some d.rate
+value-ratio line v d = read-rate v.rate (limited-of v d)

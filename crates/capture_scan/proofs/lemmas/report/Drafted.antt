@@ -1,5 +1,5 @@
 -- The videos of streams are at most 64, have the ranges of a description, and targets of their own.
-use Rattle.std.proofs.Common.{◌≡◌, ◌∙◌, ℕ, ◌+◌, ◌*◌, ◌/◌, ◌<◌, ◌≤◌, Bool, true, false, ◌==◌, ◌&&◌, ◌||◌, List, [], ◌∷◌, ◌++◌, length, refl, ap, ap₂}
+use Rattle.std.proofs.Common.{◌≡◌, ◌∙◌, ℕ, zero, suc, ◌+◌, ◌*◌, ◌/◌, ◌<◌, ◌≤◌, Bool, true, false, ◌==◌, ◌&&◌, ◌||◌, List, [], ◌∷◌, ◌++◌, length, refl, ap, ap₂}
 use Rattle.std.proofs.Common.{arith, Some, None, Option}
 use Rattle.std.specs.Prelude.{⊤, All, fold, if◌then◌else◌, max, min, nat_le, nat_lt, not}
 use Rattle.std.proofs.lemmas.List.{length_push}
@@ -9,18 +9,25 @@ use Rattle.capture_scan.specs.declared.stream.Lines.{Lines}
 use Rattle.capture_scan.specs.declared.stream.Pace.{Pace}
 use Rattle.capture_scan.specs.declared.stream.Rate.{Rate}
 use Rattle.capture_scan.specs.declared.stream.Stream.{Stream}
-use Rattle.capture_scan.specs.report.Draft.{can_be_drafted, has_target, height_of, is_added, is_of_frames, lines_of, rate_of, video_of, videos_of, width_of}
-use Rattle.capture_scan.specs.report.Draft.{with_stream}
-use Rattle.capture_scan.specs.report.Rates.{exact, faster, is_slow, nearest_from, slowed, slowest}
+use Rattle.capture_scan.specs.report.Draft.{are_of_fields, can_be_drafted, has_target, height_of, is_added, is_near, is_raw, near_height, near_or, rate_of, seen_height}
+use Rattle.capture_scan.specs.report.Draft.{video_of, videos_of, width_of, with_stream}
+use Rattle.capture_scan.specs.report.Rates.{denominator_from, exact, faster, frames_in, is_known, is_slow, is_whole_in, limited, limited_by, measured}
+use Rattle.capture_scan.specs.report.Rates.{measured_or, nearest, nearest_from, ratio_of, ratio_with, slowed, slowest}
 use Rattle.capture_scan.specs.report.ReadBack.{HasBits, HaveOwnTargets, IsDrafted}
 use Rattle.capture_scan.specs.declared.report.draft.DraftVideo.{DraftVideo}
 use Rattle.capture_scan.specs.declared.report.rate.FrameRate.{FrameRate}
+use Rattle.capture_scan.specs.declared.report.rate.Ratio.{Ratio}
 use Rattle.capture_scan.proofs.lemmas.report.Cutting.{both_true}
+use Rattle.capture_scan.proofs.lemmas.report.DraftLines.{IsLimited}
 
 -- ---- sizes
 
 abbrev IsSize : ℕ → Type 0
 IsSize n = (1 ≤ n) × (n ≤ 32767)
+
+abbrev IsSizeSome : Option ℕ → Type 0
+IsSizeSome None = ⊤
+IsSizeSome (Some n) = 1 ≤ n
 
 either : (b : Bool) (x y : ℕ) → IsSize x → IsSize y → IsSize (if b then x else y)
 either true x y h k = h
@@ -32,10 +39,26 @@ least-of n some = (omega (arith, some), omega arith)
 greatest-of : (n : ℕ) → IsSize (max 1 (min 32767 n))
 greatest-of n = (omega arith, omega arith)
 
+size-near : (n : ℕ) (o : Option ℕ) → 1 ≤ n → IsSizeSome o → 1 ≤ near_or n o
+size-near n None some h = some
+size-near n (Some height) some h = h
+
+-- a height in use is no empty one
+near-some : (n : ℕ) → IsSizeSome (near_height n)
+near-some n =
+    pick (is_near n 480) 480 _ (omega arith) (pick (is_near n 486) 486 _ (omega arith) (pick (is_near n 576) 576 _ (omega arith)
+    (pick (is_near n 720) 720 _ (omega arith) (pick (is_near n 1080) 1080 _ (omega arith) (pick (is_near n 2160) 2160 None (omega arith) tt)))))
+  where
+    pick : (b : Bool) (height : ℕ) (o : Option ℕ) → 1 ≤ height → IsSizeSome o → IsSizeSome (if b then Some height else o)
+    pick true height o h k = h
+    pick false height o h k = k
+
 size-height : (lines : Option Lines) → IsSize (height_of lines)
 size-height None = (omega arith, omega arith)
 size-height (Some lines) =
-    least-of (lines_of lines.second_field (lines.greatest + 1)) (some (lines.second_field && not (is_of_frames (lines.greatest + 1))))
+    let seen = seen_height lines in
+    least-of (near_or seen (near_height seen)) (size-near seen (near_height seen) (some (lines.second_field && are_of_fields (lines.greatest + 1)))
+    (near-some seen))
   where
     some : (b : Bool) → 1 ≤ (if b then 2 * (lines.greatest + 1) else lines.greatest + 1)
     some true = omega arith
@@ -74,9 +97,82 @@ fast-are = ((omega arith, omega arith), ((omega arith, omega arith), ((omega ari
 faster-are : AreKnown faster
 faster-are = ((omega arith, omega arith), ((omega arith, omega arith), ((omega arith, omega arith), ((omega arith, omega arith), fast-are))))
 
-known-rate : (fields : Bool) (pace : Option Pace) → IsKnown (rate_of fields pace)
-known-rate fields None = (omega arith, omega arith)
-known-rate fields (Some pace) = known-from fields pace.rate slowest faster (omega arith, omega arith) faster-are
+known-limited : (r : FrameRate) → IsKnown r → IsLimited (ratio_of r)
+known-limited r k = by-test r.slowed
+  where
+    by-test : (b : Bool) → IsLimited (ratio_with (if b then r.whole * 1000 else r.whole) (if b then 1001 else 1))
+    by-test true = record {
+      some = omega (arith, k.0);
+      most = omega (arith, k.1);
+      whole = omega arith;
+      seconds = omega arith;
+    }
+    by-test false = record { some = k.0; most = omega (arith, k.1); whole = omega arith; seconds = omega arith }
+
+-- a measured one
+abbrev AreLimits : Option Ratio → Type 0
+AreLimits None = ⊤
+AreLimits (Some r) = IsLimited r
+
+limited-limits : (p q : ℕ) → 1 ≤ q → q ≤ 1001 → AreLimits (limited p q)
+limited-limits p q some few = by-test (nat_le 1 p && nat_le p (240 * q)) refl
+  where
+    by-test : (b : Bool) → (nat_le 1 p && nat_le p (240 * q)) ≡ b → AreLimits (if b then Some (ratio_with p q) else None)
+    by-test false e = tt
+    by-test true e =
+        let both = both_true (nat_le 1 p) (nat_le p (240 * q)) e in
+        let least = both.0 in
+        let most = both.1 in
+        record { some = grind (arith, nat_tests); most = grind (arith, nat_tests); whole = some; seconds = few }
+
+-- a denominator of so many from one on
+abbrev IsFrom : ℕ → ℕ → Option ℕ → Type 0
+IsFrom many q None = ⊤
+IsFrom many q (Some n) = (q ≤ n) × (n < q + many)
+
+from-less : (many q : ℕ) (o : Option ℕ) → IsFrom many (q + 1) o → IsFrom (suc many) q o
+from-less many q None h = tt
+from-less many q (Some n) h = (omega (arith, h.0), omega (arith, h.1))
+
+denominator-from : (many q frames ticks : ℕ) → IsFrom many q (denominator_from many q frames ticks)
+unfolding denominator_from
+denominator-from zero q frames ticks = tt
+denominator-from (suc many) q frames ticks = by-test (is_whole_in frames ticks q) (denominator-from many (q + 1) frames ticks)
+  where
+    by-test : (b : Bool) → IsFrom many (q + 1) (denominator_from many (q + 1) frames ticks)
+        → IsFrom (suc many) q (if b then Some q else denominator_from many (q + 1) frames ticks)
+    by-test true later = (omega arith, omega arith)
+    by-test false later = from-less many q (denominator_from many (q + 1) frames ticks) later
+
+by-limits : (frames ticks : ℕ) (o : Option ℕ) → IsFrom 1001 1 o → AreLimits (limited_by frames ticks o)
+by-limits frames ticks None h = tt
+by-limits frames ticks (Some q) h = limited-limits (q * frames / ticks) q h.0 (omega (arith, h.1))
+
+measured-limits : (fields : Bool) (rate : Rate) → AreLimits (measured fields rate)
+measured-limits fields rate = by-test (rate.ticks == 0)
+  where
+    found : Option ℕ
+    found = denominator_from 1001 1 (frames_in fields rate) rate.ticks
+
+    by-test : (b : Bool) → AreLimits (if b then None else limited_by (frames_in fields rate) rate.ticks found)
+    by-test true = tt
+    by-test false = by-limits (frames_in fields rate) rate.ticks found (denominator-from 1001 1 (frames_in fields rate) rate.ticks)
+
+or-limits : (r : Ratio) (o : Option Ratio) → IsLimited r → AreLimits o → IsLimited (measured_or r o)
+or-limits r None h k = h
+or-limits r (Some m) h k = k
+
+rate-limits : (fields : Bool) (pace : Option Pace) → IsLimited (rate_of fields pace)
+rate-limits fields None = known-limited slowest (omega arith, omega arith)
+rate-limits fields (Some pace) = by-test (is_known fields pace.rate)
+  where
+    near : IsLimited (ratio_of (nearest fields pace.rate))
+    near = known-limited (nearest fields pace.rate) (known-from fields pace.rate slowest faster (omega arith, omega arith) faster-are)
+
+    by-test : (b : Bool) → IsLimited (if b then ratio_of (nearest fields pace.rate)
+        else measured_or (ratio_of (nearest fields pace.rate)) (measured fields pace.rate))
+    by-test true = near
+    by-test false = or-limits (ratio_of (nearest fields pace.rate)) (measured fields pace.rate) near (measured-limits fields pace.rate)
 
 -- ---- targets
 
@@ -111,7 +207,7 @@ video-drafted : (s : Stream) → HasBits s → nat_lt 0 s.target.port ≡ true �
 video-drafted s bits some =
     let width = size-width (height_of s.lines) in
     let height = size-height s.lines in
-    let rate = known-rate (video_of s).interlaced s.pace in
+    let rate = rate-limits (video_of s).interlaced s.pace in
     record {
       address = bits.address;
       port_some = grind (arith, nat_tests);
@@ -121,8 +217,10 @@ video-drafted s bits some =
       width = width.1;
       height_some = height.0;
       height = height.1;
-      rate_some = rate.0;
-      rate = rate.1;
+      rate_some = rate.some;
+      rate = rate.most;
+      seconds_some = rate.whole;
+      seconds = rate.seconds;
     }
 
 not_true : (b : Bool) → not b ≡ true → b ≡ false
@@ -142,7 +240,7 @@ added videos s e =
     let room : nat_lt (length videos) 64 ≡ true = b.0 in
     record {
       room = grind (arith, nat_tests);
-      port = (both_true (nat_le 3 s.markers) (nat_lt 0 s.target.port) c.0).1;
+      port = (both_true (nat_lt 0 s.target.port) (is_raw s.lines) (both_true (nat_le 3 s.markers) (nat_lt 0 s.target.port && is_raw s.lines) c.0).1).0;
       apart = not_true (has_target s.target videos) c.1;
     }
 

@@ -1,9 +1,10 @@
 -- No value of a scan has a float.
 use Rattle.std.proofs.Common.{◌≡◌, ℕ, List, [], ◌∷◌, true, false, refl, ◌^◌}
 use Rattle.std.specs.Prelude.{codes, map, Some, None, Option, nat_lt, if◌then◌else◌}
+use Rattle.serde_json.specs.Data.{boolean}
 use Rattle.serde_json.specs.Written.{has_float}
 use Rattle.timing_base.specs.declared.capture.FileNote.{FileNote}
-use Rattle.timing_report.specs.json_report.Json.{list_of}
+use Rattle.timing_report.specs.json_report.Json.{count, list_of}
 use Rattle.timing_report.proofs.lemmas.json_report.Floatless.{neither, any_float, any_float-append, object-floatless, list-floatless}
 use Rattle.capture_scan.specs.declared.found.Span.{Span}
 use Rattle.capture_scan.specs.declared.found.UnreadTarget.{UnreadTarget}
@@ -25,7 +26,9 @@ pace-floatless (Some pace) = rate-floatless pace.rate
 
 lines-floatless : (lines : Option Lines) → any_float (lines_members lines) ≡ false
 lines-floatless None = refl
-lines-floatless (Some lines) = refl
+lines-floatless (Some lines) =
+    elim lines.fits as (λ b. any_float (if b then (codes "line", count lines.greatest) ∷ (codes "second_field", boolean lines.second_field) ∷ [] else []) ≡ false)
+    [ true ↦ refl | false ↦ refl ]
 
 stream-floatless : (s : Stream) → has_float (stream_data s) ≡ false
 stream-floatless s =
