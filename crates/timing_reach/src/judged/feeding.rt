@@ -20,10 +20,7 @@ pub fn expected_of(judge: &FlowJudge<()>) -> Option<Rtp>
 
 /// Feeds a judge the packet that it expects: in a judged run by the packet's stamp alone. `Err` is want of memory.
 #[inline(always)]
-pub fn feed_expected(
-    judge: &mut FlowJudge<()>,
-    packet: &FlowPacket,
-) -> Result<(), OutOfMemory>
+pub fn feed_expected(judge: &mut FlowJudge<()>, packet: &FlowPacket) -> Result<(), OutOfMemory>
     requires stamp { IsStamp packet.now.at }
     requires reading { IsReading packet.now.rtp }
     requires expected { IsOkAnd packet.now.rtp (λ p. IsExpected judge.old p) }

@@ -92,8 +92,7 @@ impl FlowTaker for Reading {
 
     #[inline(always)]
     fn take(&mut self, packet: &FlowPacket, frame: &[u8]) -> Result<(), OutOfMemory> {
-        self.judge
-            .feed(packet.rec, packet.at, packet.rtp, &mut ())?;
+        self.judge.feed(packet.rec, packet.at, packet.rtp, &mut ())?;
         self.packets.keep(packet.at, frame)
     }
 

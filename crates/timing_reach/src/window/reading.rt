@@ -85,8 +85,7 @@ impl FlowTaker for Reading {
 
     #[inline(always)]
     fn take(&mut self, packet: &FlowPacket, _frame: &[u8]) -> Result<(), OutOfMemory> {
-        self.judge
-            .feed(packet.rec, packet.at, packet.rtp, &mut ())?;
+        self.judge.feed(packet.rec, packet.at, packet.rtp, &mut ())?;
         self.gauge.pass(packet)
     }
 
