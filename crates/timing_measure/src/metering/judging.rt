@@ -65,8 +65,7 @@ impl Judging {
         ensures stands { IfOk result (λ _. JudgesOn self.old self.new packet.now) }
     {
         self.edges.pass(packet)?;
-        self.judge
-            .feed(packet.rec, packet.at, packet.rtp, &mut ())
+        self.judge.feed(packet.rec, packet.at, packet.rtp, &mut ())
     }
 
     /// Takes the next packet as `feed` does, where it is the one that is expected.
