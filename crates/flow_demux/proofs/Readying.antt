@@ -39,7 +39,7 @@ order-same {F} o later olds news counted same h =
     let long : length news ≡ length olds = sym (length-map news media) ∙ (equal ∙ length-map olds media) in
     (counted ∙ h.0 ∙ sym long, subst HaveOwnTargets (sym same) h.1)
 
--- and so after a packet that may teach it
+-- and so after a packet that passes or may teach it
 pub order-learned : {F : Type 0} (o later : Option Order) (olds news : List (MediaFlow F)) → is_some later ≡ is_some o
     → ((n : ℕ) → ForSome o (λ (x : Order). count x ≡ n) → ForSome later (λ (x : Order). count x ≡ n))
     → media_in news ≡ media_in olds
@@ -50,13 +50,6 @@ order-learned None (Some later) olds news some counts same h = cc
 order-learned (Some o) None olds news some counts same h = cc
 order-learned (Some o) (Some later) olds news some counts same h = λ x e.
     order-same o x olds news (counts (count o) (λ y f. let is : y ≡ o = cc in ap (λ (z : Order). count z) is) x e) same (h o refl)
-
--- or one that passes
-pub order-passed : {F : Type 0} (o later : Order) (olds news : List (MediaFlow F)) → later.next ≡ o.next → media_in news ≡ media_in olds → IsOrderOf o olds
-    → ForSome (Some later) (λ (x : Order). IsOrderOf x news)
-order-passed o later olds news next same h = λ x e.
-    let is : later ≡ x = cc in
-    order-same o x olds news (ap (λ (z : Order). count z) (sym is) ∙ ap (λ l. length l.items) next) same h
 
 -- the media stay
 pub media-set : {F : Type 0} (fs : List (MediaFlow F)) (k : ℕ) (old new : MediaFlow F) → get_or fs k old ≡ old → new.media ≡ old.media

@@ -1,6 +1,6 @@
 //! The flows of all media of a session.
 
-ghost use Rattle.std.specs.Prelude.{◌≡◌, ◌≤◌, ◌+◌, ◌∷◌, [], ℕ, All, IfOk, Ok, length, true, false};
+ghost use Rattle.std.specs.Prelude.{◌≡◌, ◌≤◌, ◌<◌, ◌+◌, ◌∷◌, [], ℕ, All, IfOk, IfSome, Ok, length, true, false};
 ghost use Rattle.std.specs.Option.{ForSome};
 ghost use Rattle.timing_base.specs.Captures.{IsStamp};
 ghost use Rattle.timing_base.specs.Targets.{HaveOwnTargets, target_of};
@@ -117,19 +117,32 @@ impl<F: FlowTaker> Demux<F> {
         ensures takes { result ≡ Ok true → TakesAll F.takes (flows_of self.old) (flows_of self.new)
             (record { number = number; stamp = at; bytes = frame.now } ∷ []) }
     {
-        // With one media it is always its turn.
-        if self.flows.len() == 1 {
-            return self.flows[0].take_next(number, at, frame);
-        }
-        let Some(order) = &mut self.order else {
+        // One call of `take_next` for any number of media: with two of them this function would grow too large to be
+        // inlined.
+        let Some(ahead) = self.ahead() else {
             return Ok(false);
         };
-        let ahead = order.ahead();
         if !self.flows[ahead].take_next(number, at, frame)? {
             return Ok(false);
         }
-        order.pass(ahead);
+        Order::pass_in(&mut self.order, ahead);
         Ok(true)
+    }
+
+    /// The flow whose turn it is, where that is known. With one media it is always its turn.
+    #[inline(always)]
+    fn ahead(&self) -> Option<usize>
+        requires { IsReady F.expects self.now }
+        ensures within { IfSome result (λ ahead. ahead < length (flows_of self.now)) }
+        ensures own { IfSome result (λ _. HaveOwnTargets (media_in (flows_of self.now))) }
+    {
+        if self.flows.len() == 1 {
+            return Some(0);
+        }
+        let Some(order) = &self.order else {
+            return None;
+        };
+        Some(order.ahead())
     }
 
     /// Takes a record as [`Demux::take`] does, whatever its frame: one that carries the packet that is expected isn't

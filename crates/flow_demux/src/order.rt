@@ -50,6 +50,19 @@ impl Order {
         self.last = media;
     }
 
+    /// A packet of this media came, as it was tried first, and the order is followed, if there is one.
+    #[inline(always)]
+    pub fn pass_in(order: &mut Option<Order>, media: usize)
+        requires { ForSome order.old (λ o. media < count o) }
+        ensures count { (n : ℕ) → ForSome order.old (λ o. count o ≡ n)
+            → ForSome order.new (λ o. count o ≡ n) }
+        ensures same { is_some order.new ≡ is_some order.old }
+    {
+        if let Some(order) = order {
+            order.pass(media);
+        }
+    }
+
     /// A packet of this media came: it will be tried after one of the media before.
     pub fn learn(&mut self, media: usize)
         requires { media < count self.old }
