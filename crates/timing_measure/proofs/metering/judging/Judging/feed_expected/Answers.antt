@@ -5,5 +5,5 @@ use Rattle.timing_measure.proofs.metering.judging.Judging.feed_expected.Goals as
 
 pub returns-clause-stands : goal.returns-clause-stands
 returns-clause-stands c =
-    judging-took (Ok tt) c.args.self.now _ c.args.packet.now c.in_ok-pass.ensures.stands
+    judging-took {T = Unit {0}} {E = Unit {0}} (Ok tt) c.args.self.now _ c.args.packet.now c.in_ok-pass.ensures.stands
     (λ m number tai packets. c.in_ok-feed_expected.ensures.takes.stands m (key_of 0 number) tai packets)
