@@ -11,6 +11,7 @@
 #![tactic(auto)]
 
 mod bank;
+mod first;
 mod flow;
 mod judge;
 mod kind;
