@@ -4,7 +4,7 @@
 #[derive(Clone, Copy, Debug, PartialEq, Eq)]
 pub struct RunHead {
     /// Which of the flow's runs it is, judged or not, counted from 1.
-    pub run: u32,
+    pub run: u64,
     /// The record of its first packet, counted from 1.
     pub rec: u64,
     /// The number of that packet.
