@@ -5,7 +5,7 @@ ghost use Rattle.sender_params.specs.Ticks.{NeverFall};
 ghost use Rattle.timing_base.specs.Media.{Media as MediaValue};
 ghost use Rattle.timing_base.specs.declared.packet.FlowPacket.{FlowPacket as PacketValue};
 ghost use Rattle.run_meter.specs.Levels.{IsLevel};
-ghost use Rattle.run_meter.specs.Runs.{AreWhole, IsHeadOf, JudgedPart, OpenPart, RunOf, part_of, stamps_of, told_of};
+ghost use Rattle.run_meter.specs.Runs.{AreWhole, IsHeadOf, IsJudgedOf, JudgedPart, OpenPart, RunOf, part_of, stamps_of, told_of};
 
 use crate::level::Level;
 use crate::run::{RunHead, RunPacket};
@@ -32,9 +32,12 @@ pub trait RunMeter: Drop {
     /// seconds.
     ghost stands: { Self → (m : MediaValue) → (tai : ℕ) → RunOf → (fed committed : List PacketValue) → Type 0 };
 
+    /// What an output held before: whoever has it may take out what was put there while the runs go on.
+    ghost Past: { Type 0 } = { Unit {0} };
+
     /// These judged runs are over, and what was put out tells of them, and of the one that isn't over, where it has a
     /// whole group.
-    ghost tells: { Self.Out → (m : MediaValue) → (tai : ℕ) → List JudgedPart → Option OpenPart → Type 0 };
+    ghost tells: { Past → Self.Out → (m : MediaValue) → (tai : ℕ) → List JudgedPart → Option OpenPart → Type 0 };
 
     /// Before the first packet of a run. The packets of its first group, which is whole, are fed next.
     fn begin(
@@ -68,28 +71,29 @@ pub trait RunMeter: Drop {
             → r.n ≡ params.now.n → AreWhole r.n fed
             → stands self.old params.now.media tai r fed committed
             → stands self.new params.now.media tai r fed fed) }
-        ensures tells { IfOk result (λ _. (tai : ℕ) (r : RunOf) (over : List JudgedPart)
+        ensures tells { IfOk result (λ _. (past : Past) (tai : ℕ) (r : RunOf) (over : List JudgedPart)
             (fed committed : List PacketValue) → r.n ≡ params.now.n → AreWhole r.n fed
             → stands self.old params.now.media tai r fed committed
-            → tells out.old params.now.media tai over (Some (record { run = r; packets = committed }))
-            → tells out.new params.now.media tai over (Some (record { run = r; packets = fed }))) };
+            → tells past out.old params.now.media tai over (Some (record { run = r; packets = committed }))
+            → tells past out.new params.now.media tai over (Some (record { run = r; packets = fed }))) };
 
-    /// The run is over, and this is judged of it: the packets that were committed.
+    /// The run is over, and this is judged of the packets that were committed.
     fn close(
         self,
         params: &Params,
         judged: &Judged,
         out: &mut Self::Out,
     ) -> Result<(), OutOfMemory>
-        ensures { IfOk result (λ _. (tai : ℕ) (r : RunOf) (over : List JudgedPart)
-            (fed committed : List PacketValue) → r.n ≡ params.now.n → AreWhole r.n committed
+        ensures { IfOk result (λ _. (past : Past) (tai : ℕ) (r : RunOf) (over : List JudgedPart)
+            (fed committed : List PacketValue) → r.n ≡ params.now.n
+            → IsJudgedOf params.now.media tai r committed judged.now
             → stands self params.now.media tai r fed committed
-            → tells out.old params.now.media tai over (Some (record { run = r; packets = committed }))
-            → tells out.new params.now.media tai (over ++ part_of r judged.now committed ∷ []) None) };
+            → tells past out.old params.now.media tai over (Some (record { run = r; packets = committed }))
+            → tells past out.new params.now.media tai (over ++ part_of r judged.now committed ∷ []) None) };
 
     /// A run that begins has no packet to be told yet.
-    ghost opens: { (out : Self.Out) (m : MediaValue) (tai : ℕ) (over : List JudgedPart) (r : RunOf)
-        → tells out m tai over None → tells out m tai over (Some (record { run = r; packets = [] })) };
+    ghost opens: { (past : Past) (out : Self.Out) (m : MediaValue) (tai : ℕ) (over : List JudgedPart) (r : RunOf)
+        → tells past out m tai over None → tells past out m tai over (Some (record { run = r; packets = [] })) };
 }
 
 /// No meter: a flow that is judged, and nothing more.
@@ -102,7 +106,7 @@ impl RunMeter for () {
 
     ghost stands = { λ _ _ _ _ _ _. ⊤ };
 
-    ghost tells = { λ _ _ _ _ _. ⊤ };
+    ghost tells = { λ _ _ _ _ _ _. ⊤ };
 
     #[inline(always)]
     fn begin(
@@ -134,5 +138,5 @@ impl RunMeter for () {
         Ok(())
     }
 
-    ghost opens = { λ _ _ _ _ _ _. tt };
+    ghost opens = { λ _ _ _ _ _ _ _. tt };
 }
