@@ -73,7 +73,6 @@ pub fn meter_first<M: RunMeter>(
                 rec: kept.rec,
                 at: *at,
                 timestamp: kept.timestamp,
-                marker: number + 1 == stamps.len(),
             };
             meter.feed(params, packet, level)?;
         }

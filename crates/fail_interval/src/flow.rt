@@ -41,16 +41,17 @@ impl<M: RunMeter> OpenRun<M> {
         expected: Option<u32>,
         run: RunHead,
         packet: RunPacket,
+        marker: bool,
         out: &mut M::Out,
     ) -> Result<OpenRun<M>, OutOfMemory>
         ensures rec { IfOk result (λ open_run. open_run.rec ≡ run.rec) }
         ensures number { IfOk result (λ open_run. open_run.number ≡ run.number) }
         ensures expected { IfOk result (λ open_run. open_run.expected ≡ expected) }
         ensures judge { IfOk result (λ open_run. RunStandsFor media.now open_run.judge
-            (so_far_next (in_head 0) packet.at packet.marker)) }
+            (so_far_next (in_head 0) packet.at marker)) }
     {
         let mut judge = RunJudge::new();
-        judge.feed(alloc, media, &run, packet, out)?;
+        judge.feed(alloc, media, &run, packet, marker, out)?;
         Ok(OpenRun {
             rec: run.rec,
             number: run.number,
@@ -144,6 +145,7 @@ impl<M: RunMeter> Flow<M> {
         expected: Option<u32>,
         number: u32,
         packet: RunPacket,
+        marker: bool,
         out: &mut M::Out,
     ) -> Result<(), OutOfMemory>
         ensures media { self.new.media ≡ self.old.media }
@@ -152,7 +154,7 @@ impl<M: RunMeter> Flow<M> {
         ensures room { OnOk result (HasRoom self.old → HasRoom self.new) }
         ensures begins { (packets : List FlowPacket) (i : ℕ) (so_far : SoFar) (rtp : RtpValue)
             → ComesNext packets self.old.tai i packet.rec packet.at rtp
-            → number ≡ rtp.number → packet.marker ≡ rtp.marker
+            → number ≡ rtp.number → marker ≡ rtp.marker
             → expected ≡ cut_at packets i
             → StartsAt packets i self.old.open
             → OpensAt self.old.media self.old.tai packets i so_far self.old.done.items self.old.open
@@ -165,7 +167,7 @@ impl<M: RunMeter> Flow<M> {
             rec: packet.rec,
             number,
         };
-        let open = OpenRun::start(self.alloc, &self.media, expected, run, packet, out)?;
+        let open = OpenRun::start(self.alloc, &self.media, expected, run, packet, marker, out)?;
         self.open = Some(open);
         Ok(())
     }
@@ -202,7 +204,6 @@ impl<M: RunMeter> Flow<M> {
                     rec,
                     at: at + self.tai * 1_000_000_000,
                     timestamp: timestamp_of(self.grouper.expected()),
-                    marker: false,
                 };
                 open.judge.feed_whole(packet)?;
                 Ok(true)
@@ -242,9 +243,9 @@ impl<M: RunMeter> Flow<M> {
                     rec,
                     at: at + self.tai * 1_000_000_000,
                     timestamp: rtp.timestamp,
-                    marker: rtp.marker,
                 };
-                open.judge.feed(self.alloc, &self.media, &run, packet, out)?;
+                open.judge
+                    .feed(self.alloc, &self.media, &run, packet, rtp.marker, out)?;
                 Ok(true)
             }
             None => Ok(false),
@@ -275,7 +276,6 @@ impl<M: RunMeter> Flow<M> {
             rec,
             at: at + self.tai * 1_000_000_000,
             timestamp: rtp.timestamp,
-            marker: rtp.marker,
         };
         if cut.is_none() {
             if let Some(open) = &mut self.open {
@@ -284,11 +284,12 @@ impl<M: RunMeter> Flow<M> {
                     rec: open.rec,
                     number: open.number,
                 };
-                open.judge.feed(self.alloc, &self.media, &run, packet, out)?;
+                open.judge
+                    .feed(self.alloc, &self.media, &run, packet, rtp.marker, out)?;
                 return Ok(None);
             }
         }
-        self.begin(cut, rtp.number, packet, out)?;
+        self.begin(cut, rtp.number, packet, rtp.marker, out)?;
         Ok(None)
     }
 

@@ -93,14 +93,14 @@ impl<M: RunMeter> WholeGroups<M> {
 
     /// Takes the next packet.
     #[inline(always)]
-    fn feed(&mut self, packet: RunPacket, out: &mut M::Out) -> Result<(), OutOfMemory>
-        requires { ∥ ((m : MediaValue) × (so_far : Groups) × CanGoOn m self.old so_far packet.at packet.marker) ∥₁ }
+    fn feed(&mut self, packet: RunPacket, marker: bool, out: &mut M::Out) -> Result<(), OutOfMemory>
+        requires { ∥ ((m : MediaValue) × (so_far : Groups) × CanGoOn m self.old so_far packet.at marker) ∥₁ }
         ensures { IfOk result (λ _. (m : MediaValue) (so_far : Groups)
-            → CanGoOn m self.old so_far packet.at packet.marker
-            → IsWhole m self.new (groups_next so_far packet.at packet.marker)) }
+            → CanGoOn m self.old so_far packet.at marker
+            → IsWhole m self.new (groups_next so_far packet.at marker)) }
     {
         self.put(packet)?;
-        if packet.marker {
+        if marker {
             self.end_group(out)?;
         }
         Ok(())
@@ -228,15 +228,16 @@ impl<M: RunMeter> RunJudge<M> {
         media: &Media,
         run: &RunHead,
         packet: RunPacket,
+        marker: bool,
         out: &mut M::Out,
     ) -> Result<(), OutOfMemory>
-        requires { IsOpenTo media.now self.old packet.at packet.marker }
-        ensures { TakesNext media.now self.old self.new packet.at packet.marker result }
+        requires { IsOpenTo media.now self.old packet.at marker }
+        ensures { TakesNext media.now self.old self.new packet.at marker result }
     {
         if let RunJudge::Groups(groups) = self {
-            return groups.feed(packet, out);
+            return groups.feed(packet, marker, out);
         }
-        self.feed_early(alloc, media, run, packet, out)
+        self.feed_early(alloc, media, run, packet, marker, out)
     }
 
     /// Takes the next packet, before the first group is whole. `Err` is want of memory.
@@ -248,23 +249,24 @@ impl<M: RunMeter> RunJudge<M> {
         media: &Media,
         run: &RunHead,
         packet: RunPacket,
+        marker: bool,
         out: &mut M::Out,
     ) -> Result<(), OutOfMemory>
         requires early { (groups : WholeGroupsValue M) → self.old ≡ GroupsValue groups → ⊥ }
-        requires next { IsOpenTo media.now self.old packet.at packet.marker }
-        ensures { TakesNext media.now self.old self.new packet.at packet.marker result }
+        requires next { IsOpenTo media.now self.old packet.at marker }
+        ensures { TakesNext media.now self.old self.new packet.at marker result }
     {
         match self {
             RunJudge::Groups(_) => {}
             RunJudge::First { group, .. } => {
                 group.push(packet, M::WANTS_LEVELS)?;
-                if packet.marker {
+                if marker {
                     self.begin_groups(alloc, media, run, out)?;
                 }
             }
             RunJudge::Head { packets } => {
                 *packets += 1;
-                if packet.marker {
+                if marker {
                     self.begin_first(alloc);
                 }
             }

@@ -52,7 +52,6 @@ told_of tai p = record {
   rec = p.rec;
   at = stamp_of tai p;
   timestamp = (read_or_zeros p.rtp).timestamp;
-  marker = (read_or_zeros p.rtp).marker;
 }
 
 -- what a meter is told of a run before its packets

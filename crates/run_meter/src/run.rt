@@ -20,6 +20,4 @@ pub struct RunPacket {
     pub at: u64,
     /// Its RTP timestamp, in ticks of 90 kHz.
     pub timestamp: u32,
-    /// Whether it is the last of its group.
-    pub marker: bool,
 }
