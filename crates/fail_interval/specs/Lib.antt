@@ -16,6 +16,7 @@ pub mod Goings
 pub mod Groups
 pub mod Kinds
 pub mod Lulls
+pub mod Metered
 pub mod Meters
 pub mod Orders
 pub mod Runs

@@ -1,6 +1,9 @@
 //! The first group of a run, whose size isn't known before it is whole.
 
-ghost use Rattle.std.specs.Prelude.{◌≡◌, ◌≤◌, ◌++◌, ◌∷◌, [], ℕ, IfOk, length};
+ghost use Rattle.std.specs.Prelude.{◌≡◌, ◌≤◌, ◌++◌, ◌∷◌, [], ℕ, List, IfOk, length, true};
+ghost use Rattle.timing_base.specs.declared.packet.FlowPacket.{FlowPacket};
+ghost use Rattle.run_meter.specs.Runs.{RunOf};
+ghost use Rattle.fail_interval.specs.Metered.{Keeps};
 ghost use Rattle.fail_interval.specs.Meters.{StandsFor as MetersStandFor};
 ghost use Rattle.fail_interval.specs.SoFar.{AreStamps};
 
@@ -42,6 +45,10 @@ impl FirstGroup {
     /// Takes the next packet, and keeps of it what a meter wants. `Err` is want of memory.
     pub fn push(&mut self, packet: RunPacket, measured: bool) -> Result<(), OutOfMemory>
         ensures stamps { IfOk result (λ _. self.new.stamps.items ≡ self.old.stamps.items ++ packet.at ∷ []) }
+        ensures kept { measured ≡ true → IfOk result (λ _. self.new.kept.items ≡ self.old.kept.items ++ record {
+          rec = packet.rec;
+          timestamp = packet.timestamp;
+        } ∷ []) }
     {
         self.stamps.push(packet.at)?;
         if measured {
@@ -62,7 +69,10 @@ pub fn meter_first<M: RunMeter>(
 ) -> Result<RunMeters, OutOfMemory>
     requires some { 1 ≤ length first.now.stamps.items }
     requires fit { AreStamps first.now.stamps.items }
-    ensures { IfOk result (λ meters. MetersStandFor params.now meters first.now.stamps.items) }
+    ensures stands { IfOk result (λ meters. MetersStandFor params.now meters first.now.stamps.items) }
+    ensures told { IfOk result (λ _. (tai : ℕ) (r : RunOf) (packets : List FlowPacket) → r.n ≡ params.now.n
+        → Keeps tai first.now packets → M.stands meter.old params.now.media tai r [] []
+        → M.stands meter.new params.now.media tai r packets []) }
 {
     let stamps = first.stamps.as_slice();
     let mut meters = RunMeters::new(params, stamps[0]);

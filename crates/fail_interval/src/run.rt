@@ -1,10 +1,13 @@
 //! One run between gaps, as far as it has come.
 
-ghost use Rattle.std.specs.Prelude.{◌≡◌, ◌≤◌, ◌<◌, ◌+◌, ◌^◌, ◌++◌, ◌∷◌, [], ◌-◌, ℕ, List, IfOk, length, true, false};
+ghost use Rattle.std.specs.Prelude.{◌≡◌, ◌≤◌, ◌<◌, ◌+◌, ◌^◌, ◌++◌, ◌∷◌, [], ◌-◌, if◌then◌else◌, ℕ, List, None, Some, IfOk, length, true, false};
 ghost use Rattle.timing_base.specs.Media.{Media as MediaValue};
 ghost use Rattle.fail_interval.specs.SoFar.{AreStamps, Groups, SoFar, groups_first, groups_next};
 ghost use Rattle.fail_interval.specs.SoFar.{in_first, in_groups, in_head, outcome_of, so_far_next};
 ghost use Rattle.fail_interval.specs.Row.{judged_values, run_verdict_of};
+ghost use Rattle.timing_base.specs.declared.packet.FlowPacket.{FlowPacket};
+ghost use Rattle.run_meter.specs.Runs.{AreWhole, JudgedPart, RunOf, stamps_of, told_of};
+ghost use Rattle.fail_interval.specs.Metered.{Heads, Keeps, run_by};
 
 use crate::first::{FirstGroup, meter_first};
 use crate::meters::RunMeters;
@@ -45,7 +48,15 @@ impl<M: RunMeter> WholeGroups<M> {
         requires some { 1 ≤ length first.now.stamps.items }
         requires most { length first.now.stamps.items ≤ 262144 }
         requires fit { AreStamps first.now.stamps.items }
-        ensures { IfOk result (λ groups. IsWhole media.now groups (groups_first head first.now.stamps.items)) }
+        ensures whole { IfOk result (λ groups. IsWhole media.now groups (groups_first head first.now.stamps.items)) }
+        ensures told { IfOk result (λ groups. (past : M.Past) (tai : ℕ) (opening : FlowPacket)
+            (over : List JudgedPart) (packets : List FlowPacket) → Heads opening run.now
+            → Keeps tai first.now packets → M.tells past out.old media.now tai over None
+            → M.stands groups.meter media.now tai (run_by run.now.run opening groups.params.n) packets packets
+            × M.tells past out.new media.now tai over (Some (record {
+              run = run_by run.now.run opening groups.params.n;
+              packets = packets;
+            }))) }
     {
         let params = Params::of(media, first.stamps.len() as u32);
         let mut meter = M::begin(alloc, &params, run, out)?;
@@ -71,6 +82,12 @@ impl<M: RunMeter> WholeGroups<M> {
         ensures judged { self.new.judged ≡ self.old.judged }
         ensures meters { (stamps : List ℕ) → CanFollow self.old.params self.old.meters stamps packet.at
             → MetersStandFor self.old.params self.new.meters (stamps ++ packet.at ∷ []) }
+        ensures told { M.WANTS_LEVELS ≡ true → IfOk result (λ _. (tai : ℕ) (r : RunOf) (p : FlowPacket)
+            (fed committed : List FlowPacket)
+            → CanFollow self.old.params self.old.meters (stamps_of tai fed) packet.at
+            → r.n ≡ self.old.params.n → packet ≡ told_of tai p
+            → M.stands self.old.meter self.old.params.media tai r fed committed
+            → M.stands self.new.meter self.old.params.media tai r (fed ++ p ∷ []) committed) }
     {
         if M::WANTS_LEVELS {
             let level = self.meters.feed_level(&self.params, packet.at);
@@ -85,8 +102,14 @@ impl<M: RunMeter> WholeGroups<M> {
     #[inline(always)]
     fn feed_within(&mut self, packet: RunPacket) -> Result<(), OutOfMemory>
         requires { ∥ ((m : MediaValue) × (so_far : Groups) × CanGoOn m self.old so_far packet.at false) ∥₁ }
-        ensures { (m : MediaValue) (so_far : Groups) → CanGoOn m self.old so_far packet.at false
+        ensures whole { (m : MediaValue) (so_far : Groups) → CanGoOn m self.old so_far packet.at false
             → IsWhole m self.new (groups_next so_far packet.at false) }
+        ensures told { M.WANTS_LEVELS ≡ true → IfOk result (λ _. (m : MediaValue) (so_far : Groups) (tai number : ℕ)
+            (first p : FlowPacket) (fed committed : List FlowPacket) → CanGoOn m self.old so_far packet.at false
+            → so_far.stamps ≡ stamps_of tai fed → packet ≡ told_of tai p
+            → M.stands self.old.meter m tai (run_by number first self.old.params.n) fed committed
+            → M.stands self.new.meter m tai (run_by number first self.new.params.n) (fed ++ p ∷ []) committed) }
+        ensures n { self.new.params.n ≡ self.old.params.n }
     {
         self.put(packet)
     }
@@ -95,9 +118,25 @@ impl<M: RunMeter> WholeGroups<M> {
     #[inline(always)]
     fn feed(&mut self, packet: RunPacket, marker: bool, out: &mut M::Out) -> Result<(), OutOfMemory>
         requires { ∥ ((m : MediaValue) × (so_far : Groups) × CanGoOn m self.old so_far packet.at marker) ∥₁ }
-        ensures { IfOk result (λ _. (m : MediaValue) (so_far : Groups)
+        ensures whole { IfOk result (λ _. (m : MediaValue) (so_far : Groups)
             → CanGoOn m self.old so_far packet.at marker
             → IsWhole m self.new (groups_next so_far packet.at marker)) }
+        ensures told { M.WANTS_LEVELS ≡ true → IfOk result (λ _. (past : M.Past) (m : MediaValue) (so_far : Groups)
+            (tai number : ℕ) (first p : FlowPacket) (over : List JudgedPart) (fed committed : List FlowPacket)
+            → CanGoOn m self.old so_far packet.at marker
+            → so_far.stamps ≡ stamps_of tai fed → packet ≡ told_of tai p
+            → (marker ≡ true → AreWhole so_far.n (fed ++ p ∷ []))
+            → M.stands self.old.meter m tai (run_by number first self.old.params.n) fed committed
+            → M.tells past out.old m tai over (Some (record {
+              run = run_by number first self.old.params.n;
+              packets = committed;
+            }))
+            → M.stands self.new.meter m tai (run_by number first self.new.params.n) (fed ++ p ∷ [])
+            (if marker then fed ++ p ∷ [] else committed)
+            × M.tells past out.new m tai over (Some (record {
+              run = run_by number first self.new.params.n;
+              packets = if marker then fed ++ p ∷ [] else committed;
+            }))) }
     {
         self.put(packet)?;
         if marker {
@@ -123,6 +162,15 @@ impl<M: RunMeter> WholeGroups<M> {
               tail = 0;
               stamps = stamps;
             }) }
+        ensures told { IfOk result (λ _. (tai : ℕ) (r : RunOf) (fed committed : List FlowPacket)
+            → r.n ≡ self.old.params.n → AreWhole r.n fed
+            → M.stands self.old.meter self.old.params.media tai r fed committed
+            → M.stands self.new.meter self.old.params.media tai r fed fed) }
+        ensures tells { IfOk result (λ _. (past : M.Past) (tai : ℕ) (r : RunOf) (over : List JudgedPart)
+            (fed committed : List FlowPacket) → r.n ≡ self.old.params.n → AreWhole r.n fed
+            → M.stands self.old.meter self.old.params.media tai r fed committed
+            → M.tells past out.old self.old.params.media tai over (Some (record { run = r; packets = committed }))
+            → M.tells past out.new self.old.params.media tai over (Some (record { run = r; packets = fed }))) }
     {
         self.groups += 1;
         self.judged = self.meters.judged(&self.params, self.groups, self.head);

@@ -19,7 +19,7 @@ loop-number-preserved g c =
           (next-follows _ _ _ _ fit c.loop-number-test.true c.loop-number.invariant.origin c.loop-number.invariant.stands));
     }
 
-pub returns : goal.returns
-returns g c =
+pub returns-clause-stands : goal.returns-clause-stands
+returns-clause-stands g c =
     subst (StandsFor c.args.params.now c.loop-number.meters) c.as_slice-stamps.ensures.value
     (all-stands _ _ _ _ c.loop-number.auto.number-end c.loop-number-test.false c.loop-number.invariant.stands)

@@ -10,4 +10,4 @@ returns-in-Groups g c = λ so_far h.
     IfOk-weaker c.feed.result _ _
     (λ _ fed.
     groups-fed c.args.media.now c.args.self.now c.in-Groups.groups c.feed.new.self so_far c.args.packet.at c.args.marker c.in-Groups.is fed h)
-    c.feed.ensures
+    c.feed.ensures.whole

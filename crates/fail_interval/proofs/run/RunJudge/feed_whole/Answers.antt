@@ -7,4 +7,4 @@ feed_within-requires g c = groups-known_of _ _ _ _ c.in-Groups.is c.requires.nex
 
 pub returns-in_ok-feed_within : goal.returns-in_ok-feed_within
 returns-in_ok-feed_within g c = λ m so_far h.
-    groups-fed m c.args.self.now c.in-Groups.groups c.feed_within.new.self so_far c.args.packet.at false c.in-Groups.is c.feed_within.ensures h
+    groups-fed m c.args.self.now c.in-Groups.groups c.feed_within.new.self so_far c.args.packet.at false c.in-Groups.is c.feed_within.ensures.whole h

@@ -5,7 +5,7 @@ use Rattle.fail_interval.proofs.run.WholeGroups.feed_within.Goals as goal
 pub put-requires : goal.put-requires
 put-requires g c = ∥∥₁_map c.requires (λ (m, so_far, h). (so_far.stamps, can_follow _ _ _ _ _ h))
 
-pub returns : goal.returns
-returns g c = λ m so_far h.
+pub returns-clause-whole : goal.returns-clause-whole
+returns-clause-whole g c = λ m so_far h.
     plain_as m c.args.self.now c.put.new.self so_far c.args.packet.at c.put.ensures.params c.put.ensures.head c.put.ensures.groups c.put.ensures.judged
     c.put.ensures.meters h

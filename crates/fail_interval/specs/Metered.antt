@@ -1,0 +1,96 @@
+-- What the meter of a run was told of the run's packets, and what its output tells of them. Packets of a list count
+-- from 0, runs from 1; `tai` is in seconds.
+use Rattle.std.specs.Prelude.{◌≡◌, ℕ, ⊤, Bool, true, false, List, [], ◌∷◌, ◌++◌, length, map, Option, Some, None}
+use Rattle.std.specs.Prelude.{Result, IfOk}
+use Rattle.timing_base.specs.Flows.{read_or_zeros}
+use Rattle.timing_base.specs.Media.{Media}
+use Rattle.timing_base.specs.declared.packet.FlowPacket.{FlowPacket}
+use Rattle.run_meter.specs.Runs.{AreWhole, JudgedPart, OpenPart, RunOf, part_of, stamps_of, told_of}
+use Rattle.run_meter.specs.declared.run.RunHead.{RunHead}
+use Rattle.run_meter.specs.declared.run.RunPacket.{RunPacket}
+use Rattle.fail_interval.specs.Runs.{CanGoOn}
+use Rattle.fail_interval.specs.SoFar.{SoFar, in_first, in_groups, in_head, so_far_next}
+use Rattle.fail_interval.specs.declared.first.FirstGroup.{FirstGroup}
+use Rattle.fail_interval.specs.declared.first.Kept.{Kept}
+use Rattle.fail_interval.specs.declared.run.RunJudge.{RunJudge}
+use Rattle.fail_interval.specs.declared.run.RunJudge.TheVariants.{Head, First, Groups}
+
+-- what is kept of a packet beside its stamp
+abbrev pub kept_of : FlowPacket → Kept
+kept_of p = record { rec = p.rec; timestamp = (read_or_zeros p.rtp).timestamp }
+
+-- the first group has these packets so far, and they are kept for its meter
+pub record Keeps (tai : ℕ) (group : FirstGroup) (packets : List FlowPacket) : Type 0 where
+  pub stamps : group.stamps.items ≡ stamps_of tai packets
+  pub kept : group.kept.items ≡ map kept_of packets
+
+-- the run of this number, with this first packet and groups of n packets
+abbrev pub run_by : (number : ℕ) → (first : FlowPacket) → (n : ℕ) → RunOf
+run_by number first n = record { number = number; first = first; n = n }
+
+-- the run has come to packets with these stamps behind its first marker
+abbrev pub HaveStamps : SoFar → List ℕ → Type 0
+HaveStamps (in_head head) stamps = stamps ≡ []
+HaveStamps (in_first head so_far) stamps = so_far ≡ stamps
+HaveStamps (in_groups g) stamps = g.stamps ≡ stamps
+
+-- the meter of the run was told these packets, of which the latter ones are of whole groups; they are kept where the
+-- first group isn't whole yet
+abbrev pub IsTold : {M : Type 0}
+    → (stands : M → Media → (tai : ℕ) → RunOf → (fed committed : List FlowPacket) → Type 0)
+    → Media → (tai number : ℕ) → FlowPacket → RunJudge M → (fed committed : List FlowPacket) → Type 0
+IsTold stands m tai number first (Head packets) fed committed = (fed ≡ []) × (committed ≡ [])
+IsTold stands m tai number first (First head group) fed committed = Keeps tai group fed × (committed ≡ [])
+IsTold stands m tai number first (Groups judge) fed committed =
+    stands judge.meter m tai (run_by number first judge.params.n) fed committed
+
+-- of the run that isn't over what its output tells: nothing, where it has no whole group
+abbrev pub open_part : {M : Type 0} → (number : ℕ) → FlowPacket → RunJudge M → (committed : List FlowPacket)
+    → Option OpenPart
+open_part number first (Head packets) committed = None
+open_part number first (First head group) committed = None
+open_part number first (Groups judge) committed =
+    Some (record { run = run_by number first judge.params.n; packets = committed })
+
+-- one packet more behind the first marker
+abbrev pub fed_next : SoFar → List FlowPacket → FlowPacket → List FlowPacket
+fed_next (in_head head) fed p = []
+fed_next (in_first head stamps) fed p = fed ++ p ∷ []
+fed_next (in_groups g) fed p = fed ++ p ∷ []
+
+-- and those of whole groups, where it has the marker or not
+abbrev pub committed_next : SoFar → (marker : Bool) → (fed committed : List FlowPacket) → FlowPacket → List FlowPacket
+committed_next (in_head head) marker fed committed p = []
+committed_next (in_first head stamps) true fed committed p = fed ++ p ∷ []
+committed_next (in_first head stamps) false fed committed p = committed
+committed_next (in_groups g) true fed committed p = fed ++ p ∷ []
+committed_next (in_groups g) false fed committed p = committed
+
+-- where the packet has the marker the packets up to it are whole groups
+abbrev pub EndsWhole : SoFar → (marker : Bool) → List FlowPacket → Type 0
+EndsWhole (in_head head) marker packets = ⊤
+EndsWhole (in_first head stamps) marker packets = ⊤
+EndsWhole (in_groups g) true packets = AreWhole g.n packets
+EndsWhole (in_groups g) false packets = ⊤
+
+-- the head tells of this first packet
+pub record Heads (first : FlowPacket) (head : RunHead) : Type 0 where
+  pub rec : head.rec ≡ first.rec
+  pub number : head.number ≡ (read_or_zeros first.rtp).number
+
+-- a call took this packet: whatever the meter was told, it was told this one too, and its output tells of it
+abbrev pub TellsNext : {M Out Past T E : Type 0}
+    → (stands : M → Media → (tai : ℕ) → RunOf → (fed committed : List FlowPacket) → Type 0)
+    → (tells : Past → Out → Media → (tai : ℕ) → List JudgedPart → Option OpenPart → Type 0)
+    → Media → (old new : RunJudge M) → (before after : Out) → RunHead → RunPacket → (marker : Bool) → Result T E
+    → Type 0
+TellsNext {Past = Past} stands tells m old new before after head packet marker result =
+    (past : Past) (tai : ℕ) (first p : FlowPacket) (over : List JudgedPart) (so_far : SoFar)
+    (fed committed : List FlowPacket)
+    → CanGoOn m old so_far packet.at marker → packet ≡ told_of tai p → Heads first head
+    → HaveStamps so_far (stamps_of tai fed) → EndsWhole so_far marker (fed ++ p ∷ [])
+    → IsTold stands m tai head.run first old fed committed
+    → tells past before m tai over (open_part head.run first old committed)
+    → IfOk result (λ _. IsTold stands m tai head.run first new (fed_next so_far fed p)
+    (committed_next so_far marker fed committed p)
+    × tells past after m tai over (open_part head.run first new (committed_next so_far marker fed committed p)))
