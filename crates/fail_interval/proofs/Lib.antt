@@ -15,6 +15,7 @@ mod Judging
 mod Limits
 mod Lulls
 mod Targets
+mod Told
 mod Metering
 mod OneTakes
 mod Prefixes
