@@ -1,6 +1,7 @@
 -- The meter of a run is told the run's packets.
-use Rattle.std.proofs.Common.{◌≡◌, ◌≤◌, ◌<◌, ◌+◌, ◌^◌, ℕ, suc, List, [], ◌∷◌, ◌++◌, length, length-append, map, get_or, slice_index, take, take_all, refl, arith, ap, ◌∙◌, sym}
-use Rattle.std.proofs.Common.{subst, add-one}
+use Rattle.std.proofs.Common.{◌≡◌, ◌≤◌, ◌<◌, ◌+◌, ◌^◌, ℕ, suc, Bool, true, false, List, [], ◌∷◌, ◌++◌, length, length-append, map, get_or, slice_index, take, take_all, refl, arith, ap, ◌∙◌, sym}
+use Rattle.std.proofs.Common.{subst, add-one, Option, Some, None}
+use Rattle.std.specs.Prelude.{if◌then◌else◌}
 use Rattle.std.proofs.Math.Seq.{take-suc}
 use Rattle.std.proofs.lemmas.List.{get_or-map, length-map, length-take-le, map-append, take-map}
 use Rattle.timing_base.specs.Flows.{no_packet, packet, read_or_zeros}
@@ -10,15 +11,20 @@ use Rattle.timing_base.specs.declared.packet.FlowPacket.{FlowPacket}
 use Rattle.sender_params.specs.Ticks.{NeverFall}
 use Rattle.sender_params.specs.declared.params.Params.{Params}
 use Rattle.run_meter.specs.Levels.{IsLevel}
-use Rattle.run_meter.specs.Runs.{RunOf, stamps_of, told_of}
+use Rattle.run_meter.specs.Runs.{AreWhole, IsHeadOf, JudgedPart, OpenPart, RunOf, stamps_of, told_of}
 use Rattle.run_meter.specs.declared.level.Level.{Level}
+use Rattle.run_meter.specs.declared.run.RunHead.{RunHead}
 use Rattle.run_meter.specs.declared.run.RunPacket.{RunPacket}
-use Rattle.fail_interval.specs.Metered.{Keeps, kept_of}
-use Rattle.fail_interval.specs.SoFar.{AreStamps}
+use Rattle.fail_interval.specs.Groups.{CanGoOn}
+use Rattle.fail_interval.specs.Metered.{Heads, Keeps, kept_of, run_by}
+use Rattle.fail_interval.specs.Meters.{CanFollow}
+use Rattle.fail_interval.specs.SoFar.{AreStamps, Groups}
 use Rattle.fail_interval.specs.declared.first.FirstGroup.{FirstGroup}
 use Rattle.fail_interval.specs.declared.first.Kept.{Kept}
+use Rattle.fail_interval.specs.declared.run.WholeGroups.{WholeGroups}
 use Rattle.fail_interval.proofs.Fit.{before-few}
 use Rattle.fail_interval.proofs.Metering.{stamps-take}
+use Rattle.fail_interval.proofs.Whole.{can_follow}
 
 -- what a meter stands for, by its trait
 abbrev pub Standing : Type 0 → Type 1
@@ -109,3 +115,125 @@ first-all stands m meter group stamps i tai r packets stamps_are many kept_so st
 pub kept-size : (tai : ℕ) (group : FirstGroup) (packets : List FlowPacket) → Keeps tai group packets → length group.kept.items ≡ length group.stamps.items
 kept-size tai group packets kept_so =
     ap length kept_so.kept ∙ (length-map packets kept_of ∙ sym (ap length kept_so.stamps ∙ length-map packets (stamp_of tai)))
+
+-- a call of `put` of a run with a whole group
+abbrev pub Put : {M : Type 0} → Standing M → (old new : WholeGroups M) → RunPacket → Type 0
+Put stands old new told = (tai : ℕ) (r : RunOf) (p : FlowPacket) (fed committed : List FlowPacket) → CanFollow old.params old.meters (stamps_of tai fed) told.at
+    → r.n ≡ old.params.n → told ≡ told_of tai p
+    → stands old.meter old.params.media tai r fed committed
+    → stands new.meter old.params.media tai r (fed ++ p ∷ []) committed
+
+-- the meter of such a run is told a packet
+pub put-told : {M : Type 0} (stands : Standing M) (m : Media) (old new : WholeGroups M) (so_far : Groups) (told : RunPacket) (marker : Bool) (tai number : ℕ)
+    (first p : FlowPacket) (fed committed : List FlowPacket)
+    → new.params ≡ old.params
+    → Put stands old new told
+    → CanGoOn m old so_far told.at marker
+    → so_far.stamps ≡ stamps_of tai fed → told ≡ told_of tai p
+    → stands old.meter m tai (run_by number first old.params.n) fed committed
+    → stands new.meter m tai (run_by number first new.params.n) (fed ++ p ∷ []) committed
+put-told stands m old new so_far told marker tai number first p fed committed params put c stamps packet_is stood =
+    let r : RunOf = run_by number first old.params.n in
+    let follows = subst (λ xs. CanFollow old.params old.meters xs told.at) stamps (can_follow m old so_far told.at marker c) in
+    let fed_so = put tai r p fed committed follows refl packet_is (subst (λ k. stands old.meter k tai r fed committed) (sym c.is.media) stood) in
+    subst (λ (k : Params). stands new.meter m tai (run_by number first k.n) (fed ++ p ∷ []) committed) (sym params)
+    (subst (λ k. stands new.meter k tai r (fed ++ p ∷ []) committed) c.is.media fed_so)
+
+-- what the output of a meter tells, by its trait
+abbrev pub Telling : (Past Out : Type 0) → Type 1
+Telling Past Out = Past → Out → Media → (tai : ℕ) → List JudgedPart → Option OpenPart → Type 0
+
+-- a call of a meter's `commit`
+pub record Commits {M Out Past : Type 0} (stands : Standing M) (tells : Telling Past Out) (params : Params) (old new : M) (before after : Out) : Type 0 where
+  pub told_so : (tai : ℕ) (r : RunOf) (fed committed : List FlowPacket) → r.n ≡ params.n → AreWhole r.n fed → stands old params.media tai r fed committed
+      → stands new params.media tai r fed fed
+  pub tells_so : (past : Past) (tai : ℕ) (r : RunOf) (over : List JudgedPart) (fed committed : List FlowPacket) → r.n ≡ params.n → AreWhole r.n fed
+      → stands old params.media tai r fed committed
+      → tells past before params.media tai over (Some (record { run = r; packets = committed }))
+      → tells past after params.media tai over (Some (record { run = r; packets = fed }))
+
+-- the run's packets so far are committed, and the output tells of them
+pub record AreTold {M Out Past : Type 0} (stands : Standing M) (tells : Telling Past Out) (past : Past) (m : Media) (tai : ℕ) (meter : M) (out : Out) (r : RunOf)
+    (over : List JudgedPart) (fed committed : List FlowPacket) : Type 0 where
+  pub stands_so : stands meter m tai r fed committed
+  pub tells_so : tells past out m tai over (Some (record { run = r; packets = committed }))
+
+pub commit-told : {M Out Past : Type 0} (stands : Standing M) (tells : Telling Past Out) (past : Past) (m : Media) (params : Params) (old new : M)
+    (before after : Out) (tai : ℕ) (r : RunOf) (over : List JudgedPart) (fed committed : List FlowPacket)
+    → params.media ≡ m → r.n ≡ params.n → AreWhole r.n fed
+    → Commits stands tells params old new before after
+    → AreTold stands tells past m tai old before r over fed committed
+    → AreTold stands tells past m tai new after r over fed fed
+commit-told stands tells past m params old new before after tai r over fed committed media n whole commits was =
+    let stood = subst (λ k. stands old k tai r fed committed) (sym media) was.stands_so in
+    record {
+      stands_so = subst (λ k. stands new k tai r fed fed) media (commits.told_so tai r fed committed n whole stood);
+      tells_so = subst (λ k. tells past after k tai over (Some (record { run = r; packets = fed }))) media
+          (commits.tells_so past tai r over fed committed n whole stood
+          (subst (λ k. tells past before k tai over (Some (record { run = r; packets = committed }))) (sym media) was.tells_so));
+    }
+
+-- where the packet has no marker nothing is committed
+pub unmarked-told : {M Out Past : Type 0} (stands : Standing M) (tells : Telling Past Out) (past : Past) (m : Media) (old new : WholeGroups M) (out : Out)
+    (so_far : Groups) (told : RunPacket) (marker : Bool) (tai number : ℕ) (first p : FlowPacket) (over : List JudgedPart) (fed committed : List FlowPacket)
+    → marker ≡ false
+    → new.params ≡ old.params
+    → Put stands old new told
+    → CanGoOn m old so_far told.at marker
+    → so_far.stamps ≡ stamps_of tai fed → told ≡ told_of tai p
+    → AreTold stands tells past m tai old.meter out (run_by number first old.params.n) over fed committed
+    → AreTold stands tells past m tai new.meter out (run_by number first new.params.n) over (fed ++ p ∷ []) (if marker then fed ++ p ∷ [] else committed)
+unmarked-told stands tells past m old new out so_far told true tai number first p over fed committed e params put c stamps packet_is was = cc
+unmarked-told stands tells past m old new out so_far told false tai number first p over fed committed e params put c stamps packet_is was = record {
+  stands_so = put-told stands m old new so_far told false tai number first p fed committed params put c stamps packet_is was.stands_so;
+  tells_so = subst (λ (k : Params). tells past out m tai over (Some (record { run = run_by number first k.n; packets = committed }))) (sym params) was.tells_so;
+}
+
+-- where it has the marker all packets so far are
+pub marked-told : {M Out Past : Type 0} (stands : Standing M) (tells : Telling Past Out) (past : Past) (m : Media) (old mid new : WholeGroups M) (before after : Out)
+    (so_far : Groups) (told : RunPacket) (marker : Bool) (tai number : ℕ) (first p : FlowPacket) (over : List JudgedPart) (fed committed : List FlowPacket)
+    → marker ≡ true
+    → mid.params ≡ old.params → new.params ≡ mid.params
+    → Put stands old mid told
+    → Commits stands tells mid.params mid.meter new.meter before after
+    → CanGoOn m old so_far told.at marker
+    → so_far.stamps ≡ stamps_of tai fed → told ≡ told_of tai p
+    → (marker ≡ true → AreWhole so_far.n (fed ++ p ∷ []))
+    → AreTold stands tells past m tai old.meter before (run_by number first old.params.n) over fed committed
+    → AreTold stands tells past m tai new.meter after (run_by number first new.params.n) over (fed ++ p ∷ []) (if marker then fed ++ p ∷ [] else committed)
+marked-told stands tells past m old mid new before after so_far told false tai number first p over fed committed e params more put commits c stamps packet_is whole was =
+    cc
+marked-told stands tells past m old mid new before after so_far told true tai number first p over fed committed e params more put commits c stamps packet_is whole was =
+    let media : mid.params.media ≡ m = ap (λ (k : Params). k.media) params ∙ c.is.media in
+    let n : mid.params.n ≡ so_far.n = ap (λ (k : Params). k.n) params ∙ c.is.n in
+    let now : AreTold stands tells past m tai mid.meter before (run_by number first mid.params.n) over (fed ++ p ∷ []) committed = record {
+      stands_so = put-told stands m old mid so_far told true tai number first p fed committed params put c stamps packet_is was.stands_so;
+      tells_so = subst (λ (k : Params). tells past before m tai over (Some (record { run = run_by number first k.n; packets = committed }))) (sym params)
+          was.tells_so;
+    } in
+    subst (λ (k : Params). AreTold stands tells past m tai new.meter after (run_by number first k.n) over (fed ++ p ∷ []) (fed ++ p ∷ [])) (sym more)
+    (commit-told stands tells past m mid.params mid.meter new.meter before after tai (run_by number first mid.params.n) over (fed ++ p ∷ []) committed
+    media refl (subst (λ k. AreWhole k (fed ++ p ∷ [])) (sym n) (whole refl)) commits now)
+
+-- the first group is whole: the meter begins, is told its packets and commits
+pub begun-told : {M Out Past : Type 0} (stands : Standing M) (tells : Telling Past Out) (past : Past) (m : Media) (params : Params) (fresh met new : M)
+    (before after : Out) (tai : ℕ) (run : RunHead) (opening : FlowPacket) (group : FirstGroup) (over : List JudgedPart) (packets : List FlowPacket)
+    → params.media ≡ m → params.n ≡ length group.stamps.items → 1 ≤ length group.stamps.items
+    → ((past : Past) (out : Out) (m : Media) (tai : ℕ) (over : List JudgedPart) (r : RunOf) → tells past out m tai over None
+    → tells past out m tai over (Some (record { run = r; packets = [] })))
+    → ((tai : ℕ) (r : RunOf) → IsHeadOf r run → r.n ≡ params.n → stands fresh params.media tai r [] [])
+    → ((tai : ℕ) (r : RunOf) (packets : List FlowPacket) → r.n ≡ params.n → Keeps tai group packets → stands fresh params.media tai r [] []
+    → stands met params.media tai r packets [])
+    → Commits stands tells params met new before after
+    → Heads opening run → Keeps tai group packets
+    → tells past before m tai over None
+    → AreTold stands tells past m tai new after (run_by run.run opening params.n) over packets packets
+begun-told stands tells past m params fresh met new before after tai run opening group over packets media n some opens begins feeds commits heads kept_so telling =
+    let r : RunOf = run_by run.run opening params.n in
+    let size : length group.stamps.items ≡ length packets = ap length kept_so.stamps ∙ length-map packets (stamp_of tai) in
+    let whole : AreWhole params.n packets = record { groups = 1; some = omega arith; are = omega (arith, n, size) } in
+    let stood = feeds tai r packets refl kept_so (begins tai r (record { run = refl; rec = heads.rec; number = heads.number }) refl) in
+    commit-told stands tells past m params met new before after tai r over packets [] media refl whole commits record {
+      stands_so = subst (λ k. stands met k tai r packets []) media stood;
+      tells_so = opens past before m tai over r telling;
+    }
