@@ -21,6 +21,7 @@ mod OneTakes
 mod Prefixes
 mod Readings
 mod Rows
+mod RunTold
 mod SenderTypes
 mod Verdicts
 mod Whole

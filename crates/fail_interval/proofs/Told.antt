@@ -16,8 +16,9 @@ use Rattle.run_meter.specs.declared.level.Level.{Level}
 use Rattle.run_meter.specs.declared.run.RunHead.{RunHead}
 use Rattle.run_meter.specs.declared.run.RunPacket.{RunPacket}
 use Rattle.fail_interval.specs.Groups.{CanGoOn}
-use Rattle.fail_interval.specs.Metered.{Heads, Keeps, kept_of, run_by}
+use Rattle.fail_interval.specs.Metered.{Heads, Keeps, Standing, Telling, kept_of}
 use Rattle.fail_interval.specs.Meters.{CanFollow}
+use Rattle.fail_interval.specs.Parts.{run_by}
 use Rattle.fail_interval.specs.SoFar.{AreStamps, Groups}
 use Rattle.fail_interval.specs.declared.first.FirstGroup.{FirstGroup}
 use Rattle.fail_interval.specs.declared.first.Kept.{Kept}
@@ -25,10 +26,6 @@ use Rattle.fail_interval.specs.declared.run.WholeGroups.{WholeGroups}
 use Rattle.fail_interval.proofs.Fit.{before-few}
 use Rattle.fail_interval.proofs.Metering.{stamps-take}
 use Rattle.fail_interval.proofs.Whole.{can_follow}
-
--- what a meter stands for, by its trait
-abbrev pub Standing : Type 0 → Type 1
-Standing M = M → Media → (tai : ℕ) → RunOf → (fed committed : List FlowPacket) → Type 0
 
 -- a call of a meter's `feed`
 abbrev pub Fed : {M : Type 0} → Standing M → Params → (old new : M) → RunPacket → Level → Type 0
@@ -138,10 +135,6 @@ put-told stands m old new so_far told marker tai number first p fed committed pa
     let fed_so = put tai r p fed committed follows refl packet_is (subst (λ k. stands old.meter k tai r fed committed) (sym c.is.media) stood) in
     subst (λ (k : Params). stands new.meter m tai (run_by number first k.n) (fed ++ p ∷ []) committed) (sym params)
     (subst (λ k. stands new.meter k tai r (fed ++ p ∷ []) committed) c.is.media fed_so)
-
--- what the output of a meter tells, by its trait
-abbrev pub Telling : (Past Out : Type 0) → Type 1
-Telling Past Out = Past → Out → Media → (tai : ℕ) → List JudgedPart → Option OpenPart → Type 0
 
 -- a call of a meter's `commit`
 pub record Commits {M Out Past : Type 0} (stands : Standing M) (tells : Telling Past Out) (params : Params) (old new : M) (before after : Out) : Type 0 where

@@ -1,6 +1,7 @@
 -- what is promised
 pub mod Row
 pub mod Rows
+pub mod Parts
 pub mod Fails
 pub mod Stands
 pub mod BankStands

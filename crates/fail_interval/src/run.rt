@@ -6,8 +6,11 @@ ghost use Rattle.fail_interval.specs.SoFar.{AreStamps, Groups, SoFar, groups_fir
 ghost use Rattle.fail_interval.specs.SoFar.{in_first, in_groups, in_head, outcome_of, so_far_next};
 ghost use Rattle.fail_interval.specs.Row.{judged_values, run_verdict_of};
 ghost use Rattle.timing_base.specs.declared.packet.FlowPacket.{FlowPacket};
-ghost use Rattle.run_meter.specs.Runs.{AreWhole, JudgedPart, RunOf, stamps_of, told_of};
-ghost use Rattle.fail_interval.specs.Metered.{Heads, Keeps, run_by};
+ghost use Rattle.run_meter.specs.Runs.{AreWhole, JudgedPart, RunOf, part_of, stamps_of, told_of};
+ghost use Rattle.run_meter.specs.declared.run.RunHead.{RunHead as HeadValue};
+ghost use Rattle.fail_interval.specs.Metered.{AreJudged, HaveStamps, HaveWhole, Heads, IsTold, Keeps, TellsNext};
+ghost use Rattle.fail_interval.specs.Metered.{TellsOf, open_part};
+ghost use Rattle.fail_interval.specs.Parts.{part_by, run_by};
 
 use crate::first::{FirstGroup, meter_first};
 use crate::meters::RunMeters;
@@ -203,7 +206,7 @@ impl<M: RunMeter> WholeGroups<M> {
 
     /// The run is over: the verdict on it.
     fn close(self, out: &mut M::Out) -> Result<Judged, OutOfMemory>
-        ensures { IfOk result (λ judged. (m : MediaValue) (so_far : Groups) → IsWhole m self so_far
+        ensures judged { IfOk result (λ judged. (m : MediaValue) (so_far : Groups) → IsWhole m self so_far
             → judged ≡ judged_values m (record {
               n = so_far.n;
               groups = so_far.groups;
@@ -211,6 +214,16 @@ impl<M: RunMeter> WholeGroups<M> {
               tail = length so_far.stamps - length so_far.whole;
               stamps = so_far.whole;
             })) }
+        ensures tells { IfOk result (λ judged. (past : M.Past) (m : MediaValue) (so_far : Groups) (tai number : ℕ)
+            (first : FlowPacket) (over : List JudgedPart) (fed committed : List FlowPacket) → IsWhole m self so_far
+            → AreJudged tai so_far committed
+            → M.stands self.meter m tai (run_by number first self.params.n) fed committed
+            → M.tells past out.old m tai over (Some (record {
+              run = run_by number first self.params.n;
+              packets = committed;
+            }))
+            → M.tells past out.new m tai (over ++ part_of (run_by number first self.params.n) judged committed ∷ [])
+            None) }
     {
         let judged = self.judged();
         let WholeGroups { params, meter, .. } = self;
@@ -259,8 +272,11 @@ impl<M: RunMeter> RunJudge<M> {
     pub fn feed_whole(&mut self, packet: RunPacket) -> Result<(), OutOfMemory>
         requires whole { has_groups self.old ≡ true }
         requires next { ∥ ((m : MediaValue) × (so_far : SoFar) × CanTake m self.old so_far packet.at false) ∥₁ }
-        ensures { IfOk result (λ _. (m : MediaValue) (so_far : SoFar) → CanTake m self.old so_far packet.at false
+        ensures takes { IfOk result (λ _. (m : MediaValue) (so_far : SoFar)
+            → CanTake m self.old so_far packet.at false
             → StandsFor m self.new (so_far_next so_far packet.at false)) }
+        ensures tells { M.WANTS_LEVELS ≡ true → (m : MediaValue) (head : HeadValue) (out : M.Out)
+            → TellsNext M.stands M.tells m self.old self.new out out head packet false result }
     {
         if let RunJudge::Groups(groups) = self {
             groups.feed_within(packet)?;
@@ -280,7 +296,9 @@ impl<M: RunMeter> RunJudge<M> {
         out: &mut M::Out,
     ) -> Result<(), OutOfMemory>
         requires { IsOpenTo media.now self.old packet.at marker }
-        ensures { TakesNext media.now self.old self.new packet.at marker result }
+        ensures takes { TakesNext media.now self.old self.new packet.at marker result }
+        ensures tells { M.WANTS_LEVELS ≡ true
+            → TellsNext M.stands M.tells media.now self.old self.new out.old out.new run.now packet marker result }
     {
         if let RunJudge::Groups(groups) = self {
             return groups.feed(packet, marker, out);
@@ -302,7 +320,9 @@ impl<M: RunMeter> RunJudge<M> {
     ) -> Result<(), OutOfMemory>
         requires early { (groups : WholeGroupsValue M) → self.old ≡ GroupsValue groups → ⊥ }
         requires next { IsOpenTo media.now self.old packet.at marker }
-        ensures { TakesNext media.now self.old self.new packet.at marker result }
+        ensures takes { TakesNext media.now self.old self.new packet.at marker result }
+        ensures tells { M.WANTS_LEVELS ≡ true
+            → TellsNext M.stands M.tells media.now self.old self.new out.old out.new run.now packet marker result }
     {
         match self {
             RunJudge::Groups(_) => {}
@@ -326,8 +346,10 @@ impl<M: RunMeter> RunJudge<M> {
     #[cold]
     #[inline(never)]
     fn begin_first(&mut self, alloc: Global)
-        ensures { (m : MediaValue) (packets : ℕ) → self.old ≡ Head packets
+        ensures takes { (m : MediaValue) (packets : ℕ) → self.old ≡ Head packets
             → StandsFor m self.new (in_first packets []) }
+        ensures told { (m : MediaValue) (tai number : ℕ) (first : FlowPacket) (packets : ℕ) → self.old ≡ Head packets
+            → IsTold M.stands m tai number first self.new [] [] }
     {
         if let RunJudge::Head { packets } = self {
             *self = RunJudge::First {
@@ -348,8 +370,12 @@ impl<M: RunMeter> RunJudge<M> {
         out: &mut M::Out,
     ) -> Result<(), OutOfMemory>
         requires { IsWholeFirst self.old }
-        ensures { IfOk result (λ _. (head : ℕ) (group : _) → self.old ≡ First head group
+        ensures takes { IfOk result (λ _. (head : ℕ) (group : _) → self.old ≡ First head group
             → StandsFor media.now self.new (in_groups (groups_first head group.stamps.items))) }
+        ensures tells { IfOk result (λ _. (past : M.Past) (tai : ℕ) (first : FlowPacket) (over : List JudgedPart)
+            (packets : List FlowPacket) (head : ℕ) (group : _) → self.old ≡ First head group → Heads first run.now
+            → Keeps tai group packets → M.tells past out.old media.now tai over None
+            → TellsOf M.stands M.tells past media.now tai run.now.run first over self.new out.new packets packets) }
     {
         if let RunJudge::First { head, group } = self {
             *self = RunJudge::Groups(WholeGroups::first(alloc, media, run, *head, group, out)?);
@@ -359,8 +385,13 @@ impl<M: RunMeter> RunJudge<M> {
 
     /// The run is over: the verdict on it. `Err` is want of memory.
     pub fn close(self, out: &mut M::Out) -> Result<RunVerdict, OutOfMemory>
-        ensures { IfOk result (λ verdict. (m : MediaValue) (so_far : SoFar) → StandsFor m self so_far
+        ensures verdict { IfOk result (λ verdict. (m : MediaValue) (so_far : SoFar) → StandsFor m self so_far
             → verdict ≡ run_verdict_of m (outcome_of so_far)) }
+        ensures tells { IfOk result (λ _. (past : M.Past) (m : MediaValue) (tai number : ℕ) (first : FlowPacket)
+            (over : List JudgedPart) (so_far : SoFar) (fed committed : List FlowPacket) → StandsFor m self so_far
+            → HaveWhole tai so_far committed
+            → TellsOf M.stands M.tells past m tai number first over self out.old fed committed
+            → M.tells past out.new m tai (over ++ part_by m number first committed (outcome_of so_far)) None) }
     {
         match self {
             RunJudge::Head { packets } => Ok(RunVerdict::NoWholeFrame { head: packets }),
