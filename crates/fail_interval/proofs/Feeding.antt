@@ -166,7 +166,7 @@ goes_on {M} flow packets rec_number at seen cut grouper open_run judge e none an
       room = c.stands.room;
     }
 
-starts-case : {M : Type 0} (packets : List FlowPacket) (i : ℕ) (open_run : Option (OpenRun M)) → ((run : OpenRun M) → open_run ≡ Some run → is_cut packets i ≡ true)
+pub starts-case : {M : Type 0} (packets : List FlowPacket) (i : ℕ) (open_run : Option (OpenRun M)) → ((run : OpenRun M) → open_run ≡ Some run → is_cut packets i ≡ true)
     → StartsAt packets i open_run
 starts-case packets i None h = tt
 starts-case packets i (Some run) h = h run refl

@@ -54,7 +54,7 @@ fault-is packets pt i f none e =
     ap (first_fault_below packets pt) next ∙ earlier-case (first_fault_below packets pt i) i (fault packets pt i) (cut_at packets i) f none told
 
 -- a run by its parts
-abbrev with_judge : {M : Type 0} → OpenRun M → RunJudge M → OpenRun M
+abbrev pub with_judge : {M : Type 0} → OpenRun M → RunJudge M → OpenRun M
 with_judge open_run judge = record { rec = open_run.rec; number = open_run.number; expected = open_run.expected; judge = judge }
 
 -- the marker of the packet that comes next

@@ -8,6 +8,7 @@ mod Banks
 mod Expecting
 mod Feeding
 mod Fit
+mod FlowTold
 mod Flows
 mod Going
 mod HandWorked
@@ -18,6 +19,7 @@ mod Targets
 mod Told
 mod Metering
 mod OneTakes
+mod PartsTold
 mod Prefixes
 mod Readings
 mod Rows

@@ -47,14 +47,14 @@ judged-sound packets pt tai some none =
     ∙ ap (λ first. refused_or packets first (judged_runs packets tai)) none
 
 -- of one without a cut
-judged-one : (packets : List FlowPacket) (pt tai : ℕ) → 0 < length packets → first_fault packets pt ≡ None → length (cuts packets (length packets)) ≡ 0
+pub judged-one : (packets : List FlowPacket) (pt tai : ℕ) → 0 < length packets → first_fault packets pt ≡ None → length (cuts packets (length packets)) ≡ 0
     → judged packets pt tai ≡ in_one_run (run_outcome packets tai 0 (length packets))
 judged-one packets pt tai some none no_cut =
     judged-sound packets pt tai some none
     ∙ ap (λ b. if b then in_one_run (run_outcome packets tai 0 (length packets)) else in_runs (runs packets tai)) (none-is _ no_cut)
 
 -- and of one with cuts
-judged-many : (packets : List FlowPacket) (pt tai : ℕ) → 0 < length packets → first_fault packets pt ≡ None → 0 < length (cuts packets (length packets))
+pub judged-many : (packets : List FlowPacket) (pt tai : ℕ) → 0 < length packets → first_fault packets pt ≡ None → 0 < length (cuts packets (length packets))
     → judged packets pt tai ≡ in_runs (runs packets tai)
 judged-many packets pt tai some none a_cut =
     judged-sound packets pt tai some none
@@ -78,7 +78,7 @@ verdict-absent {M} flow packets e s =
     subst (OpensAt flow.media flow.tai packets (length packets) s.so_far flow.done.items) e (opens flow packets s) in
     sym (ap (verdict_of flow.media) (judged-none packets flow.media.pt flow.tai o.0))
 
-some-open : {M : Type 0} (flow : Flow M) (packets : List FlowPacket) (open_run : OpenRun M) → flow.open ≡ Some open_run → (s : StandsFor flow packets)
+pub some-open : {M : Type 0} (flow : Flow M) (packets : List FlowPacket) (open_run : OpenRun M) → flow.open ≡ Some open_run → (s : StandsFor flow packets)
     → IsOpen flow.media flow.tai packets (length packets) (cuts packets (length packets)) s.so_far flow.done.items open_run
 some-open flow packets open_run e s = subst (OpensAt flow.media flow.tai packets (length packets) s.so_far flow.done.items) e (opens flow packets s)
 

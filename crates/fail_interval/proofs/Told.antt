@@ -63,10 +63,10 @@ fed-told stands params old new told level tai r fed committed p stamps feeds is 
     stood
 
 -- what is told of a packet by its parts
-abbrev told_by : ℕ → ℕ → ℕ → RunPacket
+abbrev pub told_by : ℕ → ℕ → ℕ → RunPacket
 told_by rec at timestamp = record { rec = rec; at = at; timestamp = timestamp }
 
-told-same : (rec also at too timestamp more : ℕ) → rec ≡ also → at ≡ too → timestamp ≡ more → told_by rec at timestamp ≡ told_by also too more
+pub told-same : (rec also at too timestamp more : ℕ) → rec ≡ also → at ≡ too → timestamp ≡ more → told_by rec at timestamp ≡ told_by also too more
 told-same rec also at too timestamp more e f g = cc
 
 -- the next packet of a first group

@@ -24,3 +24,4 @@ pub mod Runs
 pub mod SoFar
 pub mod States
 pub mod Taken
+pub mod Telling

@@ -65,12 +65,16 @@ open_by number first packets (no_whole_frame head) = None
 open_by number first packets (whole_frames run) =
     Some (record { run = run_by number first run.n; packets = packets })
 
+-- the run that is open before packet n of a flow, with cuts at these places before
+abbrev pub open_at : List FlowPacket → (tai : ℕ) → List ℕ → (n : ℕ) → Option OpenPart
+open_at packets tai places n =
+    let from = last_place (0 ∷ places) in
+    open_by (length places + 1) (packet packets from) (judged_packets packets from n)
+    (run_outcome packets tai from n)
+
 -- the run that is open before packet n of a flow
 abbrev pub open_before : List FlowPacket → (tai n : ℕ) → Option OpenPart
-open_before packets tai n =
-    let from = last_place (0 ∷ cuts packets n) in
-    open_by (length (cuts packets n) + 1) (packet packets from) (judged_packets packets from n)
-    (run_outcome packets tai from n)
+open_before packets tai n = open_at packets tai (cuts packets n) n
 
 -- the packets before the first fault; all n, where there is none
 abbrev pub sound_before : Option FirstFault → (n : ℕ) → ℕ

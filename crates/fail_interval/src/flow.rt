@@ -12,6 +12,11 @@ ghost use Rattle.timing_base.specs.Media.{Media as MediaValue};
 ghost use Rattle.fail_interval.specs.Row.{verdict_of};
 ghost use Rattle.fail_interval.specs.SoFar.{SoFar, in_head, outcome_of, so_far_next};
 
+ghost use Rattle.frame_group.specs.Expected.{next_packet};
+ghost use Rattle.run_meter.specs.Runs.{JudgedPart, told_of};
+ghost use Rattle.fail_interval.specs.Metered.{Heads, TellsOf};
+ghost use Rattle.fail_interval.specs.Parts.{judged_parts};
+
 use crate::run::RunJudge;
 use frame_group::Grouper;
 use run_meter::{RunHead, RunMeter, RunPacket};
@@ -33,6 +38,7 @@ pub struct OpenRun<M: Drop> {
 
 impl<M: RunMeter> OpenRun<M> {
     ghost use Rattle.fail_interval.specs.Runs.{StandsFor as RunStandsFor};
+    ghost use Rattle.fail_interval.specs.Telling.{TellsOver};
 
     /// A run of one packet, with this head.
     fn start(
@@ -49,6 +55,10 @@ impl<M: RunMeter> OpenRun<M> {
         ensures expected { IfOk result (λ open_run. open_run.expected ≡ expected) }
         ensures judge { IfOk result (λ open_run. RunStandsFor media.now open_run.judge
             (so_far_next (in_head 0) packet.at marker)) }
+        ensures tells { M.WANTS_LEVELS ≡ true → IfOk result (λ open_run. (past : M.Past) (tai : ℕ)
+            (first : FlowPacket) (over : List JudgedPart) → packet ≡ told_of tai first → Heads first run
+            → M.tells past out.old media.now tai over None
+            → TellsOf M.stands M.tells past media.now tai run.run first over open_run.judge out.new [] []) }
     {
         let mut judge = RunJudge::new();
         judge.feed(alloc, media, &run, packet, marker, out)?;
@@ -62,13 +72,14 @@ impl<M: RunMeter> OpenRun<M> {
 
     /// The run is over: what is told of it.
     fn close(self, out: &mut M::Out) -> Result<Run, OutOfMemory>
-        ensures { IfOk result (λ run. (m : MediaValue) (so_far : SoFar) → RunStandsFor m self.judge so_far
+        ensures run { IfOk result (λ run. (m : MediaValue) (so_far : SoFar) → RunStandsFor m self.judge so_far
             → run ≡ record {
               rec = self.rec;
               number = self.number;
               expected = self.expected;
               verdict = run_verdict_of m (outcome_of so_far);
             }) }
+        ensures tells { IfOk result (λ _. TellsOver M.stands M.tells self out.old out.new) }
     {
         let OpenRun {
             rec,
@@ -102,6 +113,7 @@ pub struct Flow<M: Drop> {
 impl<M: RunMeter> Flow<M> {
     ghost use Rattle.fail_interval.specs.Flowing.{CanGoOn, ComesNext, EndsBy, HasRoom, StandsFor, Took, TookExpected};
     ghost use Rattle.fail_interval.specs.Flowing.{IsClosed, OpensAt, StartsAt, flow_expects};
+    ghost use Rattle.fail_interval.specs.Telling.{FlowTells, TellsAt, TellsClosed, TellsTook};
 
     /// Before the first packet.
     pub fn new(alloc: Global, media: &Media, tai: u64) -> Flow<M>
@@ -109,6 +121,8 @@ impl<M: RunMeter> Flow<M> {
         ensures media { result.media ≡ media.now }
         ensures tai { result.tai ≡ tai }
         ensures stands { StandsFor result [] }
+        ensures tells { (past : M.Past) (out : M.Out) → M.tells past out media.now tai [] None
+            → FlowTells M.stands M.tells past result [] out }
     {
         Flow {
             alloc,
@@ -128,6 +142,7 @@ impl<M: RunMeter> Flow<M> {
         ensures done { (m : MediaValue) → OnOk result (IsClosed m self.old.done.items self.old.open
             self.new.done.items) }
         ensures room { OnOk result (HasRoom self.old → HasRoom self.new) }
+        ensures tells { OnOk result (TellsClosed M.stands M.tells self.old.open out.old out.new) }
     {
         let over = mem::replace(&mut self.open, None);
         if let Some(open) = over {
@@ -160,6 +175,15 @@ impl<M: RunMeter> Flow<M> {
             → OpensAt self.old.media self.old.tai packets i so_far self.old.done.items self.old.open
             → OnOk result (OpensAt self.new.media self.new.tai packets (i + 1)
             (so_far_next (in_head 0) packet.at rtp.marker) self.new.done.items self.new.open) }
+        ensures tells { M.WANTS_LEVELS ≡ true → (past : M.Past) (packets : List FlowPacket) (i : ℕ) (so_far : SoFar)
+            (rtp : RtpValue) → ComesNext packets self.old.tai i packet.rec packet.at rtp
+            → number ≡ rtp.number → marker ≡ rtp.marker → packet.timestamp ≡ rtp.timestamp
+            → StartsAt packets i self.old.open
+            → OpensAt self.old.media self.old.tai packets i so_far self.old.done.items self.old.open
+            → first_fault_below packets self.old.media.pt i ≡ None
+            → TellsAt M.stands M.tells past self.old.media self.old.tai packets i self.old.open out.old
+            → OnOk result (TellsAt M.stands M.tells past self.new.media self.new.tai packets (i + 1) self.new.open
+            out.new) }
     {
         self.close(out)?;
         let run = RunHead {
@@ -191,6 +215,11 @@ impl<M: RunMeter> Flow<M> {
         ensures tai { self.new.tai ≡ self.old.tai }
         ensures other { result ≡ Ok false → self.new ≡ self.old }
         ensures goes_on { result ≡ Ok true → TookExpected self.old self.new at }
+        ensures tells { result ≡ Ok true → M.WANTS_LEVELS ≡ true → (past : M.Past) (out : M.Out)
+            (packets : List FlowPacket) → CanGoOn self.old packets at
+            → FlowTells M.stands M.tells past self.old packets out
+            → FlowTells M.stands M.tells past self.new
+            (packets ++ next_packet packets self.old.media.pt rec at ∷ []) out }
     {
         match &mut self.open {
             Some(open) => {
@@ -226,8 +255,11 @@ impl<M: RunMeter> Flow<M> {
         ensures media { self.new.media ≡ self.old.media }
         ensures tai { self.new.tai ≡ self.old.tai }
         ensures other { result ≡ Ok false → self.new ≡ self.old }
+        ensures out { result ≡ Ok false → out.new ≡ out.old }
         ensures goes_on { result ≡ Ok true
             → Took self.old self.new (record { rec = rec; at = at; rtp = Ok rtp }) }
+        ensures tells { result ≡ Ok true → M.WANTS_LEVELS ≡ true → TellsTook M.stands M.tells self.old self.new
+            out.old out.new (record { rec = rec; at = at; rtp = Ok rtp }) }
     {
         match &mut self.open {
             Some(open) => {
@@ -265,8 +297,11 @@ impl<M: RunMeter> Flow<M> {
         ensures tai { self.new.tai ≡ self.old.tai }
         ensures goes_on { result ≡ Ok None
             → Took self.old self.new (record { rec = rec; at = at; rtp = Ok rtp }) }
+        ensures tells { result ≡ Ok None → M.WANTS_LEVELS ≡ true → TellsTook M.stands M.tells self.old self.new
+            out.old out.new (record { rec = rec; at = at; rtp = Ok rtp }) }
         ensures ends { (fault : _) → result ≡ Ok (Some fault)
             → EndsBy self.old (record { rec = rec; at = at; rtp = Ok rtp }) fault }
+        ensures out { (fault : _) → result ≡ Ok (Some fault) → out.new ≡ out.old }
     {
         let cut = match self.grouper.feed(at, rtp) {
             Ok(cut) => cut,
@@ -296,8 +331,11 @@ impl<M: RunMeter> Flow<M> {
     /// What comes of the flow, where it ends here.
     pub fn verdict(self, out: &mut M::Out) -> Result<Verdict, OutOfMemory>
         requires { ∥ ((packets : List FlowPacket) × StandsFor self packets) ∥₁ }
-        ensures { IfOk result (λ verdict. (packets : List FlowPacket) → StandsFor self packets
+        ensures verdict { IfOk result (λ verdict. (packets : List FlowPacket) → StandsFor self packets
             → verdict ≡ verdict_of self.media (judged packets self.media.pt self.tai)) }
+        ensures tells { IfOk result (λ _. (past : M.Past) (packets : List FlowPacket) → StandsFor self packets
+            → FlowTells M.stands M.tells past self packets out.old
+            → M.tells past out.new self.media self.tai (judged_parts self.media packets self.tai) None) }
     {
         let Flow { mut done, open, .. } = self;
         let open = match open {
@@ -321,7 +359,9 @@ ghost use Rattle.fail_interval.specs.Row.{one_run_verdict, run_verdict_of};
 
 /// The RTP timestamp of the packet that is expected next, which is that of the one before; 0 where none is.
 #[inline(always)]
-fn timestamp_of(expected: Option<Rtp>) -> u32 {
+fn timestamp_of(expected: Option<Rtp>) -> u32
+    ensures { (rtp : RtpValue) → expected ≡ Some rtp → result ≡ rtp.timestamp }
+{
     match expected {
         Some(rtp) => rtp.timestamp,
         None => 0,

@@ -251,7 +251,8 @@ impl<M: RunMeter> RunJudge<M> {
 
     /// Before the first packet.
     pub fn new() -> RunJudge<M>
-        ensures { (m : MediaValue) → StandsFor m result (in_head 0) }
+        ensures stands { (m : MediaValue) → StandsFor m result (in_head 0) }
+        ensures is { result ≡ Head 0 }
     {
         RunJudge::Head { packets: 0 }
     }
