@@ -2,7 +2,7 @@
 use Rattle.std.proofs.Common.{◌≡◌, ◌≤◌, ◌<◌, ◌+◌, ◌*◌, ◌/◌, ◌%◌, ◌++◌, ◌∷◌, [], max, ℕ, ℤ, Bool, List, length, slice_index, pos, ◌-ℤ◌, ◌+ℤ◌}
 use Rattle.std.proofs.Common.{◌*ℤ◌, inl, inr, ap, ◌∙◌, sym, subst, refl, arith, length-append}
 use Rattle.std.specs.Int.{int_max}
-use Rattle.std.proofs.Math.Nat.{add-mul}
+use Rattle.std.proofs.Math.Nat.{add-mul, zero-div, zero-mod}
 use Rattle.std.proofs.lemmas.Bool.{cases_eq}
 use Rattle.std.proofs.lemmas.Int.{clamps, ints}
 use Rattle.fraction128.specs.Fractions.{floor, floor_of_signed, minus, whole}
@@ -102,6 +102,14 @@ pub record TakesIn (b c : MarginMeter) (at : ℕ) : Type 0 where
   pub step_is : c.step ≡ b.step
   pub turn_is : c.turn ≡ b.turn
   pub latest_is : c.latest ≡ max b.latest (at * b.den) + b.step
+
+-- read 0 is at its own place
+pub times-none : (m : Media) (n : ℕ) (gapped : Bool) (meter : MarginMeter) → Times m n gapped meter [] 0 → Times m n gapped meter [] (read_in n meter 0)
+times-none m n gapped meter h =
+    let groups : (0 / n) * (n * meter.step + meter.turn) ≡ 0 * (n * meter.step + meter.turn) = ap (λ k. k * (n * meter.step + meter.turn)) (zero-div n) in
+    let reads : (0 % n) * meter.step ≡ 0 * meter.step = ap (λ k. k * meter.step) (zero-mod n) in
+    let none : 0 ≡ read_in n meter 0 = omega (arith, groups, reads) in
+    subst (Times m n gapped meter []) none h
 
 -- nothing of the schedule changes
 read-same : (n : ℕ) (b c : MarginMeter) (x : ℕ) → c.step ≡ b.step → c.turn ≡ b.turn → read_in n c x ≡ read_in n b x

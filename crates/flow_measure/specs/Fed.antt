@@ -21,7 +21,6 @@ use Rattle.flow_measure.specs.declared.models.ModelMeters.{ModelMeters}
 use Rattle.flow_measure.specs.declared.numbers.Place.{Place}
 use Rattle.flow_measure.specs.declared.steps.StepMeter.{StepMeter}
 use Rattle.flow_measure.specs.declared.summary.Summary.{Summary}
-use Rattle.flow_measure.specs.declared.summary.SummaryMeter.{SummaryMeter}
 
 -- the summary of the times that the meter has
 abbrev pub gap_summary : GapMeter → Summary
@@ -98,27 +97,32 @@ pub record MeasuresKind (n c_max full : ℕ) (meter : KindMeter) (p : Packets) :
   pub empty : IsFirst p.empty meter.bucket.seen meter.first_empty
   pub named_is : FirstStands p meter.bucket.seen meter.named
 
--- the meters of a type were fed these packets but for the last ones, which wait: they are all so, and the first of
--- them stands there
-pub record MeasuresAhead (n c_max full : ℕ) (bucket : SummaryMeter) (buffer : BufferMeter) (meter : KindMeter)
-    (waits count : ℕ) (held : Held) (place : Place) (p : Packets) : Type 0 where
-  pub filled : Summarizes bucket p.bucket
-  pub held_is : MeasuresBuffer buffer p
-  pub fed : MeasuresKind n c_max full meter p
-  pub like : AreLike c_max full p meter.bucket.seen (meter.bucket.seen + waits) count held
-  pub first : 0 < waits → StandsAt p meter.bucket.seen place
+-- the meter of a type, that of its schedule, and what a packet finds by its schedule
+abbrev pub kind_in : Kind → ModelMeters → KindMeter
+kind_in N x = x.narrow
+kind_in NL x = x.narrow_linear
+kind_in W x = x.wide
 
--- the meters of the three types were fed these packets, which are those of one of the types
-abbrev pub MeasuresType : Kind → (n c_max full : ℕ) → ModelMeters → Packets → Type 0
-MeasuresType N n c_max full x p =
-    MeasuresAhead n c_max full x.bucket x.gapped x.narrow x.waits x.level.bucket x.level.gapped x.place p
-MeasuresType NL n c_max full x p =
-    MeasuresAhead n c_max full x.bucket x.linear x.narrow_linear x.waits x.level.bucket x.level.linear x.place p
-MeasuresType W n c_max full x p =
-    MeasuresAhead n c_max full x.bucket x.linear x.wide x.waits x.level.bucket x.level.linear x.place p
+abbrev pub buffer_in : Kind → ModelMeters → BufferMeter
+buffer_in N x = x.gapped
+buffer_in NL x = x.linear
+buffer_in W x = x.linear
+
+abbrev pub held_in : Kind → Level → Held
+held_in N level = level.gapped
+held_in NL level = level.linear
+held_in W level = level.linear
+
+-- the meters were fed these packets, as they are for one of the types, which has these limits; but the last ones wait,
+-- which are all so, and the first of them stands there
+pub record MeasuresType (kind : Kind) (n c_max full : ℕ) (x : ModelMeters) (p : Packets) : Type 0 where
+  pub filled : Summarizes x.bucket p.bucket
+  pub held_is : MeasuresBuffer (buffer_in kind x) p
+  pub fed : MeasuresKind n c_max full (kind_in kind x) p
+  pub like : AreLike c_max full p x.bucket.seen (x.bucket.seen + x.waits) x.level.bucket (held_in kind x.level)
+  pub first : 0 < x.waits → StandsAt p x.bucket.seen x.place
 
 -- packet i finds this, by the schedule of the type, and stands there
-abbrev pub Finds : Kind → (c_max full : ℕ) → Packets → ℕ → Level → Place → Type 0
-Finds N c_max full p i level place = IsLike c_max full p i level.bucket level.gapped × StandsAt p i place
-Finds NL c_max full p i level place = IsLike c_max full p i level.bucket level.linear × StandsAt p i place
-Finds W c_max full p i level place = IsLike c_max full p i level.bucket level.linear × StandsAt p i place
+pub record Finds (kind : Kind) (c_max full : ℕ) (p : Packets) (i : ℕ) (level : Level) (place : Place) : Type 0 where
+  pub like : IsLike c_max full p i level.bucket (held_in kind level)
+  pub stands : StandsAt p i place

@@ -39,13 +39,14 @@ pub record ArePackets (m : Media) (n : ℕ) (stamps records : List ℕ) (kind : 
   pub rec : AreListed records p.rec
   pub stamp : AreListed stamps p.stamp
 
--- a group begins with this packet; the first group is that of the epoch that is nearest to it
-pub record BeginsGroup (m : Media) (packet : RunPacket) (old new : RunMeters) : Type 0 where
+-- the next packet is this one, which may begin a group; the first group is that of the epoch that is nearest to it
+pub record Begins (m : Media) (packet : RunPacket) (old new : RunMeters) : Type 0 where
   pub walk_is : new.walk ≡ old.walk
   pub first : old.walk.seen ≡ 0 → new.n0 ≡ anchor_of m packet.at
   pub later : 0 < old.walk.seen → new.n0 ≡ old.n0
-  pub came : new.group.first ≡ packet.at
-  pub ticks : new.group.timestamp ≡ packet.timestamp
+  pub came : old.walk.place ≡ 0 → new.group.first ≡ packet.at
+  pub ticks : old.walk.place ≡ 0 → new.group.timestamp ≡ packet.timestamp
+  pub goes_on : 0 < old.walk.place → new.group ≡ old.group
   pub models_are : new.models ≡ old.models
   pub gapped_is : new.gapped ≡ old.gapped
   pub linear_is : new.linear ≡ old.linear

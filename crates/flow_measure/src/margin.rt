@@ -62,6 +62,8 @@ impl MarginMeter {
         requires in_time { at < 2 ^ 62 }
         requires room { self.old.latest < 2 ^ 120 }
         ensures room { self.new.latest ≤ max self.old.latest (2 ^ 110) + 2 ^ 51 }
+        ensures step { self.new.step ≡ self.old.step }
+        ensures turn { self.new.turn ≡ self.old.turn }
 
         // Whatever packets the meter was fed, it was now fed this one, too.
         ensures stands { (m : Media) (n : ℕ) (gapped : Bool) (stamps : List ℕ) (passed : ℕ)
@@ -77,6 +79,8 @@ impl MarginMeter {
     pub fn end_group(&mut self)
         requires { self.old.latest < 2 ^ 121 }
         ensures room { self.new.latest ≤ self.old.latest + 2 ^ 69 }
+        ensures step { self.new.step ≡ self.old.step }
+        ensures turn { self.new.turn ≡ self.old.turn }
         ensures stands { (m : Media) (n : ℕ) (gapped : Bool) (stamps : List ℕ) (passed : ℕ)
             → Times m n gapped self.old stamps passed → 0 < length stamps
             → Times m n gapped self.new stamps (passed + self.old.turn) }

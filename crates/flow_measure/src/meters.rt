@@ -40,9 +40,10 @@ pub struct RunMeters {
 }
 
 impl RunMeters {
+    ghost use Rattle.sender_params.specs.Reads.{anchor_of};
     ghost use Rattle.sender_params.specs.Ticks.{NeverFall};
     ghost use Rattle.run_meter.specs.Levels.{IsLevel};
-    ghost use Rattle.flow_measure.specs.Metered.{AreFirst, BeginsGroup, Measures};
+    ghost use Rattle.flow_measure.specs.Metered.{AreFirst, Begins, Measures};
     ghost use Rattle.flow_measure.specs.Run.{IsMeasured};
 
     /// Before the first packet.
@@ -83,9 +84,7 @@ impl RunMeters {
             → Measures m n self.new (stamps ++ packet.at ∷ []) (records ++ packet.rec ∷ [])
             (timestamps ++ packet.timestamp ∷ []) }
     {
-        if self.walk.place == 0 {
-            self.begin_group(params, packet);
-        }
+        self.begin(params, packet);
         let place = Place {
             record: packet.rec,
             stamp: packet.at,
@@ -107,21 +106,46 @@ impl RunMeters {
         }
     }
 
-    /// Begins a group with its first packet; the first one is that of the epoch that is nearest to it.
+    /// Begins a group where the next packet, which is this one, does.
+    #[inline(always)]
+    fn begin(&mut self, params: &Params, packet: RunPacket)
+        requires { packet.at < 2 ^ 62 }
+        ensures { Begins params.now.media packet self.old self.new }
+    {
+        if self.walk.place == 0 {
+            self.begin_group(params, packet);
+        }
+    }
+
+    /// Begins a group with its first packet. The first group is that of the epoch that is nearest to it.
     #[cold]
     #[inline(never)]
     fn begin_group(&mut self, params: &Params, packet: RunPacket)
-        requires { packet.at < 2 ^ 62 }
-        ensures { BeginsGroup params.now.media packet self.old self.new }
+        requires in_time { packet.at < 2 ^ 62 }
+        requires first { self.old.walk.place ≡ 0 }
+        ensures { Begins params.now.media packet self.old self.new }
     {
-        if self.walk.seen == 0 {
-            self.n0 = params.anchor(packet.at);
-        }
+        self.n0 = self.n0_at(params, packet.at);
         self.group = Group {
             first: packet.at,
             last: packet.at,
             timestamp: packet.timestamp,
         };
+    }
+
+    /// The number in the epoch of the group to which the first packet belongs, where the next packet comes at `at`.
+    fn n0_at(&self, params: &Params, at: u64) -> i128
+        requires { at < 2 ^ 62 }
+        ensures first { self.now.walk.seen ≡ 0 → result ≡ anchor_of params.now.media at }
+        ensures later { 0 < self.now.walk.seen → result ≡ self.now.n0 }
+        ensures low { negsuc 479 ≤ℤ result }
+        ensures high { result ≤ℤ pos (2 ^ 42) }
+    {
+        if self.walk.seen == 0 {
+            params.anchor(at)
+        } else {
+            self.n0
+        }
     }
 
     /// The numbers of the run, of whole groups, if there is one. For the types N, NL and W `named` is the first packet
@@ -132,12 +156,12 @@ impl RunMeters {
             → length stamps ≡ n * groups → AreFirst m n stamps named
             → MatchOption result (groups ≡ 0) (IsMeasured m n groups stamps records timestamps named) }
     {
-        let groups = self.walk.group;
-        let slack = self.gapped.slack(params, true, self.n0, groups);
-        let gapped = self.models.gapped.finish(slack)?;
-        let slack = self.linear.slack(params, false, self.n0, groups);
-        let linear = self.models.linear.finish(slack)?;
+        let whole = self.walk.group;
+        let gapped = self.gapped.slack(params, true, self.n0, whole);
+        let linear = self.linear.slack(params, false, self.n0, whole);
         let bucket = self.models.bucket.finish()?;
+        let gapped = self.models.gapped.finish(gapped)?;
+        let linear = self.models.linear.finish(linear)?;
         let groups = self.groups.finish()?;
         Some(RunNumbers {
             bucket,
