@@ -13,6 +13,7 @@ pub mod Floors
 pub mod Fronts
 pub mod Gapped
 pub mod Grouped
+pub mod Judging
 pub mod Slacks
 pub mod Measured
 pub mod Named

@@ -1,6 +1,6 @@
 //! The numbers of the judged runs of a flow, made while they are judged.
 
-ghost use Rattle.std.specs.Prelude.{◌≡◌, [], ⊤, List};
+ghost use Rattle.std.specs.Prelude.{◌≡◌, [], true};
 
 use crate::meters::RunMeters;
 use crate::numbers::MeasuredRun;
@@ -93,16 +93,19 @@ impl RunMeter for NumbersMeter {
         judged: &Judged,
         out: &mut MeasuredRuns,
     ) -> Result<(), OutOfMemory> {
-        if let Some(numbers) = self.committed.finish(params) {
-            out.runs.push(MeasuredRun {
-                run: self.head.run,
-                record: self.head.rec,
-                number: self.head.number,
-                judged: *judged,
-                numbers,
-            })?;
+        match self.committed.finish(params) {
+            Some(numbers) => {
+                out.runs.push(MeasuredRun {
+                    run: self.head.run,
+                    record: self.head.rec,
+                    number: self.head.number,
+                    judged: *judged,
+                    numbers,
+                })?;
+                Ok(())
+            }
+            None => Ok(()),
         }
-        Ok(())
     }
 
     ghost opens = { λ _ _ _ _ _ _ tells. tells };

@@ -1,6 +1,6 @@
 //! The rows of a judged run, made while it is judged.
 
-ghost use Rattle.std.specs.Prelude.{◌≡◌, List, IfOk, true};
+ghost use Rattle.std.specs.Prelude.{◌≡◌, IfOk, true};
 
 use crate::rows::maker::{Kept, RowMaker};
 use crate::rows::rows::Rows;
