@@ -1,6 +1,6 @@
 -- A meter knows no more than what it was fed: it stands for all numbers that are the same there.
 use Rattle.std.proofs.Common.{◌≡◌, ◌<◌, ◌+◌, ◌-◌, ◌*◌, ◌/◌, ℕ, zero, suc, ℤ, ◌+ℤ◌, Bool, ◌||◌, ap, ◌∙◌, sym, refl, arith}
-use Rattle.std.proofs.lemmas.Nat.{div-add-mod', mul-add-lt}
+use Rattle.std.proofs.lemmas.Nat.{mul-add-lt}
 use Rattle.flow_measure.specs.Bins.{is_above, is_below, is_in_bin}
 use Rattle.flow_measure.specs.Broken.{any_of, group_breaks}
 use Rattle.flow_measure.specs.Classes.{is_in_class}
@@ -86,20 +86,17 @@ any_of-same test other (suc count) same =
     let before = any_of-same test other count (λ i few. same i (omega (arith, few))) in
     ap (λ (b : Bool). b || other count) before ∙ ap (λ (b : Bool). any_of test count || b) (same count (omega arith))
 
-pub broken-agrees : (b : BrokenGroups) (broken others : ℕ → Bool)
-    → ((i : ℕ) → i < b.seen → others i ≡ broken i)
-    → CountsBroken b broken
-    → CountsBroken b others
-broken-agrees b broken others same h =
-    let split = div-add-mod' b.seen b.n in
-    let groups = b.seen / b.n in
-    record {
-      before = h.before
-          ∙ sym (count_of-same (group_breaks b.n broken) (group_breaks b.n others) groups
-          (λ k few. any_of-same (λ j. broken (k * b.n + j)) (λ j. others (k * b.n + j)) b.n
-          (λ j inside. same (k * b.n + j)
-          (omega (arith, mul-add-lt k b.n j groups few inside, split)))));
-      here = h.here
-          ∙ sym (any_of-same (λ j. broken (groups * b.n + j)) (λ j. others (groups * b.n + j)) b.place
-          (λ j inside. same (groups * b.n + j) (omega (arith, inside, split, b.place_is))));
-    }
+pub broken-agrees : (n seen : ℕ) (b : BrokenGroups) (broken others : ℕ → Bool)
+    → ((i : ℕ) → i < seen → others i ≡ broken i)
+    → CountsBroken n b broken seen
+    → CountsBroken n b others seen
+broken-agrees n seen b broken others same h = record {
+  over = h.over
+      ∙ sym (count_of-same (group_breaks n broken) (group_breaks n others) b.whole
+      (λ k few. any_of-same (λ j. broken (k * n + j)) (λ j. others (k * n + j)) n
+      (λ j inside. same (k * n + j) (omega (arith, mul-add-lt k n j b.whole few inside, h.begun)))));
+  here_is = h.here_is
+      ∙ sym (any_of-same (λ j. broken (b.whole * n + j)) (λ j. others (b.whole * n + j)) (seen - b.whole * n)
+      (λ j inside. same (b.whole * n + j) (omega (arith, inside, h.begun))));
+  begun = h.begun;
+}

@@ -18,7 +18,8 @@ ghost use Rattle.drain_bucket.specs.Word.{bucket_of};
 ghost use Rattle.sender_params.specs.Worked.{hd_50, hd_59_94, linear_two};
 ghost use Rattle.flow_measure.specs.Broken.{broken_groups};
 ghost use Rattle.flow_measure.specs.Frames.{after_start, timestamp_latency, timestamp_offset, timestamp_step};
-ghost use Rattle.flow_measure.specs.Occupancy.{AreOccupancies, IsOccupancy, IsPeak, buckets_of, late_of, margin_of};
+ghost use Rattle.flow_measure.specs.Occupancy.{AreOccupancies, IsPeak, buckets_of, late_of, margin_of};
+ghost use Rattle.vrx_buffer.specs.Occupancy.{IsOccupancy};
 ghost use Rattle.flow_measure.specs.Stands.{Classifies, Counts, CountsBroken, Draws, Summarizes};
 ghost use Rattle.flow_measure.specs.declared.bins.Bins.{Bins};
 ghost use Rattle.flow_measure.specs.declared.broken.BrokenGroups.{BrokenGroups};
@@ -211,8 +212,8 @@ pub fn what_was_fed_decides()
         → ((i : ℕ) → i < c.seen → others i ≡ numbers i) → Classifies c numbers → Classifies c others }
     ensures columns { (c : Columns) (numbers others : ℕ → ℤ)
         → ((i : ℕ) → i < c.seen → others i ≡ numbers i) → Draws c numbers → Draws c others }
-    ensures broken { (b : BrokenGroups) (broken others : ℕ → Bool)
-        → ((i : ℕ) → i < b.seen → others i ≡ broken i) → CountsBroken b broken → CountsBroken b others }
+    ensures broken { (n seen : ℕ) (b : BrokenGroups) (broken others : ℕ → Bool)
+        → ((i : ℕ) → i < seen → others i ≡ broken i) → CountsBroken n b broken seen → CountsBroken n b others seen }
 {}
 
 /// Five packets at once are one more than C_MAX of type N at 50 frames per second with 20 packets per frame.
