@@ -5,9 +5,11 @@ pub mod Bounds
 pub mod Breaks
 pub mod ByHand
 pub mod Counted
+pub mod Curved
 pub mod Drawn
 pub mod Existing
 pub mod Epoch
+pub mod Eyed
 pub mod Filled
 pub mod Floors
 pub mod Followed

@@ -24,6 +24,7 @@ pub mod RunStands
 pub mod Worked
 -- these only serve proofs
 pub mod Places
+pub mod Extremes
 pub mod Parts
 pub mod Own
 -- what is promised of these modules

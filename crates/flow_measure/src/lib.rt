@@ -1,6 +1,6 @@
 //! The numbers of one flow, packet by packet and group by group, what a picture of them has, and both in writing.
 //!
-//! A [`SummaryMeter`], [`Columns`], [`Bins`] and [`Classes`] are fed whole numbers, one by one and in
+//! A [`SummaryMeter`], a [`Curve`], an [`Eye`], [`Bins`] and [`Classes`] are fed whole numbers, one by one and in
 //! order. A [`ScheduleMeter`] and a [`MarginMeter`] are fed the stamps of the judged packets, and
 //! [`BrokenGroups`] whether each is broken. A [`RunMeter`] has all numbers of a judged run. None keeps a
 //! history: their size doesn't grow with what they are fed. Stamps are nanoseconds of TAI; numbers, packets
@@ -42,7 +42,7 @@ mod target;
 pub use bins::Bins;
 pub use broken::BrokenGroups;
 pub use classes::Classes;
-pub use columns::{Columns, Extremes};
+pub use columns::{Curve, Extremes, Eye, Integer, width_of};
 pub use frames::{latency_of, offset_of, since_start, step_of};
 pub use group_walk::GroupWalk;
 pub use margin::{MarginMeter, Margins};
