@@ -15,6 +15,10 @@ pub record Widens (begun column : ℕ) (number : ℤ) (old new : Extremes) : Typ
   pub fresh : begun ≤ column → new ≡ only number
   pub kept : column < begun → new ≡ joined old (only number)
 
+-- what is joined, of extremes that are the same
+pub joined-as : (new was now old last : Extremes) → new ≡ joined was now → old ≡ was → now ≡ last → new ≡ joined old last
+joined-as new was now old last is same same_last = is ∙ ap (λ x. joined x now) (sym same) ∙ ap (joined old) same_last
+
 -- the extremes of one place
 alone : (numbers : ℕ → ℤ) (places : ℕ → Type 0) (i : ℕ) → places i → ((j : ℕ) → places j → j ≡ i) → AreExtremes numbers places (only (numbers i))
 alone numbers places i here only_here = AreExtremes-one numbers places i (only (numbers i)) here only_here refl refl

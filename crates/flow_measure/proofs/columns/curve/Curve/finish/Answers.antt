@@ -1,4 +1,4 @@
-use Rattle.std.proofs.Common.{map, take, ap, ◌∙◌, sym, subst}
+use Rattle.std.proofs.Common.{◌≡◌, map, take, ap, ◌∙◌, sym, subst}
 use Rattle.std.proofs.lemmas.List.{take-map}
 use Rattle.flow_measure.specs.Columns.{AreCurve}
 use Rattle.flow_measure.specs.Extremes.{extremes_of}
@@ -8,8 +8,8 @@ use Rattle.flow_measure.proofs.columns.curve.Curve.finish.Goals as goal
 pub returns-clause-curve : goal.returns-clause-curve
 returns-clause-curve g c = λ numbers h.
     let s = c.args.self.now in
-    let value = g.N.Integer.value in
-    subst (AreCurve s.most numbers s.seen)
-    (take-map (extremes_of value) s.begun s.columns.items
-    ∙ ap (λ l. map (extremes_of value) (take s.begun l)) (sym c.deref.ensures.value) ∙ sym c.in_ok-list.ensures)
-    (curve-drawn value s numbers h)
+    let extremes = extremes_of g.N.Integer.value in
+    let is : c.from_vec.result ≡ map extremes (take s.begun c.deref.result.now) = c.from_vec.ensures ∙ c.in_ok-list.ensures in
+    let same : take s.begun (map extremes s.columns.items) ≡ map extremes (take s.begun c.deref.result.now) =
+    take-map extremes s.begun s.columns.items ∙ ap (λ l. map extremes (take s.begun l)) (sym c.deref.ensures.value) in
+    subst (AreCurve s.most numbers s.seen) (same ∙ sym is) (curve-drawn g.N.Integer.value s numbers h)

@@ -1,8 +1,9 @@
 use Rattle.std.proofs.Common.{◌≡◌, ◌≤◌, ◌<◌, ◌+◌, ◌-◌, ◌*◌, refl, ◌∙◌, sym, ap, arith}
 use Rattle.std.proofs.Math.Nat.{mul-le-mul_right}
 use Rattle.flow_measure.specs.Columns.{column_at}
-use Rattle.flow_measure.specs.Extremes.{extremes_of, joined, only}
+use Rattle.flow_measure.specs.Extremes.{extremes_of, only}
 use Rattle.flow_measure.specs.Stands.{curve_columns}
+use Rattle.flow_measure.proofs.Drawn.{joined-as}
 use Rattle.flow_measure.proofs.Curved.{begun-some, column-read, curve-more, last-column}
 use Rattle.flow_measure.proofs.Widths.{width_of-more}
 use Rattle.flow_measure.proofs.columns.curve.Curve.widen.Goals as goal
@@ -23,7 +24,6 @@ returns-clause-draws g c = λ numbers h e.
     (last-column s.seen s.room s.begun s.width s.filled c.requires.room s.room_few) (omega (arith, some)) (omega (arith, some, s.begun_most))
     (record {
       fresh = λ none. absurd (omega (arith, none, some));
-      kept = λ _. c.joined.ensures
-          ∙ ap (λ x. joined x (extremes_of value c.of.result)) (sym read)
-          ∙ ap (joined (column_at (curve_columns value s) (s.begun - 1))) (c.of.ensures ∙ ap only (sym e));
+      kept = λ _. joined-as (extremes_of value c.joined.result) (extremes_of value c.index.result.now) (extremes_of value c.of.result)
+          (column_at (curve_columns value s) (s.begun - 1)) (only (numbers s.seen)) c.joined.ensures read (c.of.ensures ∙ ap only (sym e));
     }) h

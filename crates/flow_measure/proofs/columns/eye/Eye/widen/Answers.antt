@@ -1,7 +1,8 @@
 use Rattle.std.proofs.Common.{◌<◌, ◌-◌, vec_len, refl, ap, ◌∙◌, sym, arith}
 use Rattle.flow_measure.specs.Columns.{column_at}
-use Rattle.flow_measure.specs.Extremes.{extremes_of, joined, only}
+use Rattle.flow_measure.specs.Extremes.{extremes_of, only}
 use Rattle.flow_measure.specs.Stands.{eye_columns}
+use Rattle.flow_measure.proofs.Drawn.{joined-as}
 use Rattle.flow_measure.proofs.Eyed.{column-read, eye-more, last-column}
 use Rattle.flow_measure.proofs.columns.eye.Eye.widen.Goals as goal
 
@@ -16,7 +17,6 @@ returns-clause-draws g c = λ numbers h e.
     (omega (arith, s.opened_begun)) inside
     (record {
       fresh = λ none. absurd (omega (arith, none, last.0, s.opened_begun));
-      kept = λ _. c.joined.ensures
-          ∙ ap (λ x. joined x (extremes_of value c.of.result)) (sym read)
-          ∙ ap (joined (column_at (eye_columns value s) (s.opened - 1))) (c.of.ensures ∙ ap only (sym e));
+      kept = λ _. joined-as (extremes_of value c.joined.result) (extremes_of value c.index.result.now) (extremes_of value c.of.result)
+          (column_at (eye_columns value s) (s.opened - 1)) (only (numbers s.seen)) c.joined.ensures read (c.of.ensures ∙ ap only (sym e));
     }) h
