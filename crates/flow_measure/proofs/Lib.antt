@@ -5,10 +5,13 @@ pub mod Bounds
 pub mod Breaks
 pub mod ByHand
 pub mod Counted
+pub mod Curved
 pub mod Drawn
 pub mod Existing
 pub mod Finished
 pub mod Epoch
+pub mod Eyed
+pub mod Filled
 pub mod Floors
 pub mod Fronts
 pub mod Gapped

@@ -25,6 +25,7 @@ pub mod RunStands
 pub mod Worked
 -- these only serve proofs
 pub mod Places
+pub mod Extremes
 pub mod Parts
 -- what is promised of these modules
 pub mod report
