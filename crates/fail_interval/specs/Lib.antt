@@ -18,6 +18,7 @@ pub mod Groups
 pub mod Kinds
 pub mod Lulls
 pub mod Metered
+pub mod Meterings
 pub mod Meters
 pub mod Orders
 pub mod Runs

@@ -18,9 +18,11 @@ mod kind;
 pub mod laws;
 mod lull;
 mod media_judge;
+mod metered;
 mod meters;
 mod order;
 mod run;
 
 pub use bank::Bank;
 pub use judge::FlowJudge;
+pub use metered::Metered;
