@@ -26,7 +26,7 @@ of-case o target (Some p) is = λ x e.
     subst (λ (y : Target × Rtp). (y.0 ≡ target) × (◌≡◌ {A = Option Rtp} (Some p) (Some y.1))) (sym same) (refl, refl)
 
 -- what is expected is awaited, where frames can carry it
-pub awaits-expected : (o : Option (Target × Rtp)) (target : Target) (told : Option Rtp) (judge : FlowJudge) → o ≡ awaited_of target told
+pub awaits-expected : {M : Type 0} (o : Option (Target × Rtp)) (target : Target) (told : Option Rtp) (judge : FlowJudge M) → o ≡ awaited_of target told
     → told ≡ expected_of judge
     → IsAwaited o target (expected_of judge)
 awaits-expected o target told judge is told_is = of-case o target (expected_of judge) (is ∙ ap (awaited_of target) told_is)
@@ -40,19 +40,19 @@ after-case (Some (t, p)) target expected h = λ x e.
     subst (λ (y : Target × Rtp). (y.0 ≡ target) × (after expected ≡ Some y.1)) (sym same) (here.0, ap after here.1)
 
 -- the next one is awaited
-pub awaits-next : (o later : Option (Target × Rtp)) (target : Target) (old new : FlowJudge) → IsAwaited o target (expected_of old)
+pub awaits-next : {M : Type 0} (o later : Option (Target × Rtp)) (target : Target) (old new : FlowJudge M) → IsAwaited o target (expected_of old)
     → later ≡ awaited_after o → expected_of new ≡ after (expected_of old) → IsAwaited later target (expected_of new)
 awaits-next o later target old new h is next =
     subst (λ (l : Option (Target × Rtp)). IsAwaited l target (expected_of new)) (sym is)
     (subst (IsAwaited (awaited_after o) target) (sym next) (after-case o target (expected_of old) h))
 
 -- a judge that is as it was expects what it did
-pub awaits-still : (o : Option (Target × Rtp)) (target : Target) (old new : FlowJudge) → IsAwaited o target (expected_of old) → new ≡ old
+pub awaits-still : {M : Type 0} (o : Option (Target × Rtp)) (target : Target) (old new : FlowJudge M) → IsAwaited o target (expected_of old) → new ≡ old
     → IsAwaited o target (expected_of new)
-awaits-still o target old new h same = subst (λ (j : FlowJudge). IsAwaited o target (expected_of j)) (sym same) h
+awaits-still o target old new h same = subst (λ (j : FlowJudge _). IsAwaited o target (expected_of j)) (sym same) h
 
 -- and the judge of its media is as it was, since a fact has one proof
-pub same-judge : (old : MediaJudge) (judge : FlowJudge) (awaits : AwaitsExpected old.awaited old.target judge) → judge ≡ old.judge
+pub same-judge : (old : MediaJudge) (judge : FlowJudge _) (awaits : AwaitsExpected old.awaited old.target judge) → judge ≡ old.judge
     → record { target = old.target; judge = judge; awaited = old.awaited; awaits = awaits } ≡ old
 same-judge old judge awaits e = λ i. record {
   target = old.target;
@@ -62,12 +62,12 @@ same-judge old judge awaits e = λ i. record {
 }
 
 -- what a frame carries of what is awaited
-pub record IsFound (target : Target) (judge : FlowJudge) (bytes : List ℕ) : Type 0 where
+pub record IsFound {M : Type 0} (target : Target) (judge : FlowJudge M) (bytes : List ℕ) : Type 0 where
   pub packet : Rtp
   pub carried : carries target packet bytes ≡ true
   pub expected : IsExpected judge packet
 
-pub found : (o : Option (Target × Rtp)) (target : Target) (judge : FlowJudge) (bytes : List ℕ) → IsAwaited o target (expected_of judge)
+pub found : {M : Type 0} (o : Option (Target × Rtp)) (target : Target) (judge : FlowJudge M) (bytes : List ℕ) → IsAwaited o target (expected_of judge)
     → carries_awaited o bytes ≡ true → IsFound target judge bytes
 found None target judge bytes h carried = cc
 found (Some (t, p)) target judge bytes h carried =

@@ -1,7 +1,7 @@
 -- A verdict says whether the packets keep the limits, and a fail is confirmed.
 use Rattle.std.proofs.Common.{◌≡◌, ◌≤◌, ◌<◌, ℕ, zero, suc, Bool, true, false, List, length, slice_index, Option, Some, None, refl, arith, ap, ◌∙◌, sym, subst}
 use Rattle.std.proofs.Common.{inl, inr}
-use Rattle.std.specs.Prelude.{if◌then◌else◌, ◌==◌}
+use Rattle.std.specs.Prelude.{if◌then◌else◌, ◌==◌, ◌||◌}
 use Rattle.std.proofs.lemmas.Bool.{cases_lt, le-ltb, ltb-false, ltb-true}
 use Rattle.std.proofs.lemmas.Bool.Decides.{nat_tests}
 use Rattle.std.proofs.lemmas.Int.{ints}
@@ -21,6 +21,7 @@ use Rattle.drain_bucket.specs.Word.{bucket_of}
 use Rattle.drain_bucket.proofs.Prefix.{keeps_bucket, keeps_bucket-counts}
 use Rattle.drain_bucket.proofs.Reich.{count_is_load}
 use Rattle.vrx_buffer.proofs.Instants.{arrived-is, came-some, keep-empty, keep-over, packets-keep}
+use Rattle.run_meter.specs.Runs.{NamesFirst, is_broken}
 use Rattle.fail_interval.specs.Fails.{broken_at, is_overfull, kind_verdict, latest_up_to, proof_at, proof_if, verdict_below, verdict_next}
 use Rattle.fail_interval.proofs.Verdicts.{arrived-first, broken_by, by_read, none-broken, pass-before}
 
@@ -167,6 +168,48 @@ fail-confirms m n stamps kind f is some falls e =
     let first = first-broken m n stamps kind (length stamps) f e in
     subst (Confirms m n stamps kind) (sym first.is)
     (confirms-at m n stamps kind first.index first.model is some falls first.within first.breaks first.before)
+
+-- packet i breaks a model where a test says so
+some-broken : (full over late : Bool) (model : Broken) → broken_by full over late ≡ Some model → ((full || over) || late) ≡ true
+some-broken true over late model e = refl
+some-broken false true late model e = refl
+some-broken false false true model e = refl
+some-broken false false false model e = cc
+
+no-test : (full over late : Bool) → full ≡ false → over ≡ false → late ≡ false → ((full || over) || late) ≡ false
+no-test true over late e f g = cc
+no-test false true late e f g = cc
+no-test false false true e f g = cc
+no-test false false false e f g = refl
+
+not-broken : (m : Media) (n : ℕ) (stamps : List ℕ) (kind : Kind) (i : ℕ) → broken_at m n stamps kind i ≡ None → is_broken m n stamps kind i ≡ false
+not-broken m n stamps kind i e =
+    let none = none-broken m n stamps kind i e in
+    no-test (is_overfull m n stamps kind i) (is_over m n stamps kind i) (is_empty m n stamps kind i) none.0 none.1 none.2
+
+proof-at : (m : Media) (n : ℕ) (stamps : List ℕ) (kind : Kind) (i : ℕ) (model : Broken) → (proof_at m n stamps kind i model).to ≡ i
+proof-at m n stamps kind i Bucket = refl
+proof-at m n stamps kind i Over = refl
+proof-at m n stamps kind i Empty = refl
+
+names-case : (m : Media) (n : ℕ) (stamps : List ℕ) (kind : Kind) (told : KindVerdict) → kind_verdict m n stamps kind ≡ told
+    → NamesFirst (is_broken m n stamps kind) (length stamps) told
+names-case m n stamps kind Pass e = λ i few. not-broken m n stamps kind i (pass-before m n stamps kind (length stamps) i e few)
+names-case m n stamps kind (Fail f) e =
+    let first = first-broken m n stamps kind (length stamps) f e in
+    let there : f.to ≡ first.index = ap (λ (g : FailProof). g.to) first.is ∙ proof-at m n stamps kind first.index first.model in
+    let breaks : is_broken m n stamps kind first.index ≡ true =
+    some-broken (is_overfull m n stamps kind first.index) (is_over m n stamps kind first.index) (is_empty m n stamps kind first.index) first.model first.breaks in
+    (
+      omega (arith, there, first.within),
+      ap (is_broken m n stamps kind) there ∙ breaks,
+      λ i low. not-broken m n stamps kind i (first.before i (omega (arith, there, low))),
+    )
+
+-- a verdict names the first packet that breaks a model
+pub names-first : (m : Media) (n : ℕ) (stamps : List ℕ) (kind : Kind)
+    → NamesFirst (is_broken m n stamps kind) (length stamps) (kind_verdict m n stamps kind)
+names-first m n stamps kind = names-case m n stamps kind (kind_verdict m n stamps kind) refl
 
 -- the packets up to one that came by its read came by it
 arrived-most : (m : Media) (n : ℕ) (stamps : List ℕ) (kind : Kind) (i : ℕ) → NeverFall stamps → i < length stamps → is_empty m n stamps kind i ≡ false

@@ -26,7 +26,7 @@ expected-refused : (packets : List FlowPacket) (pt : ℕ) (f : FirstFault) → f
 expected-refused packets pt f e =
     fault-there packets pt (length packets) ((length packets == 0) || has_marker packets (length packets - 1)) (first_fault packets pt) f e
 
-expected-state : (m : Media) (tai : ℕ) (packets : List FlowPacket) (state : State) → IsAt m tai packets state
+expected-state : {M : Type 0} (m : Media) (tai : ℕ) (packets : List FlowPacket) (state : State M) → IsAt m tai packets state
     → state_expects state ≡ expected_after packets m.pt
 expected-state m tai packets (Going flow) at =
     expected-is flow.grouper flow.media.pt packets at.2.grouper ∙ ap (λ (k : Media). expected_after packets k.pt) at.0
@@ -37,21 +37,21 @@ expected-state m tai packets (Refused rec fault) at =
 expected-state m tai packets Spent at = absurd at
 
 -- what a judge expects by what it keeps is what is expected after the packets that it was fed
-pub expected-stands : (m : Media) (key : FlowKey) (tai : ℕ) (judge : FlowJudge) (packets : List FlowPacket) → StandsFor m key tai judge packets
+pub expected-stands : {M : Type 0} (m : Media) (key : FlowKey) (tai : ℕ) (judge : FlowJudge M) (packets : List FlowPacket) → StandsFor m key tai judge packets
     → expected_of judge ≡ expected_after packets m.pt
 expected-stands m key tai judge packets s = expected-state m tai packets judge.state s.state
 
 -- nothing is expected of a flow with a fault
-pub expected-none : (state : State) → ((flow : Flow) → state ≡ Going flow → ⊥) → None ≡ state_expects state
+pub expected-none : {M : Type 0} (state : State M) → ((flow : Flow M) → state ≡ Going flow → ⊥) → None ≡ state_expects state
 expected-none (Going flow) not = absurd (not flow refl)
 expected-none (Refused rec fault) not = refl
 expected-none Spent not = refl
 
 -- the packet that goes on in a flow without one
-pub expected-going : (state : State) (flow : Flow) (expected : Option Rtp) → state ≡ Going flow → expected ≡ flow_expects flow → expected ≡ state_expects state
+pub expected-going : {M : Type 0} (state : State M) (flow : Flow M) (expected : Option Rtp) → state ≡ Going flow → expected ≡ flow_expects flow → expected ≡ state_expects state
 expected-going state flow expected e is = is ∙ sym (ap state_expects e)
 
 -- after it the next one
-pub expected-next : (at : ℕ) (old new : State) → GoesAsExpected old new at → state_expects new ≡ after (state_expects old)
+pub expected-next : {M : Type 0} (at : ℕ) (old new : State M) → GoesAsExpected old new at → state_expects new ≡ after (state_expects old)
 expected-next at old new went =
-    ap state_expects went.becomes ∙ went.goes.next ∙ sym (ap (λ (s : State). after (state_expects s)) went.is)
+    ap state_expects went.becomes ∙ went.goes.next ∙ sym (ap (λ (s : State _). after (state_expects s)) went.is)

@@ -83,7 +83,7 @@ is_cut-there packets rest p pt n cut answer some =
     some_cut-case _ _ n (sym is ∙ some)
 
 -- the open run with the packet is within the limits
-pub fits-next : (flow : Flow) (packets : List FlowPacket) (rec_number at : ℕ) (seen : Rtp) (cut : Option ℕ) (open_run : OpenRun)
+pub fits-next : {M : Type 0} (flow : Flow M) (packets : List FlowPacket) (rec_number at : ℕ) (seen : Rtp) (cut : Option ℕ) (open_run : OpenRun M)
     → (c : CanGoOn flow packets at) → flow.open ≡ Some open_run → cut ≡ None
     → IsAnswered packets (read_packet rec_number at seen) flow.media.pt cut
     → Fits (so_far_next c.stands.so_far (at + flow.tai * 1000000000) seen.marker)
@@ -103,7 +103,7 @@ fits-next flow packets rec_number at seen cut open_run c e none answer =
     subst Fits (ap (λ k. so_far_at all flow.tai (last_place (0 ∷ cuts all k)) k) long ∙ sym is) fits
 
 -- so the run can take it
-pub can_take : (flow : Flow) (packets : List FlowPacket) (rec_number at : ℕ) (seen : Rtp) (cut : Option ℕ) (open_run : OpenRun)
+pub can_take : {M : Type 0} (flow : Flow M) (packets : List FlowPacket) (rec_number at : ℕ) (seen : Rtp) (cut : Option ℕ) (open_run : OpenRun M)
     → (c : CanGoOn flow packets at) → flow.open ≡ Some open_run → cut ≡ None
     → IsAnswered packets (read_packet rec_number at seen) flow.media.pt cut
     → CanTake flow.media open_run.judge c.stands.so_far (at + flow.tai * 1000000000) seen.marker
@@ -113,7 +113,7 @@ can_take flow packets rec_number at seen cut open_run c e none answer =
     record { stands = o.judge; fits = fits-next flow packets rec_number at seen cut open_run c e none answer }
 
 -- no packet up to this one has a fault
-pub sound-next : (flow : Flow) (packets : List FlowPacket) (rec_number at : ℕ) (seen : Rtp) (cut : Option ℕ)
+pub sound-next : {M : Type 0} (flow : Flow M) (packets : List FlowPacket) (rec_number at : ℕ) (seen : Rtp) (cut : Option ℕ)
     → IsAnswered packets (read_packet rec_number at seen) flow.media.pt cut
     → (rest : List FlowPacket)
     → first_fault_below ((packets ++ read_packet rec_number at seen ∷ []) ++ rest) flow.media.pt (length (packets ++ read_packet rec_number at seen ∷ []))
@@ -124,7 +124,7 @@ sound-next flow packets rec_number at seen cut answer =
     (λ rest. (cut-answered (packets ++ p ∷ rest) flow.media.pt (length packets) cut (answer rest)).0)
 
 -- a flow with other parts
-abbrev pub with_parts : Flow → Grouper → Option OpenRun → Flow
+abbrev pub with_parts : {M : Type 0} → Flow M → Grouper → Option (OpenRun M) → Flow M
 with_parts flow grouper open_run = record {
   alloc = flow.alloc;
   media = flow.media;
@@ -135,8 +135,8 @@ with_parts flow grouper open_run = record {
 }
 
 -- the open run goes on with the packet
-pub goes_on : (flow : Flow) (packets : List FlowPacket) (rec_number at : ℕ) (seen : Rtp) (cut : Option ℕ) (grouper : Grouper) (open_run : OpenRun)
-    (judge : RunJudge)
+pub goes_on : {M : Type 0} (flow : Flow M) (packets : List FlowPacket) (rec_number at : ℕ) (seen : Rtp) (cut : Option ℕ) (grouper : Grouper) (open_run : OpenRun M)
+    (judge : RunJudge M)
     → flow.open ≡ Some open_run → cut ≡ None
     → IsAnswered packets (read_packet rec_number at seen) flow.media.pt cut
     → GrouperStandsFor flow.media.pt grouper (packets ++ read_packet rec_number at seen ∷ [])
@@ -145,12 +145,12 @@ pub goes_on : (flow : Flow) (packets : List FlowPacket) (rec_number at : ℕ) (s
     → CanGoOn flow packets at
     → StandsFor (with_parts flow grouper (Some (record { rec = open_run.rec; number = open_run.number; expected = open_run.expected; judge = judge })))
     (packets ++ read_packet rec_number at seen ∷ [])
-goes_on flow packets rec_number at seen cut grouper open_run judge e none answer grouped fed c =
+goes_on {M} flow packets rec_number at seen cut grouper open_run judge e none answer grouped fed c =
     let p = read_packet rec_number at seen in
     let stamp = at + flow.tai * 1000000000 in
     let more = so_far_next c.stands.so_far stamp seen.marker in
     let stands = fed c.stands.so_far (can_take flow packets rec_number at seen cut open_run c e none answer) in
-    let with_it : OpenRun = record { rec = open_run.rec; number = open_run.number; expected = open_run.expected; judge = judge } in
+    let with_it : OpenRun M = record { rec = open_run.rec; number = open_run.number; expected = open_run.expected; judge = judge } in
     record {
       seconds = c.stands.seconds;
       grouper = grouped;
@@ -166,23 +166,23 @@ goes_on flow packets rec_number at seen cut grouper open_run judge e none answer
       room = c.stands.room;
     }
 
-starts-case : (packets : List FlowPacket) (i : ℕ) (open_run : Option OpenRun) → ((run : OpenRun) → open_run ≡ Some run → is_cut packets i ≡ true)
+pub starts-case : {M : Type 0} (packets : List FlowPacket) (i : ℕ) (open_run : Option (OpenRun M)) → ((run : OpenRun M) → open_run ≡ Some run → is_cut packets i ≡ true)
     → StartsAt packets i open_run
 starts-case packets i None h = tt
 starts-case packets i (Some run) h = h run refl
 
 -- a call of `begin` on this flow, with the next packet
-abbrev pub Begun : Flow → Flow → Option ℕ → ℕ → ℕ → Rtp → Type 0
+abbrev pub Begun : {M : Type 0} → Flow M → Flow M → Option ℕ → ℕ → ℕ → Rtp → Type 0
 Begun flow new expected rec_number stamp seen = (all : List FlowPacket) (i : ℕ) (so_far : SoFar) → ComesNext all flow.tai i rec_number stamp seen
     → expected ≡ cut_at all i → StartsAt all i flow.open
     → OpensAt flow.media flow.tai all i so_far flow.done.items flow.open
     → OpensAt new.media new.tai all (i + 1) (so_far_next (in_head 0) stamp seen.marker) new.done.items new.open
 
 -- a run begins with the packet
-begins-from : (flow new : Flow) (packets : List FlowPacket) (rec_number at : ℕ) (seen : Rtp) (cut : Option ℕ) (grouper : Grouper)
+begins-from : {M : Type 0} (flow new : Flow M) (packets : List FlowPacket) (rec_number at : ℕ) (seen : Rtp) (cut : Option ℕ) (grouper : Grouper)
     → new.media ≡ flow.media → new.tai ≡ flow.tai → new.grouper ≡ grouper
     → (HasRoom flow → HasRoom new)
-    → ((run : OpenRun) → flow.open ≡ Some run → (n : ℕ) × (cut ≡ Some n))
+    → ((run : OpenRun M) → flow.open ≡ Some run → (n : ℕ) × (cut ≡ Some n))
     → IsAnswered packets (read_packet rec_number at seen) flow.media.pt cut
     → GrouperStandsFor flow.media.pt grouper (packets ++ read_packet rec_number at seen ∷ [])
     → Begun flow new cut rec_number (at + flow.tai * 1000000000) seen
@@ -211,11 +211,11 @@ begins-from flow new packets rec_number at seen cut grouper media tai same_group
     }
 
 -- a run begins with a packet that the grouper took
-pub begins : (flow between new : Flow) (packets : List FlowPacket) (rec_number at : ℕ) (seen : Rtp) (cut : Option ℕ) (grouper : Grouper)
+pub begins : {M : Type 0} (flow between new : Flow M) (packets : List FlowPacket) (rec_number at : ℕ) (seen : Rtp) (cut : Option ℕ) (grouper : Grouper)
     → between ≡ with_parts flow grouper flow.open
     → new.media ≡ between.media → new.tai ≡ between.tai → new.grouper ≡ between.grouper
     → (HasRoom between → HasRoom new)
-    → ((run : OpenRun) → flow.open ≡ Some run → (n : ℕ) × (cut ≡ Some n))
+    → ((run : OpenRun M) → flow.open ≡ Some run → (n : ℕ) × (cut ≡ Some n))
     → IsAnswered packets (read_packet rec_number at seen) flow.media.pt cut
     → GrouperStandsFor flow.media.pt grouper (packets ++ read_packet rec_number at seen ∷ [])
     → Begun between new cut rec_number (at + flow.tai * 1000000000) seen
@@ -223,31 +223,31 @@ pub begins : (flow between new : Flow) (packets : List FlowPacket) (rec_number a
     → StandsFor new (packets ++ read_packet rec_number at seen ∷ [])
 begins flow between new packets rec_number at seen cut grouper is media tai same_grouper room opens answer grouped begun c =
     begins-from flow new packets rec_number at seen cut grouper
-    (media ∙ ap (λ (f : Flow). f.media) is) (tai ∙ ap (λ (f : Flow). f.tai) is) (same_grouper ∙ ap (λ (f : Flow). f.grouper) is)
-    (subst (λ (f : Flow). HasRoom f → HasRoom new) is room) opens answer grouped
-    (subst (λ (f : Flow). Begun f new cut rec_number (at + flow.tai * 1000000000) seen) is begun) c
+    (media ∙ ap (λ (f : Flow _). f.media) is) (tai ∙ ap (λ (f : Flow _). f.tai) is) (same_grouper ∙ ap (λ (f : Flow _). f.grouper) is)
+    (subst (λ (f : Flow _). HasRoom f → HasRoom new) is room) opens answer grouped
+    (subst (λ (f : Flow _). Begun f new cut rec_number (at + flow.tai * 1000000000) seen) is begun) c
 
 -- what is known of some packets of the flow
-abbrev pub Known : Flow → ℕ → Type 0
+abbrev pub Known : {M : Type 0} → Flow M → ℕ → Type 0
 Known flow at = ∥ ((packets : List FlowPacket) × CanGoOn flow packets at) ∥₁
 
-few-fed : (flow : Flow) (packets : List FlowPacket) (at : ℕ) → CanGoOn flow packets at → count_fed flow.grouper < 2 ^ 41
+few-fed : {M : Type 0} (flow : Flow M) (packets : List FlowPacket) (at : ℕ) → CanGoOn flow packets at → count_fed flow.grouper < 2 ^ 41
 few-fed flow packets at c = omega (arith, c.stands.grouper.fed, c.few)
 
 -- the grouper was fed few packets
-pub few-known : (flow : Flow) (at : ℕ) → Known flow at → count_fed flow.grouper < 2 ^ 41
+pub few-known : {M : Type 0} (flow : Flow M) (at : ℕ) → Known flow at → count_fed flow.grouper < 2 ^ 41
 few-known flow at known = ∥∥₁_elim known (hlevel props) (λ (packets, c). few-fed flow packets at c)
 
 -- the stamp is one that a capture can hold
-pub stamp-known : (flow : Flow) (at : ℕ) → Known flow at → at < 2 ^ 32 * 10 ^ 9
+pub stamp-known : {M : Type 0} (flow : Flow M) (at : ℕ) → Known flow at → at < 2 ^ 32 * 10 ^ 9
 stamp-known flow at known = ∥∥₁_elim known (hlevel props) (λ (packets, c). c.stamp)
 
 -- few seconds are added to it
-pub seconds-known : (flow : Flow) (at : ℕ) → Known flow at → flow.tai ≤ 1000
+pub seconds-known : {M : Type 0} (flow : Flow M) (at : ℕ) → Known flow at → flow.tai ≤ 1000
 seconds-known flow at known = ∥∥₁_elim known (hlevel props) (λ (packets, c). c.stands.seconds)
 
 -- the open run can take the packet
-pub take-known : (flow : Flow) (rec_number at : ℕ) (seen : Rtp) (cut : Option ℕ) (open_run : OpenRun) → flow.open ≡ Some open_run → cut ≡ None
+pub take-known : {M : Type 0} (flow : Flow M) (rec_number at : ℕ) (seen : Rtp) (cut : Option ℕ) (open_run : OpenRun M) → flow.open ≡ Some open_run → cut ≡ None
     → ((packets : List FlowPacket) → GrouperStandsFor flow.media.pt flow.grouper packets
     → IsAnswered packets (read_packet rec_number at seen) flow.media.pt cut)
     → Known flow at
@@ -256,7 +256,7 @@ take-known flow rec_number at seen cut open_run e none answer known =
     ∥∥₁_map known (λ (packets, c). (c.stands.so_far, can_take flow packets rec_number at seen cut open_run c e none (answer packets c.stands.grouper)))
 
 -- or the one expected
-pub expected-known : (flow : Flow) (at : ℕ) (open_run : OpenRun) → flow.open ≡ Some open_run
+pub expected-known : {M : Type 0} (flow : Flow M) (at : ℕ) (open_run : OpenRun M) → flow.open ≡ Some open_run
     → ((packets : List FlowPacket) → GrouperStandsFor flow.media.pt flow.grouper packets
     → IsAnswered packets (next_packet packets flow.media.pt 0 at) flow.media.pt None)
     → Known flow at
@@ -267,7 +267,7 @@ expected-known flow at open_run e answer known =
     (flow.media, c.stands.so_far, can_take flow packets 0 at seen None open_run c e refl (answer packets c.stands.grouper)))
 
 -- a packet that is answered with a fault has the first one
-pub ends : (flow : Flow) (packets rest : List FlowPacket) (rec_number at : ℕ) (seen : Rtp) (fault : PacketFault) → CanGoOn flow packets at
+pub ends : {M : Type 0} (flow : Flow M) (packets rest : List FlowPacket) (rec_number at : ℕ) (seen : Rtp) (fault : PacketFault) → CanGoOn flow packets at
     → Err fault ≡ answer_at (packets ++ read_packet rec_number at seen ∷ rest) flow.media.pt (length packets)
     → has_fault (packets ++ read_packet rec_number at seen ∷ rest) flow.media.pt (length packets) fault
 ends flow packets rest rec_number at seen fault c answer =
@@ -292,7 +292,7 @@ unread-fault packets pt i fault_here e =
     (first_of (order_fault 1024 packets i) (size_fault 262144 packets i))) e
 
 -- and the first of its flow, where no packet before it has one
-pub unread-ends : (flow : Flow) (packets rest : List FlowPacket) (rec_number at : ℕ) (fault_here : PacketFault) → CanGoOn flow packets at
+pub unread-ends : {M : Type 0} (flow : Flow M) (packets rest : List FlowPacket) (rec_number at : ℕ) (fault_here : PacketFault) → CanGoOn flow packets at
     → has_fault (packets ++ record { rec = rec_number; at = at; rtp = Err fault_here } ∷ rest) flow.media.pt (length packets) fault_here
 unread-ends flow packets rest rec_number at fault_here c =
     let p : FlowPacket = record { rec = rec_number; at = at; rtp = Err fault_here } in

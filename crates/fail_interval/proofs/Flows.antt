@@ -54,7 +54,7 @@ fault-is packets pt i f none e =
     ap (first_fault_below packets pt) next ∙ earlier-case (first_fault_below packets pt i) i (fault packets pt i) (cut_at packets i) f none told
 
 -- a run by its parts
-abbrev with_judge : OpenRun → RunJudge → OpenRun
+abbrev pub with_judge : {M : Type 0} → OpenRun M → RunJudge M → OpenRun M
 with_judge open_run judge = record { rec = open_run.rec; number = open_run.number; expected = open_run.expected; judge = judge }
 
 -- the marker of the packet that comes next
@@ -81,8 +81,8 @@ goes_on-so_far packets tai i rec_number at seen so_far next e is =
     ∙ ap (λ places. so_far_at packets tai (last_place (0 ∷ places)) (i + 1)) (sym (cuts-other packets i e)))
 
 -- packet i goes on with the open run
-pub goes_on-next : (m : Media) (packets : List FlowPacket) (tai i rec_number at : ℕ) (seen : Rtp) (so_far : SoFar) (done : List Run) (open_run : OpenRun)
-    (judge : RunJudge)
+pub goes_on-next : {M : Type 0} (m : Media) (packets : List FlowPacket) (tai i rec_number at : ℕ) (seen : Rtp) (so_far : SoFar) (done : List Run) (open_run : OpenRun M)
+    (judge : RunJudge M)
     → ComesNext packets tai i rec_number at seen → is_cut packets i ≡ false → IsOpen m tai packets i (cuts packets i) so_far done open_run
     → RunStandsFor m judge (so_far_next so_far at seen.marker)
     → IsOpen m tai packets (i + 1) (cuts packets (i + 1)) (so_far_next so_far at seen.marker) done (with_judge open_run judge)
@@ -102,8 +102,8 @@ goes_on-next m packets tai i rec_number at seen so_far done open_run judge next 
     }
 
 -- the run that starts with packet i
-started : (m : Media) (packets : List FlowPacket) (tai i rec_number at : ℕ) (seen : Rtp) (places : List ℕ) (expected : Option ℕ) (done : List Run)
-    (judge : RunJudge)
+started : {M : Type 0} (m : Media) (packets : List FlowPacket) (tai i rec_number at : ℕ) (seen : Rtp) (places : List ℕ) (expected : Option ℕ) (done : List Run)
+    (judge : RunJudge M)
     → ComesNext packets tai i rec_number at seen → last_place (0 ∷ places) ≡ i → expected ≡ expected_at packets i
     → RunStandsFor m judge (so_far_next (in_head 0) at seen.marker)
     → length done ≡ length places
@@ -137,11 +137,11 @@ expects-at packets i expected e f =
     ∙ sym (ap (λ b. if b then None else Some (expected_number packets i)) (cut-later i _ e)))
 
 -- the first packet of a flow starts a run
-pub first-next : (m : Media) (packets : List FlowPacket) (tai i rec_number at : ℕ) (seen : Rtp) (expected : Option ℕ) (so_far : SoFar) (done : List Run)
-    (judge : RunJudge)
+pub first-next : {M : Type 0} (m : Media) (packets : List FlowPacket) (tai i rec_number at : ℕ) (seen : Rtp) (expected : Option ℕ) (so_far : SoFar) (done : List Run)
+    (judge : RunJudge M)
     → ComesNext packets tai i rec_number at seen → expected ≡ cut_at packets i
     → RunStandsFor m judge (so_far_next (in_head 0) at seen.marker)
-    → OpensAt m tai packets i so_far done None
+    → OpensAt {M = M} m tai packets i so_far done None
     → OpensAt m tai packets (i + 1) (so_far_next (in_head 0) at seen.marker) done
     (Some (record { rec = rec_number; number = seen.number; expected = expected; judge = judge }))
 first-next m packets tai (suc i) rec_number at seen expected so_far done judge next expects stands o = absurd (omega (arith, o.0))
@@ -161,8 +161,8 @@ run-same : (a b : ℕ) (c d : ℕ) (e f : Option ℕ) (v w : RunVerdict) → a �
 run-same a b c d e f v w p q r s = cc
 
 -- a cut ends the open run and starts the next
-pub cut-next : (m : Media) (packets : List FlowPacket) (tai i rec_number at : ℕ) (seen : Rtp) (expected : Option ℕ) (so_far : SoFar) (done : List Run)
-    (open_run : OpenRun) (verdict : RunVerdict) (judge : RunJudge)
+pub cut-next : {M : Type 0} (m : Media) (packets : List FlowPacket) (tai i rec_number at : ℕ) (seen : Rtp) (expected : Option ℕ) (so_far : SoFar) (done : List Run)
+    (open_run : OpenRun M) (verdict : RunVerdict) (judge : RunJudge M)
     → ComesNext packets tai i rec_number at seen → expected ≡ cut_at packets i
     → RunStandsFor m judge (so_far_next (in_head 0) at seen.marker)
     → verdict ≡ run_verdict_of m (outcome_of so_far)
@@ -191,15 +191,15 @@ cut-next m packets tai i rec_number at seen expected so_far done open_run verdic
     ∙ ap (λ k. (done ++ over ∷ []) ++ run_of m (run_at packets tai k to) ∷ []) (sym (last_place-push (0 ∷ cuts packets i) i))))))
 
 -- an open run by its parts
-abbrev open_by : ℕ → ℕ → Option ℕ → RunJudge → OpenRun
+abbrev open_by : {M : Type 0} → ℕ → ℕ → Option ℕ → RunJudge M → OpenRun M
 open_by rec number expected judge = record { rec = rec; number = number; expected = expected; judge = judge }
 
-open-same : (a b c d : ℕ) (e f : Option ℕ) (judge : RunJudge) → a ≡ b → c ≡ d → e ≡ f → open_by a c e judge ≡ open_by b d f judge
+open-same : {M : Type 0} (a b c d : ℕ) (e f : Option ℕ) (judge : RunJudge M) → a ≡ b → c ≡ d → e ≡ f → open_by a c e judge ≡ open_by b d f judge
 open-same a b c d e f judge p q r = cc
 
 -- what starts with packet i
-pub begins-next : (m : Media) (packets : List FlowPacket) (tai i rec_number at : ℕ) (seen : Rtp) (expected : Option ℕ) (so_far : SoFar) (done new : List Run)
-    (open_run : Option OpenRun) (run : OpenRun)
+pub begins-next : {M : Type 0} (m : Media) (packets : List FlowPacket) (tai i rec_number at : ℕ) (seen : Rtp) (expected : Option ℕ) (so_far : SoFar) (done new : List Run)
+    (open_run : Option (OpenRun M)) (run : OpenRun M)
     → ComesNext packets tai i rec_number at seen → expected ≡ cut_at packets i → StartsAt packets i open_run
     → run.rec ≡ rec_number → run.number ≡ seen.number → run.expected ≡ expected
     → RunStandsFor m run.judge (so_far_next (in_head 0) at seen.marker)
@@ -219,8 +219,8 @@ begins-next m packets tai i rec_number at seen expected so_far done new (Some op
     (cut-next m packets tai i rec_number at seen expected so_far done open_run _ run.judge next expects stands refl starts o))
 
 -- what starts with packet i, where the media, the seconds and the marker are known by equations
-pub begins-as : (m more_m : Media) (packets : List FlowPacket) (tai more_tai i rec_number at : ℕ) (seen : Rtp) (marker : Bool) (expected : Option ℕ)
-    (so_far : SoFar) (done new : List Run) (open_run : Option OpenRun) (run : OpenRun)
+pub begins-as : {M : Type 0} (m more_m : Media) (packets : List FlowPacket) (tai more_tai i rec_number at : ℕ) (seen : Rtp) (marker : Bool) (expected : Option ℕ)
+    (so_far : SoFar) (done new : List Run) (open_run : Option (OpenRun M)) (run : OpenRun M)
     → more_m ≡ m → more_tai ≡ tai
     → ComesNext packets tai i rec_number at seen → expected ≡ cut_at packets i → StartsAt packets i open_run
     → run.rec ≡ rec_number → run.number ≡ seen.number → run.expected ≡ expected

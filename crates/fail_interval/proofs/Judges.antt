@@ -96,7 +96,7 @@ takes_carried old new n stamp p bytes target feeds plain = λ m file number tai 
     }
 
 -- the packet expected is fed, where the judge took that one
-pub takes_expected : (old new : FlowJudge) (stamp : ℕ) (p : Rtp) → IsExpected old p → TakesExpected old new stamp
+pub takes_expected : {M : Type 0} (old new : FlowJudge M) (stamp : ℕ) (p : Rtp) → IsExpected old p → TakesExpected old new stamp
     → (n : ℕ) (m : Media) (key : FlowKey) (tai : ℕ) (packets : List FlowPacket) → StandsFor m key tai old packets
     → StandsFor m key tai new (packets ++ record { rec = n; at = stamp; rtp = Ok p } ∷ [])
 takes_expected old new stamp p is took n m key tai packets s =

@@ -31,17 +31,17 @@ use Rattle.fail_interval.proofs.Rows.{refused-verdict}
 abbrev fed_packet : ℕ → ℕ → Result Rtp PacketFault → FlowPacket
 fed_packet rec at rtp = record { rec = rec; at = at; rtp = rtp }
 
-can_go_on : (flow : Flow) (fed at : ℕ) (packets : List FlowPacket) → IsFedTo flow fed packets → fed < 2 ^ 41 → IsStamp at → CanGoOn flow packets at
+can_go_on : {M : Type 0} (flow : Flow M) (fed at : ℕ) (packets : List FlowPacket) → IsFedTo flow fed packets → fed < 2 ^ 41 → IsStamp at → CanGoOn flow packets at
 can_go_on flow fed at packets f few stamp = record { stands = f.stands; stamped = f.stamped; stamp = stamp; few = omega (arith, f.count, few) }
 
 -- what a judge knows of its flow
-pub flow-known : (fed at : ℕ) (state : State) (flow : Flow) → state ≡ Going flow → ∥ IsKnown fed state ∥₁ → fed < 2 ^ 41 → IsStamp at
+pub flow-known : {M : Type 0} (fed at : ℕ) (state : State M) (flow : Flow M) → state ≡ Going flow → ∥ IsKnown fed state ∥₁ → fed < 2 ^ 41 → IsStamp at
     → ∥ ((packets : List FlowPacket) × CanGoOn flow packets at) ∥₁
 flow-known fed at state flow e known few stamp =
     let of_flow : ∥ IsKnown fed (Going flow) ∥₁ = subst (λ s. ∥ IsKnown fed s ∥₁) e known in
     ∥∥₁_map of_flow (λ (packets, f). (packets, can_go_on flow fed at packets f few stamp))
 
-fed-more : (flow new : Flow) (fed at : ℕ) (packets : List FlowPacket) (p : FlowPacket) → IsFedTo flow fed packets → IsStamp p.at
+fed-more : {M : Type 0} (flow new : Flow M) (fed at : ℕ) (packets : List FlowPacket) (p : FlowPacket) → IsFedTo flow fed packets → IsStamp p.at
     → FlowStandsFor new (packets ++ p ∷ [])
     → IsFedTo new (fed + 1) (packets ++ p ∷ [])
 fed-more flow new fed at packets p f stamp stands = record {
@@ -51,7 +51,7 @@ fed-more flow new fed at packets p f stamp stands = record {
 }
 
 -- it knows so of the flow with one packet more
-pub known-more : (fed rec at : ℕ) (rtp : Result Rtp PacketFault) (state : State) (flow new : Flow) → state ≡ Going flow → ∥ IsKnown fed state ∥₁ → fed < 2 ^ 41
+pub known-more : {M : Type 0} (fed rec at : ℕ) (rtp : Result Rtp PacketFault) (state : State M) (flow new : Flow M) → state ≡ Going flow → ∥ IsKnown fed state ∥₁ → fed < 2 ^ 41
     → IsStamp at
     → Took flow new (fed_packet rec at rtp) → ∥ IsKnown (fed + 1) (Going new) ∥₁
 known-more fed rec at rtp state flow new e known few stamp goes =
@@ -62,7 +62,7 @@ known-more fed rec at rtp state flow new e known few stamp goes =
     ))
 
 -- what is known of a flow that went on with the packet expected
-pub known-expected : (fed at : ℕ) (old new : State) → GoesAsExpected old new at → ∥ IsKnown fed old ∥₁ → fed < 2 ^ 41 → IsStamp at
+pub known-expected : {M : Type 0} (fed at : ℕ) (old new : State M) → GoesAsExpected old new at → ∥ IsKnown fed old ∥₁ → fed < 2 ^ 41 → IsStamp at
     → ∥ IsKnown (fed + 1) new ∥₁
 known-expected fed at old new went known few stamp =
     let of_flow : ∥ IsKnown fed (Going went.flow) ∥₁ = subst (λ s. ∥ IsKnown fed s ∥₁) went.is known in
@@ -74,11 +74,11 @@ known-expected fed at old new went known few stamp =
     subst (λ s. ∥ IsKnown (fed + 1) s ∥₁) (sym went.becomes) more
 
 -- a judge by its parts
-abbrev judge_by : FlowKey → (fed : ℕ) (state : State) → ∥ IsKnown fed state ∥₁ → FlowJudge
+abbrev judge_by : {M : Type 0} → FlowKey → (fed : ℕ) (state : State M) → ∥ IsKnown fed state ∥₁ → FlowJudge M
 judge_by key fed state known = record { key = key; fed = fed; state = state; known = known }
 
 -- the judge stands for one packet more, where its flow does
-more : (m : Media) (key : FlowKey) (tai rec at : ℕ) (rtp : Result Rtp PacketFault) (judge : FlowJudge) (state : State)
+more : {M : Type 0} (m : Media) (key : FlowKey) (tai rec at : ℕ) (rtp : Result Rtp PacketFault) (judge : FlowJudge M) (state : State M)
     (known : ∥ IsKnown (judge.fed + 1) state ∥₁) (packets : List FlowPacket)
     → IsStamp at → StandsFor m key tai judge packets → IsAt m tai (packets ++ fed_packet rec at rtp ∷ []) state
     → StandsFor m key tai (judge_by judge.key (judge.fed + 1) state known) (packets ++ fed_packet rec at rtp ∷ [])
@@ -89,12 +89,12 @@ more m key tai rec at rtp judge state known packets stamp s is = record {
   state = is;
 }
 
-pub at-flow : (m : Media) (tai at : ℕ) (state : State) (flow : Flow) (packets : List FlowPacket) → state ≡ Going flow → IsAt m tai packets state
+pub at-flow : {M : Type 0} (m : Media) (tai at : ℕ) (state : State M) (flow : Flow M) (packets : List FlowPacket) → state ≡ Going flow → IsAt m tai packets state
     → (flow.media ≡ m) × (flow.tai ≡ tai) × FlowStandsFor flow packets
 at-flow m tai at state flow packets e is = subst (IsAt m tai packets) e is
 
 -- a call that took a packet of a judge that isn't spent
-took : {T E : Type 0} (result : Result T E) (rec at : ℕ) (rtp : Result Rtp PacketFault) (judge : FlowJudge) (state : State)
+took : {M : Type 0} {T E : Type 0} (result : Result T E) (rec at : ℕ) (rtp : Result Rtp PacketFault) (judge : FlowJudge M) (state : State M)
     (known : ∥ IsKnown (judge.fed + 1) state ∥₁)
     → IsOk result
     → (judge.state ≡ Spent → ⊥)
@@ -110,7 +110,7 @@ took (Ok value) rec at rtp judge state known ok goes_on stands = record {
 }
 
 -- the flow goes on
-pub going-more : {T E : Type 0} (value : T) (rec at : ℕ) (rtp : Result Rtp PacketFault) (judge : FlowJudge) (flow new : Flow)
+pub going-more : {M : Type 0} {T E : Type 0} (value : T) (rec at : ℕ) (rtp : Result Rtp PacketFault) (judge : FlowJudge M) (flow new : Flow M)
     (known : ∥ IsKnown (judge.fed + 1) (Going new) ∥₁)
     → judge.state ≡ Going flow → judge.fed < 2 ^ 41 → IsStamp at
     → new.media ≡ flow.media → new.tai ≡ flow.tai
@@ -124,7 +124,7 @@ going-more value rec at rtp judge flow new known e few stamp media seconds goes 
     more m key tai rec at rtp judge (Going new) known packets stamp s (media ∙ is.0, seconds ∙ is.1, goes packets c))
 
 -- a judge stands for its packets with a state that equals its own
-pub same-state : (m : Media) (key : FlowKey) (tai : ℕ) (judge : FlowJudge) (state : State) (known : ∥ IsKnown judge.fed state ∥₁) (packets : List FlowPacket)
+pub same-state : {M : Type 0} (m : Media) (key : FlowKey) (tai : ℕ) (judge : FlowJudge M) (state : State M) (known : ∥ IsKnown judge.fed state ∥₁) (packets : List FlowPacket)
     → state ≡ judge.state
     → StandsFor m key tai judge packets
     → StandsFor m key tai (judge_by judge.key judge.fed state known) packets
@@ -136,14 +136,27 @@ same-state m key tai judge state known packets e s = record {
 }
 
 -- what is known of a flow that went on
-pub went-known : (fed rec at : ℕ) (rtp : Rtp) (old new : State) → GoesOn old new at rtp → ∥ IsKnown fed old ∥₁ → fed < 2 ^ 41 → IsStamp at
+pub went-known : {M : Type 0} (fed rec at : ℕ) (rtp : Rtp) (old new : State M) → GoesOn old new rec at rtp → ∥ IsKnown fed old ∥₁ → fed < 2 ^ 41 → IsStamp at
     → ∥ IsKnown (fed + 1) new ∥₁
 went-known fed rec at rtp old new went known few stamp =
     subst (λ s. ∥ IsKnown (fed + 1) s ∥₁) (sym went.becomes)
-    (known-more fed rec at (Ok rtp) old went.flow went.later went.is known few stamp (went.goes rec))
+    (known-more fed rec at (Ok rtp) old went.flow went.later went.is known few stamp went.goes)
+
+-- its judge took the packet
+pub went-more : {M T E : Type 0} (value : T) (rec at : ℕ) (rtp : Rtp) (judge : FlowJudge M) (state : State M) (known : ∥ IsKnown (judge.fed + 1) state ∥₁)
+    → GoesOn judge.state state rec at rtp → judge.fed < 2 ^ 41 → IsStamp at
+    → Takes {T = T} {E = E} judge (judge_by judge.key (judge.fed + 1) state known) (fed_packet rec at (Ok rtp)) (Ok value)
+went-more value rec at rtp judge state known went few stamp =
+    let was = went.is in
+    took (Ok value) rec at (Ok rtp) judge state known refl (λ spent. cc)
+    (λ m key tai packets s.
+    let is = at-flow m tai at judge.state went.flow packets went.is s.state in
+    let c : CanGoOn went.flow packets at = record { stands = is.2; stamped = s.stamped; stamp = stamp; few = omega (arith, s.fed, few) } in
+    more m key tai rec at (Ok rtp) judge state known packets stamp s
+    (subst (IsAt m tai (packets ++ fed_packet rec at (Ok rtp) ∷ [])) (sym went.becomes) (went.media ∙ is.0, went.tai ∙ is.1, went.goes packets c)))
 
 -- the packet that its judge took is the one expected
-pub took-expected : (m : Media) (key : FlowKey) (tai at : ℕ) (judge : FlowJudge) (new : State) (packets : List FlowPacket)
+pub took-expected : {M : Type 0} (m : Media) (key : FlowKey) (tai at : ℕ) (judge : FlowJudge M) (new : State M) (packets : List FlowPacket)
     → GoesAsExpected judge.state new at → judge.fed < 2 ^ 41 → IsStamp at
     → StandsFor m key tai judge packets
     → expected_after packets m.pt ≡ Some (going_on packets m.pt (length packets))
@@ -153,7 +166,7 @@ took-expected m key tai at judge new packets went few stamp s =
     subst (λ (k : Media). expected_after packets k.pt ≡ Some (going_on packets k.pt (length packets))) is.0 (went.goes.expects packets c)
 
 -- and the judge stands for one packet more
-pub stands-expected : (m : Media) (key : FlowKey) (tai rec at : ℕ) (judge : FlowJudge) (new : State) (known : ∥ IsKnown (judge.fed + 1) new ∥₁)
+pub stands-expected : {M : Type 0} (m : Media) (key : FlowKey) (tai rec at : ℕ) (judge : FlowJudge M) (new : State M) (known : ∥ IsKnown (judge.fed + 1) new ∥₁)
     (packets : List FlowPacket)
     → GoesAsExpected judge.state new at → judge.fed < 2 ^ 41 → IsStamp at
     → StandsFor m key tai judge packets
@@ -177,8 +190,8 @@ refused-more m packets p rec fault r = record {
 }
 
 -- the flow ends with a fault
-pub refused-now : {T E : Type 0} (result : Result T E) (rec at : ℕ) (rtp : Result Rtp PacketFault) (fault : PacketFault) (judge : FlowJudge) (flow : Flow)
-    (state : State) (known : ∥ IsKnown (judge.fed + 1) state ∥₁)
+pub refused-now : {M : Type 0} {T E : Type 0} (result : Result T E) (rec at : ℕ) (rtp : Result Rtp PacketFault) (fault : PacketFault) (judge : FlowJudge M) (flow : Flow M)
+    (state : State M) (known : ∥ IsKnown (judge.fed + 1) state ∥₁)
     → judge.state ≡ Going flow → IsOk result × (state ≡ Refused rec fault) → judge.fed < 2 ^ 41 → IsStamp at
     → EndsBy flow (fed_packet rec at rtp) fault
     → Takes judge (judge_by judge.key (judge.fed + 1) state known) (fed_packet rec at rtp) result
@@ -197,8 +210,8 @@ refused-now result rec at rtp fault judge flow state known e (ok, ended) few sta
     more m key tai rec at rtp judge state known packets stamp s (subst (IsAt m tai (packets ++ p ∷ [])) (sym ended) refused))
 
 -- it ended before
-pub refused-before : {T E : Type 0} (result : Result T E) (rec at more_rec : ℕ) (rtp : Result Rtp PacketFault) (fault : PacketFault) (judge : FlowJudge)
-    (state : State) (known : ∥ IsKnown (judge.fed + 1) state ∥₁)
+pub refused-before : {M : Type 0} {T E : Type 0} (result : Result T E) (rec at more_rec : ℕ) (rtp : Result Rtp PacketFault) (fault : PacketFault) (judge : FlowJudge M)
+    (state : State M) (known : ∥ IsKnown (judge.fed + 1) state ∥₁)
     → judge.state ≡ Refused more_rec fault → IsOk result × (state ≡ Refused more_rec fault) → IsStamp at
     → Takes judge (judge_by judge.key (judge.fed + 1) state known) (fed_packet rec at rtp) result
 refused-before result rec at more_rec rtp fault judge state known e (ok, stays) stamp =
@@ -210,7 +223,7 @@ refused-before result rec at more_rec rtp fault judge state known e (ok, stays) 
     (refused-more m packets p more_rec fault is)))
 
 -- memory was refused before
-spent-before : {T E : Type 0} (result : Result T E) (rec at : ℕ) (rtp : Result Rtp PacketFault) (judge : FlowJudge) (state : State)
+spent-before : {M : Type 0} {T E : Type 0} (result : Result T E) (rec at : ℕ) (rtp : Result Rtp PacketFault) (judge : FlowJudge M) (state : State M)
     (known : ∥ IsKnown (judge.fed + 1) state ∥₁)
     → IsErr result × (state ≡ Spent)
     → Takes judge (judge_by judge.key (judge.fed + 1) state known) (fed_packet rec at rtp) result
@@ -222,10 +235,10 @@ spent-before (Err cause) rec at rtp judge state known (err, stays) = record {
   stays = λ spent. err;
 }
 
-refuses-case : {T E : Type 0} (result : Result T E) (rec at : ℕ) (rtp : Result Rtp PacketFault) (fault : PacketFault) (judge : FlowJudge) (old state : State)
+refuses-case : {M : Type 0} {T E : Type 0} (result : Result T E) (rec at : ℕ) (rtp : Result Rtp PacketFault) (fault : PacketFault) (judge : FlowJudge M) (old state : State M)
     (known : ∥ IsKnown (judge.fed + 1) state ∥₁)
     → judge.state ≡ old → Refuses judge.state state rec fault result → judge.fed < 2 ^ 41 → IsStamp at
-    → ((flow : Flow) → EndsBy flow (fed_packet rec at rtp) fault)
+    → ((flow : Flow M) → EndsBy flow (fed_packet rec at rtp) fault)
     → Takes judge (judge_by judge.key (judge.fed + 1) state known) (fed_packet rec at rtp) result
 refuses-case result rec at rtp fault judge (Going flow) state known e r few stamp ends =
     refused-now result rec at rtp fault judge flow state known e (r.going flow e) few stamp (ends flow)
@@ -234,26 +247,26 @@ refuses-case result rec at rtp fault judge (Refused first earlier) state known e
 refuses-case result rec at rtp fault judge Spent state known e r few stamp ends = spent-before result rec at rtp judge state known (r.spent e)
 
 -- a packet that ends each flow by its fault
-pub refuses : {T E : Type 0} (result : Result T E) (rec at : ℕ) (rtp : Result Rtp PacketFault) (fault : PacketFault) (judge : FlowJudge) (state : State)
+pub refuses : {M : Type 0} {T E : Type 0} (result : Result T E) (rec at : ℕ) (rtp : Result Rtp PacketFault) (fault : PacketFault) (judge : FlowJudge M) (state : State M)
     (known : ∥ IsKnown (judge.fed + 1) state ∥₁)
     → Refuses judge.state state rec fault result → judge.fed < 2 ^ 41 → IsStamp at
-    → ((flow : Flow) → EndsBy flow (fed_packet rec at rtp) fault)
+    → ((flow : Flow M) → EndsBy flow (fed_packet rec at rtp) fault)
     → Takes judge (judge_by judge.key (judge.fed + 1) state known) (fed_packet rec at rtp) result
 refuses result rec at rtp fault judge state known r few stamp ends =
     refuses-case result rec at rtp fault judge judge.state state known refl r few stamp ends
 
 -- of a flow that is refused nothing is to be known
-known-here : (fed : ℕ) (state : State) (rec : ℕ) (fault : PacketFault) → state ≡ Refused rec fault → ∥ IsKnown fed state ∥₁
+known-here : {M : Type 0} (fed : ℕ) (state : State M) (rec : ℕ) (fault : PacketFault) → state ≡ Refused rec fault → ∥ IsKnown fed state ∥₁
 known-here fed state rec fault e = subst (λ s. ∥ IsKnown fed s ∥₁) (sym e) ∣ tt ∣₁
 
-pub refuses-known : {T E : Type 0} (result : Result T E) (fed rec : ℕ) (fault : PacketFault) (old state : State) → Refuses old state rec fault result
+pub refuses-known : {M : Type 0} {T E : Type 0} (result : Result T E) (fed rec : ℕ) (fault : PacketFault) (old state : State M) → Refuses old state rec fault result
     → ∥ IsKnown fed state ∥₁
 refuses-known result fed rec fault (Going flow) state r = known-here fed state rec fault (r.going flow refl).1
 refuses-known result fed rec fault (Refused first earlier) state r = known-here fed state first earlier (r.refused first earlier refl).1
 refuses-known result fed rec fault Spent state r = subst (λ s. ∥ IsKnown fed s ∥₁) (sym (r.spent refl).1) ∣ tt ∣₁
 
 -- what is known where the flow ends
-pub stands-known : (fed : ℕ) (state : State) (flow : Flow) → state ≡ Going flow → ∥ IsKnown fed state ∥₁
+pub stands-known : {M : Type 0} (fed : ℕ) (state : State M) (flow : Flow M) → state ≡ Going flow → ∥ IsKnown fed state ∥₁
     → ∥ ((packets : List FlowPacket) × FlowStandsFor flow packets) ∥₁
 stands-known fed state flow e known =
     let of_flow : ∥ IsKnown fed (Going flow) ∥₁ = subst (λ s. ∥ IsKnown fed s ∥₁) e known in
@@ -267,7 +280,7 @@ row-same : (a b : FlowKey) (v w : Verdict) → a ≡ b → v ≡ w → row_by a 
 row-same a b v w e f = cc
 
 -- the row of a flow that has no fault
-pub row-going : (m : Media) (key : FlowKey) (tai : ℕ) (judge : FlowJudge) (flow : Flow) (told verdict : Verdict) (packets : List FlowPacket)
+pub row-going : {M : Type 0} (m : Media) (key : FlowKey) (tai : ℕ) (judge : FlowJudge M) (flow : Flow M) (told verdict : Verdict) (packets : List FlowPacket)
     → judge.state ≡ Going flow
     → ((packets : List FlowPacket) → FlowStandsFor flow packets → verdict ≡ verdict_of flow.media (judged packets flow.media.pt flow.tai))
     → told ≡ verdict
@@ -280,7 +293,7 @@ row-going m key tai judge flow told verdict packets e says is s =
     ∙ (ap (λ (k : Media). verdict_of k (judged packets k.pt flow.tai)) at.0 ∙ ap (λ t. verdict_of m (judged packets m.pt t)) at.1)))
 
 -- and of one that has
-pub row-refused : (m : Media) (key : FlowKey) (tai rec : ℕ) (fault : PacketFault) (judge : FlowJudge) (told verdict : Verdict) (packets : List FlowPacket)
+pub row-refused : {M : Type 0} (m : Media) (key : FlowKey) (tai rec : ℕ) (fault : PacketFault) (judge : FlowJudge M) (told verdict : Verdict) (packets : List FlowPacket)
     → judge.state ≡ Refused rec fault
     → ((m : Media) → verdict ≡ verdict_of m (refusal rec fault))
     → told ≡ verdict
@@ -291,7 +304,7 @@ row-refused m key tai rec fault judge told verdict packets e says is s =
     row-same _ _ _ _ s.key_is (is ∙ (says m ∙ sym (ap (verdict_of m) (refused-verdict m tai packets rec fault at))))
 
 -- a judge that was refused memory stands for no packets
-pub row-spent : (m : Media) (key : FlowKey) (tai : ℕ) (judge : FlowJudge) (told : Verdict) (packets : List FlowPacket) → judge.state ≡ Spent
+pub row-spent : {M : Type 0} (m : Media) (key : FlowKey) (tai : ℕ) (judge : FlowJudge M) (told : Verdict) (packets : List FlowPacket) → judge.state ≡ Spent
     → StandsFor m key tai judge packets
     → row_by judge.key told ≡ row packets key m tai
 row-spent m key tai judge told packets e s = let at : ⊥ = subst (IsAt m tai packets) e s.state in absurd at

@@ -8,6 +8,7 @@ mod Banks
 mod Expecting
 mod Feeding
 mod Fit
+mod FlowTold
 mod Flows
 mod Going
 mod HandWorked
@@ -15,11 +16,14 @@ mod Judging
 mod Limits
 mod Lulls
 mod Targets
+mod Told
 mod Metering
 mod OneTakes
+mod PartsTold
 mod Prefixes
 mod Readings
 mod Rows
+mod RunTold
 mod SenderTypes
 mod Verdicts
 mod Whole

@@ -6,7 +6,7 @@ use Rattle.std.proofs.Math.Seq.{get_or-append_seam, take-suc}
 use Rattle.std.proofs.lemmas.Bool.{cases_lt}
 use Rattle.std.proofs.lemmas.List.{get_or_append_left, get_or-take, length-take-le}
 use Rattle.std.proofs.lemmas.List.Elements.{All-take}
-use Rattle.timing_base.specs.Media.{Media}
+use Rattle.timing_base.specs.Media.{IsMedia, Media}
 use Rattle.timing_base.specs.Verdicts.{Judged}
 use Rattle.timing_base.specs.declared.media.Kind.{Kind}
 use Rattle.timing_base.specs.declared.media.Kind.TheVariants.{N, NL, W}
@@ -24,8 +24,11 @@ use Rattle.read_schedule.specs.Stands.{IsDueAt, StandsBy}
 use Rattle.read_schedule.specs.declared.between.Between.{Between}
 use Rattle.read_schedule.specs.declared.schedule.Due.{Due}
 use Rattle.read_schedule.specs.declared.schedule.Schedule.{Schedule}
+use Rattle.vrx_buffer.specs.Occupancy.{IsOccupancy, is_late}
 use Rattle.vrx_buffer.specs.Stands.{StandsFor as VrxStandsFor}
+use Rattle.vrx_buffer.specs.declared.held.Held.{Held}
 use Rattle.vrx_buffer.specs.declared.vrx.Vrx.{Vrx}
+use Rattle.run_meter.specs.Levels.{IsHeld}
 use Rattle.fail_interval.specs.Fails.{greatest, kind_verdict}
 use Rattle.fail_interval.specs.Kinds.{ComesNext, StandsFor as KindStandsFor}
 use Rattle.fail_interval.specs.Lulls.{IsCalm}
@@ -372,3 +375,67 @@ pub all-stands : (params : Params) (meters : RunMeters) (stamps : List ℕ) (i :
     → StandsFor params meters (take i stamps) → StandsFor params meters stamps
 all-stands params meters stamps i few many s =
     let all : take i stamps ≡ stamps = take_all i stamps many in subst (StandsFor params meters) all s
+
+-- what is due at the last packet, by its number
+pub due-there : (params : Params) (origin packet : ℕ) (stamps : List ℕ) (at : ℕ) (gapped : Bool) (due : Due)
+    → slice_index (stamps ++ at ∷ []) 0 ≡ origin → packet ≡ length stamps
+    → IsDueAt params.media params.n (anchor_of params.media origin) gapped at due
+    → IsDueAt params.media params.n (anchor_of params.media (slice_index (stamps ++ at ∷ []) 0)) gapped (slice_index (stamps ++ at ∷ []) packet) due
+due-there params origin packet stamps at gapped due first number is =
+    let here : slice_index (stamps ++ at ∷ []) packet ≡ at = ap (slice_index (stamps ++ at ∷ [])) number ∙ get_or-append_seam stamps at [] 0 in
+    subst (λ a. IsDueAt params.media params.n (anchor_of params.media a) gapped (slice_index (stamps ++ at ∷ []) packet) due) (sym first)
+    (subst (λ t. IsDueAt params.media params.n (anchor_of params.media origin) gapped t due) (sym here) is)
+
+-- schedules that were asked for the last packet stand by it
+pub asked-again : (params : Params) (meters : RunMeters) (gapped linear : Schedule) (due_gapped due_linear : Due) (stamps : List ℕ) (at : ℕ)
+    → Advanced meters.gapped gapped due_gapped at
+    → Advanced meters.linear linear due_linear at
+    → StandsFor params meters (stamps ++ at ∷ [])
+    → StandsFor params (meters_by meters.bucket gapped linear meters.narrow meters.narrow_linear meters.wide meters.lull) (stamps ++ at ∷ [])
+asked-again params meters gapped linear due_gapped due_linear stamps at gapped_more linear_more s =
+    let m = params.media in
+    let n = params.n in
+    let anchor = anchor_of m meters.bucket.origin in
+    let last = last-is stamps at in
+    let low : last_stamp (stamps ++ at ∷ []) ≤ at = omega (arith, last) in
+    record {
+      fed = record {
+        first = s.fed.first;
+        bucket = s.fed.bucket;
+        gapped = subst (StandsBy m n anchor true gapped) (sym last) (gapped_more.1 m n anchor true (last_stamp (stamps ++ at ∷ [])) low s.fed.gapped);
+        linear = subst (StandsBy m n anchor false linear) (sym last) (linear_more.1 m n anchor false (last_stamp (stamps ++ at ∷ [])) low s.fed.linear);
+        narrow_kind = s.fed.narrow_kind;
+        narrow = s.fed.narrow;
+        narrow_linear_kind = s.fed.narrow_linear_kind;
+        narrow_linear = s.fed.narrow_linear;
+        wide_kind = s.fed.wide_kind;
+        wide = s.fed.wide;
+      };
+      lull = s.lull;
+    }
+
+-- what the buffer holds at the last packet
+pub held-there : (params : Params) (meters : RunMeters) (packet : ℕ) (stamps : List ℕ) (at : ℕ) (gapped : Bool) (schedule new : Schedule) (due : Due) (held : Held)
+    → Advanced schedule new due at
+    → StandsBy params.media params.n (anchor_of params.media meters.bucket.origin) gapped schedule (last_stamp (stamps ++ at ∷ []))
+    → slice_index (stamps ++ at ∷ []) 0 ≡ meters.bucket.origin → packet ≡ length stamps
+    → ((m : Media) (n : ℕ) (stamps : List ℕ) (gapped : Bool)
+    → IsDueAt m n (anchor_of m (slice_index stamps 0)) gapped (slice_index stamps packet) due → IsOccupancy m n stamps gapped packet held.occupancy)
+    → ((m : Media) (n : ℕ) (stamps : List ℕ) (gapped : Bool) → IsMedia m → 1 ≤ n
+    → IsDueAt m n (anchor_of m (slice_index stamps 0)) gapped (slice_index stamps packet) due → held.late ≡ is_late m n stamps gapped packet)
+    → IsHeld params.media params.n (stamps ++ at ∷ []) gapped (length stamps) held
+held-there params meters packet stamps at gapped schedule new due held more stood first number occupancy late =
+    let m = params.media in
+    let n = params.n in
+    let low : last_stamp (stamps ++ at ∷ []) ≤ at = omega (arith, last-is stamps at) in
+    let is = due-there params meters.bucket.origin packet stamps at gapped due first number
+    (more.0 m n (anchor_of m meters.bucket.origin) gapped (last_stamp (stamps ++ at ∷ [])) low stood) in
+    subst (λ i. IsHeld m n (stamps ++ at ∷ []) gapped i held) number record {
+      occupancy = occupancy m n (stamps ++ at ∷ []) gapped is;
+      late = late m n (stamps ++ at ∷ []) gapped params.media_is params.n_some is;
+    }
+
+-- what the bucket holds there
+pub count-there : (params : Params) (meters : RunMeters) (stamps : List ℕ) (at : ℕ) → StandsFor params meters (stamps ++ at ∷ [])
+    → meters.bucket.count ≡ bucket_of params.media params.n (stamps ++ at ∷ []) (length stamps)
+count-there params meters stamps at s = (s.fed.bucket.fed (length stamps) (length-append stamps (at ∷ []))).count

@@ -47,38 +47,38 @@ judged-sound packets pt tai some none =
     ∙ ap (λ first. refused_or packets first (judged_runs packets tai)) none
 
 -- of one without a cut
-judged-one : (packets : List FlowPacket) (pt tai : ℕ) → 0 < length packets → first_fault packets pt ≡ None → length (cuts packets (length packets)) ≡ 0
+pub judged-one : (packets : List FlowPacket) (pt tai : ℕ) → 0 < length packets → first_fault packets pt ≡ None → length (cuts packets (length packets)) ≡ 0
     → judged packets pt tai ≡ in_one_run (run_outcome packets tai 0 (length packets))
 judged-one packets pt tai some none no_cut =
     judged-sound packets pt tai some none
     ∙ ap (λ b. if b then in_one_run (run_outcome packets tai 0 (length packets)) else in_runs (runs packets tai)) (none-is _ no_cut)
 
 -- and of one with cuts
-judged-many : (packets : List FlowPacket) (pt tai : ℕ) → 0 < length packets → first_fault packets pt ≡ None → 0 < length (cuts packets (length packets))
+pub judged-many : (packets : List FlowPacket) (pt tai : ℕ) → 0 < length packets → first_fault packets pt ≡ None → 0 < length (cuts packets (length packets))
     → judged packets pt tai ≡ in_runs (runs packets tai)
 judged-many packets pt tai some none a_cut =
     judged-sound packets pt tai some none
     ∙ ap (λ b. if b then in_one_run (run_outcome packets tai 0 (length packets)) else in_runs (runs packets tai)) (some-is _ a_cut)
 
 -- the flow has no fault
-pub no_fault : (flow : Flow) (packets : List FlowPacket) → StandsFor flow packets → first_fault packets flow.media.pt ≡ None
+pub no_fault : {M : Type 0} (flow : Flow M) (packets : List FlowPacket) → StandsFor flow packets → first_fault packets flow.media.pt ≡ None
 no_fault flow packets s = subst (λ (all : List FlowPacket). first_fault_below all flow.media.pt (length packets) ≡ None) (append-nil packets) (s.sound [])
 
 -- and these runs
-pub opens : (flow : Flow) (packets : List FlowPacket) → (s : StandsFor flow packets)
+pub opens : {M : Type 0} (flow : Flow M) (packets : List FlowPacket) → (s : StandsFor flow packets)
     → OpensAt flow.media flow.tai packets (length packets) s.so_far flow.done.items flow.open
 opens flow packets s =
     subst (λ (all : List FlowPacket). OpensAt flow.media flow.tai all (length packets) s.so_far flow.done.items flow.open) (append-nil packets) (s.runs [])
 
 -- a flow that has no packet is absent
-pub verdict-absent : (flow : Flow) (packets : List FlowPacket) → flow.open ≡ None → StandsFor flow packets
+pub verdict-absent : {M : Type 0} (flow : Flow M) (packets : List FlowPacket) → flow.open ≡ None → StandsFor flow packets
     → verdict.Unjudged unjudged.Absent ≡ verdict_of flow.media (judged packets flow.media.pt flow.tai)
-verdict-absent flow packets e s =
-    let o : OpensAt flow.media flow.tai packets (length packets) s.so_far flow.done.items None =
+verdict-absent {M} flow packets e s =
+    let o : OpensAt {M = M} flow.media flow.tai packets (length packets) s.so_far flow.done.items None =
     subst (OpensAt flow.media flow.tai packets (length packets) s.so_far flow.done.items) e (opens flow packets s) in
     sym (ap (verdict_of flow.media) (judged-none packets flow.media.pt flow.tai o.0))
 
-some-open : (flow : Flow) (packets : List FlowPacket) (open_run : OpenRun) → flow.open ≡ Some open_run → (s : StandsFor flow packets)
+pub some-open : {M : Type 0} (flow : Flow M) (packets : List FlowPacket) (open_run : OpenRun M) → flow.open ≡ Some open_run → (s : StandsFor flow packets)
     → IsOpen flow.media flow.tai packets (length packets) (cuts packets (length packets)) s.so_far flow.done.items open_run
 some-open flow packets open_run e s = subst (OpensAt flow.media flow.tai packets (length packets) s.so_far flow.done.items) e (opens flow packets s)
 
@@ -87,11 +87,24 @@ no_places [] e = refl
 no_places (x ∷ xs) e = absurd (omega (arith, e))
 
 -- what the judge of the open run says
-abbrev pub Says : OpenRun → RunVerdict → Type 0
+abbrev pub Says : {M : Type 0} → OpenRun M → RunVerdict → Type 0
 Says open_run told = (m : Media) (so_far : SoFar) → RunStandsFor m open_run.judge so_far → told ≡ run_verdict_of m (outcome_of so_far)
 
+-- what is told of the open run
+abbrev pub Tells : {M : Type 0} → OpenRun M → Run → Type 0
+Tells open_run told = (m : Media) (so_far : SoFar) → RunStandsFor m open_run.judge so_far → told ≡ record {
+  rec = open_run.rec;
+  number = open_run.number;
+  expected = open_run.expected;
+  verdict = run_verdict_of m (outcome_of so_far);
+}
+
+-- its verdict
+pub verdict-told : {M : Type 0} (open_run : OpenRun M) (told : Run) → Tells open_run told → Says open_run told.verdict
+verdict-told open_run told tells m so_far s = ap (λ (r : Run). r.verdict) (tells m so_far s)
+
 -- a flow of one run
-pub verdict-one : (flow : Flow) (packets : List FlowPacket) (open_run : OpenRun) (told : RunVerdict) (result : Verdict) → flow.open ≡ Some open_run
+pub verdict-one : {M : Type 0} (flow : Flow M) (packets : List FlowPacket) (open_run : OpenRun M) (told : RunVerdict) (result : Verdict) → flow.open ≡ Some open_run
     → length flow.done.items ≡ 0
     → Says open_run told
     → ((m : Media) (outcome : RunOutcome) → told ≡ run_verdict_of m outcome → result ≡ one_run_verdict m outcome)
@@ -116,24 +129,25 @@ run-same : (a b c d : ℕ) (e f : Option ℕ) (v w : RunVerdict) → a ≡ b →
 run-same a b c d e f v w p q r s = cc
 
 -- the runs of a flow with cuts, with the open one at the end
-pub all-runs : (flow : Flow) (packets : List FlowPacket) (open_run : OpenRun) (told : RunVerdict) → flow.open ≡ Some open_run
-    → Says open_run told
+pub all-runs : {M : Type 0} (flow : Flow M) (packets : List FlowPacket) (open_run : OpenRun M) (told : Run) → flow.open ≡ Some open_run
+    → Tells open_run told
     → StandsFor flow packets
-    → flow.done.items ++ run_by open_run.rec open_run.number open_run.expected told ∷ [] ≡ map (run_of flow.media) (runs packets flow.tai)
-all-runs flow packets open_run told e says s =
+    → flow.done.items ++ told ∷ [] ≡ map (run_of flow.media) (runs packets flow.tai)
+all-runs flow packets open_run told e tells s =
     let n = length packets in
     let o = some-open flow packets open_run e s in
     let from = last_place (0 ∷ cuts packets n) in
-    let is : told ≡ run_verdict_of flow.media (run_outcome packets flow.tai from n) =
-    says flow.media s.so_far o.judge
-    ∙ ap (run_verdict_of flow.media) (ap outcome_of o.so_far_is ∙ sym (outcome-so_far packets flow.tai from n (omega arith))) in
-    ap (λ (x : Run). flow.done.items ++ x ∷ []) (run-same _ _ _ _ _ _ _ _ o.rec o.number o.expected is) ∙ sym (o.runs n)
+    let outcome : outcome_of s.so_far ≡ run_outcome packets flow.tai from n =
+    ap outcome_of o.so_far_is ∙ sym (outcome-so_far packets flow.tai from n (omega arith)) in
+    ap (λ (x : Run). flow.done.items ++ x ∷ [])
+    (tells flow.media s.so_far o.judge ∙ run-same _ _ _ _ _ _ _ _ o.rec o.number o.expected (ap (run_verdict_of flow.media) outcome))
+    ∙ sym (o.runs n)
 
 -- a flow of several runs
-pub verdict-many : (flow : Flow) (packets : List FlowPacket) (open_run : OpenRun) (told : RunVerdict) (list : List Run) → flow.open ≡ Some open_run
+pub verdict-many : {M : Type 0} (flow : Flow M) (packets : List FlowPacket) (open_run : OpenRun M) (told : Run) (list : List Run) → flow.open ≡ Some open_run
     → 0 < length flow.done.items
-    → Says open_run told
-    → list ≡ flow.done.items ++ run_by open_run.rec open_run.number open_run.expected told ∷ []
+    → Tells open_run told
+    → list ≡ flow.done.items ++ told ∷ []
     → StandsFor flow packets
     → verdict.Runs list ≡ verdict_of flow.media (judged packets flow.media.pt flow.tai)
 verdict-many flow packets open_run told list e some says is s =
@@ -146,10 +160,10 @@ expects-map m [] e = tt
 expects-map m (run ∷ rest) e = (e.0, All-map (λ (later : Run). IsSome later.expected) (run_of m) rest e.1)
 
 -- they are as many as a flow may have
-are-runs : (flow : Flow) (packets : List FlowPacket) (open_run : OpenRun) (told : RunVerdict) (list : List Run) → flow.open ≡ Some open_run
+are-runs : {M : Type 0} (flow : Flow M) (packets : List FlowPacket) (open_run : OpenRun M) (told : Run) (list : List Run) → flow.open ≡ Some open_run
     → 0 < length flow.done.items
-    → Says open_run told
-    → list ≡ flow.done.items ++ run_by open_run.rec open_run.number open_run.expected told ∷ []
+    → Tells open_run told
+    → list ≡ flow.done.items ++ told ∷ []
     → StandsFor flow packets
     → AreRuns list
 are-runs flow packets open_run told list e some says is s =
@@ -157,7 +171,7 @@ are-runs flow packets open_run told list e some says is s =
     let o = some-open flow packets open_run e s in
     let few = few_cuts packets flow.media.pt (no_fault flow packets s) n (omega arith) in
     let long : length list ≡ length flow.done.items + 1 =
-    ap length is ∙ length-append flow.done.items (run_by open_run.rec open_run.number open_run.expected told ∷ []) in
+    ap length is ∙ length-append flow.done.items (told ∷ []) in
     record {
       some = omega (arith, long, some);
       few = omega (arith, long, o.count, few.few);
@@ -170,16 +184,16 @@ expect-prop [] = hlevel props
 expect-prop (run ∷ rest) = hlevel props
 
 -- whatever packets they are of
-pub are-runs-known : (flow : Flow) (open_run : OpenRun) (told : RunVerdict) (list : List Run) → flow.open ≡ Some open_run → 0 < length flow.done.items
-    → Says open_run told
-    → list ≡ flow.done.items ++ run_by open_run.rec open_run.number open_run.expected told ∷ []
+pub are-runs-known : {M : Type 0} (flow : Flow M) (open_run : OpenRun M) (told : Run) (list : List Run) → flow.open ≡ Some open_run → 0 < length flow.done.items
+    → Tells open_run told
+    → list ≡ flow.done.items ++ told ∷ []
     → ∥ ((packets : List FlowPacket) × StandsFor flow packets) ∥₁
     → AreRuns list
 are-runs-known flow open_run told list e some says is known =
     ∥∥₁_elim known (hlevel (props, expect-prop)) (λ (packets, s). are-runs flow packets open_run told list e some says is s)
 
 -- there is room for the open run
-pub room-known : (flow : Flow) → ∥ ((packets : List FlowPacket) × StandsFor flow packets) ∥₁ → 1 ≤ vec_len flow.done
+pub room-known : {M : Type 0} (flow : Flow M) → ∥ ((packets : List FlowPacket) × StandsFor flow packets) ∥₁ → 1 ≤ vec_len flow.done
     → vec_len flow.done < vec_capacity flow.done
 room-known flow known some = ∥∥₁_elim known (hlevel props) (λ (packets, s). s.room some)
 

@@ -13,5 +13,5 @@ abbrev pub IsAwaited : Option (Target × Rtp) → Target → Option Rtp → Type
 IsAwaited o target expected = ForSome o (λ (both : Target × Rtp). (both.0 ≡ target) × (expected ≡ Some both.1))
 
 -- what is awaited, if anything, is the packet that the judge expects, at this target
-abbrev pub AwaitsExpected : Awaited → Target → FlowJudge → Type 0
+abbrev pub AwaitsExpected : {M : Type 0} → Awaited → Target → FlowJudge M → Type 0
 AwaitsExpected numbers target judge = IsAwaited (awaited numbers) target (expected_of judge)

@@ -18,8 +18,8 @@ use Rattle.fail_interval.specs.declared.flow.Flow.{Flow}
 use Rattle.fail_interval.specs.declared.flow.OpenRun.{OpenRun}
 
 -- the packets before packet i, with cuts at these places, are those of the runs that are over, and of the open one
-pub record IsOpen (m : Media) (tai : ℕ) (packets : List FlowPacket) (i : ℕ) (places : List ℕ) (so_far : SoFar)
-    (done : List Run) (open_run : OpenRun) : Type 0 where
+pub record IsOpen {M : Type 0} (m : Media) (tai : ℕ) (packets : List FlowPacket) (i : ℕ) (places : List ℕ)
+    (so_far : SoFar) (done : List Run) (open_run : OpenRun M) : Type 0 where
   pub some : 0 < i
   pub rec : open_run.rec ≡ (packet packets (last_place (0 ∷ places))).rec
   pub number : open_run.number ≡ (rtp packets (last_place (0 ∷ places))).number
@@ -31,12 +31,12 @@ pub record IsOpen (m : Media) (tai : ℕ) (packets : List FlowPacket) (i : ℕ) 
       ≡ done ++ run_of m (run_at packets tai (last_place (0 ∷ places)) to) ∷ []
 
 -- or there are none
-abbrev pub OpensAt : Media → ℕ → List FlowPacket → ℕ → SoFar → List Run → Option OpenRun → Type 0
+abbrev pub OpensAt : {M : Type 0} → Media → ℕ → List FlowPacket → ℕ → SoFar → List Run → Option (OpenRun M) → Type 0
 OpensAt m tai packets i so_far done None = (i ≡ 0) × (done ≡ [])
 OpensAt m tai packets i so_far done (Some open_run) = IsOpen m tai packets i (cuts packets i) so_far done open_run
 
 -- the open run is over: the runs that are over are these, and then it
-abbrev pub IsClosed : Media → List Run → Option OpenRun → List Run → Type 0
+abbrev pub IsClosed : {M : Type 0} → Media → List Run → Option (OpenRun M) → List Run → Type 0
 IsClosed m done None new = new ≡ done
 IsClosed m done (Some open_run) new = (so_far : SoFar) → RunStandsFor m open_run.judge so_far
     → new ≡ done ++ record {
@@ -47,11 +47,11 @@ IsClosed m done (Some open_run) new = (so_far : SoFar) → RunStandsFor m open_r
     } ∷ []
 
 -- where runs are over there is room for one more
-abbrev pub HasRoom : Flow → Type 0
+abbrev pub HasRoom : {M : Type 0} → Flow M → Type 0
 HasRoom flow = 1 ≤ vec_len flow.done → vec_len flow.done < vec_capacity flow.done
 
 -- the flow was fed these packets and no others, as far as later calls can tell; whatever packets follow
-pub record StandsFor (flow : Flow) (packets : List FlowPacket) : Type 0 where
+pub record StandsFor {M : Type 0} (flow : Flow M) (packets : List FlowPacket) : Type 0 where
   pub seconds : flow.tai ≤ 1000
   pub grouper : GrouperStandsFor flow.media.pt flow.grouper packets
   pub sound : (rest : List FlowPacket) → first_fault_below (packets ++ rest) flow.media.pt (length packets) ≡ None
@@ -68,12 +68,12 @@ pub record ComesNext (packets : List FlowPacket) (tai i rec_number at : ℕ) (se
   pub reading : (packet packets i).rtp ≡ Ok seen
 
 -- a run starts with packet i, at a cut or at the first packet
-abbrev pub StartsAt : List FlowPacket → ℕ → Option OpenRun → Type 0
+abbrev pub StartsAt : {M : Type 0} → List FlowPacket → ℕ → Option (OpenRun M) → Type 0
 StartsAt packets i None = ⊤
 StartsAt packets i (Some open_run) = is_cut packets i ≡ true
 
 -- and a packet at this instant may be the next one
-pub record CanGoOn (flow : Flow) (packets : List FlowPacket) (at : ℕ) : Type 0 where
+pub record CanGoOn {M : Type 0} (flow : Flow M) (packets : List FlowPacket) (at : ℕ) : Type 0 where
   pub stands : StandsFor flow packets
   pub stamped : AreStamped packets
   pub stamp : IsStamp at
@@ -84,15 +84,15 @@ abbrev pub has_fault : List FlowPacket → ℕ → ℕ → PacketFault → Type 
 has_fault packets pt i fault = first_fault_below packets pt (i + 1) ≡ Some record { index = i; fault = fault }
 
 -- the flow took this packet: whatever packets it was fed, it now was fed those and this one
-abbrev pub Took : (old new : Flow) → FlowPacket → Type 0
+abbrev pub Took : {M : Type 0} → (old new : Flow M) → FlowPacket → Type 0
 Took old new next = (packets : List FlowPacket) → CanGoOn old packets next.at → StandsFor new (packets ++ next ∷ [])
 
 -- the packet that is expected next, by what the flow keeps
-abbrev pub flow_expects : Flow → Option Rtp
+abbrev pub flow_expects : {M : Type 0} → Flow M → Option Rtp
 flow_expects flow = expected_of flow.grouper
 
 -- the flow took the packet that goes on after those that it was fed, which is then the one expected, at this instant
-pub record TookExpected (old new : Flow) (at : ℕ) : Type 0 where
+pub record TookExpected {M : Type 0} (old new : Flow M) (at : ℕ) : Type 0 where
   pub expects : (packets : List FlowPacket) → CanGoOn old packets at
       → expected_after packets old.media.pt ≡ Some (going_on packets old.media.pt (length packets))
   pub stands : (packets : List FlowPacket) (rec_number : ℕ) → CanGoOn old packets at
@@ -100,6 +100,6 @@ pub record TookExpected (old new : Flow) (at : ℕ) : Type 0 where
   pub next : flow_expects new ≡ after (flow_expects old)
 
 -- the flow ends with this packet, which has this fault
-abbrev pub EndsBy : Flow → FlowPacket → PacketFault → Type 0
+abbrev pub EndsBy : {M : Type 0} → Flow M → FlowPacket → PacketFault → Type 0
 EndsBy flow next fault = (packets rest : List FlowPacket) → CanGoOn flow packets next.at
     → has_fault (packets ++ next ∷ rest) flow.media.pt (length packets) fault

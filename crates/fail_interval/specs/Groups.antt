@@ -7,7 +7,7 @@ use Rattle.fail_interval.specs.SoFar.{Groups, IsFit, groups_next}
 use Rattle.fail_interval.specs.declared.run.WholeGroups.{WholeGroups}
 
 -- the run has come to this
-pub record IsWhole (m : Media) (judge : WholeGroups) (so_far : Groups) : Type 0 where
+pub record IsWhole {M : Type 0} (m : Media) (judge : WholeGroups M) (so_far : Groups) : Type 0 where
   pub media : judge.params.media ≡ m
   pub n : judge.params.n ≡ so_far.n
   pub head : judge.head ≡ so_far.head
@@ -24,6 +24,7 @@ pub record IsWhole (m : Media) (judge : WholeGroups) (so_far : Groups) : Type 0 
   pub within : length so_far.whole ≤ length so_far.stamps
 
 -- and a packet at this instant may be the next one
-pub record CanGoOn (m : Media) (judge : WholeGroups) (so_far : Groups) (at : ℕ) (marker : Bool) : Type 0 where
+pub record CanGoOn {M : Type 0} (m : Media) (judge : WholeGroups M) (so_far : Groups) (at : ℕ)
+    (marker : Bool) : Type 0 where
   pub is : IsWhole m judge so_far
   pub fits : IsFit (groups_next so_far at marker)

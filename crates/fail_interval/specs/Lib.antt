@@ -1,6 +1,7 @@
 -- what is promised
 pub mod Row
 pub mod Rows
+pub mod Parts
 pub mod Fails
 pub mod Stands
 pub mod BankStands
@@ -16,9 +17,12 @@ pub mod Goings
 pub mod Groups
 pub mod Kinds
 pub mod Lulls
+pub mod Metered
+pub mod Meterings
 pub mod Meters
 pub mod Orders
 pub mod Runs
 pub mod SoFar
 pub mod States
 pub mod Taken
+pub mod Telling

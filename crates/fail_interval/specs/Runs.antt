@@ -7,29 +7,30 @@ use Rattle.fail_interval.specs.declared.run.RunJudge.{RunJudge}
 use Rattle.fail_interval.specs.declared.run.RunJudge.TheVariants.{Head, First, Groups}
 
 -- the run has come to this
-abbrev pub StandsFor : Media → RunJudge → SoFar → Type 0
+abbrev pub StandsFor : {M : Type 0} → Media → RunJudge M → SoFar → Type 0
 StandsFor m (Head packets) (in_head head) = packets ≡ head
-StandsFor m (First head stamps) (in_first so_far so_far_stamps) = (head ≡ so_far) × (stamps.items ≡ so_far_stamps)
+StandsFor m (First head group) (in_first so_far stamps) = (head ≡ so_far) × (group.stamps.items ≡ stamps)
 StandsFor m (Groups judge) (in_groups so_far) = IsWhole m judge so_far
 StandsFor m _ _ = ⊥
 
 -- the run has a whole group
-abbrev pub has_groups : RunJudge → Bool
+abbrev pub has_groups : {M : Type 0} → RunJudge M → Bool
 has_groups (Head packets) = false
-has_groups (First head stamps) = false
+has_groups (First head group) = false
 has_groups (Groups judge) = true
 
 -- and a packet at this instant may be the next one
-pub record CanGoOn (m : Media) (judge : RunJudge) (so_far : SoFar) (at : ℕ) (marker : Bool) : Type 0 where
+pub record CanGoOn {M : Type 0} (m : Media) (judge : RunJudge M) (so_far : SoFar) (at : ℕ) (marker : Bool) : Type 0 where
   pub stands : StandsFor m judge so_far
   pub fits : Fits (so_far_next so_far at marker)
 
 -- after some packets or others
-abbrev pub IsOpenTo : Media → RunJudge → (at : ℕ) → (marker : Bool) → Type 0
+abbrev pub IsOpenTo : {M : Type 0} → Media → RunJudge M → (at : ℕ) → (marker : Bool) → Type 0
 IsOpenTo m judge at marker = ∥ ((so_far : SoFar) × CanGoOn m judge so_far at marker) ∥₁
 
 -- a call took it: whatever the run had come to, it has come to this packet too, where memory was there
-abbrev pub TakesNext : {T E : Type 0} → Media → (old new : RunJudge) → (at : ℕ) → (marker : Bool) → Result T E → Type 0
+abbrev pub TakesNext : {M T E : Type 0} → Media → (old new : RunJudge M) → (at : ℕ) → (marker : Bool) → Result T E
+    → Type 0
 TakesNext m old new at marker result =
     (so_far : SoFar) → CanGoOn m old so_far at marker → OnOk result (StandsFor m new (so_far_next so_far at marker))
 
@@ -39,7 +40,7 @@ pub record FitsWhole (stamps : List ℕ) : Type 0 where
   pub most : length stamps ≤ 262144
   pub fit : AreStamps stamps
 
-abbrev pub IsWholeFirst : RunJudge → Type 0
+abbrev pub IsWholeFirst : {M : Type 0} → RunJudge M → Type 0
 IsWholeFirst (Head packets) = ⊤
-IsWholeFirst (First head stamps) = FitsWhole stamps.items
+IsWholeFirst (First head group) = FitsWhole group.stamps.items
 IsWholeFirst (Groups judge) = ⊤

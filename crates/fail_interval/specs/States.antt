@@ -24,25 +24,25 @@ pub record IsRefused (m : Media) (packets : List FlowPacket) (rec : ℕ) (fault 
   pub rec_is : (rest : List FlowPacket) → (packet (packets ++ rest) index).rec ≡ rec
 
 -- what has come of these packets of a flow
-abbrev pub IsAt : Media → ℕ → List FlowPacket → State → Type 0
+abbrev pub IsAt : {M : Type 0} → Media → ℕ → List FlowPacket → State M → Type 0
 IsAt m tai packets (Going flow) = (flow.media ≡ m) × (flow.tai ≡ tai) × FlowStandsFor flow packets
 IsAt m tai packets (Refused rec fault) = IsRefused m packets rec fault
 IsAt m tai packets Spent = ⊥
 
 -- the packets that stand behind a flow without a fault
-pub record IsFedTo (flow : Flow) (fed : ℕ) (packets : List FlowPacket) : Type 0 where
+pub record IsFedTo {M : Type 0} (flow : Flow M) (fed : ℕ) (packets : List FlowPacket) : Type 0 where
   pub count : length packets ≡ fed
   pub stamped : AreStamped packets
   pub stands : FlowStandsFor flow packets
 
 -- some packets stand behind a flow without a fault
-abbrev pub IsKnown : ℕ → State → Type 0
+abbrev pub IsKnown : {M : Type 0} → ℕ → State M → Type 0
 IsKnown fed (Going flow) = (packets : List FlowPacket) × IsFedTo flow fed packets
 IsKnown fed (Refused rec fault) = ⊤
 IsKnown fed Spent = ⊤
 
 -- the packet that is expected next, by what the state keeps: none after a fault
-abbrev pub state_expects : State → Option Rtp
+abbrev pub state_expects : {M : Type 0} → State M → Option Rtp
 state_expects (Going flow) = flow_expects flow
 state_expects (Refused rec fault) = None
 state_expects Spent = None

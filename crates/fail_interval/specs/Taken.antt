@@ -27,7 +27,7 @@ pub record TakesCarried (at : ℕ) (bytes : List ℕ) (old new : MediaJudge) : T
   pub takes : (number : ℕ) → TakesRecord (record { number = number; stamp = at; bytes = bytes }) old new
 
 -- whatever packets the judge was fed, this is the one expected after them
-abbrev pub IsExpected : FlowJudge → Rtp → Type 0
+abbrev pub IsExpected : {M : Type 0} → FlowJudge M → Rtp → Type 0
 IsExpected judge p = (m : Media) (key : FlowKey) (tai : ℕ) (packets : List FlowPacket)
     → StandsFor m key tai judge packets → Some p ≡ expected_after packets m.pt
 

@@ -100,13 +100,13 @@ impl Bank {
         // Most frames carry the packet that goes on in the flow whose turn it is: these are compared alone. With one
         // media it is always its turn.
         if self.judges.len() == 1 {
-            if self.judges[0].take_judged(at, frame) {
+            if self.judges[0].take_judged(number, at, frame)? {
                 self.records += 1;
                 return Ok(());
             }
         } else if let Some(order) = &mut self.order {
             let ahead = order.ahead();
-            if self.judges[ahead].take_judged(at, frame) {
+            if self.judges[ahead].take_judged(number, at, frame)? {
                 self.records += 1;
                 order.pass(ahead);
                 return Ok(());
@@ -173,7 +173,7 @@ impl Bank {
     {
         let Bank { judges, .. } = self;
         for judge in judges {
-            rows.push(judge.finish())?;
+            rows.push(judge.finish()?)?;
         }
         Ok(())
     }

@@ -1,6 +1,6 @@
 //! A flow without a fault, as far as it has come.
 
-ghost use Rattle.std.specs.Prelude.{◌≡◌, ◌≤◌, ◌<◌, ◌+◌, ◌++◌, ◌∷◌, [], ℕ, List, length, Ok, None, Some, OnOk, IfOk, true, false};
+ghost use Rattle.std.specs.Prelude.{◌≡◌, ◌≤◌, ◌<◌, ◌+◌, ◌*◌, ◌^◌, ◌++◌, ◌∷◌, [], ℕ, List, length, Ok, None, Some, OnOk, IfOk, true, false};
 ghost use Rattle.timing_base.specs.Captures.{IsStamp};
 ghost use Rattle.timing_base.specs.Flows.{first_fault_below};
 ghost use Rattle.timing_base.specs.declared.packet.FlowPacket.{FlowPacket};
@@ -10,58 +10,95 @@ ghost use Rattle.frame_group.specs.Cuts.{cut_at};
 ghost use Rattle.frame_group.specs.Expected.{expected_after};
 ghost use Rattle.timing_base.specs.Media.{Media as MediaValue};
 ghost use Rattle.fail_interval.specs.Row.{verdict_of};
-ghost use Rattle.fail_interval.specs.SoFar.{SoFar, in_head, so_far_next};
+ghost use Rattle.fail_interval.specs.SoFar.{SoFar, in_head, outcome_of, so_far_next};
+
+ghost use Rattle.frame_group.specs.Expected.{next_packet};
+ghost use Rattle.run_meter.specs.Runs.{JudgedPart, told_of};
+ghost use Rattle.fail_interval.specs.Metered.{Heads, TellsOf};
+ghost use Rattle.fail_interval.specs.Parts.{judged_parts};
 
 use crate::run::RunJudge;
 use frame_group::Grouper;
+use run_meter::{RunHead, RunMeter, RunPacket};
 use std::alloc::{AllocError as OutOfMemory, Global};
+use std::mem;
 use timing_base::{Items, Media, PacketFault, Rtp, Run, RunVerdict, Runs, Unjudged, Verdict};
 
 /// A run between gaps that isn't over.
 #[derive(Drop)]
-pub struct OpenRun {
+pub struct OpenRun<M: Drop> {
     /// The record of its first packet.
     pub rec: u64,
     /// The number of its first packet.
     pub number: u32,
     /// The number that would have gone on from the run before; none for the first run.
     pub expected: Option<u32>,
-    pub judge: RunJudge,
+    pub judge: RunJudge<M>,
 }
 
-impl OpenRun {
+impl<M: RunMeter> OpenRun<M> {
     ghost use Rattle.fail_interval.specs.Runs.{StandsFor as RunStandsFor};
+    ghost use Rattle.fail_interval.specs.Telling.{TellsOver};
 
-    /// A run of one packet, which has this number and came at this instant, with the marker or not.
+    /// A run of one packet, with this head.
     fn start(
         alloc: Global,
         media: &Media,
         expected: Option<u32>,
-        rec: u64,
-        at: u64,
-        number: u32,
+        run: RunHead,
+        packet: RunPacket,
         marker: bool,
-    ) -> Result<OpenRun, OutOfMemory>
-        ensures rec { IfOk result (λ run. run.rec ≡ rec) }
-        ensures number { IfOk result (λ run. run.number ≡ number) }
-        ensures expected { IfOk result (λ run. run.expected ≡ expected) }
-        ensures judge { IfOk result (λ run. RunStandsFor media.now run.judge
-            (so_far_next (in_head 0) at marker)) }
+        out: &mut M::Out,
+    ) -> Result<OpenRun<M>, OutOfMemory>
+        ensures rec { IfOk result (λ open_run. open_run.rec ≡ run.rec) }
+        ensures number { IfOk result (λ open_run. open_run.number ≡ run.number) }
+        ensures expected { IfOk result (λ open_run. open_run.expected ≡ expected) }
+        ensures judge { IfOk result (λ open_run. RunStandsFor media.now open_run.judge
+            (so_far_next (in_head 0) packet.at marker)) }
+        ensures tells { M.WANTS_LEVELS ≡ true → IfOk result (λ open_run. (past : M.Past) (tai : ℕ)
+            (first : FlowPacket) (over : List JudgedPart) → packet ≡ told_of tai first → Heads first run
+            → M.tells past out.old media.now tai over None
+            → TellsOf M.stands M.tells past media.now tai run.run first over open_run.judge out.new [] []) }
     {
         let mut judge = RunJudge::new();
-        judge.feed(alloc, media, at, marker)?;
+        judge.feed(alloc, media, &run, packet, marker, out)?;
         Ok(OpenRun {
+            rec: run.rec,
+            number: run.number,
+            expected,
+            judge,
+        })
+    }
+
+    /// The run is over: what is told of it.
+    fn close(self, out: &mut M::Out) -> Result<Run, OutOfMemory>
+        ensures run { IfOk result (λ run. (m : MediaValue) (so_far : SoFar) → RunStandsFor m self.judge so_far
+            → run ≡ record {
+              rec = self.rec;
+              number = self.number;
+              expected = self.expected;
+              verdict = run_verdict_of m (outcome_of so_far);
+            }) }
+        ensures tells { IfOk result (λ _. TellsOver M.stands M.tells self out.old out.new) }
+    {
+        let OpenRun {
             rec,
             number,
             expected,
             judge,
+        } = self;
+        Ok(Run {
+            rec,
+            number,
+            expected,
+            verdict: judge.close(out)?,
         })
     }
 }
 
 /// A flow without a fault, as far as it has come.
 #[derive(Drop)]
-pub struct Flow {
+pub struct Flow<M: Drop> {
     alloc: Global,
     media: Media,
     /// The seconds that are added to the stamps.
@@ -70,19 +107,22 @@ pub struct Flow {
     /// The runs before the open one. Where there are any, there is room for one more.
     done: Vec<Run>,
     /// The run that isn't over; none before the first packet.
-    open: Option<OpenRun>,
+    open: Option<OpenRun<M>>,
 }
 
-impl Flow {
+impl<M: RunMeter> Flow<M> {
     ghost use Rattle.fail_interval.specs.Flowing.{CanGoOn, ComesNext, EndsBy, HasRoom, StandsFor, Took, TookExpected};
     ghost use Rattle.fail_interval.specs.Flowing.{IsClosed, OpensAt, StartsAt, flow_expects};
+    ghost use Rattle.fail_interval.specs.Telling.{FlowTells, TellsAt, TellsClosed, TellsTook};
 
     /// Before the first packet.
-    pub fn new(alloc: Global, media: &Media, tai: u64) -> Flow
+    pub fn new(alloc: Global, media: &Media, tai: u64) -> Flow<M>
         requires { tai ≤ 1000 }
         ensures media { result.media ≡ media.now }
         ensures tai { result.tai ≡ tai }
         ensures stands { StandsFor result [] }
+        ensures tells { (past : M.Past) (out : M.Out) → M.tells past out media.now tai [] None
+            → FlowTells M.stands M.tells past result [] out }
     {
         Flow {
             alloc,
@@ -95,22 +135,18 @@ impl Flow {
     }
 
     /// The open run is over, if there is one.
-    fn close(&mut self) -> Result<(), OutOfMemory>
+    fn close(&mut self, out: &mut M::Out) -> Result<(), OutOfMemory>
         ensures media { self.new.media ≡ self.old.media }
         ensures tai { self.new.tai ≡ self.old.tai }
         ensures grouper { self.new.grouper ≡ self.old.grouper }
-        ensures open { self.new.open ≡ self.old.open }
         ensures done { (m : MediaValue) → OnOk result (IsClosed m self.old.done.items self.old.open
             self.new.done.items) }
         ensures room { OnOk result (HasRoom self.old → HasRoom self.new) }
+        ensures tells { OnOk result (TellsClosed M.stands M.tells self.old.open out.old out.new) }
     {
-        if let Some(open) = &self.open {
-            self.done.push(Run {
-                rec: open.rec,
-                number: open.number,
-                expected: open.expected,
-                verdict: open.judge.verdict(),
-            })?;
+        let over = mem::replace(&mut self.open, None);
+        if let Some(open) = over {
+            self.done.push(open.close(out)?)?;
             self.done.reserve(1)?;
         }
         Ok(())
@@ -122,27 +158,41 @@ impl Flow {
     fn begin(
         &mut self,
         expected: Option<u32>,
-        rec: u64,
-        at: u64,
         number: u32,
+        packet: RunPacket,
         marker: bool,
+        out: &mut M::Out,
     ) -> Result<(), OutOfMemory>
         ensures media { self.new.media ≡ self.old.media }
         ensures tai { self.new.tai ≡ self.old.tai }
         ensures grouper { self.new.grouper ≡ self.old.grouper }
         ensures room { OnOk result (HasRoom self.old → HasRoom self.new) }
         ensures begins { (packets : List FlowPacket) (i : ℕ) (so_far : SoFar) (rtp : RtpValue)
-            → ComesNext packets self.old.tai i rec at rtp
+            → ComesNext packets self.old.tai i packet.rec packet.at rtp
             → number ≡ rtp.number → marker ≡ rtp.marker
             → expected ≡ cut_at packets i
             → StartsAt packets i self.old.open
             → OpensAt self.old.media self.old.tai packets i so_far self.old.done.items self.old.open
             → OnOk result (OpensAt self.new.media self.new.tai packets (i + 1)
-            (so_far_next (in_head 0) at rtp.marker) self.new.done.items self.new.open) }
+            (so_far_next (in_head 0) packet.at rtp.marker) self.new.done.items self.new.open) }
+        ensures tells { M.WANTS_LEVELS ≡ true → (past : M.Past) (packets : List FlowPacket) (i : ℕ) (so_far : SoFar)
+            (rtp : RtpValue) → ComesNext packets self.old.tai i packet.rec packet.at rtp
+            → number ≡ rtp.number → marker ≡ rtp.marker → packet.timestamp ≡ rtp.timestamp
+            → StartsAt packets i self.old.open
+            → OpensAt self.old.media self.old.tai packets i so_far self.old.done.items self.old.open
+            → first_fault_below packets self.old.media.pt i ≡ None
+            → TellsAt M.stands M.tells past self.old.media self.old.tai packets i self.old.open out.old
+            → OnOk result (TellsAt M.stands M.tells past self.new.media self.new.tai packets (i + 1) self.new.open
+            out.new) }
     {
-        self.close()?;
-        let run = OpenRun::start(self.alloc, &self.media, expected, rec, at, number, marker)?;
-        self.open = Some(run);
+        self.close(out)?;
+        let run = RunHead {
+            run: self.done.len() as u64 + 1,
+            rec: packet.rec,
+            number,
+        };
+        let open = OpenRun::start(self.alloc, &self.media, expected, run, packet, marker, out)?;
+        self.open = Some(open);
         Ok(())
     }
 
@@ -159,47 +209,75 @@ impl Flow {
     /// Takes the packet that is expected, captured at `at`, where it goes on in a judged run and has no fault, and
     /// answers whether it does. Else nothing changes.
     #[inline(always)]
-    pub fn feed_judged(&mut self, at: u64) -> bool
+    pub fn feed_judged(&mut self, rec: u64, at: u64) -> Result<bool, OutOfMemory>
         requires { ∥ ((packets : List FlowPacket) × CanGoOn self.old packets at) ∥₁ }
         ensures media { self.new.media ≡ self.old.media }
         ensures tai { self.new.tai ≡ self.old.tai }
-        ensures other { result ≡ false → self.new ≡ self.old }
-        ensures goes_on { result ≡ true → TookExpected self.old self.new at }
+        ensures other { result ≡ Ok false → self.new ≡ self.old }
+        ensures goes_on { result ≡ Ok true → TookExpected self.old self.new at }
+        ensures tells { result ≡ Ok true → M.WANTS_LEVELS ≡ true → (past : M.Past) (out : M.Out)
+            (packets : List FlowPacket) → CanGoOn self.old packets at
+            → FlowTells M.stands M.tells past self.old packets out
+            → FlowTells M.stands M.tells past self.new
+            (packets ++ next_packet packets self.old.media.pt rec at ∷ []) out }
     {
         match &mut self.open {
             Some(open) => {
                 if !open.judge.has_groups() {
-                    return false;
+                    return Ok(false);
                 }
                 if !self.grouper.feed_expected(at) {
-                    return false;
+                    return Ok(false);
                 }
-                let came = at + self.tai * 1_000_000_000;
-                open.judge.feed_whole(came);
-                true
+                let packet = RunPacket {
+                    rec,
+                    at: at + self.tai * 1_000_000_000,
+                    timestamp: timestamp_of(self.grouper.expected()),
+                };
+                open.judge.feed_whole(packet)?;
+                Ok(true)
             }
-            None => false,
+            None => Ok(false),
         }
     }
 
     /// Takes the next packet, which was read, where it goes on in a run with the timestamp of the packet before and no
     /// marker, as most do, and answers whether it does. Else nothing changes. `Err` is want of memory.
     #[inline(always)]
-    pub fn feed_on(&mut self, at: u64, rtp: Rtp) -> Result<bool, OutOfMemory>
+    pub fn feed_on(
+        &mut self,
+        rec: u64,
+        at: u64,
+        rtp: Rtp,
+        out: &mut M::Out,
+    ) -> Result<bool, OutOfMemory>
         requires { ∥ ((packets : List FlowPacket) × CanGoOn self.old packets at) ∥₁ }
         ensures media { self.new.media ≡ self.old.media }
         ensures tai { self.new.tai ≡ self.old.tai }
         ensures other { result ≡ Ok false → self.new ≡ self.old }
+        ensures out { result ≡ Ok false → out.new ≡ out.old }
         ensures goes_on { result ≡ Ok true
-            → (rec : ℕ) → Took self.old self.new (record { rec = rec; at = at; rtp = Ok rtp }) }
+            → Took self.old self.new (record { rec = rec; at = at; rtp = Ok rtp }) }
+        ensures tells { result ≡ Ok true → M.WANTS_LEVELS ≡ true → TellsTook M.stands M.tells self.old self.new
+            out.old out.new (record { rec = rec; at = at; rtp = Ok rtp }) }
     {
         match &mut self.open {
             Some(open) => {
                 if !self.grouper.feed_on(at, rtp) {
                     return Ok(false);
                 }
-                let came = at + self.tai * 1_000_000_000;
-                open.judge.feed(self.alloc, &self.media, came, rtp.marker)?;
+                let run = RunHead {
+                    run: self.done.len() as u64 + 1,
+                    rec: open.rec,
+                    number: open.number,
+                };
+                let packet = RunPacket {
+                    rec,
+                    at: at + self.tai * 1_000_000_000,
+                    timestamp: rtp.timestamp,
+                };
+                open.judge
+                    .feed(self.alloc, &self.media, &run, packet, rtp.marker, out)?;
                 Ok(true)
             }
             None => Ok(false),
@@ -207,60 +285,88 @@ impl Flow {
     }
 
     /// Takes the next packet, which was read, or answers its fault. `Err` is want of memory.
-    pub fn feed(&mut self, rec: u64, at: u64, rtp: Rtp) -> Result<Option<PacketFault>, OutOfMemory>
+    pub fn feed(
+        &mut self,
+        rec: u64,
+        at: u64,
+        rtp: Rtp,
+        out: &mut M::Out,
+    ) -> Result<Option<PacketFault>, OutOfMemory>
         requires { ∥ ((packets : List FlowPacket) × CanGoOn self.old packets at) ∥₁ }
         ensures media { self.new.media ≡ self.old.media }
         ensures tai { self.new.tai ≡ self.old.tai }
         ensures goes_on { result ≡ Ok None
             → Took self.old self.new (record { rec = rec; at = at; rtp = Ok rtp }) }
+        ensures tells { result ≡ Ok None → M.WANTS_LEVELS ≡ true → TellsTook M.stands M.tells self.old self.new
+            out.old out.new (record { rec = rec; at = at; rtp = Ok rtp }) }
         ensures ends { (fault : _) → result ≡ Ok (Some fault)
             → EndsBy self.old (record { rec = rec; at = at; rtp = Ok rtp }) fault }
+        ensures out { (fault : _) → result ≡ Ok (Some fault) → out.new ≡ out.old }
     {
         let cut = match self.grouper.feed(at, rtp) {
             Ok(cut) => cut,
             Err(fault) => return Ok(Some(fault)),
         };
-        let stamp = at + self.tai * 1_000_000_000;
+        let packet = RunPacket {
+            rec,
+            at: at + self.tai * 1_000_000_000,
+            timestamp: rtp.timestamp,
+        };
         if cut.is_none() {
             if let Some(open) = &mut self.open {
-                open.judge.feed(self.alloc, &self.media, stamp, rtp.marker)?;
+                let run = RunHead {
+                    run: self.done.len() as u64 + 1,
+                    rec: open.rec,
+                    number: open.number,
+                };
+                open.judge
+                    .feed(self.alloc, &self.media, &run, packet, rtp.marker, out)?;
                 return Ok(None);
             }
         }
-        self.begin(cut, rec, stamp, rtp.number, rtp.marker)?;
+        self.begin(cut, rtp.number, packet, rtp.marker, out)?;
         Ok(None)
     }
 
     /// What comes of the flow, where it ends here.
-    pub fn verdict(self) -> Verdict
+    pub fn verdict(self, out: &mut M::Out) -> Result<Verdict, OutOfMemory>
         requires { ∥ ((packets : List FlowPacket) × StandsFor self packets) ∥₁ }
-        ensures { (packets : List FlowPacket) → StandsFor self packets
-            → result ≡ verdict_of self.media (judged packets self.media.pt self.tai) }
+        ensures verdict { IfOk result (λ verdict. (packets : List FlowPacket) → StandsFor self packets
+            → verdict ≡ verdict_of self.media (judged packets self.media.pt self.tai)) }
+        ensures tells { IfOk result (λ _. (past : M.Past) (packets : List FlowPacket) → StandsFor self packets
+            → FlowTells M.stands M.tells past self packets out.old
+            → M.tells past out.new self.media self.tai (judged_parts self.media packets self.tai) None) }
     {
         let Flow { mut done, open, .. } = self;
         let open = match open {
             Some(open) => open,
-            None => return Verdict::Unjudged(Unjudged::Absent),
+            None => return Ok(Verdict::Unjudged(Unjudged::Absent)),
         };
-        let verdict = open.judge.verdict();
+        let over = open.close(out)?;
         if done.is_empty() {
-            return one_run(verdict);
+            return Ok(one_run(over.verdict));
         }
         // Room for it was taken at the last gap.
-        let _ = done.push(Run {
-            rec: open.rec,
-            number: open.number,
-            expected: open.expected,
-            verdict,
-        });
-        Verdict::Runs(Runs {
+        let _ = done.push(over);
+        Ok(Verdict::Runs(Runs {
             list: Items::from_vec(done),
-        })
+        }))
     }
 }
 
 ghost use Rattle.timing_base.specs.Judged.{RunOutcome};
 ghost use Rattle.fail_interval.specs.Row.{one_run_verdict, run_verdict_of};
+
+/// The RTP timestamp of the packet that is expected next, which is that of the one before; 0 where none is.
+#[inline(always)]
+fn timestamp_of(expected: Option<Rtp>) -> u32
+    ensures { (rtp : RtpValue) → expected ≡ Some rtp → result ≡ rtp.timestamp }
+{
+    match expected {
+        Some(rtp) => rtp.timestamp,
+        None => 0,
+    }
+}
 
 /// What comes of a flow with no gap.
 fn one_run(verdict: RunVerdict) -> Verdict

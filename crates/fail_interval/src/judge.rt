@@ -1,6 +1,6 @@
 //! The judge of one flow.
 
-ghost use Rattle.std.specs.Prelude.{◌≡◌, ◌≤◌, ◌<◌, ◌+◌, ◌^◌, ◌++◌, ◌∷◌, [], ℕ, List, Ok, Err, IsErr, OnErr, OnOk, true, false};
+ghost use Rattle.std.specs.Prelude.{◌≡◌, ◌≤◌, ◌<◌, ◌+◌, ◌^◌, ◌++◌, ◌∷◌, [], ℕ, List, Ok, Err, IfOk, IsErr, OnErr, OnOk, true, false};
 ghost use Rattle.frame_group.specs.Expected.{expected_after};
 ghost use Rattle.timing_base.specs.Captures.{IsStamp};
 ghost use Rattle.timing_base.specs.declared.packet.FlowPacket.{FlowPacket};
@@ -10,20 +10,21 @@ ghost use Rattle.fail_interval.specs.Row.{row};
 ghost use Rattle.fail_interval.specs.States.{IsKnown, IsReading};
 
 use crate::flow::Flow;
+use run_meter::RunMeter;
 use std::alloc::{AllocError as OutOfMemory, Global};
 use timing_base::{FlowKey, Media, PacketFault, Row, Rtp, Unjudged, Verdict};
 
 /// What has come of the packets so far.
 #[derive(Drop)]
-enum State {
-    Going(Flow),
+enum State<M: Drop> {
+    Going(Flow<M>),
     /// The first fault, and its record.
     Refused { rec: u64, fault: PacketFault },
     /// Memory was refused.
     Spent,
 }
 
-impl State {
+impl<M: RunMeter> State<M> {
     ghost use Rattle.fail_interval.specs.Flowing.{CanGoOn};
     ghost use Rattle.fail_interval.specs.Goings.{GoesAsExpected, GoesOn, Refuses};
     ghost use Rattle.fail_interval.specs.declared.flow.Flow.{Flow as FlowValue};
@@ -32,31 +33,37 @@ impl State {
     /// Takes the packet that is expected, captured at `at`, where it goes on in a judged run and has no fault, and
     /// answers whether it does. Else nothing changes.
     #[inline(always)]
-    fn feed_judged(&mut self, at: u64) -> bool
-        requires { (flow : FlowValue) → self.old ≡ Going flow
+    fn feed_judged(&mut self, rec: u64, at: u64) -> Result<bool, OutOfMemory>
+        requires { (flow : FlowValue M) → self.old ≡ Going flow
             → ∥ ((packets : List FlowPacket) × CanGoOn flow packets at) ∥₁ }
-        ensures other { result ≡ false → self.new ≡ self.old }
-        ensures goes_on { result ≡ true → GoesAsExpected self.old self.new at }
-        ensures spent { self.old ≡ Spent → result ≡ false }
+        ensures other { result ≡ Ok false → self.new ≡ self.old }
+        ensures goes_on { result ≡ Ok true → GoesAsExpected self.old self.new at }
+        ensures spent { self.old ≡ Spent → result ≡ Ok false }
     {
         match self {
-            State::Going(flow) => flow.feed_judged(at),
-            _ => false,
+            State::Going(flow) => flow.feed_judged(rec, at),
+            _ => Ok(false),
         }
     }
 
     /// Takes the next packet, where it goes on in its flow as most do, and answers whether it does. Else nothing
     /// changes. `Err` is want of memory.
     #[inline(always)]
-    fn feed_on(&mut self, at: u64, rtp: Rtp) -> Result<bool, OutOfMemory>
-        requires { (flow : FlowValue) → self.old ≡ Going flow
+    fn feed_on(
+        &mut self,
+        rec: u64,
+        at: u64,
+        rtp: Rtp,
+        out: &mut M::Out,
+    ) -> Result<bool, OutOfMemory>
+        requires { (flow : FlowValue M) → self.old ≡ Going flow
             → ∥ ((packets : List FlowPacket) × CanGoOn flow packets at) ∥₁ }
         ensures other { result ≡ Ok false → self.new ≡ self.old }
-        ensures goes_on { result ≡ Ok true → GoesOn self.old self.new at rtp }
+        ensures goes_on { result ≡ Ok true → GoesOn self.old self.new rec at rtp }
         ensures spent { self.old ≡ Spent → result ≡ Ok false }
     {
         match self {
-            State::Going(flow) => flow.feed_on(at, rtp),
+            State::Going(flow) => flow.feed_on(rec, at, rtp, out),
             _ => Ok(false),
         }
     }
@@ -89,20 +96,20 @@ impl State {
 
 /// The judge of one flow: it is fed the flow's packets, one by one and in order.
 #[derive(Drop)]
-pub struct FlowJudge {
+pub struct FlowJudge<M: Drop> {
     key: FlowKey,
     /// The packets fed.
     fed: u64,
-    state: State,
+    state: State<M>,
     ghost known: { ∥ IsKnown fed state ∥₁ },
 }
 
-impl FlowJudge {
-    ghost use Rattle.fail_interval.specs.Stands.{StandsFor, Takes, TakesExpected, count_fed, expected_of};
+impl<M: RunMeter> FlowJudge<M> {
+    ghost use Rattle.fail_interval.specs.Stands.{IsSpent, StandsFor, Takes, TakesExpected, count_fed, expected_of};
 
     /// The judge of the flow with this key, of packets of this media. `tai` seconds are added to the stamps of its
     /// judged packets, but not to those that a fault tells.
-    pub fn new(alloc: Global, media: &Media, key: FlowKey, tai: u64) -> FlowJudge
+    pub fn new(alloc: Global, media: &Media, key: FlowKey, tai: u64) -> FlowJudge<M>
         requires { tai ≤ 1000 }
         ensures fed { count_fed result ≡ 0 }
         ensures stands { StandsFor media.now key tai result [] }
@@ -134,19 +141,28 @@ impl FlowJudge {
     /// no fault. Else nothing changes, and the packet is one for `feed`: where none is expected, and of a judge that
     /// is spent, too.
     #[inline(always)]
-    pub fn feed_judged(&mut self, at: u64) -> bool
+    pub fn feed_judged(&mut self, rec: u64, at: u64) -> Result<bool, OutOfMemory>
         requires stamp { IsStamp at }
         requires few { count_fed self.old < 2 ^ 41 }
 
         ensures fed { count_fed self.new ≤ count_fed self.old + 1 }
-        ensures other { result ≡ false → self.new ≡ self.old }
-        ensures took { result ≡ true → TakesExpected self.old self.new at }
+        ensures other { result ≡ Ok false → self.new ≡ self.old }
+        ensures took { result ≡ Ok true → TakesExpected self.old self.new at }
+        ensures spends { OnErr result (IsSpent self.new) }
+        ensures stays { IsSpent self.old → result ≡ Ok false }
     {
-        if !self.state.feed_judged(at) {
-            return false;
+        match self.state.feed_judged(rec, at) {
+            Ok(true) => {
+                self.fed += 1;
+                Ok(true)
+            }
+            Ok(false) => Ok(false),
+            Err(refused) => {
+                self.fed += 1;
+                self.state.spend();
+                Err(refused)
+            }
         }
-        self.fed += 1;
-        true
     }
 
     /// Takes the next packet of the flow: the number of its record, when it was captured in nanoseconds, and what was
@@ -159,6 +175,7 @@ impl FlowJudge {
         rec: u64,
         at: u64,
         rtp: Result<Rtp, PacketFault>,
+        out: &mut M::Out,
     ) -> Result<(), OutOfMemory>
         requires stamp { IsStamp at }
         requires reading { IsReading rtp }
@@ -168,20 +185,26 @@ impl FlowJudge {
     {
         // Told apart here, so that the usual case goes on with the packet itself.
         match rtp {
-            Ok(read) => self.feed_read(rec, at, read),
+            Ok(read) => self.feed_read(rec, at, read, out),
             Err(fault) => self.feed_unread(rec, at, fault),
         }
     }
 
     /// Takes the next packet, which was read.
     #[inline(always)]
-    fn feed_read(&mut self, rec: u64, at: u64, rtp: Rtp) -> Result<(), OutOfMemory>
+    fn feed_read(
+        &mut self,
+        rec: u64,
+        at: u64,
+        rtp: Rtp,
+        out: &mut M::Out,
+    ) -> Result<(), OutOfMemory>
         requires stamp { IsStamp at }
         requires few { count_fed self.old < 2 ^ 41 }
 
         ensures { Takes self.old self.new (record { rec = rec; at = at; rtp = Ok rtp }) result }
     {
-        match self.state.feed_on(at, rtp) {
+        match self.state.feed_on(rec, at, rtp, out) {
             Ok(true) => {
                 self.fed += 1;
                 return Ok(());
@@ -201,13 +224,19 @@ impl FlowJudge {
             pt: rtp.pt,
             ssrc: rtp.ssrc,
         };
-        self.feed_other(rec, at, other)
+        self.feed_other(rec, at, other, out)
     }
 
     /// Takes the next packet, which was read and may begin or end a group, or have a fault.
     #[cold]
     #[inline(never)]
-    fn feed_other(&mut self, rec: u64, at: u64, rtp: Rtp) -> Result<(), OutOfMemory>
+    fn feed_other(
+        &mut self,
+        rec: u64,
+        at: u64,
+        rtp: Rtp,
+        out: &mut M::Out,
+    ) -> Result<(), OutOfMemory>
         requires stamp { IsStamp at }
         requires few { count_fed self.old < 2 ^ 41 }
 
@@ -215,7 +244,7 @@ impl FlowJudge {
     {
         self.fed += 1;
         let step = match &mut self.state {
-            State::Going(flow) => flow.feed(rec, at, rtp),
+            State::Going(flow) => flow.feed(rec, at, rtp, out),
             State::Refused { .. } => return Ok(()),
             State::Spent => return Err(OutOfMemory),
         };
@@ -243,18 +272,18 @@ impl FlowJudge {
         self.state.refuse(rec, fault)
     }
 
-    /// The row of the flow, where it ends here.
-    pub fn finish(self) -> Row
-        ensures { (media : MediaValue) (key : KeyValue) (tai : ℕ) (packets : List FlowPacket)
-            → StandsFor media key tai self packets → result ≡ row packets key media tai }
+    /// The row of the flow, where it ends here. `Err` is want of memory.
+    pub fn finish(self, out: &mut M::Out) -> Result<Row, OutOfMemory>
+        ensures { IfOk result (λ told. (media : MediaValue) (key : KeyValue) (tai : ℕ) (packets : List FlowPacket)
+            → StandsFor media key tai self packets → told ≡ row packets key media tai) }
     {
         let FlowJudge { key, state, .. } = self;
         let verdict = match state {
-            State::Going(flow) => flow.verdict(),
+            State::Going(flow) => flow.verdict(out)?,
             State::Refused { rec, fault } => refusal(rec, fault),
             State::Spent => Verdict::Unjudged(Unjudged::Absent),
         };
-        Row { key, verdict }
+        Ok(Row { key, verdict })
     }
 }
 

@@ -11,15 +11,18 @@
 #![tactic(auto)]
 
 mod bank;
+mod first;
 mod flow;
 mod judge;
 mod kind;
 pub mod laws;
 mod lull;
 mod media_judge;
+mod metered;
 mod meters;
 mod order;
 mod run;
 
 pub use bank::Bank;
 pub use judge::FlowJudge;
+pub use metered::Metered;

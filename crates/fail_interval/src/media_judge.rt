@@ -20,7 +20,7 @@ use udp_rtp::{Awaited, Datagram, carries, read_rtp};
 #[derive(Drop)]
 pub struct MediaJudge {
     pub target: Target,
-    pub judge: FlowJudge,
+    pub judge: FlowJudge<()>,
     /// The packet that the judge expects next, as the numbers of a frame that carries it; or nothing.
     awaited: Awaited,
     ghost awaits: { AwaitsExpected awaited target judge },
@@ -63,22 +63,22 @@ impl MediaJudge {
     /// Takes a record whose frame carries the packet that is awaited, where that goes on in a judged run of this media,
     /// as most do, and answers whether it did. Else nothing changes.
     #[inline(always)]
-    pub fn take_judged(&mut self, at: u64, frame: &[u8]) -> bool
+    pub fn take_judged(&mut self, rec: u64, at: u64, frame: &[u8]) -> Result<bool, OutOfMemory>
         requires stamp { IsStamp at }
         requires few { count_fed self.old.judge < 2 ^ 41 }
         ensures target { self.new.target ≡ self.old.target }
         ensures fed { count_fed self.new.judge ≤ count_fed self.old.judge + 1 }
-        ensures other { result ≡ false → self.new ≡ self.old }
-        ensures takes { result ≡ true → TakesCarried at frame.now self.old self.new }
+        ensures other { result ≡ Ok false → self.new ≡ self.old }
+        ensures takes { result ≡ Ok true → TakesCarried at frame.now self.old self.new }
     {
         if !self.awaited.is_in(frame) {
-            return false;
+            return Ok(false);
         }
-        if !self.judge.feed_judged(at) {
-            return false;
+        if !self.judge.feed_judged(rec, at)? {
+            return Ok(false);
         }
         self.awaited.go_on();
-        true
+        Ok(true)
     }
 
     /// Takes the packet that the frame of a record carries to this media.
@@ -91,7 +91,7 @@ impl MediaJudge {
         ensures stands { IfOk result (λ _. (bytes : List ℕ) → carries self.old.target rtp bytes ≡ true
             → TakesRecord (record { number = rec; stamp = at; bytes = bytes }) self.old self.new) }
     {
-        let taken = self.judge.feed(rec, at, Ok(rtp));
+        let taken = self.judge.feed(rec, at, Ok(rtp), &mut ());
         self.awaited = Awaited::of(self.target, self.judge.expected());
         taken
     }
@@ -111,19 +111,21 @@ impl MediaJudge {
         if datagram.target != self.target {
             return Ok(false);
         }
-        let taken = self.judge.feed(rec, at, read_rtp(datagram.payload));
+        let taken = self
+            .judge
+            .feed(rec, at, read_rtp(datagram.payload), &mut ());
         self.awaited = Awaited::of(self.target, self.judge.expected());
         taken?;
         Ok(true)
     }
 
     /// The row of the flow.
-    pub fn finish(self) -> Row
-        ensures row { (m : MediaValue) (file number tai : ℕ) (items : List Record)
+    pub fn finish(self) -> Result<Row, OutOfMemory>
+        ensures row { IfOk result (λ told. (m : MediaValue) (file number tai : ℕ) (items : List Record)
             → IsJudgeOf m file number tai self items
-            → result ≡ row (flow items m) (key_of file number) m tai }
+            → told ≡ row (flow items m) (key_of file number) m tai) }
     {
         let MediaJudge { judge, .. } = self;
-        judge.finish()
+        judge.finish(&mut ())
     }
 }

@@ -3,14 +3,16 @@
 ghost use Rattle.std.specs.Prelude.{◌≡◌, ◌≤◌, ◌<◌, ◌^◌, ◌++◌, ◌∷◌, [], ℕ, List, length};
 ghost use Rattle.fail_interval.specs.SoFar.{AreStamps};
 ghost use Rattle.fail_interval.specs.Row.{judged_values};
+ghost use Rattle.run_meter.specs.Levels.{IsLevel};
 
 use crate::kind::KindMeter;
 use crate::lull::Lull;
 use drain_bucket::Bucket;
 use read_schedule::{Between, Schedule};
+use run_meter::Level;
 use sender_params::Params;
 use timing_base::{Judged, Kind};
-use vrx_buffer::VrxFault;
+use vrx_buffer::{Held, VrxFault};
 
 /// What the two models say of the judged packets of one run.
 #[derive(Clone, Copy)]
@@ -30,7 +32,7 @@ impl RunMeters {
     ghost use Rattle.sender_params.specs.declared.params.Params.{Params as ParamsValue};
 
     /// The meters before the first packet, which comes at `origin` in nanoseconds of TAI.
-    fn new(params: &Params, origin: u64) -> RunMeters
+    pub fn new(params: &Params, origin: u64) -> RunMeters
         requires { origin < 2 ^ 62 }
         ensures origin { result.bucket.origin ≡ origin }
         ensures stands { StandsFor params.now result [] }
@@ -47,19 +49,6 @@ impl RunMeters {
         }
     }
 
-    /// The meters after the first group of a run.
-    pub fn of(params: &Params, stamps: &[u64]) -> RunMeters
-        requires some { 1 ≤ length stamps.now }
-        requires fit { AreStamps stamps.now }
-        ensures { StandsFor params.now result stamps.now }
-    {
-        let mut meters = RunMeters::new(params, stamps[0]);
-        for at in stamps {
-            meters.feed(params, *at);
-        }
-        meters
-    }
-
     /// Takes the next judged packet.
     #[inline(always)]
     pub fn feed(&mut self, params: &Params, at: u64)
@@ -73,6 +62,27 @@ impl RunMeters {
             self.pass(at);
         } else {
             self.tell(params, at);
+        }
+    }
+
+    /// Takes the next judged packet as [`RunMeters::feed`] does, and answers what the models hold just after it.
+    #[inline(always)]
+    pub fn feed_level(&mut self, params: &Params, at: u64) -> Level
+        requires { ∥ ((stamps : List ℕ) × CanFollow params.now self.old stamps at) ∥₁ }
+        ensures origin { self.new.bucket.origin ≡ self.old.bucket.origin }
+        ensures stands { (stamps : List ℕ) → CanFollow params.now self.old stamps at
+            → StandsFor params.now self.new (stamps ++ at ∷ []) }
+        ensures level { (stamps : List ℕ) → CanFollow params.now self.old stamps at
+            → IsLevel params.now.media params.now.n (stamps ++ at ∷ []) (length stamps) result }
+    {
+        let packet = self.bucket.seen;
+        self.feed(params, at);
+        let gapped = self.gapped.advance(at);
+        let linear = self.linear.advance(at);
+        Level {
+            bucket: self.bucket.count,
+            gapped: Held::after(packet, gapped),
+            linear: Held::after(packet, linear),
         }
     }
 

@@ -1,19 +1,27 @@
 //! One run between gaps, as far as it has come.
 
-ghost use Rattle.std.specs.Prelude.{◌≡◌, ◌≤◌, ◌<◌, ◌+◌, ◌^◌, ◌++◌, ◌∷◌, [], ◌-◌, ℕ, List, length, true, false};
+ghost use Rattle.std.specs.Prelude.{◌≡◌, ◌≤◌, ◌<◌, ◌+◌, ◌^◌, ◌++◌, ◌∷◌, [], ◌-◌, if◌then◌else◌, ℕ, List, None, Some, IfOk, length, true, false};
 ghost use Rattle.timing_base.specs.Media.{Media as MediaValue};
 ghost use Rattle.fail_interval.specs.SoFar.{AreStamps, Groups, SoFar, groups_first, groups_next};
 ghost use Rattle.fail_interval.specs.SoFar.{in_first, in_groups, in_head, outcome_of, so_far_next};
 ghost use Rattle.fail_interval.specs.Row.{judged_values, run_verdict_of};
+ghost use Rattle.timing_base.specs.declared.packet.FlowPacket.{FlowPacket};
+ghost use Rattle.run_meter.specs.Runs.{AreWhole, JudgedPart, RunOf, part_of, stamps_of, told_of};
+ghost use Rattle.run_meter.specs.declared.run.RunHead.{RunHead as HeadValue};
+ghost use Rattle.fail_interval.specs.Metered.{AreJudged, HaveStamps, HaveWhole, Heads, IsTold, Keeps, TellsNext};
+ghost use Rattle.fail_interval.specs.Metered.{TellsOf, open_part};
+ghost use Rattle.fail_interval.specs.Parts.{part_by, run_by};
 
+use crate::first::{FirstGroup, meter_first};
 use crate::meters::RunMeters;
+use run_meter::{RunHead, RunMeter, RunPacket};
 use sender_params::Params;
 use std::alloc::{AllocError as OutOfMemory, Global};
 use timing_base::{Judged, Media, RunVerdict};
 
 /// A run with a whole group.
-#[derive(Clone, Copy)]
-pub struct WholeGroups {
+#[derive(Drop)]
+pub struct WholeGroups<M: Drop> {
     params: Params,
     /// The packets up to and including the first marker.
     head: u64,
@@ -23,47 +31,127 @@ pub struct WholeGroups {
     meters: RunMeters,
     /// The verdict on the whole groups, with no tail.
     judged: Judged,
+    /// What measures the run beside the verdict.
+    meter: M,
 }
 
-impl WholeGroups {
+impl<M: RunMeter> WholeGroups<M> {
     ghost use Rattle.fail_interval.specs.Groups.{CanGoOn, IsWhole};
-    ghost use Rattle.fail_interval.specs.Meters.{StandsFor as MetersStandFor};
+    ghost use Rattle.fail_interval.specs.Meters.{CanFollow, StandsFor as MetersStandFor};
 
-    /// After the last packet of the first group.
-    fn first(media: &Media, head: u64, stamps: &[u64]) -> WholeGroups
-        requires some { 1 ≤ length stamps.now }
-        requires most { length stamps.now ≤ 262144 }
-        requires fit { AreStamps stamps.now }
-        ensures { IsWhole media.now result (groups_first head stamps.now) }
+    /// After the last packet of the first group. `Err` is want of memory, as in all calls here.
+    fn first(
+        alloc: Global,
+        media: &Media,
+        run: &RunHead,
+        head: u64,
+        first: &FirstGroup,
+        out: &mut M::Out,
+    ) -> Result<WholeGroups<M>, OutOfMemory>
+        requires some { 1 ≤ length first.now.stamps.items }
+        requires most { length first.now.stamps.items ≤ 262144 }
+        requires fit { AreStamps first.now.stamps.items }
+        ensures whole { IfOk result (λ groups. IsWhole media.now groups (groups_first head first.now.stamps.items)) }
+        ensures told { IfOk result (λ groups. (past : M.Past) (tai : ℕ) (opening : FlowPacket)
+            (over : List JudgedPart) (packets : List FlowPacket) → Heads opening run.now
+            → Keeps tai first.now packets → M.tells past out.old media.now tai over None
+            → M.stands groups.meter media.now tai (run_by run.now.run opening groups.params.n) packets packets
+            × M.tells past out.new media.now tai over (Some (record {
+              run = run_by run.now.run opening groups.params.n;
+              packets = packets;
+            }))) }
     {
-        let params = Params::of(media, stamps.len() as u32);
-        let meters = RunMeters::of(&params, stamps);
-        WholeGroups {
+        let params = Params::of(media, first.stamps.len() as u32);
+        let mut meter = M::begin(alloc, &params, run, out)?;
+        let meters = meter_first(&params, first, &mut meter)?;
+        meter.commit(&params, out)?;
+        Ok(WholeGroups {
             params,
             head,
             groups: 1,
             meters,
             judged: meters.judged(&params, 1, head),
+            meter,
+        })
+    }
+
+    /// Puts the next packet into the meters.
+    #[inline(always)]
+    fn put(&mut self, packet: RunPacket) -> Result<(), OutOfMemory>
+        requires { ∥ ((stamps : List ℕ) × CanFollow self.old.params self.old.meters stamps packet.at) ∥₁ }
+        ensures params { self.new.params ≡ self.old.params }
+        ensures head { self.new.head ≡ self.old.head }
+        ensures groups { self.new.groups ≡ self.old.groups }
+        ensures judged { self.new.judged ≡ self.old.judged }
+        ensures meters { (stamps : List ℕ) → CanFollow self.old.params self.old.meters stamps packet.at
+            → MetersStandFor self.old.params self.new.meters (stamps ++ packet.at ∷ []) }
+        ensures told { M.WANTS_LEVELS ≡ true → IfOk result (λ _. (tai : ℕ) (r : RunOf) (p : FlowPacket)
+            (fed committed : List FlowPacket)
+            → CanFollow self.old.params self.old.meters (stamps_of tai fed) packet.at
+            → r.n ≡ self.old.params.n → packet ≡ told_of tai p
+            → M.stands self.old.meter self.old.params.media tai r fed committed
+            → M.stands self.new.meter self.old.params.media tai r (fed ++ p ∷ []) committed) }
+    {
+        if M::WANTS_LEVELS {
+            let level = self.meters.feed_level(&self.params, packet.at);
+            self.meter.feed(&self.params, packet, level)
+        } else {
+            self.meters.feed(&self.params, packet.at);
+            Ok(())
         }
+    }
+
+    /// Takes the next packet, which doesn't end its group.
+    #[inline(always)]
+    fn feed_within(&mut self, packet: RunPacket) -> Result<(), OutOfMemory>
+        requires { ∥ ((m : MediaValue) × (so_far : Groups) × CanGoOn m self.old so_far packet.at false) ∥₁ }
+        ensures whole { (m : MediaValue) (so_far : Groups) → CanGoOn m self.old so_far packet.at false
+            → IsWhole m self.new (groups_next so_far packet.at false) }
+        ensures told { M.WANTS_LEVELS ≡ true → IfOk result (λ _. (m : MediaValue) (so_far : Groups) (tai number : ℕ)
+            (first p : FlowPacket) (fed committed : List FlowPacket) → CanGoOn m self.old so_far packet.at false
+            → so_far.stamps ≡ stamps_of tai fed → packet ≡ told_of tai p
+            → M.stands self.old.meter m tai (run_by number first self.old.params.n) fed committed
+            → M.stands self.new.meter m tai (run_by number first self.new.params.n) (fed ++ p ∷ []) committed) }
+        ensures n { self.new.params.n ≡ self.old.params.n }
+    {
+        self.put(packet)
     }
 
     /// Takes the next packet.
     #[inline(always)]
-    pub fn feed(&mut self, at: u64, marker: bool)
-        requires { ∥ ((m : MediaValue) × (so_far : Groups) × CanGoOn m self.old so_far at marker) ∥₁ }
-        ensures { (m : MediaValue) (so_far : Groups) → CanGoOn m self.old so_far at marker
-            → IsWhole m self.new (groups_next so_far at marker) }
+    fn feed(&mut self, packet: RunPacket, marker: bool, out: &mut M::Out) -> Result<(), OutOfMemory>
+        requires { ∥ ((m : MediaValue) × (so_far : Groups) × CanGoOn m self.old so_far packet.at marker) ∥₁ }
+        ensures whole { IfOk result (λ _. (m : MediaValue) (so_far : Groups)
+            → CanGoOn m self.old so_far packet.at marker
+            → IsWhole m self.new (groups_next so_far packet.at marker)) }
+        ensures told { M.WANTS_LEVELS ≡ true → IfOk result (λ _. (past : M.Past) (m : MediaValue) (so_far : Groups)
+            (tai number : ℕ) (first p : FlowPacket) (over : List JudgedPart) (fed committed : List FlowPacket)
+            → CanGoOn m self.old so_far packet.at marker
+            → so_far.stamps ≡ stamps_of tai fed → packet ≡ told_of tai p
+            → (marker ≡ true → AreWhole so_far.n (fed ++ p ∷ []))
+            → M.stands self.old.meter m tai (run_by number first self.old.params.n) fed committed
+            → M.tells past out.old m tai over (Some (record {
+              run = run_by number first self.old.params.n;
+              packets = committed;
+            }))
+            → M.stands self.new.meter m tai (run_by number first self.new.params.n) (fed ++ p ∷ [])
+            (if marker then fed ++ p ∷ [] else committed)
+            × M.tells past out.new m tai over (Some (record {
+              run = run_by number first self.new.params.n;
+              packets = if marker then fed ++ p ∷ [] else committed;
+            }))) }
     {
-        self.meters.feed(&self.params, at);
+        self.put(packet)?;
         if marker {
-            self.end_group();
+            self.end_group(out)?;
         }
+        Ok(())
     }
 
     /// A group is whole: the verdict is on all packets so far.
     #[cold]
     #[inline(never)]
-    fn end_group(&mut self)
+    fn end_group(&mut self, out: &mut M::Out) -> Result<(), OutOfMemory>
         requires { self.old.groups < 2 ^ 62 }
         ensures params { self.new.params ≡ self.old.params }
         ensures head { self.new.head ≡ self.old.head }
@@ -77,9 +165,19 @@ impl WholeGroups {
               tail = 0;
               stamps = stamps;
             }) }
+        ensures told { IfOk result (λ _. (tai : ℕ) (r : RunOf) (fed committed : List FlowPacket)
+            → r.n ≡ self.old.params.n → AreWhole r.n fed
+            → M.stands self.old.meter self.old.params.media tai r fed committed
+            → M.stands self.new.meter self.old.params.media tai r fed fed) }
+        ensures tells { IfOk result (λ _. (past : M.Past) (tai : ℕ) (r : RunOf) (over : List JudgedPart)
+            (fed committed : List FlowPacket) → r.n ≡ self.old.params.n → AreWhole r.n fed
+            → M.stands self.old.meter self.old.params.media tai r fed committed
+            → M.tells past out.old self.old.params.media tai over (Some (record { run = r; packets = committed }))
+            → M.tells past out.new self.old.params.media tai over (Some (record { run = r; packets = fed }))) }
     {
         self.groups += 1;
         self.judged = self.meters.judged(&self.params, self.groups, self.head);
+        self.meter.commit(&self.params, out)
     }
 
     /// The packets after the last marker.
@@ -105,28 +203,56 @@ impl WholeGroups {
         judged.tail = self.tail();
         judged
     }
+
+    /// The run is over: the verdict on it.
+    fn close(self, out: &mut M::Out) -> Result<Judged, OutOfMemory>
+        ensures judged { IfOk result (λ judged. (m : MediaValue) (so_far : Groups) → IsWhole m self so_far
+            → judged ≡ judged_values m (record {
+              n = so_far.n;
+              groups = so_far.groups;
+              head = so_far.head;
+              tail = length so_far.stamps - length so_far.whole;
+              stamps = so_far.whole;
+            })) }
+        ensures tells { IfOk result (λ judged. (past : M.Past) (m : MediaValue) (so_far : Groups) (tai number : ℕ)
+            (first : FlowPacket) (over : List JudgedPart) (fed committed : List FlowPacket) → IsWhole m self so_far
+            → AreJudged tai so_far committed
+            → M.stands self.meter m tai (run_by number first self.params.n) fed committed
+            → M.tells past out.old m tai over (Some (record {
+              run = run_by number first self.params.n;
+              packets = committed;
+            }))
+            → M.tells past out.new m tai (over ++ part_of (run_by number first self.params.n) judged committed ∷ [])
+            None) }
+    {
+        let judged = self.judged();
+        let WholeGroups { params, meter, .. } = self;
+        meter.close(&params, &judged, out)?;
+        Ok(judged)
+    }
 }
 
 /// One run between gaps, as far as it has come.
 #[derive(Drop)]
-pub enum RunJudge {
+pub enum RunJudge<M: Drop> {
     /// No packet has the marker yet.
     Head { packets: u64 },
-    /// The first group goes on. Its size isn't known yet, so its stamps are kept.
-    First { head: u64, stamps: Vec<u64> },
+    /// The first group goes on. Its size isn't known yet, so its packets are kept.
+    First { head: u64, group: FirstGroup },
     /// The first group is whole.
-    Groups(WholeGroups),
+    Groups(WholeGroups<M>),
 }
 
-impl RunJudge {
+impl<M: RunMeter> RunJudge<M> {
     ghost use Rattle.fail_interval.specs.Runs.{CanGoOn as CanTake, IsOpenTo, IsWholeFirst, StandsFor, TakesNext};
     ghost use Rattle.fail_interval.specs.Runs.{has_groups};
     ghost use Rattle.fail_interval.specs.declared.run.RunJudge.TheVariants.{First, Groups as GroupsValue, Head};
     ghost use Rattle.fail_interval.specs.declared.run.WholeGroups.{WholeGroups as WholeGroupsValue};
 
     /// Before the first packet.
-    pub fn new() -> RunJudge
-        ensures { (m : MediaValue) → StandsFor m result (in_head 0) }
+    pub fn new() -> RunJudge<M>
+        ensures stands { (m : MediaValue) → StandsFor m result (in_head 0) }
+        ensures is { result ≡ Head 0 }
     {
         RunJudge::Head { packets: 0 }
     }
@@ -144,34 +270,41 @@ impl RunJudge {
 
     /// Takes the next packet, which has no marker, where the first group is whole.
     #[inline(always)]
-    pub fn feed_whole(&mut self, at: u64)
+    pub fn feed_whole(&mut self, packet: RunPacket) -> Result<(), OutOfMemory>
         requires whole { has_groups self.old ≡ true }
-        requires next { ∥ ((m : MediaValue) × (so_far : SoFar) × CanTake m self.old so_far at false) ∥₁ }
-        ensures { (m : MediaValue) (so_far : SoFar) → CanTake m self.old so_far at false
-            → StandsFor m self.new (so_far_next so_far at false) }
+        requires next { ∥ ((m : MediaValue) × (so_far : SoFar) × CanTake m self.old so_far packet.at false) ∥₁ }
+        ensures takes { IfOk result (λ _. (m : MediaValue) (so_far : SoFar)
+            → CanTake m self.old so_far packet.at false
+            → StandsFor m self.new (so_far_next so_far packet.at false)) }
+        ensures tells { M.WANTS_LEVELS ≡ true → (m : MediaValue) (head : HeadValue) (out : M.Out)
+            → TellsNext M.stands M.tells m self.old self.new out out head packet false result }
     {
         if let RunJudge::Groups(groups) = self {
-            groups.feed(at, false);
+            groups.feed_within(packet)?;
         }
+        Ok(())
     }
 
-    /// Takes the next packet. `Err` is want of memory, for the stamps of the first group.
+    /// Takes the next packet of this run. `Err` is want of memory.
     #[inline(always)]
     pub fn feed(
         &mut self,
         alloc: Global,
         media: &Media,
-        at: u64,
+        run: &RunHead,
+        packet: RunPacket,
         marker: bool,
+        out: &mut M::Out,
     ) -> Result<(), OutOfMemory>
-        requires { IsOpenTo media.now self.old at marker }
-        ensures { TakesNext media.now self.old self.new at marker result }
+        requires { IsOpenTo media.now self.old packet.at marker }
+        ensures takes { TakesNext media.now self.old self.new packet.at marker result }
+        ensures tells { M.WANTS_LEVELS ≡ true
+            → TellsNext M.stands M.tells media.now self.old self.new out.old out.new run.now packet marker result }
     {
         if let RunJudge::Groups(groups) = self {
-            groups.feed(at, marker);
-            return Ok(());
+            return groups.feed(packet, marker, out);
         }
-        self.feed_early(alloc, media, at, marker)
+        self.feed_early(alloc, media, run, packet, marker, out)
     }
 
     /// Takes the next packet, before the first group is whole. `Err` is want of memory.
@@ -181,19 +314,23 @@ impl RunJudge {
         &mut self,
         alloc: Global,
         media: &Media,
-        at: u64,
+        run: &RunHead,
+        packet: RunPacket,
         marker: bool,
+        out: &mut M::Out,
     ) -> Result<(), OutOfMemory>
-        requires early { (groups : WholeGroupsValue) → self.old ≡ GroupsValue groups → ⊥ }
-        requires next { IsOpenTo media.now self.old at marker }
-        ensures { TakesNext media.now self.old self.new at marker result }
+        requires early { (groups : WholeGroupsValue M) → self.old ≡ GroupsValue groups → ⊥ }
+        requires next { IsOpenTo media.now self.old packet.at marker }
+        ensures takes { TakesNext media.now self.old self.new packet.at marker result }
+        ensures tells { M.WANTS_LEVELS ≡ true
+            → TellsNext M.stands M.tells media.now self.old self.new out.old out.new run.now packet marker result }
     {
         match self {
             RunJudge::Groups(_) => {}
-            RunJudge::First { stamps, .. } => {
-                stamps.push(at)?;
+            RunJudge::First { group, .. } => {
+                group.push(packet, M::WANTS_LEVELS)?;
                 if marker {
-                    self.begin_groups(media);
+                    self.begin_groups(alloc, media, run, out)?;
                 }
             }
             RunJudge::Head { packets } => {
@@ -210,13 +347,15 @@ impl RunJudge {
     #[cold]
     #[inline(never)]
     fn begin_first(&mut self, alloc: Global)
-        ensures { (m : MediaValue) (packets : ℕ) → self.old ≡ Head packets
+        ensures takes { (m : MediaValue) (packets : ℕ) → self.old ≡ Head packets
             → StandsFor m self.new (in_first packets []) }
+        ensures told { (m : MediaValue) (tai number : ℕ) (first : FlowPacket) (packets : ℕ) → self.old ≡ Head packets
+            → IsTold M.stands m tai number first self.new [] [] }
     {
         if let RunJudge::Head { packets } = self {
             *self = RunJudge::First {
                 head: *packets,
-                stamps: Vec::new(alloc),
+                group: FirstGroup::new(alloc),
             };
         }
     }
@@ -224,25 +363,41 @@ impl RunJudge {
     /// The second marker has come: the first group is whole.
     #[cold]
     #[inline(never)]
-    fn begin_groups(&mut self, media: &Media)
+    fn begin_groups(
+        &mut self,
+        alloc: Global,
+        media: &Media,
+        run: &RunHead,
+        out: &mut M::Out,
+    ) -> Result<(), OutOfMemory>
         requires { IsWholeFirst self.old }
-        ensures { (head : ℕ) (stamps : _) → self.old ≡ First head stamps
-            → StandsFor media.now self.new (in_groups (groups_first head stamps.items)) }
+        ensures takes { IfOk result (λ _. (head : ℕ) (group : _) → self.old ≡ First head group
+            → StandsFor media.now self.new (in_groups (groups_first head group.stamps.items))) }
+        ensures tells { IfOk result (λ _. (past : M.Past) (tai : ℕ) (first : FlowPacket) (over : List JudgedPart)
+            (packets : List FlowPacket) (head : ℕ) (group : _) → self.old ≡ First head group → Heads first run.now
+            → Keeps tai group packets → M.tells past out.old media.now tai over None
+            → TellsOf M.stands M.tells past media.now tai run.now.run first over self.new out.new packets packets) }
     {
-        if let RunJudge::First { head, stamps } = self {
-            *self = RunJudge::Groups(WholeGroups::first(media, *head, stamps.as_slice()));
+        if let RunJudge::First { head, group } = self {
+            *self = RunJudge::Groups(WholeGroups::first(alloc, media, run, *head, group, out)?);
         }
+        Ok(())
     }
 
-    /// The verdict on the run, where it ends here.
-    pub fn verdict(&self) -> RunVerdict
-        ensures { (m : MediaValue) (so_far : SoFar) → StandsFor m self.now so_far
-            → result ≡ run_verdict_of m (outcome_of so_far) }
+    /// The run is over: the verdict on it. `Err` is want of memory.
+    pub fn close(self, out: &mut M::Out) -> Result<RunVerdict, OutOfMemory>
+        ensures verdict { IfOk result (λ verdict. (m : MediaValue) (so_far : SoFar) → StandsFor m self so_far
+            → verdict ≡ run_verdict_of m (outcome_of so_far)) }
+        ensures tells { IfOk result (λ _. (past : M.Past) (m : MediaValue) (tai number : ℕ) (first : FlowPacket)
+            (over : List JudgedPart) (so_far : SoFar) (fed committed : List FlowPacket) → StandsFor m self so_far
+            → HaveWhole tai so_far committed
+            → TellsOf M.stands M.tells past m tai number first over self out.old fed committed
+            → M.tells past out.new m tai (over ++ part_by m number first committed (outcome_of so_far)) None) }
     {
         match self {
-            RunJudge::Head { packets } => RunVerdict::NoWholeFrame { head: *packets },
-            RunJudge::First { head, .. } => RunVerdict::NoWholeFrame { head: *head },
-            RunJudge::Groups(groups) => RunVerdict::Judged(groups.judged()),
+            RunJudge::Head { packets } => Ok(RunVerdict::NoWholeFrame { head: packets }),
+            RunJudge::First { head, .. } => Ok(RunVerdict::NoWholeFrame { head }),
+            RunJudge::Groups(groups) => Ok(RunVerdict::Judged(groups.close(out)?)),
         }
     }
 }

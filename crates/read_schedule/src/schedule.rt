@@ -75,6 +75,7 @@ pub struct Schedule {
     ghost within: { place < grid.n },
     ghost place_is: { passed % grid.n ≡ place },
     ghost few: { passed ≤ next.at },
+    ghost passed_few: { passed ≤ 2 ^ 63 },
     ghost next_left: { next.slack < grid.den },
     ghost next_low: { next.at * grid.den ≤ parts_at grid passed + next.slack },
     ghost next_is: { next.at < 2 ^ 63 → next.at * grid.den ≡ parts_at grid passed + next.slack },
@@ -105,6 +106,7 @@ impl Schedule {
     #[inline(always)]
     pub fn advance(&mut self, at: u64) -> Due
         requires { at < 2 ^ 62 }
+        ensures few { result.count ≤ 2 ^ 63 }
         ensures due { Tells IsDueAt self.old at result }
         ensures stands { MovesTo self.old self.new at }
     {

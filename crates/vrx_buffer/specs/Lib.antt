@@ -1,4 +1,5 @@
 pub mod Faults
+pub mod Occupancy
 pub mod Quiet
 pub mod Stands
 -- these only serve proofs

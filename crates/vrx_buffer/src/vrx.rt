@@ -179,7 +179,7 @@ impl Vrx {
 
 /// Whether a packet at whose instant so much is due comes after its own read.
 #[inline(always)]
-fn comes_late(packet: u64, due: Due) -> bool
+pub(crate) fn comes_late(packet: u64, due: Due) -> bool
     requires { packet < 2 ^ 41 }
     ensures last { due.count ≡ packet + 1 → result ≡ not due.on_time }
     ensures more { packet + 1 < due.count → result ≡ true }

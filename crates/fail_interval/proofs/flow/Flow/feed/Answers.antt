@@ -1,34 +1,35 @@
-use Rattle.std.proofs.Common.{◌≡◌, arith, ap, Err, Some, ◌∙◌, refl, ℕ}
+use Rattle.std.proofs.Common.{◌≡◌, ◌+◌, arith, ap, Err, Some, ◌∙◌, refl, ℕ}
 use Rattle.fail_interval.proofs.Feeding.{begins, ends, few-known, goes_on, none-of, seconds-known, some-of, stamp-known, take-known, with_parts}
+use Rattle.fail_interval.proofs.FlowTold.{begins-tells, goes_on-tells}
 use Rattle.fail_interval.proofs.flow.Flow.feed.Goals as goal
 use Rattle.fail_interval.proofs.flow.Flow.feed.Goals.{then-is_none+in_default, else-is_none}
 
 pub feed-requires : goal.feed-requires
-feed-requires c = record { few = few-known _ _ c.requires }
+feed-requires g c = record { few = few-known _ _ c.requires }
 
 pub returns-in-Err-clause-ends : goal.returns-in-Err-clause-ends
-returns-in-Err-clause-ends c = λ fault e packets rest h.
+returns-in-Err-clause-ends g c = λ fault e packets rest h.
     let same : fault ≡ c.in-Err.fault = cc in
     ends _ packets rest c.args.rec c.args.at c.args.rtp fault h (ap Err same ∙ c.in-Err.ensures.answer _ packets rest _ h.stands.grouper)
 
-pub overflow_mul-stamp : goal.overflow_mul-stamp
-overflow_mul-stamp c = omega (arith, seconds-known _ _ c.requires)
+pub overflow_mul-packet : goal.overflow_mul-packet
+overflow_mul-packet g c = omega (arith, seconds-known _ _ c.requires)
 
-pub overflow_add-stamp : goal.overflow_add-stamp
-overflow_add-stamp c = omega (arith, stamp-known _ _ c.requires, seconds-known _ _ c.requires)
+pub overflow_add-packet : goal.overflow_add-packet
+overflow_add-packet g c = omega (arith, stamp-known _ _ c.requires, seconds-known _ _ c.requires)
 
 pub feed-requires-in-Some : goal.feed-requires-in-Some
-feed-requires-in-Some c =
+feed-requires-in-Some g c =
     take-known _ c.args.rec c.args.at c.args.rtp c.in-Ok.cut _ c.in-Some.is (none-of _ c.if-is_none.ensures)
     (λ packets s rest. c.in-Ok.ensures.answer _ packets rest _ s) c.requires
 
 pub returns-in-Some-clause-goes_on : goal.returns-in-Some-clause-goes_on
-returns-in-Some-clause-goes_on c = λ _ packets h.
+returns-in-Some-clause-goes_on g c = λ _ packets h.
     goes_on _ packets c.args.rec c.args.at c.args.rtp c.in-Ok.cut _ _ _ c.in-Some.is (none-of _ c.if-is_none.ensures)
-    (λ rest. c.in-Ok.ensures.answer _ packets rest _ h.stands.grouper) (c.in-Ok.ensures.stands _ packets _ h.stands.grouper) c.in_ok-feed.ensures h
+    (λ rest. c.in-Ok.ensures.answer _ packets rest _ h.stands.grouper) (c.in-Ok.ensures.stands _ packets _ h.stands.grouper) c.in_ok-feed.ensures.takes h
 
 pub returns-clause-goes_on : goal.returns-clause-goes_on
-returns-clause-goes_on c = λ _ packets h.
+returns-clause-goes_on g c = λ _ packets h.
     begins c.args.self.now c.if-is_none.self c.begin.new.self packets c.args.rec c.args.at c.args.rtp c.in-Ok.cut c.feed.new.self
     (elim c.if-is_none.branch as (λ _. c.if-is_none.self ≡ with_parts c.args.self.now c.feed.new.self c.args.self.now.open) [
       | then-is_none+in_default w ↦ w.self-is
@@ -41,3 +42,27 @@ returns-clause-goes_on c = λ _ packets h.
     ])
     (λ rest. c.in-Ok.ensures.answer _ packets rest _ h.stands.grouper) (c.in-Ok.ensures.stands _ packets _ h.stands.grouper)
     (λ all i so_far next. c.in_ok-begin.ensures.begins all i so_far c.args.rtp next refl refl) h
+
+pub returns-in-Some-clause-tells : goal.returns-in-Some-clause-tells
+returns-in-Some-clause-tells g c = λ _ wants past packets h t.
+    let open_run = c.in-Some.open in
+    goes_on-tells g.M.RunMeter.stands g.M.RunMeter.tells past c.args.self.now packets c.args.rec c.args.at c.args.rtp.timestamp c.args.rtp c.in-Ok.cut open_run
+    c.feed-in-Some.new.self (record { run = c.len.result + 1; rec = open_run.rec; number = open_run.number }) c.args.out.now c.feed-in-Some.new.out
+    c.in-Some.is (none-of _ c.if-is_none.ensures) (λ rest. c.in-Ok.ensures.answer _ packets rest _ h.stands.grouper)
+    refl (omega (arith, c.len.ensures, c.args.self.now.done.ok.0)) refl refl
+    c.in_ok-feed.ensures.takes (c.in_ok-feed.ensures.tells wants) h t
+
+pub returns-clause-tells : goal.returns-clause-tells
+returns-clause-tells g c = λ _ wants past packets h t.
+    begins-tells g.M.RunMeter.stands g.M.RunMeter.tells past c.args.self.now c.if-is_none.self c.begin.new.self packets c.args.rec c.args.at c.args.rtp c.in-Ok.cut
+    c.feed.new.self c.args.out.now c.begin.new.out
+    (elim c.if-is_none.branch as (λ _. c.if-is_none.self ≡ with_parts c.args.self.now c.feed.new.self c.args.self.now.open) [
+      | then-is_none+in_default w ↦ w.self-is
+      | else-is_none w ↦ w.self-is
+    ])
+    (λ run e. elim c.if-is_none.branch as (λ _. (n : ℕ) × (c.in-Ok.cut ≡ Some n)) [
+      | then-is_none+in_default w ↦ absurd (w.in_default.not-Some run e)
+      | else-is_none w ↦ some-of _ w.if-is_none.ensures
+    ])
+    (λ rest. c.in-Ok.ensures.answer _ packets rest _ h.stands.grouper)
+    (λ past all i so_far next. c.in_ok-begin.ensures.tells wants past all i so_far c.args.rtp next refl refl refl) h t

@@ -3,7 +3,7 @@ use Rattle.fail_interval.specs.SoFar.{in_head}
 use Rattle.fail_interval.proofs.flow.Flow.new.Goals as goal
 
 pub returns-clause-stands : goal.returns-clause-stands
-returns-clause-stands c = record {
+returns-clause-stands g c = record {
   seconds = search rules;
   grouper = search rules;
   sound = search rules;

@@ -4,9 +4,9 @@ use Rattle.fail_interval.proofs.Judging.{refuses, refuses-known}
 use Rattle.fail_interval.proofs.judge.FlowJudge.feed_unread.Goals as goal
 
 pub invariant_of-self : goal.invariant_of-self
-invariant_of-self c = record { known = refuses-known _ _ c.args.rec c.args.fault c.args.self.now.state _ c.refuse.ensures }
+invariant_of-self g c = record { known = refuses-known _ _ c.args.rec c.args.fault c.args.self.now.state _ c.refuse.ensures }
 
 pub returns : goal.returns
-returns c =
+returns g c =
     refuses _ c.args.rec c.args.at (Err c.args.fault) c.args.fault c.args.self.now _ _ c.refuse.ensures c.requires.few c.requires.stamp
     (λ flow packets rest h. unread-ends flow packets rest c.args.rec c.args.at c.args.fault h)

@@ -2,7 +2,7 @@ use Rattle.std.proofs.Common.{refl}
 use Rattle.fail_interval.proofs.judge.State.feed_on.Goals as goal
 
 pub returns-in-Going-clause-goes_on : goal.returns-in-Going-clause-goes_on
-returns-in-Going-clause-goes_on c = λ took. record {
+returns-in-Going-clause-goes_on g c = λ took. record {
   flow = c.in-Going.flow;
   later = c.feed_on.new.self;
   is = c.in-Going.is;

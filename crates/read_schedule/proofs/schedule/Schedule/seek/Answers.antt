@@ -24,3 +24,6 @@ invariant_of-self-clause-last_is c = λ some.
           let is = r.ensures.is (omega (arith, near, c.requires.in_time)) in
           rw w.self-is (omega (arith, is, i.ensures.value))
     ]
+
+pub invariant_of-self-clause-passed_few : goal.invariant_of-self-clause-passed_few
+invariant_of-self-clause-passed_few c = omega (arith, invariant_of-self-clause-few c, c.rounded_up-self.ensures.most)

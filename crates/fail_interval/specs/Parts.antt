@@ -1,0 +1,82 @@
+-- The judged runs of a flow, and what of the open one is judged, whatever follows. A run stands between two cuts; of its
+-- packets those behind its first marker and up to its last are judged. Packets count from 0, runs from 1; `tai` is in
+-- seconds. This project's profile.
+use Rattle.std.specs.Prelude.{ℕ, ◌+◌, List, [], ◌∷◌, ◌++◌, length, slice_index, slice_range, Option, Some, None}
+use Rattle.timing_base.specs.Flows.{FirstFault, cuts, last_place, markers, packet}
+use Rattle.timing_base.specs.Judged.{FlowVerdict, RunOutcome, in_one_run, in_runs, judged, no_whole_frame, run_outcome}
+use Rattle.timing_base.specs.Judged.{whole_frames}
+use Rattle.timing_base.specs.Media.{Media}
+use Rattle.timing_base.specs.declared.packet.FlowPacket.{FlowPacket}
+use Rattle.run_meter.specs.Runs.{JudgedPart, OpenPart, RunOf}
+use Rattle.fail_interval.specs.Row.{judged_values}
+
+-- of the packets from a place on and below another those that are judged
+abbrev pub judged_packets : List FlowPacket → (from to : ℕ) → List FlowPacket
+judged_packets packets from to =
+    let marks = markers packets from to in slice_range packets (slice_index marks 0 + 1) (last_place marks + 1)
+
+-- the run of this number, with this first packet and these judged packets, where it comes to whole groups
+abbrev pub part_by : Media → (number : ℕ) → (first : FlowPacket) → (packets : List FlowPacket) → RunOutcome
+    → List JudgedPart
+part_by m number first packets (no_whole_frame head) = []
+part_by m number first packets (whole_frames run) =
+    record { number = number; first = first; values = judged_values m run; packets = packets } ∷ []
+
+-- the run of this number from a place on and below another
+abbrev pub part_between : Media → List FlowPacket → (tai number from to : ℕ) → List JudgedPart
+part_between m packets tai number from to =
+    part_by m number (packet packets from) (judged_packets packets from to) (run_outcome packets tai from to)
+
+-- the judged runs from a place on and up to the last of these cuts; the first run has this number
+abbrev pub parts_over : Media → List FlowPacket → (tai number from : ℕ) → List ℕ → List JudgedPart
+parts_over m packets tai number from [] = []
+parts_over m packets tai number from (cut ∷ rest) =
+    part_between m packets tai number from cut ++ parts_over m packets tai (number + 1) cut rest
+
+-- the judged runs from a place on and below another, with cuts at these places between
+abbrev pub parts_between : Media → List FlowPacket → (tai to number from : ℕ) → List ℕ → List JudgedPart
+parts_between m packets tai to number from [] = part_between m packets tai number from to
+parts_between m packets tai to number from (cut ∷ rest) =
+    part_between m packets tai number from cut ++ parts_between m packets tai to (number + 1) cut rest
+
+-- the judged runs of a flow that is judged so
+abbrev pub parts_in : Media → List FlowPacket → (tai : ℕ) → FlowVerdict → List JudgedPart
+parts_in m packets tai (in_one_run outcome) =
+    part_by m 1 (packet packets 0) (judged_packets packets 0 (length packets)) outcome
+parts_in m packets tai (in_runs runs) =
+    parts_between m packets tai (length packets) 1 0 (cuts packets (length packets))
+parts_in m packets tai verdict = []
+
+-- the judged runs of the flow of a media
+abbrev pub judged_parts : Media → List FlowPacket → (tai : ℕ) → List JudgedPart
+judged_parts m packets tai = parts_in m packets tai (judged packets m.pt tai)
+
+-- the runs that are over before packet n of a flow, where they are judged
+abbrev pub parts_before : Media → List FlowPacket → (tai n : ℕ) → List JudgedPart
+parts_before m packets tai n = parts_over m packets tai 1 0 (cuts packets n)
+
+-- the run of this number, with this first packet and groups of n packets
+abbrev pub run_by : (number : ℕ) → (first : FlowPacket) → (n : ℕ) → RunOf
+run_by number first n = record { number = number; first = first; n = n }
+
+-- of the open run the packets of its whole groups so far, where it comes to any
+abbrev pub open_by : (number : ℕ) → (first : FlowPacket) → (packets : List FlowPacket) → RunOutcome → Option OpenPart
+open_by number first packets (no_whole_frame head) = None
+open_by number first packets (whole_frames run) =
+    Some (record { run = run_by number first run.n; packets = packets })
+
+-- the run that is open before packet n of a flow, with cuts at these places before
+abbrev pub open_at : List FlowPacket → (tai : ℕ) → List ℕ → (n : ℕ) → Option OpenPart
+open_at packets tai places n =
+    let from = last_place (0 ∷ places) in
+    open_by (length places + 1) (packet packets from) (judged_packets packets from n)
+    (run_outcome packets tai from n)
+
+-- the run that is open before packet n of a flow
+abbrev pub open_before : List FlowPacket → (tai n : ℕ) → Option OpenPart
+open_before packets tai n = open_at packets tai (cuts packets n) n
+
+-- the packets before the first fault; all n, where there is none
+abbrev pub sound_before : Option FirstFault → (n : ℕ) → ℕ
+sound_before None n = n
+sound_before (Some first) n = first.index

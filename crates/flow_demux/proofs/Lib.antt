@@ -1,0 +1,5 @@
+mod Awaiting
+mod Owning
+mod Readying
+mod Stepping
+mod Taking

@@ -1,0 +1,146 @@
+//! The flow of one media, and what takes it.
+
+ghost use Rattle.std.specs.Prelude.{◌≡◌, ◌≤◌, ◌+◌, ◌∷◌, [], ℕ, Some, Ok, IfOk, IfSome, length, true, false};
+ghost use Rattle.timing_base.specs.Captures.{IsStamp, Record};
+ghost use Rattle.timing_base.specs.Targets.{target_of};
+ghost use Rattle.udp_rtp.specs.Flow.{flow_packet, is_same_target};
+ghost use Rattle.udp_rtp.specs.Frames.{datagram_of};
+ghost use Rattle.flow_demux.specs.Readings.{IsReading};
+
+use crate::taker::FlowTaker;
+use std::alloc::AllocError as OutOfMemory;
+use timing_base::{FlowPacket, Media};
+use udp_rtp::{Awaited, Datagram, read_rtp};
+
+/// The flow of a media, and what takes it.
+#[derive(Drop)]
+pub struct MediaFlow<F: Drop> {
+    pub media: Media,
+    pub taker: F,
+    /// The packet that is expected next, as the numbers of a frame that carries it; or nothing.
+    awaited: Awaited,
+}
+
+impl<F: FlowTaker> MediaFlow<F> {
+    ghost use Rattle.flow_demux.specs.Awaits.{AwaitsExpected};
+    ghost use Rattle.flow_demux.specs.Takings.{GoesTo, TakesFlow};
+
+    /// Before the first record.
+    pub fn new(media: &Media, taker: F) -> MediaFlow<F>
+        ensures media { result.media ≡ media.now }
+        ensures taker { result.taker ≡ taker }
+        ensures awaits { AwaitsExpected F.expects result }
+    {
+        MediaFlow {
+            media: *media,
+            taker,
+            awaited: Awaited::nothing(),
+        }
+    }
+
+    /// Takes a record whose frame carries the packet that is expected, where the flow's taker takes that by
+    /// [`FlowTaker::take_next`], and returns whether it did. Else nothing changes. `Err` is want of memory.
+    #[inline(always)]
+    pub fn take_next(&mut self, number: u64, at: u64, frame: &[u8]) -> Result<bool, OutOfMemory>
+        requires stamp { IsStamp at }
+        requires short { length frame.now ≤ 262144 }
+        requires room { F.room 1 self.old.taker }
+        requires awaits { AwaitsExpected F.expects self.old }
+        ensures media { self.new.media ≡ self.old.media }
+        ensures awaits { AwaitsExpected F.expects self.new }
+        ensures other { result ≡ Ok false → self.new ≡ self.old }
+        ensures goes { result ≡ Ok true → GoesTo self.old.media frame.now }
+        ensures room { (count : ℕ) → result ≡ Ok true → F.room (count + 1) self.old.taker
+            → F.room count self.new.taker }
+        ensures takes { result ≡ Ok true → TakesFlow F.takes self.old self.new
+            (record { number = number; stamp = at; bytes = frame.now } ∷ []) }
+    {
+        if !self.awaited.is_in(frame) {
+            return Ok(false);
+        }
+        match self.taker.take_next(number, at, frame) {
+            Ok(true) => {
+                self.awaited.go_on();
+                Ok(true)
+            }
+            Ok(false) => Ok(false),
+            Err(refused) => {
+                self.awaited = Awaited::nothing();
+                Err(refused)
+            }
+        }
+    }
+
+    /// The packet of a record whose frame carries the one that is expected.
+    #[inline(always)]
+    pub fn packet_in(&self, number: u64, at: u64, frame: &[u8]) -> Option<FlowPacket>
+        requires awaits { AwaitsExpected F.expects self.now }
+        ensures packet { IfSome result (λ packet. flow_packet self.now.media
+            (record { number = number; stamp = at; bytes = frame.now }) ≡ Some packet) }
+        ensures reading { IfSome result (λ packet. IsReading packet.rtp) }
+    {
+        if !self.awaited.is_in(frame) {
+            return None;
+        }
+        Some(FlowPacket {
+            rec: number,
+            at,
+            rtp: Ok(self.awaited.packet()),
+        })
+    }
+
+    /// Takes the next packet of the flow, and the frame that carried it. `Err` is want of memory.
+    #[inline(always)]
+    pub fn take_packet(&mut self, packet: &FlowPacket, frame: &[u8]) -> Result<(), OutOfMemory>
+        requires stamp { IsStamp packet.now.at }
+        requires reading { IsReading packet.now.rtp }
+        requires short { length frame.now ≤ 262144 }
+        requires room { F.room 1 self.old.taker }
+        ensures media { self.new.media ≡ self.old.media }
+        ensures awaits { AwaitsExpected F.expects self.new }
+        ensures room { (count : ℕ) → IfOk result (λ _. F.room (count + 1) self.old.taker
+            → F.room count self.new.taker) }
+        ensures takes { IfOk result (λ _. (r : Record) → flow_packet self.old.media r ≡ Some packet.now
+            → r.bytes ≡ frame.now → TakesFlow F.takes self.old self.new (r ∷ [])) }
+    {
+        let taken = self.taker.take(packet, frame);
+        self.awaited = Awaited::of(self.media.target(), self.taker.expected());
+        taken
+    }
+
+    /// Takes the datagram of a record, where it goes to this media, and returns whether it does. `Err` is want of
+    /// memory.
+    #[inline(always)]
+    pub fn take_datagram(
+        &mut self,
+        number: u64,
+        at: u64,
+        frame: &[u8],
+        datagram: &Datagram<'_>,
+    ) -> Result<bool, OutOfMemory>
+        requires stamp { IsStamp at }
+        requires short { length frame.now ≤ 262144 }
+        requires datagram { datagram_of frame.now ≡ Some datagram.now }
+        requires room { F.room 1 self.old.taker }
+        requires awaits { AwaitsExpected F.expects self.old }
+        ensures media { self.new.media ≡ self.old.media }
+        ensures awaits { AwaitsExpected F.expects self.new }
+        ensures goes { IfOk result (λ goes. goes
+            ≡ is_same_target datagram.now.target (target_of self.old.media)) }
+        ensures room { (count : ℕ) → IfOk result (λ _. F.room (count + 1) self.old.taker
+            → F.room count self.new.taker) }
+        ensures takes { IfOk result (λ _. TakesFlow F.takes self.old self.new
+            (record { number = number; stamp = at; bytes = frame.now } ∷ [])) }
+    {
+        if datagram.target != self.media.target() {
+            return Ok(false);
+        }
+        let packet = FlowPacket {
+            rec: number,
+            at,
+            rtp: read_rtp(datagram.payload),
+        };
+        self.take_packet(&packet, frame)?;
+        Ok(true)
+    }
+}

@@ -1,0 +1,3 @@
+-- what is promised
+pub mod Levels
+pub mod Runs
