@@ -12,6 +12,7 @@ mod FlowTold
 mod Flows
 mod Going
 mod HandWorked
+mod JudgeTold
 mod Judging
 mod Limits
 mod Lulls
