@@ -11,6 +11,7 @@ use Rattle.timing_base.specs.declared.packet.FlowPacket.{FlowPacket}
 use Rattle.timing_base.specs.declared.packet.PacketFault.{PacketFault}
 use Rattle.timing_base.specs.declared.row.Run.{Run}
 use Rattle.timing_base.proofs.FirstFaults.{fault-kept}
+use Rattle.run_meter.specs.Runs.{JudgedPart, OpenPart}
 use Rattle.fail_interval.specs.Flowing.{CanGoOn, EndsBy, OpensAt, StandsFor as FlowStandsFor, has_fault}
 use Rattle.fail_interval.specs.Goings.{GoesBy, Refuses}
 use Rattle.fail_interval.specs.Measured.{JudgeTells, StateTells, TellsEnd, TellsOfAll, TellsSoFar}
@@ -290,3 +291,29 @@ pub so_far-tells : {M Out Past : Type 0} (stands : Standing M) (tells : Telling 
     → JudgeTells stands tells past m tai packets judge out
     → TellsSoFar tells past m tai packets (length packets) out
 so_far-tells stands tells past m key tai judge packets out s t = so_far-case stands tells past m key tai judge judge.state packets out refl s t
+
+at-carried : {M Out Past : Type 0} (stands : Standing M) (tells : Telling Past Out) (past later : Past) (m : Media) (tai : ℕ) (packets : List FlowPacket) (n : ℕ)
+    (open_run : Option (OpenRun M)) (out left : Out)
+    → ((over : List JudgedPart) (part : Option OpenPart) → tells past out m tai over part → tells later left m tai over part)
+    → TellsAt stands tells past m tai packets n open_run out
+    → TellsAt stands tells later m tai packets n open_run left
+at-carried stands tells past later m tai packets n None out left carry t = carry [] None t
+at-carried stands tells past later m tai packets n (Some open_run) out left carry t = record { told = t.told; out_tells = carry _ _ t.out_tells }
+
+carried-case : {M Out Past : Type 0} (stands : Standing M) (tells : Telling Past Out) (past later : Past) (m : Media) (tai : ℕ) (state : State M)
+    (packets : List FlowPacket) (out left : Out)
+    → ((over : List JudgedPart) (part : Option OpenPart) → tells past out m tai over part → tells later left m tai over part)
+    → StateTells stands tells past m tai packets state out
+    → StateTells stands tells later m tai packets state left
+carried-case stands tells past later m tai (Going flow) packets out left carry t =
+    λ rest. at-carried stands tells past later m tai (packets ++ rest) (length packets) flow.open out left carry (t rest)
+carried-case stands tells past later m tai (Refused rec fault) packets out left carry t = λ rest. carry _ _ (t rest)
+carried-case stands tells past later m tai Spent packets out left carry t = tt
+
+-- an output that tells of the same with what it held before
+pub carried-tells : {M Out Past : Type 0} (stands : Standing M) (tells : Telling Past Out) (past later : Past) (m : Media) (tai : ℕ) (judge : FlowJudge M)
+    (packets : List FlowPacket) (out left : Out)
+    → ((over : List JudgedPart) (part : Option OpenPart) → tells past out m tai over part → tells later left m tai over part)
+    → JudgeTells stands tells past m tai packets judge out
+    → JudgeTells stands tells later m tai packets judge left
+carried-tells stands tells past later m tai judge packets out left carry t = carried-case stands tells past later m tai judge.state packets out left carry t
