@@ -1,6 +1,7 @@
 -- The output of the meters of a judge's runs tells of the packets that the judge was fed.
-use Rattle.std.proofs.Common.{◌≡◌, ◌<◌, ◌+◌, ◌^◌, ℕ, zero, suc, List, [], ◌∷◌, ◌++◌, length, Option, Some, None, Result, Ok, Err, refl, arith, ap, ◌∙◌, sym, subst}
-use Rattle.std.specs.Prelude.{IsErr, IsOk, OnOk}
+use Rattle.std.proofs.Common.{◌≡◌, ◌<◌, ◌+◌, ◌^◌, ℕ, zero, suc, List, [], ◌∷◌, ◌++◌, length, Option, Some, None, Result, Ok, Err, refl, arith, ◌∙◌}
+use Rattle.std.proofs.Common.{sym, subst}
+use Rattle.std.specs.Prelude.{IsErr, OnOk}
 use Rattle.std.proofs.lemmas.List.{append-nil}
 use Rattle.frame_group.specs.Expected.{next_packet}
 use Rattle.timing_base.specs.Captures.{IsStamp}
@@ -91,7 +92,8 @@ same-tells stands tells past m tai packets old new before after e f t =
     (subst (λ state. StateTells stands tells past m tai packets state before) (sym e) t)
 
 -- a flow without a fault went on
-pub went-tells : {M Out Past : Type 0} (stands : Standing M) (tells : Telling Past Out) (past : Past) (m : Media) (key : FlowKey) (tai : ℕ) (judge : FlowJudge M)
+pub went-tells : {M Out Past : Type 0} (stands : Standing M) (tells : Telling Past Out) (past : Past) (m : Media) (key : FlowKey) (tai : ℕ)
+    (judge : FlowJudge M)
     (new : State M) (packets : List FlowPacket) (p : FlowPacket) (before after : Out)
     → GoesBy (λ flow later. TellsTook stands tells flow later before after p) judge.state new
     → judge.fed < 2 ^ 41 → IsStamp p.at
@@ -122,7 +124,8 @@ expected-tells stands tells past m key tai rec at judge new packets out went few
     (subst (λ (k : Media). FlowTells stands tells past went.later (packets ++ next_packet packets k.pt rec at ∷ []) out) is.0 now))
 
 -- where the first fault of n packets is known
-at-fault : {Out Past : Type 0} (tells : Telling Past Out) (past : Past) (m : Media) (tai : ℕ) (packets : List FlowPacket) (n : ℕ) (first : FirstFault) (out : Out)
+at-fault : {Out Past : Type 0} (tells : Telling Past Out) (past : Past) (m : Media) (tai : ℕ) (packets : List FlowPacket) (n : ℕ) (first : FirstFault)
+    (out : Out)
     → first_fault_below packets m.pt n ≡ Some first
     → tells past out m tai (parts_before m packets tai first.index) (open_before packets tai first.index)
     → TellsSoFar tells past m tai packets n out
@@ -156,7 +159,8 @@ refused-tells stands tells past m key tai rec fault judge flow state packets p o
     let all = packets ++ p ∷ rest in
     let n = length packets in
     let first : has_fault all m.pt n fault = subst (λ (k : Media). has_fault all k.pt n fault) is.0 (ends packets rest c) in
-    let before = at-before stands tells past flow.media flow.tai all n c.stands.so_far flow.done.items flow.open out (c.stands.runs (p ∷ rest)) (told (p ∷ rest)) in
+    let before = at-before stands tells past flow.media flow.tai all n c.stands.so_far flow.done.items flow.open out (c.stands.runs (p ∷ rest))
+    (told (p ∷ rest)) in
     at-fault tells past m tai all (n + 1) (record { index = n; fault = fault }) out first
     (subst (λ k. tells past out k tai (parts_before k all tai n) (open_before all tai n)) is.0
     (subst (λ q. tells past out flow.media q (parts_before flow.media all q n) (open_before all q n)) is.1 before))))
@@ -292,7 +296,8 @@ pub so_far-tells : {M Out Past : Type 0} (stands : Standing M) (tells : Telling 
     → TellsSoFar tells past m tai packets (length packets) out
 so_far-tells stands tells past m key tai judge packets out s t = so_far-case stands tells past m key tai judge judge.state packets out refl s t
 
-at-carried : {M Out Past : Type 0} (stands : Standing M) (tells : Telling Past Out) (past later : Past) (m : Media) (tai : ℕ) (packets : List FlowPacket) (n : ℕ)
+at-carried : {M Out Past : Type 0} (stands : Standing M) (tells : Telling Past Out) (past later : Past) (m : Media) (tai : ℕ) (packets : List FlowPacket)
+    (n : ℕ)
     (open_run : Option (OpenRun M)) (out left : Out)
     → ((over : List JudgedPart) (part : Option OpenPart) → tells past out m tai over part → tells later left m tai over part)
     → TellsAt stands tells past m tai packets n open_run out

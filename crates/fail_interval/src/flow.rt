@@ -11,7 +11,6 @@ ghost use Rattle.frame_group.specs.Expected.{expected_after};
 ghost use Rattle.timing_base.specs.Media.{Media as MediaValue};
 ghost use Rattle.fail_interval.specs.Row.{verdict_of};
 ghost use Rattle.fail_interval.specs.SoFar.{SoFar, in_head, outcome_of, so_far_next};
-
 ghost use Rattle.run_meter.specs.Runs.{JudgedPart, told_of};
 ghost use Rattle.fail_interval.specs.Metered.{Heads, TellsOf};
 ghost use Rattle.fail_interval.specs.Parts.{judged_parts};

@@ -117,8 +117,8 @@ pub fn runs_by_hand()
         ≡ runs_row (headed_run 11 6 None 1) (headed_run 12 8 (Some 7) 2) }
 {}
 
-/// What the meters of a flow's runs are told of them while the flow goes on: of a run with a gap behind it, in which the
-/// second group isn't whole, and of the next one. The first group of a run is told once it is whole.
+/// What the output of meters tells of a flow's runs while the flow goes on: of a run with a gap behind it, in which the
+/// second group isn't whole, and of the next one.
 pub fn open_runs_by_hand()
     ensures in_first { open_before gap_between 0 2 ≡ None }
     ensures first { open_before gap_between 0 3 ≡ Some (record {
@@ -136,8 +136,8 @@ pub fn open_runs_by_hand()
     }) }
 {}
 
-/// What the output of a judge's meters tells of the packets that the judge was fed: of the runs of those before the first
-/// fault.
+/// What the output of a judge's meters tells of the packets that the judge was fed: of the runs of those before the
+/// first fault.
 pub fn output_tells_so_far<M: RunMeter>()
     ensures { (past : M.Past) (m : Media) (key : FlowKey) (tai : ℕ) (judge : JudgeValue M) (packets : List FlowPacket)
         (out : M.Out) → StandsFor m key tai judge packets

@@ -7,7 +7,8 @@ pub feed-step-requires : goal.feed-step-requires
 feed-step-requires g c = flow-known _ _ _ _ c.in-Going.is c.args.self.now.known c.requires.few c.requires.stamp
 
 pub returns-in-Refused-clause-takes : goal.returns-in-Refused-clause-takes
-returns-in-Refused-clause-takes g c = refused-before _ c.args.rec c.args.at _ (Ok c.args.rtp) _ c.args.self.now _ _ c.in-Refused.is (refl, c.in-Refused.is) c.requires.stamp
+returns-in-Refused-clause-takes g c = refused-before _ c.args.rec c.args.at _ (Ok c.args.rtp) _ c.args.self.now _ _ c.in-Refused.is (refl, c.in-Refused.is)
+    c.requires.stamp
 
 pub invariant_of-self-in-None : goal.invariant_of-self-in-None
 invariant_of-self-in-None g c = record {
@@ -36,7 +37,8 @@ returns-in-Refused-clause-tells g c = λ _ past media key tai packets s t.
 pub returns-in-None-clause-tells : goal.returns-in-None-clause-tells
 returns-in-None-clause-tells g c = λ wants past media key tai packets s t.
     let took = c.in-Ok.is ∙ ap Ok c.in-None.is in
-    went-tells g.M.RunMeter.stands g.M.RunMeter.tells past media key tai c.args.self.now _ packets (record { rec = c.args.rec; at = c.args.at; rtp = Ok c.args.rtp })
+    went-tells g.M.RunMeter.stands g.M.RunMeter.tells past media key tai c.args.self.now _ packets
+    (record { rec = c.args.rec; at = c.args.at; rtp = Ok c.args.rtp })
     c.args.out.now c.feed-step.new.out (record {
       flow = c.in-Going.flow;
       later = c.feed-step.new.self;
@@ -51,8 +53,8 @@ pub returns-in-Some-clause-tells : goal.returns-in-Some-clause-tells
 returns-in-Some-clause-tells g c = λ _ past media key tai packets s t.
     let refused = c.in-Ok.is ∙ ap Ok c.in-Some.is in
     on_ok c.refuse.result
-    (refused-tells g.M.RunMeter.stands g.M.RunMeter.tells past media key tai c.args.rec c.in-Some.fault c.args.self.now _ _ packets
-    (record { rec = c.args.rec; at = c.args.at; rtp = Ok c.args.rtp }) c.feed-step.new.out c.in-Going.is (c.refuse.ensures.going _ refl).1
+    (refused-tells g.M.RunMeter.stands g.M.RunMeter.tells past media key tai c.args.rec c.in-Some.fault c.args.self.now c.in-Going.flow c.refuse.new.self
+    packets (record { rec = c.args.rec; at = c.args.at; rtp = Ok c.args.rtp }) c.feed-step.new.out c.in-Going.is (c.refuse.ensures.going _ refl).1
     (c.feed-step.ensures.ends _ refused) c.requires.few c.requires.stamp s
-    (same-tells g.M.RunMeter.stands g.M.RunMeter.tells past media tai packets c.args.self.now.state c.args.self.now.state c.args.out.now c.feed-step.new.out refl
-    (c.feed-step.ensures.out _ refused) t))
+    (same-tells g.M.RunMeter.stands g.M.RunMeter.tells past media tai packets c.args.self.now.state c.args.self.now.state c.args.out.now c.feed-step.new.out
+    refl (c.feed-step.ensures.out _ refused) t))

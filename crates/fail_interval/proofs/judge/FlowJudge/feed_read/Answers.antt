@@ -37,5 +37,6 @@ returns-clause-tells g c = λ wants past media key tai packets s t.
 pub returns-in-Ok-true-clause-tells : goal.returns-in-Ok-true-clause-tells
 returns-in-Ok-true-clause-tells g c = λ wants past media key tai packets s t.
     let went = c.feed_on.ensures.tells (c.in-Ok-true.is ∙ ap Ok c.in-Ok-true.field-0-test) wants in
-    went-tells g.M.RunMeter.stands g.M.RunMeter.tells past media key tai c.args.self.now _ packets (record { rec = c.args.rec; at = c.args.at; rtp = Ok c.args.rtp })
+    went-tells g.M.RunMeter.stands g.M.RunMeter.tells past media key tai c.args.self.now _ packets
+    (record { rec = c.args.rec; at = c.args.at; rtp = Ok c.args.rtp })
     c.args.out.now c.feed_on.new.out went c.requires.few c.requires.stamp s t
