@@ -1,6 +1,8 @@
 -- for other crates
 pub mod Confirmed
+pub mod JudgeTold
 pub mod Judges
+pub mod PartsTold
 pub mod Runs
 -- of this crate alone
 mod Awaiting
@@ -12,7 +14,6 @@ mod FlowTold
 mod Flows
 mod Going
 mod HandWorked
-mod JudgeTold
 mod Judging
 mod Limits
 mod Lulls
@@ -20,7 +21,6 @@ mod Targets
 mod Told
 mod Metering
 mod OneTakes
-mod PartsTold
 mod Prefixes
 mod Readings
 mod Rows

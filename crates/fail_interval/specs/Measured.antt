@@ -30,6 +30,7 @@ TellsEnd tells past m tai packets None out = tells past out m tai (judged_parts 
 TellsEnd tells past m tai packets (Some first) out =
     tells past out m tai (parts_before m packets tai first.index) (open_before packets tai first.index)
 
+-- so by the first fault of all packets of the flow
 abbrev pub TellsOfAll : {Past Out : Type 0} → Telling Past Out → Past → Media → (tai : ℕ) → List FlowPacket → Out
     → Type 0
 TellsOfAll tells past m tai packets out = TellsEnd tells past m tai packets (first_fault packets m.pt) out

@@ -28,7 +28,7 @@ pub record TellsBy {M Out Past : Type 0} (stands : Standing M) (tells : Telling 
       (judged_packets packets (last_place (0 ∷ places)) n)
   pub out_tells : tells past out m tai (parts_over m packets tai 1 0 places) (open_at packets tai places n)
 
--- so before packet n; no run is open before the first packet
+-- before packet n of a flow; no run is open before the first packet
 abbrev pub TellsAt : {M Out Past : Type 0} → Standing M → Telling Past Out → Past → Media → (tai : ℕ)
     → List FlowPacket → (n : ℕ) → Option (OpenRun M) → Out → Type 0
 TellsAt stands tells past m tai packets n None out = tells past out m tai [] None

@@ -22,7 +22,7 @@ ghost use Rattle.udp_rtp.specs.TwoFlows.{first_capture, joined_captures, next_po
 ghost use Rattle.fail_interval.specs.Fails.{kind_verdict};
 ghost use Rattle.timing_base.specs.declared.key.FlowKey.{FlowKey};
 ghost use Rattle.timing_base.specs.declared.packet.FlowPacket.{FlowPacket};
-ghost use Rattle.run_meter.specs.Runs.{JudgedPart, OpenPart};
+ghost use Rattle.run_meter.specs.Runs.{JudgedPart, NamesFirst, OpenPart, is_broken};
 ghost use Rattle.fail_interval.specs.Measured.{JudgeTells, TellsSoFar};
 ghost use Rattle.fail_interval.specs.Parts.{open_before, parts_before, run_by};
 ghost use Rattle.fail_interval.specs.Stands.{StandsFor};
@@ -48,6 +48,12 @@ pub fn fail_is_confirmed()
         → Confirms m n stamps kind f }
     ensures refutes { (m : Media) (n : ℕ) (stamps : List ℕ) (kind : Kind) (f : FailProof) → IsMedia m
         → 1 ≤ n → NeverFall stamps → Confirms m n stamps kind f → Keeps m n stamps kind → ⊥ }
+{}
+
+/// A verdict names the first packet that breaks a model of its type; where none does, it is a pass.
+pub fn verdict_names_first()
+    ensures { (m : Media) (n : ℕ) (stamps : List ℕ) (kind : Kind)
+        → NamesFirst (is_broken m n stamps kind) (length stamps) (kind_verdict m n stamps kind) }
 {}
 
 /// Each packet comes 444 4/9 ns before its gapped read. The tail comes at once, and isn't judged. A second that is

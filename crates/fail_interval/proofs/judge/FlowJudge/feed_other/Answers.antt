@@ -54,7 +54,8 @@ returns-in-Some-clause-tells g c = λ _ past media key tai packets s t.
     let refused = c.in-Ok.is ∙ ap Ok c.in-Some.is in
     on_ok c.refuse.result
     (refused-tells g.M.RunMeter.stands g.M.RunMeter.tells past media key tai c.args.rec c.in-Some.fault c.args.self.now c.in-Going.flow c.refuse.new.self
-    packets (record { rec = c.args.rec; at = c.args.at; rtp = Ok c.args.rtp }) c.feed-step.new.out c.in-Going.is (c.refuse.ensures.going _ refl).1
+    packets (record { rec = c.args.rec; at = c.args.at; rtp = Ok c.args.rtp }) c.feed-step.new.out c.in-Going.is
+    (c.refuse.ensures.going c.feed-step.new.self refl).1
     (c.feed-step.ensures.ends _ refused) c.requires.few c.requires.stamp s
     (same-tells g.M.RunMeter.stands g.M.RunMeter.tells past media tai packets c.args.self.now.state c.args.self.now.state c.args.out.now c.feed-step.new.out
     refl (c.feed-step.ensures.out _ refused) t))
