@@ -199,8 +199,8 @@ names-case m n stamps kind (Fail f) e =
     let first = first-broken m n stamps kind (length stamps) f e in
     let there : f.to ≡ first.index = ap (λ (g : FailProof). g.to) first.is ∙ proof-at m n stamps kind first.index first.model in
     let breaks : is_broken m n stamps kind first.index ≡ true =
-    some-broken (is_overfull m n stamps kind first.index) (is_over m n stamps kind first.index) (is_empty m n stamps kind first.index) first.model first.breaks in
-    (
+    some-broken (is_overfull m n stamps kind first.index) (is_over m n stamps kind first.index) (is_empty m n stamps kind first.index) first.model
+    first.breaks in (
       omega (arith, there, first.within),
       ap (is_broken m n stamps kind) there ∙ breaks,
       λ i low. not-broken m n stamps kind i (first.before i (omega (arith, there, low))),

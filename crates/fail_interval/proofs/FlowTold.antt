@@ -1,12 +1,11 @@
 -- The meters of a flow's runs are told its packets.
-use Rattle.std.proofs.Common.{◌≡◌, ◌≤◌, ◌<◌, ◌+◌, ◌*◌, ◌^◌, ℕ, zero, suc, Bool, true, false, List, [], ◌∷◌, ◌++◌, length, length-append, Option, Some, None, Result, Ok, Err, refl, arith, ap, ◌∙◌, sym, subst}
-use Rattle.std.specs.Prelude.{IfOk, OnOk}
+use Rattle.std.proofs.Common.{◌≡◌, ◌≤◌, ◌<◌, ◌+◌, ◌*◌, ℕ, zero, suc, Bool, false, List, [], ◌∷◌, ◌++◌, length, length-append, Option, Some}
+use Rattle.std.proofs.Common.{None, Ok, refl, arith, ap, ◌∙◌, sym, subst}
 use Rattle.std.proofs.lemmas.List.{append-nil}
-use Rattle.frame_group.specs.Cuts.{cut_at}
 use Rattle.frame_group.specs.declared.grouper.Grouper.{Grouper}
-use Rattle.timing_base.specs.Flows.{cuts, first_fault, first_fault_below, has_marker, is_cut, last_place, markers, packet, read_or_zeros}
+use Rattle.timing_base.specs.Flows.{cuts, first_fault_below, has_marker, is_cut, last_place, markers, packet, read_or_zeros}
 use Rattle.timing_base.specs.Grouped.{IsSized}
-use Rattle.timing_base.specs.Judged.{run_outcome, stamp_of}
+use Rattle.timing_base.specs.Judged.{run_outcome}
 use Rattle.timing_base.specs.Media.{Media}
 use Rattle.timing_base.specs.declared.packet.FlowPacket.{FlowPacket}
 use Rattle.timing_base.specs.declared.packet.Rtp.{Rtp}
@@ -16,8 +15,8 @@ use Rattle.run_meter.specs.Runs.{JudgedPart, stamps_of, told_of}
 use Rattle.run_meter.specs.declared.run.RunHead.{RunHead}
 use Rattle.run_meter.specs.declared.run.RunPacket.{RunPacket}
 use Rattle.fail_interval.specs.Flowing.{CanGoOn, ComesNext, IsClosed, IsOpen, OpensAt, StandsFor, StartsAt}
-use Rattle.fail_interval.specs.Metered.{EndsWhole, HaveStamps, HaveWhole, Heads, Standing, Telling, TellsNext, TellsOf, committed_next, fed_next, open_part}
-use Rattle.fail_interval.specs.Parts.{judged_packets, judged_parts, open_at, part_by, part_between, parts_over}
+use Rattle.fail_interval.specs.Metered.{EndsWhole, HaveStamps, HaveWhole, Heads, Standing, Telling, TellsNext, TellsOf, committed_next, fed_next}
+use Rattle.fail_interval.specs.Parts.{judged_packets, judged_parts, part_by, part_between, parts_over}
 use Rattle.fail_interval.specs.Runs.{CanGoOn as CanTake, StandsFor as RunStandsFor}
 use Rattle.fail_interval.specs.SoFar.{SoFar, in_head, outcome_of, so_far_at, so_far_next}
 use Rattle.fail_interval.specs.Telling.{FlowTells, Tells, TellsAt, TellsBy, TellsClosed, TellsOver, behind_first}
@@ -26,8 +25,7 @@ use Rattle.fail_interval.specs.declared.flow.OpenRun.{OpenRun}
 use Rattle.fail_interval.specs.declared.run.RunJudge.{RunJudge}
 use Rattle.fail_interval.proofs.Feeding.{IsAnswered, can_take, comes, is_cut-there, not_cut, read_packet, shift, starts-case, with_parts}
 use Rattle.fail_interval.proofs.Flows.{cut-answered, with_judge}
-use Rattle.fail_interval.proofs.Limits.{fresh-fits}
-use Rattle.fail_interval.proofs.PartsTold.{behind-next, behind-start, committed-next, committed-start, ends-whole, have-stamps, have-whole, judged_parts-none}
+use Rattle.fail_interval.proofs.PartsTold.{behind-next, committed-next, ends-whole, have-stamps, have-whole, judged_parts-none}
 use Rattle.fail_interval.proofs.PartsTold.{judged_parts-sound, open-is, parts_between-over, parts_over-push, sized-below}
 use Rattle.fail_interval.proofs.Rows.{no_fault, opens, some-open}
 use Rattle.fail_interval.proofs.Runs.{outcome-so_far, so_far_at-next, so_far_at-start}
@@ -111,7 +109,8 @@ pub goes_on-told : {M Out Past : Type 0} (stands : Standing M) (tells : Telling 
     → Taken stands tells m open_run.judge judge before after head told seen.marker
     → TellsBy stands tells past m tai packets (cuts packets i) i open_run before
     → TellsBy stands tells past m tai packets (cuts packets (i + 1)) (i + 1) (with_judge open_run judge) after
-goes_on-told stands tells past m packets tai i seen so_far done open_run judge head told before after next timestamp no_cut sized run rec number o can stood takes t =
+goes_on-told stands tells past m packets tai i seen so_far done open_run judge head told before after next timestamp no_cut sized run rec number o can stood
+    takes t =
     let places = cuts packets i in
     let from = last_place (0 ∷ places) in
     let p = packet packets i in
@@ -125,7 +124,8 @@ goes_on-told stands tells past m packets tai i seen so_far done open_run judge h
     let fed = behind_first packets i (markers packets from i) in
     let committed = judged_packets packets from i in
     let was = of-by stands tells past m tai packets places i head.run so_far open_run before (omega (arith, few)) count o.so_far_is o.judge t in
-    let sized_here : IsSized (i + 1) (markers packets from (i + 1)) = subst (λ xs. IsSized (i + 1) (markers packets (last_place (0 ∷ xs)) (i + 1))) same sized in
+    let sized_here : IsSized (i + 1) (markers packets from (i + 1)) = subst (λ xs. IsSized (i + 1) (markers packets (last_place (0 ∷ xs)) (i + 1))) same
+    sized in
     let stamps = subst (λ s. HaveStamps s (stamps_of tai fed)) (sym o.so_far_is) (have-stamps packets tai from i) in
     let whole = subst (λ s. EndsWhole s seen.marker (fed ++ p ∷ [])) (sym o.so_far_is)
     (subst (λ b. EndsWhole (so_far_at packets tai from i) b (fed ++ p ∷ [])) marked (ends-whole packets tai from i order few sized_here)) in
@@ -135,7 +135,8 @@ goes_on-told stands tells past m packets tai i seen so_far done open_run judge h
     behind-next packets tai from i order few ∙ ap (λ s. fed_next s fed p) (sym o.so_far_is) in
     let committed_is : judged_packets packets from (i + 1) ≡ committed_next so_far seen.marker fed committed p =
     committed-next packets tai from i order few
-    ∙ (ap (λ b. committed_next (so_far_at packets tai from i) b fed committed p) marked ∙ ap (λ s. committed_next s seen.marker fed committed p) (sym o.so_far_is)) in
+    ∙ (ap (λ b. committed_next (so_far_at packets tai from i) b fed committed p) marked ∙ ap (λ s. committed_next s seen.marker fed committed p)
+    (sym o.so_far_is)) in
     let is : so_far_next so_far told.at seen.marker ≡ so_far_at packets tai from (i + 1) =
     ap (λ s. so_far_next s told.at seen.marker) o.so_far_is ∙ more-is packets tai from i told.rec told.at seen next order in
     subst (λ xs. TellsBy stands tells past m tai packets xs (i + 1) (with_judge open_run judge) after) (sym same)
@@ -156,7 +157,8 @@ pub goes_on-tells : {M Out Past : Type 0} (stands : Standing M) (tells : Telling
     → CanGoOn flow packets at
     → FlowTells stands tells past flow packets before
     → Tells stands tells past flow.media flow.tai (packets ++ read_packet rec_number at seen ∷ []) (Some (with_judge open_run judge)) after
-goes_on-tells stands tells past flow packets rec_number at timestamp seen cut open_run judge head before after e none answer stamped run rec number fed takes c t =
+goes_on-tells stands tells past flow packets rec_number at timestamp seen cut open_run judge head before after e none answer stamped run rec number fed takes
+    c t =
     let p = read_packet rec_number at seen in
     let i = length packets in
     let m = flow.media in
@@ -181,7 +183,8 @@ fresh-is packets tai i rec_number at seen next =
     ap (λ so_far. so_far_next so_far at seen.marker) (sym (so_far_at-start packets tai i)) ∙ more-is packets tai i i rec_number at seen next (omega arith)
 
 -- the run starts with packet i
-starts-told : {M Out Past : Type 0} (stands : Standing M) (tells : Telling Past Out) (past : Past) (m : Media) (packets : List FlowPacket) (tai i : ℕ) (seen : Rtp)
+starts-told : {M Out Past : Type 0} (stands : Standing M) (tells : Telling Past Out) (past : Past) (m : Media) (packets : List FlowPacket) (tai i : ℕ)
+    (seen : Rtp)
     (places : List ℕ) (run : OpenRun M) (head : RunHead) (told : RunPacket) (mid after : Out)
     → ComesNext packets tai i told.rec told.at seen → told.timestamp ≡ seen.timestamp
     → last_place (0 ∷ places) ≡ i
@@ -212,7 +215,8 @@ starts-told stands tells past m packets tai i seen places run head told mid afte
     ∙ (committed-next packets tai i i (omega arith) few
     ∙ ap (λ s. committed_next s (has_marker packets i) (behind_first packets i (markers packets i i)) (judged_packets packets i i) p)
     (so_far_at-start packets tai i)) in
-    by-of stands tells past m tai packets places (i + 1) head.run (so_far_next (in_head 0) told.at seen.marker) run after [] [] (omega (arith, few)) count is stood
+    by-of stands tells past m tai packets places (i + 1) head.run (so_far_next (in_head 0) told.at seen.marker) run after [] [] (omega (arith, few)) count is
+    stood
     fed_is committed_is now
 
 -- the open run is over
@@ -250,15 +254,18 @@ pub begins-told : {M Out Past : Type 0} (stands : Standing M) (tells : Telling P
     → TellsOf stands tells past m tai head.run first over run.judge after [] [])
     → TellsAt stands tells past m tai packets i open_run before
     → TellsAt stands tells past m tai packets (i + 1) (Some run) after
-begins-told stands tells past m packets tai (suc i) pt seen so_far done new None run head told before mid after next timestamp starts o sound count rec number closed
+begins-told stands tells past m packets tai (suc i) pt seen so_far done new None run head told before mid after next timestamp starts o sound count rec
+    number closed
     closes stood begun t = absurd (omega (arith, o.0))
-begins-told stands tells past m packets tai zero pt seen so_far done new None run head told before mid after next timestamp starts o sound count rec number closed
+begins-told stands tells past m packets tai zero pt seen so_far done new None run head told before mid after next timestamp starts o sound count rec number
+    closed
     closes stood begun t =
     let none : length new ≡ 0 = ap length (closed ∙ o.1) in
     subst (λ places. TellsBy stands tells past m tai packets places 1 run after) (sym (cuts-other packets 0 refl))
     (starts-told stands tells past m packets tai 0 seen [] run head told mid after next timestamp refl (omega (arith, count, none)) rec number stood begun
     (subst (λ out. tells past out m tai [] None) (sym closes) t))
-begins-told stands tells past m packets tai i pt seen so_far done new (Some open_run) run head told before mid after next timestamp starts o sound count rec number closed
+begins-told stands tells past m packets tai i pt seen so_far done new (Some open_run) run head told before mid after next timestamp starts o sound count rec
+    number closed
     closes stood begun t =
     let places = cuts packets i in
     let few : i < length packets = next.within in
@@ -273,7 +280,8 @@ begins-told stands tells past m packets tai i pt seen so_far done new (Some open
 
 -- where the media and the seconds are known by equations
 pub begins-told-as : {M Out Past : Type 0} (stands : Standing M) (tells : Telling Past Out) (past : Past) (m more_m : Media) (packets : List FlowPacket)
-    (tai more_tai i pt : ℕ) (seen : Rtp) (marker : Bool) (so_far : SoFar) (done new : List Run) (open_run : Option (OpenRun M)) (run : OpenRun M) (head : RunHead)
+    (tai more_tai i pt : ℕ) (seen : Rtp) (marker : Bool) (so_far : SoFar) (done new : List Run) (open_run : Option (OpenRun M)) (run : OpenRun M)
+    (head : RunHead)
     (told : RunPacket) (before mid after : Out)
     → more_m ≡ m → more_tai ≡ tai → marker ≡ seen.marker
     → ComesNext packets tai i told.rec told.at seen → told.timestamp ≡ seen.timestamp
@@ -288,13 +296,15 @@ pub begins-told-as : {M Out Past : Type 0} (stands : Standing M) (tells : Tellin
     → TellsOf stands tells past more_m tai head.run first over run.judge after [] [])
     → TellsAt stands tells past m tai packets i open_run before
     → TellsAt stands tells past more_m more_tai packets (i + 1) (Some run) after
-begins-told-as stands tells past m more_m packets tai more_tai i pt seen marker so_far done new open_run run head told before mid after e f marked next timestamp starts o
+begins-told-as stands tells past m more_m packets tai more_tai i pt seen marker so_far done new open_run run head told before mid after e f marked next
+    timestamp starts o
     sound count rec number closed closes stood begun t =
     let stood_so = subst (λ k. RunStandsFor k run.judge (so_far_next (in_head 0) told.at seen.marker)) e
     (subst (λ b. RunStandsFor more_m run.judge (so_far_next (in_head 0) told.at b)) marked stood) in
     subst (λ k. TellsAt stands tells past k more_tai packets (i + 1) (Some run) after) (sym e)
     (subst (λ s. TellsAt stands tells past m s packets (i + 1) (Some run) after) (sym f)
-    (begins-told stands tells past m packets tai i pt seen so_far done new open_run run head told before mid after next timestamp starts o sound count rec number closed
+    (begins-told stands tells past m packets tai i pt seen so_far done new open_run run head told before mid after next timestamp starts o sound count rec
+    number closed
     closes stood_so
     (λ first over is heads telling.
     subst (λ k. TellsOf stands tells past k tai head.run first over run.judge after [] []) e

@@ -1,6 +1,8 @@
 -- for other crates
 pub mod Confirmed
+pub mod JudgeTold
 pub mod Judges
+pub mod PartsTold
 pub mod Runs
 -- of this crate alone
 mod Awaiting
@@ -19,7 +21,6 @@ mod Targets
 mod Told
 mod Metering
 mod OneTakes
-mod PartsTold
 mod Prefixes
 mod Readings
 mod Rows

@@ -1,24 +1,24 @@
 -- The judged runs of a flow, and the packets of the open one, one packet on.
-use Rattle.std.proofs.Common.{◌≡◌, ◌≤◌, ◌<◌, ◌+◌, ◌-◌, ◌*◌, ℕ, zero, suc, Bool, true, false, List, [], ◌∷◌, ◌++◌, length, map, get_or, drop, take, Option, Some, None, refl, arith, ap, ◌∙◌}
+use Rattle.std.proofs.Common.{◌≡◌, ◌≤◌, ◌<◌, ◌+◌, ◌-◌, ◌*◌, ℕ, zero, suc, Bool, true, false, List, [], ◌∷◌, ◌++◌, length, get_or, drop, take}
+use Rattle.std.proofs.Common.{Some, None, refl, arith, ap, ◌∙◌}
 use Rattle.std.proofs.Common.{sym, subst, add-one, append_assoc, length-append}
-use Rattle.std.specs.Prelude.{◌==◌, slice_index, slice_range}
+use Rattle.std.specs.Prelude.{slice_index, slice_range}
 use Rattle.std.proofs.Math.Seq.{take-suc}
 use Rattle.std.proofs.lemmas.Grind.{common_steps}
-use Rattle.std.proofs.lemmas.Bool.Decides.{nat_tests}
 use Rattle.std.proofs.lemmas.List.{append-nil, get_or-drop, length-drop, length-take-le}
 use Rattle.timing_base.specs.Flows.{cuts, first_fault, first_fault_below, has_marker, last_place, markers, no_packet, packet, fault}
 use Rattle.timing_base.specs.Grouped.{IsSized}
-use Rattle.timing_base.specs.Judged.{RunOutcome, in_one_run, in_runs, judged, run_outcome, runs}
 use Rattle.timing_base.specs.Media.{Media}
 use Rattle.timing_base.specs.declared.packet.FlowPacket.{FlowPacket}
 use Rattle.timing_base.proofs.FirstFaults.{no_fault-at}
 use Rattle.timing_base.proofs.Places.{last_place-push, places-here, places-none, places-other}
 use Rattle.timing_base.proofs.Sizes.{sized-enter, sized-next, sized-nil}
-use Rattle.run_meter.specs.Runs.{AreWhole, JudgedPart, stamps_of}
-use Rattle.fail_interval.specs.Metered.{AreJudged, EndsWhole, HaveStamps, HaveWhole, committed_next, fed_next, open_part}
-use Rattle.fail_interval.specs.Parts.{judged_packets, judged_parts, open_at, open_by, part_between, part_by, parts_before, parts_between, parts_in, parts_over, run_by}
+use Rattle.run_meter.specs.Runs.{stamps_of}
+use Rattle.fail_interval.specs.Metered.{EndsWhole, HaveStamps, HaveWhole, committed_next, fed_next, open_part}
+use Rattle.fail_interval.specs.Parts.{judged_packets, judged_parts, open_at, open_by, part_between, parts_between, parts_in}
+use Rattle.fail_interval.specs.Parts.{parts_over, run_by}
 use Rattle.fail_interval.specs.Runs.{StandsFor as RunStandsFor}
-use Rattle.fail_interval.specs.SoFar.{SoFar, Groups as GroupsSoFar, in_first, in_groups, in_head, outcome_of, so_far_at, so_far_by}
+use Rattle.fail_interval.specs.SoFar.{SoFar, in_first, in_groups, in_head, outcome_of, so_far_at, so_far_by}
 use Rattle.fail_interval.specs.Telling.{behind_first}
 use Rattle.fail_interval.specs.declared.run.RunJudge.{RunJudge}
 use Rattle.fail_interval.specs.declared.run.RunJudge.TheVariants.{First, Groups, Head}
@@ -224,7 +224,8 @@ open-case m (Groups judge) (in_groups g) number first committed s =
     ap (λ n. Some (record { run = run_by number first n; packets = committed })) s.n
 
 -- what is told of the open run is what is judged of it so far
-pub open-is : {M : Type 0} (m : Media) (packets : List FlowPacket) (tai : ℕ) (places : List ℕ) (i : ℕ) (judge : RunJudge M) (so_far : SoFar) → i ≤ length packets
+pub open-is : {M : Type 0} (m : Media) (packets : List FlowPacket) (tai : ℕ) (places : List ℕ) (i : ℕ) (judge : RunJudge M) (so_far : SoFar) → i ≤ length
+    packets
     → so_far ≡ so_far_at packets tai (last_place (0 ∷ places)) i
     → RunStandsFor m judge so_far
     → open_part (length places + 1) (packet packets (last_place (0 ∷ places))) judge (judged_packets packets (last_place (0 ∷ places)) i)

@@ -1,22 +1,22 @@
 -- The meter of a run is told each packet of the run, and closes with it.
-use Rattle.std.proofs.Common.{◌≡◌, ◌≤◌, ◌+◌, ◌-◌, ◌*◌, ℕ, Bool, true, false, List, [], ◌∷◌, ◌++◌, length, map, Option, Some, None, Result, Ok, refl, arith, ap, ◌∙◌}
+use Rattle.std.proofs.Common.{◌≡◌, ◌≤◌, ◌-◌, ◌*◌, ℕ, Bool, true, false, List, [], ◌∷◌, ◌++◌, length, map, Some, None, refl}
+use Rattle.std.proofs.Common.{ap, ◌∙◌}
 use Rattle.std.proofs.Common.{sym, subst}
-use Rattle.std.specs.Prelude.{if◌then◌else◌, IfOk}
+use Rattle.std.specs.Prelude.{if◌then◌else◌}
 use Rattle.std.proofs.lemmas.List.{map-append}
-use Rattle.timing_base.specs.Flows.{read_or_zeros}
 use Rattle.timing_base.specs.Judged.{stamp_of}
 use Rattle.timing_base.specs.Media.{Media}
 use Rattle.timing_base.specs.Verdicts.{Judged}
 use Rattle.timing_base.specs.declared.media.Kind.TheVariants.{N, NL, W}
 use Rattle.timing_base.specs.declared.packet.FlowPacket.{FlowPacket}
 use Rattle.timing_base.specs.declared.row.KindVerdict.{KindVerdict}
-use Rattle.run_meter.specs.Runs.{AreWhole, IsJudgedOf, JudgedPart, NameFirst, OpenPart, RunOf, part_of, stamps_of, told_of}
+use Rattle.run_meter.specs.Runs.{AreWhole, IsJudgedOf, JudgedPart, NameFirst, RunOf, part_of, stamps_of, told_of}
 use Rattle.run_meter.specs.declared.run.RunHead.{RunHead}
 use Rattle.run_meter.specs.declared.run.RunPacket.{RunPacket}
 use Rattle.fail_interval.specs.Fails.{kind_verdict}
 use Rattle.fail_interval.specs.Groups.{CanGoOn as CanAdd, IsWhole}
-use Rattle.fail_interval.specs.Metered.{AreJudged, EndsWhole, HaveStamps, HaveWhole, Heads, IsTold, Keeps, Standing, Telling, TellsOf, committed_next, fed_next}
-use Rattle.fail_interval.specs.Metered.{kept_of, open_part}
+use Rattle.fail_interval.specs.Metered.{AreJudged, EndsWhole, HaveStamps, HaveWhole, Heads, Keeps, Standing, Telling, TellsOf, committed_next, fed_next}
+use Rattle.fail_interval.specs.Metered.{kept_of}
 use Rattle.fail_interval.specs.Parts.{part_by, run_by}
 use Rattle.fail_interval.specs.Row.{judged_values}
 use Rattle.fail_interval.specs.Runs.{CanGoOn, StandsFor}
@@ -24,7 +24,7 @@ use Rattle.fail_interval.specs.SoFar.{Groups as GroupsSoFar, SoFar, in_first, in
 use Rattle.fail_interval.specs.declared.first.FirstGroup.{FirstGroup}
 use Rattle.fail_interval.specs.declared.first.Kept.{Kept}
 use Rattle.fail_interval.specs.declared.run.RunJudge.{RunJudge}
-use Rattle.fail_interval.specs.declared.run.RunJudge.TheVariants.{First, Groups, Head}
+use Rattle.fail_interval.specs.declared.run.RunJudge.TheVariants.{First, Groups}
 use Rattle.fail_interval.specs.declared.run.WholeGroups.{WholeGroups}
 use Rattle.fail_interval.proofs.Confirmed.{names-first}
 
@@ -165,7 +165,8 @@ groups-case stands tells past m groups new before after told false tai number fi
     record { told = now.0; out_tells = now.1 }
 
 -- the run with a whole group takes a packet
-pub groups-tells : {M Out Past : Type 0} (stands : Standing M) (tells : Telling Past Out) (past : Past) (m : Media) (judge : RunJudge M) (groups new : WholeGroups M)
+pub groups-tells : {M Out Past : Type 0} (stands : Standing M) (tells : Telling Past Out) (past : Past) (m : Media) (judge : RunJudge M)
+    (groups new : WholeGroups M)
     (before after : Out) (told : RunPacket) (marker : Bool) (tai number : ℕ) (first p : FlowPacket) (over : List JudgedPart) (so_far : SoFar)
     (fed committed : List FlowPacket)
     → judge ≡ Groups groups
@@ -231,10 +232,13 @@ first-case : {M Out Past : Type 0} (stands : Standing M) (tells : Telling Past O
     → StandsFor {M = M} m (First count group) so_far → told ≡ told_of tai p → Heads first head
     → TellsOf {M = M} stands tells past m tai head.run first over (First count group) before fed committed
     → TellsOf stands tells past m tai head.run first over new after (fed_next so_far fed p) (committed_next so_far true fed committed p)
-first-case stands tells past m count group more mid new before after head told tai first p over (in_head h) fed committed e stamps kept begins s is heads was = absurd s
-first-case stands tells past m count group more mid new before after head told tai first p over (in_groups g) fed committed e stamps kept begins s is heads was =
+first-case stands tells past m count group more mid new before after head told tai first p over (in_head h) fed committed e stamps kept begins s is heads was
+    = absurd s
+first-case stands tells past m count group more mid new before after head told tai first p over (in_groups g) fed committed e stamps kept begins s is heads
+    was =
     absurd s
-first-case stands tells past m count group more mid new before after head told tai first p over (in_first h seen) fed committed e stamps kept begins s is heads was =
+first-case stands tells past m count group more mid new before after head told tai first p over (in_first h seen) fed committed e stamps kept begins s is
+    heads was =
     begins past tai first over (fed ++ p ∷ []) count more e heads (keeps-more tai group more told fed p is stamps kept was.told.0) was.out_tells
 
 -- the first group is whole with this packet
@@ -249,7 +253,8 @@ pub first-tells : {M Out Past : Type 0} (stands : Standing M) (tells : Telling P
     → CanGoOn m judge so_far told.at marker → told ≡ told_of tai p → Heads first head
     → TellsOf stands tells past m tai head.run first over judge before fed committed
     → TellsOf stands tells past m tai head.run first over new after (fed_next so_far fed p) (committed_next so_far marker fed committed p)
-first-tells {M} stands tells past m judge count group more mid new before after head told marker tai first p over so_far fed committed e marked e_mid stamps kept begins
+first-tells {M} stands tells past m judge count group more mid new before after head told marker tai first p over so_far fed committed e marked e_mid stamps
+    kept begins
     c is heads was =
     subst (λ b. TellsOf stands tells past m tai head.run first over new after (fed_next so_far fed p) (committed_next so_far b fed committed p)) (sym marked)
     (first-case stands tells past m count group more mid new before after head told tai first p over so_far fed committed e_mid stamps kept begins

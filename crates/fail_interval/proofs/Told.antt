@@ -1,17 +1,18 @@
 -- The meter of a run is told the run's packets.
-use Rattle.std.proofs.Common.{◌≡◌, ◌≤◌, ◌<◌, ◌+◌, ◌^◌, ℕ, suc, Bool, true, false, List, [], ◌∷◌, ◌++◌, length, length-append, map, get_or, slice_index, take, take_all, refl, arith, ap, ◌∙◌, sym}
-use Rattle.std.proofs.Common.{subst, add-one, Option, Some, None}
+use Rattle.std.proofs.Common.{◌≡◌, ◌≤◌, ◌<◌, ◌+◌, ◌^◌, ℕ, suc, Bool, true, false, List, [], ◌∷◌, ◌++◌, length, get_or, slice_index}
+use Rattle.std.proofs.Common.{take, take_all, refl, arith, ap, ◌∙◌, sym}
+use Rattle.std.proofs.Common.{subst, add-one, Some, None}
 use Rattle.std.specs.Prelude.{if◌then◌else◌}
 use Rattle.std.proofs.Math.Seq.{take-suc}
-use Rattle.std.proofs.lemmas.List.{get_or-map, length-map, length-take-le, map-append, take-map}
-use Rattle.timing_base.specs.Flows.{no_packet, packet, read_or_zeros}
+use Rattle.std.proofs.lemmas.List.{get_or-map, length-map, map-append, take-map}
+use Rattle.timing_base.specs.Flows.{no_packet, packet}
 use Rattle.timing_base.specs.Judged.{stamp_of}
 use Rattle.timing_base.specs.Media.{Media}
 use Rattle.timing_base.specs.declared.packet.FlowPacket.{FlowPacket}
 use Rattle.sender_params.specs.Ticks.{NeverFall}
 use Rattle.sender_params.specs.declared.params.Params.{Params}
 use Rattle.run_meter.specs.Levels.{IsLevel}
-use Rattle.run_meter.specs.Runs.{AreWhole, IsHeadOf, JudgedPart, OpenPart, RunOf, stamps_of, told_of}
+use Rattle.run_meter.specs.Runs.{AreWhole, IsHeadOf, JudgedPart, RunOf, stamps_of, told_of}
 use Rattle.run_meter.specs.declared.level.Level.{Level}
 use Rattle.run_meter.specs.declared.run.RunHead.{RunHead}
 use Rattle.run_meter.specs.declared.run.RunPacket.{RunPacket}
@@ -70,7 +71,8 @@ pub told-same : (rec also at too timestamp more : ℕ) → rec ≡ also → at �
 told-same rec also at too timestamp more e f g = cc
 
 -- the next packet of a first group
-pub first-next : {M : Type 0} (stands : Standing M) (params : Params) (old new : M) (group : FirstGroup) (stamps : List ℕ) (keeps : List Kept) (i : ℕ) (kept : Kept)
+pub first-next : {M : Type 0} (stands : Standing M) (params : Params) (old new : M) (group : FirstGroup) (stamps : List ℕ) (keeps : List Kept) (i : ℕ)
+    (kept : Kept)
     (level : Level) (tai : ℕ) (r : RunOf) (packets : List FlowPacket)
     → stamps ≡ group.stamps.items → keeps ≡ group.kept.items
     → AreStamps stamps → i < length stamps
@@ -146,7 +148,8 @@ pub record Commits {M Out Past : Type 0} (stands : Standing M) (tells : Telling 
       → tells past after params.media tai over (Some (record { run = r; packets = fed }))
 
 -- the run's packets so far are committed, and the output tells of them
-pub record AreTold {M Out Past : Type 0} (stands : Standing M) (tells : Telling Past Out) (past : Past) (m : Media) (tai : ℕ) (meter : M) (out : Out) (r : RunOf)
+pub record AreTold {M Out Past : Type 0} (stands : Standing M) (tells : Telling Past Out) (past : Past) (m : Media) (tai : ℕ) (meter : M) (out : Out)
+    (r : RunOf)
     (over : List JudgedPart) (fed committed : List FlowPacket) : Type 0 where
   pub stands_so : stands meter m tai r fed committed
   pub tells_so : tells past out m tai over (Some (record { run = r; packets = committed }))
@@ -183,7 +186,8 @@ unmarked-told stands tells past m old new out so_far told false tai number first
 }
 
 -- where it has the marker all packets so far are
-pub marked-told : {M Out Past : Type 0} (stands : Standing M) (tells : Telling Past Out) (past : Past) (m : Media) (old mid new : WholeGroups M) (before after : Out)
+pub marked-told : {M Out Past : Type 0} (stands : Standing M) (tells : Telling Past Out) (past : Past) (m : Media) (old mid new : WholeGroups M)
+    (before after : Out)
     (so_far : Groups) (told : RunPacket) (marker : Bool) (tai number : ℕ) (first p : FlowPacket) (over : List JudgedPart) (fed committed : List FlowPacket)
     → marker ≡ true
     → mid.params ≡ old.params → new.params ≡ mid.params
@@ -194,9 +198,11 @@ pub marked-told : {M Out Past : Type 0} (stands : Standing M) (tells : Telling P
     → (marker ≡ true → AreWhole so_far.n (fed ++ p ∷ []))
     → AreTold stands tells past m tai old.meter before (run_by number first old.params.n) over fed committed
     → AreTold stands tells past m tai new.meter after (run_by number first new.params.n) over (fed ++ p ∷ []) (if marker then fed ++ p ∷ [] else committed)
-marked-told stands tells past m old mid new before after so_far told false tai number first p over fed committed e params more put commits c stamps packet_is whole was =
+marked-told stands tells past m old mid new before after so_far told false tai number first p over fed committed e params more put commits c stamps packet_is
+    whole was =
     cc
-marked-told stands tells past m old mid new before after so_far told true tai number first p over fed committed e params more put commits c stamps packet_is whole was =
+marked-told stands tells past m old mid new before after so_far told true tai number first p over fed committed e params more put commits c stamps packet_is
+    whole was =
     let media : mid.params.media ≡ m = ap (λ (k : Params). k.media) params ∙ c.is.media in
     let n : mid.params.n ≡ so_far.n = ap (λ (k : Params). k.n) params ∙ c.is.n in
     let now : AreTold stands tells past m tai mid.meter before (run_by number first mid.params.n) over (fed ++ p ∷ []) committed = record {
@@ -221,7 +227,8 @@ pub begun-told : {M Out Past : Type 0} (stands : Standing M) (tells : Telling Pa
     → Heads opening run → Keeps tai group packets
     → tells past before m tai over None
     → AreTold stands tells past m tai new after (run_by run.run opening params.n) over packets packets
-begun-told stands tells past m params fresh met new before after tai run opening group over packets media n some opens begins feeds commits heads kept_so telling =
+begun-told stands tells past m params fresh met new before after tai run opening group over packets media n some opens begins feeds commits heads kept_so
+    telling =
     let r : RunOf = run_by run.run opening params.n in
     let size : length group.stamps.items ≡ length packets = ap length kept_so.stamps ∙ length-map packets (stamp_of tai) in
     let whole : AreWhole params.n packets = record { groups = 1; some = omega arith; are = omega (arith, n, size) } in

@@ -2,6 +2,10 @@
 pub mod Row
 pub mod Rows
 pub mod Parts
+pub mod Metered
+pub mod Telling
+pub mod Measured
+pub mod Meterings
 pub mod Fails
 pub mod Stands
 pub mod BankStands
@@ -17,12 +21,9 @@ pub mod Goings
 pub mod Groups
 pub mod Kinds
 pub mod Lulls
-pub mod Metered
-pub mod Meterings
 pub mod Meters
 pub mod Orders
 pub mod Runs
 pub mod SoFar
 pub mod States
 pub mod Taken
-pub mod Telling

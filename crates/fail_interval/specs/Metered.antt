@@ -5,12 +5,12 @@ use Rattle.std.specs.Prelude.{None, Result, IfOk}
 use Rattle.timing_base.specs.Flows.{read_or_zeros}
 use Rattle.timing_base.specs.Media.{Media}
 use Rattle.timing_base.specs.declared.packet.FlowPacket.{FlowPacket}
-use Rattle.run_meter.specs.Runs.{AreWhole, JudgedPart, OpenPart, RunOf, part_of, stamps_of, told_of}
+use Rattle.run_meter.specs.Runs.{AreWhole, JudgedPart, OpenPart, RunOf, stamps_of, told_of}
 use Rattle.run_meter.specs.declared.run.RunHead.{RunHead}
 use Rattle.run_meter.specs.declared.run.RunPacket.{RunPacket}
 use Rattle.fail_interval.specs.Parts.{run_by}
 use Rattle.fail_interval.specs.Runs.{CanGoOn}
-use Rattle.fail_interval.specs.SoFar.{Groups as GroupsSoFar, SoFar, in_first, in_groups, in_head, so_far_next}
+use Rattle.fail_interval.specs.SoFar.{Groups as GroupsSoFar, SoFar, in_first, in_groups, in_head}
 use Rattle.fail_interval.specs.declared.first.FirstGroup.{FirstGroup}
 use Rattle.fail_interval.specs.declared.first.Kept.{Kept}
 use Rattle.fail_interval.specs.declared.run.RunJudge.{RunJudge}

@@ -1,6 +1,6 @@
--- The judged runs of a flow, and what of the open one is judged, whatever follows. A run stands between two cuts; of its
--- packets those behind its first marker and up to its last are judged. Packets count from 0, runs from 1; `tai` is in
--- seconds. This project's profile.
+-- The judged runs of a flow, and what is judged of the open one, whatever follows. A run stands between two cuts; of
+-- its packets those behind its first marker and up to its last are judged. Packets count from 0, runs from 1; `tai` is
+-- in seconds. This project's profile.
 use Rattle.std.specs.Prelude.{ℕ, ◌+◌, List, [], ◌∷◌, ◌++◌, length, slice_index, slice_range, Option, Some, None}
 use Rattle.timing_base.specs.Flows.{FirstFault, cuts, last_place, markers, packet}
 use Rattle.timing_base.specs.Judged.{FlowVerdict, RunOutcome, in_one_run, in_runs, judged, no_whole_frame, run_outcome}

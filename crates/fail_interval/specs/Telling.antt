@@ -1,6 +1,7 @@
 -- What the meters of a flow's runs were told of the flow's packets, and what their output tells. Packets count from 0,
 -- runs from 1; `tai` is in seconds.
 use Rattle.std.specs.Prelude.{◌≡◌, ◌+◌, ℕ, List, [], ◌∷◌, ◌++◌, length, slice_range, Option, Some, None}
+use Rattle.frame_group.specs.Expected.{next_packet}
 use Rattle.timing_base.specs.Flows.{cuts, last_place, markers, packet}
 use Rattle.timing_base.specs.Media.{Media}
 use Rattle.timing_base.specs.declared.packet.FlowPacket.{FlowPacket}
@@ -27,7 +28,7 @@ pub record TellsBy {M Out Past : Type 0} (stands : Standing M) (tells : Telling 
       (judged_packets packets (last_place (0 ∷ places)) n)
   pub out_tells : tells past out m tai (parts_over m packets tai 1 0 places) (open_at packets tai places n)
 
--- so before packet n; no run is open before the first packet
+-- before packet n of a flow; no run is open before the first packet
 abbrev pub TellsAt : {M Out Past : Type 0} → Standing M → Telling Past Out → Past → Media → (tai : ℕ)
     → List FlowPacket → (n : ℕ) → Option (OpenRun M) → Out → Type 0
 TellsAt stands tells past m tai packets n None out = tells past out m tai [] None
@@ -51,6 +52,15 @@ abbrev pub TellsTook : {M Out Past : Type 0} → Standing M → Telling Past Out
 TellsTook {Past = Past} stands tells old new before after next =
     (past : Past) (packets : List FlowPacket) → CanGoOn old packets next.at
     → FlowTells stands tells past old packets before → FlowTells stands tells past new (packets ++ next ∷ []) after
+
+-- the flow took the packet that is expected next, with this record and at this instant: the output stays, and tells of
+-- those packets and this one
+abbrev pub TellsExpected : {M Out Past : Type 0} → Standing M → Telling Past Out → (old new : Flow M) → (rec at : ℕ)
+    → Type 0
+TellsExpected {Out = Out} {Past = Past} stands tells old new rec at =
+    (past : Past) (out : Out) (packets : List FlowPacket) → CanGoOn old packets at
+    → FlowTells stands tells past old packets out
+    → FlowTells stands tells past new (packets ++ next_packet packets old.media.pt rec at ∷ []) out
 
 -- a run is over: the output tells of what is judged of it, too
 abbrev pub TellsOver : {M Out Past : Type 0} → Standing M → Telling Past Out → OpenRun M → (before after : Out)

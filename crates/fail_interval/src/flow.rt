@@ -11,8 +11,6 @@ ghost use Rattle.frame_group.specs.Expected.{expected_after};
 ghost use Rattle.timing_base.specs.Media.{Media as MediaValue};
 ghost use Rattle.fail_interval.specs.Row.{verdict_of};
 ghost use Rattle.fail_interval.specs.SoFar.{SoFar, in_head, outcome_of, so_far_next};
-
-ghost use Rattle.frame_group.specs.Expected.{next_packet};
 ghost use Rattle.run_meter.specs.Runs.{JudgedPart, told_of};
 ghost use Rattle.fail_interval.specs.Metered.{Heads, TellsOf};
 ghost use Rattle.fail_interval.specs.Parts.{judged_parts};
@@ -113,7 +111,7 @@ pub struct Flow<M: Drop> {
 impl<M: RunMeter> Flow<M> {
     ghost use Rattle.fail_interval.specs.Flowing.{CanGoOn, ComesNext, EndsBy, HasRoom, StandsFor, Took, TookExpected};
     ghost use Rattle.fail_interval.specs.Flowing.{IsClosed, OpensAt, StartsAt, flow_expects};
-    ghost use Rattle.fail_interval.specs.Telling.{FlowTells, TellsAt, TellsClosed, TellsTook};
+    ghost use Rattle.fail_interval.specs.Telling.{FlowTells, TellsAt, TellsClosed, TellsExpected, TellsTook};
 
     /// Before the first packet.
     pub fn new(alloc: Global, media: &Media, tai: u64) -> Flow<M>
@@ -215,11 +213,8 @@ impl<M: RunMeter> Flow<M> {
         ensures tai { self.new.tai ≡ self.old.tai }
         ensures other { result ≡ Ok false → self.new ≡ self.old }
         ensures goes_on { result ≡ Ok true → TookExpected self.old self.new at }
-        ensures tells { result ≡ Ok true → M.WANTS_LEVELS ≡ true → (past : M.Past) (out : M.Out)
-            (packets : List FlowPacket) → CanGoOn self.old packets at
-            → FlowTells M.stands M.tells past self.old packets out
-            → FlowTells M.stands M.tells past self.new
-            (packets ++ next_packet packets self.old.media.pt rec at ∷ []) out }
+        ensures tells { result ≡ Ok true → M.WANTS_LEVELS ≡ true
+            → TellsExpected M.stands M.tells self.old self.new rec at }
     {
         match &mut self.open {
             Some(open) => {

@@ -26,7 +26,8 @@ enum State<M: Drop> {
 
 impl<M: RunMeter> State<M> {
     ghost use Rattle.fail_interval.specs.Flowing.{CanGoOn};
-    ghost use Rattle.fail_interval.specs.Goings.{GoesAsExpected, GoesOn, Refuses};
+    ghost use Rattle.fail_interval.specs.Goings.{GoesAsExpected, GoesBy, GoesOn, Refuses};
+    ghost use Rattle.fail_interval.specs.Telling.{TellsExpected, TellsTook};
     ghost use Rattle.fail_interval.specs.declared.flow.Flow.{Flow as FlowValue};
     ghost use Rattle.fail_interval.specs.declared.judge.State.TheVariants.{Going, Spent};
 
@@ -38,6 +39,8 @@ impl<M: RunMeter> State<M> {
             → ∥ ((packets : List FlowPacket) × CanGoOn flow packets at) ∥₁ }
         ensures other { result ≡ Ok false → self.new ≡ self.old }
         ensures goes_on { result ≡ Ok true → GoesAsExpected self.old self.new at }
+        ensures tells { result ≡ Ok true → M.WANTS_LEVELS ≡ true
+            → GoesBy (λ flow later. TellsExpected M.stands M.tells flow later rec at) self.old self.new }
         ensures spent { self.old ≡ Spent → result ≡ Ok false }
     {
         match self {
@@ -59,7 +62,14 @@ impl<M: RunMeter> State<M> {
         requires { (flow : FlowValue M) → self.old ≡ Going flow
             → ∥ ((packets : List FlowPacket) × CanGoOn flow packets at) ∥₁ }
         ensures other { result ≡ Ok false → self.new ≡ self.old }
+        ensures out { result ≡ Ok false → out.new ≡ out.old }
         ensures goes_on { result ≡ Ok true → GoesOn self.old self.new rec at rtp }
+        ensures tells { result ≡ Ok true → M.WANTS_LEVELS ≡ true
+            → GoesBy (λ flow later. TellsTook M.stands M.tells flow later out.old out.new (record {
+              rec = rec;
+              at = at;
+              rtp = Ok rtp;
+            })) self.old self.new }
         ensures spent { self.old ≡ Spent → result ≡ Ok false }
     {
         match self {
@@ -106,6 +116,7 @@ pub struct FlowJudge<M: Drop> {
 
 impl<M: RunMeter> FlowJudge<M> {
     ghost use Rattle.fail_interval.specs.Stands.{IsSpent, StandsFor, Takes, TakesExpected, count_fed, expected_of};
+    ghost use Rattle.fail_interval.specs.Measured.{JudgeTells, TellsGoingOn, TellsOfAll, TellsTaken};
 
     /// The judge of the flow with this key, of packets of this media. `tai` seconds are added to the stamps of its
     /// judged packets, but not to those that a fault tells.
@@ -113,6 +124,8 @@ impl<M: RunMeter> FlowJudge<M> {
         requires { tai ≤ 1000 }
         ensures fed { count_fed result ≡ 0 }
         ensures stands { StandsFor media.now key tai result [] }
+        ensures tells { (past : M.Past) (out : M.Out) → M.tells past out media.now tai [] None
+            → JudgeTells M.stands M.tells past media.now tai [] result out }
     {
         FlowJudge {
             key,
@@ -148,6 +161,8 @@ impl<M: RunMeter> FlowJudge<M> {
         ensures fed { count_fed self.new ≤ count_fed self.old + 1 }
         ensures other { result ≡ Ok false → self.new ≡ self.old }
         ensures took { result ≡ Ok true → TakesExpected self.old self.new at }
+        ensures tells { result ≡ Ok true → M.WANTS_LEVELS ≡ true
+            → TellsGoingOn M.stands M.tells self.old self.new rec at }
         ensures spends { OnErr result (IsSpent self.new) }
         ensures stays { IsSpent self.old → result ≡ Ok false }
     {
@@ -181,7 +196,14 @@ impl<M: RunMeter> FlowJudge<M> {
         requires reading { IsReading rtp }
         requires few { count_fed self.old < 2 ^ 41 }
 
-        ensures { Takes self.old self.new (record { rec = rec; at = at; rtp = rtp }) result }
+        ensures takes { Takes self.old self.new (record { rec = rec; at = at; rtp = rtp }) result }
+
+        // Of a meter that wants levels.
+        ensures tells { M.WANTS_LEVELS ≡ true → TellsTaken M.stands M.tells self.old self.new out.old out.new (record {
+          rec = rec;
+          at = at;
+          rtp = rtp;
+        }) result }
     {
         // Told apart here, so that the usual case goes on with the packet itself.
         match rtp {
@@ -202,7 +224,12 @@ impl<M: RunMeter> FlowJudge<M> {
         requires stamp { IsStamp at }
         requires few { count_fed self.old < 2 ^ 41 }
 
-        ensures { Takes self.old self.new (record { rec = rec; at = at; rtp = Ok rtp }) result }
+        ensures takes { Takes self.old self.new (record { rec = rec; at = at; rtp = Ok rtp }) result }
+        ensures tells { M.WANTS_LEVELS ≡ true → TellsTaken M.stands M.tells self.old self.new out.old out.new (record {
+          rec = rec;
+          at = at;
+          rtp = Ok rtp;
+        }) result }
     {
         match self.state.feed_on(rec, at, rtp, out) {
             Ok(true) => {
@@ -240,7 +267,12 @@ impl<M: RunMeter> FlowJudge<M> {
         requires stamp { IsStamp at }
         requires few { count_fed self.old < 2 ^ 41 }
 
-        ensures { Takes self.old self.new (record { rec = rec; at = at; rtp = Ok rtp }) result }
+        ensures takes { Takes self.old self.new (record { rec = rec; at = at; rtp = Ok rtp }) result }
+        ensures tells { M.WANTS_LEVELS ≡ true → TellsTaken M.stands M.tells self.old self.new out.old out.new (record {
+          rec = rec;
+          at = at;
+          rtp = Ok rtp;
+        }) result }
     {
         self.fed += 1;
         let step = match &mut self.state {
@@ -266,7 +298,12 @@ impl<M: RunMeter> FlowJudge<M> {
         requires stamp { IsStamp at }
         requires few { count_fed self.old < 2 ^ 41 }
 
-        ensures { Takes self.old self.new (record { rec = rec; at = at; rtp = Err fault }) result }
+        ensures takes { Takes self.old self.new (record { rec = rec; at = at; rtp = Err fault }) result }
+        ensures tells { (out : M.Out) → TellsTaken M.stands M.tells self.old self.new out out (record {
+          rec = rec;
+          at = at;
+          rtp = Err fault;
+        }) result }
     {
         self.fed += 1;
         self.state.refuse(rec, fault)
@@ -274,8 +311,12 @@ impl<M: RunMeter> FlowJudge<M> {
 
     /// The row of the flow, where it ends here. `Err` is want of memory.
     pub fn finish(self, out: &mut M::Out) -> Result<Row, OutOfMemory>
-        ensures { IfOk result (λ told. (media : MediaValue) (key : KeyValue) (tai : ℕ) (packets : List FlowPacket)
+        ensures row { IfOk result (λ told. (media : MediaValue) (key : KeyValue) (tai : ℕ) (packets : List FlowPacket)
             → StandsFor media key tai self packets → told ≡ row packets key media tai) }
+        ensures tells { IfOk result (λ _. (past : M.Past) (media : MediaValue) (key : KeyValue) (tai : ℕ)
+            (packets : List FlowPacket) → StandsFor media key tai self packets
+            → JudgeTells M.stands M.tells past media tai packets self out.old
+            → TellsOfAll M.tells past media tai packets out.new) }
     {
         let FlowJudge { key, state, .. } = self;
         let verdict = match state {

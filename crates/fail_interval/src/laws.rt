@@ -1,7 +1,7 @@
 //! What holds of the definitions themselves, and the rows of flows and captures worked by hand. Each function is a
 //! theorem: it does nothing, and its clauses are proved.
 
-ghost use Rattle.std.specs.Prelude.{◌≡◌, ◌≤◌, ◌∷◌, [], ℕ, List, Some, None, true, false};
+ghost use Rattle.std.specs.Prelude.{◌≡◌, ◌≤◌, ◌∷◌, [], ℕ, List, Option, Some, None, true, false, length, map};
 ghost use Rattle.timing_base.specs.Captures.{Record};
 ghost use Rattle.timing_base.specs.Examples.{sent};
 ghost use Rattle.timing_base.specs.Keys.{key_of};
@@ -20,11 +20,20 @@ ghost use Rattle.udp_rtp.specs.Examples.{group};
 ghost use Rattle.udp_rtp.specs.Flow.{flow};
 ghost use Rattle.udp_rtp.specs.TwoFlows.{first_capture, joined_captures, next_port, packet_at, second_capture};
 ghost use Rattle.fail_interval.specs.Fails.{kind_verdict};
+ghost use Rattle.timing_base.specs.declared.key.FlowKey.{FlowKey};
+ghost use Rattle.timing_base.specs.declared.packet.FlowPacket.{FlowPacket};
+ghost use Rattle.run_meter.specs.Runs.{JudgedPart, NamesFirst, OpenPart, is_broken};
+ghost use Rattle.fail_interval.specs.Measured.{JudgeTells, TellsSoFar};
+ghost use Rattle.fail_interval.specs.Parts.{open_before, parts_before, run_by};
+ghost use Rattle.fail_interval.specs.Stands.{StandsFor};
+ghost use Rattle.fail_interval.specs.declared.judge.FlowJudge.{FlowJudge as JudgeValue};
 ghost use Rattle.fail_interval.specs.Row.{row};
 ghost use Rattle.fail_interval.specs.Rows.{rows_of, rows_of_files};
 ghost use Rattle.fail_interval.specs.Worked.{a_key, with_cmax};
 ghost use Rattle.fail_interval.specs.Worked.{four, four_and_tail, gap_between, ten_at_once};
 ghost use Rattle.fail_interval.specs.Worked.{headed_run, judged_row, judged_run, runs_row, twos, unjudged_row};
+
+use run_meter::RunMeter;
 
 /// A sender type passes exactly where the judged packets keep its limits: no interval of packets has more
 /// than C_MAX, and at every instant the buffer holds between nothing and VRX_FULL. Where it fails, the
@@ -39,6 +48,12 @@ pub fn fail_is_confirmed()
         → Confirms m n stamps kind f }
     ensures refutes { (m : Media) (n : ℕ) (stamps : List ℕ) (kind : Kind) (f : FailProof) → IsMedia m
         → 1 ≤ n → NeverFall stamps → Confirms m n stamps kind f → Keeps m n stamps kind → ⊥ }
+{}
+
+/// A verdict names the first packet that breaks a model of its type; where none does, it is a pass.
+pub fn verdict_names_first()
+    ensures { (m : Media) (n : ℕ) (stamps : List ℕ) (kind : Kind)
+        → NamesFirst (is_broken m n stamps kind) (length stamps) (kind_verdict m n stamps kind) }
 {}
 
 /// Each packet comes 444 4/9 ns before its gapped read. The tail comes at once, and isn't judged. A second that is
@@ -106,6 +121,43 @@ pub fn runs_by_hand()
         (judged_run 15 11 (Some 10) (twos 1 2 0 1 1 1 Pass Pass Pass)) }
     ensures headed { row (sent 11 0 6 0 true ∷ sent 12 5 8 1 false ∷ sent 13 6 9 1 false ∷ []) a_key hd_50 0
         ≡ runs_row (headed_run 11 6 None 1) (headed_run 12 8 (Some 7) 2) }
+{}
+
+/// What the output of meters tells of a flow's runs while the flow goes on: of a run with a gap behind it, in which the
+/// second group isn't whole, and of the next one.
+pub fn open_runs_by_hand()
+    ensures in_first { open_before gap_between 0 2 ≡ None }
+    ensures first { open_before gap_between 0 3 ≡ Some (record {
+      run = run_by 1 (sent 11 0 6 0 true) 2;
+      packets = sent 12 764000 7 1 false ∷ sent 13 10364000 8 1 true ∷ [];
+    }) }
+    ensures in_second { open_before gap_between 0 4 ≡ open_before gap_between 0 3 }
+    ensures none_over { parts_before hd_50 gap_between 0 4 ≡ [] }
+    ensures over { map (λ (part : JudgedPart). part.values) (parts_before hd_50 gap_between 0 5)
+        ≡ twos 1 2 1 1 1 1 Pass Pass Pass ∷ [] }
+    ensures in_head { open_before gap_between 0 5 ≡ None }
+    ensures next { open_before gap_between 0 7 ≡ Some (record {
+      run = run_by 2 (sent 15 30364000 11 2 true) 2;
+      packets = sent 16 40764000 12 3 false ∷ sent 17 50364000 13 3 true ∷ [];
+    }) }
+{}
+
+/// What the output of a judge's meters tells of the packets that the judge was fed: of the runs of those before the
+/// first fault.
+pub fn output_tells_so_far<M: RunMeter>()
+    ensures { (past : M.Past) (m : Media) (key : FlowKey) (tai : ℕ) (judge : JudgeValue M) (packets : List FlowPacket)
+        (out : M.Out) → StandsFor m key tai judge packets
+        → JudgeTells M.stands M.tells past m tai packets judge out
+        → TellsSoFar M.tells past m tai packets (length packets) out }
+{}
+
+/// Whoever has the output may take out of it what was put there, where with what it held before it tells of the same.
+pub fn output_may_be_taken_out<M: RunMeter>()
+    ensures { (past later : M.Past) (m : Media) (tai : ℕ) (judge : JudgeValue M) (packets : List FlowPacket)
+        (out left : M.Out) → ((over : List JudgedPart) (part : Option OpenPart) → M.tells past out m tai over part
+        → M.tells later left m tai over part)
+        → JudgeTells M.stands M.tells past m tai packets judge out
+        → JudgeTells M.stands M.tells later m tai packets judge left }
 {}
 
 /// Media and files are numbered from 0: the rows of two media over two files, and of one media

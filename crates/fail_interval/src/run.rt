@@ -8,8 +8,7 @@ ghost use Rattle.fail_interval.specs.Row.{judged_values, run_verdict_of};
 ghost use Rattle.timing_base.specs.declared.packet.FlowPacket.{FlowPacket};
 ghost use Rattle.run_meter.specs.Runs.{AreWhole, JudgedPart, RunOf, part_of, stamps_of, told_of};
 ghost use Rattle.run_meter.specs.declared.run.RunHead.{RunHead as HeadValue};
-ghost use Rattle.fail_interval.specs.Metered.{AreJudged, HaveStamps, HaveWhole, Heads, IsTold, Keeps, TellsNext};
-ghost use Rattle.fail_interval.specs.Metered.{TellsOf, open_part};
+ghost use Rattle.fail_interval.specs.Metered.{AreJudged, HaveWhole, Heads, IsTold, Keeps, TellsNext, TellsOf};
 ghost use Rattle.fail_interval.specs.Parts.{part_by, run_by};
 
 use crate::first::{FirstGroup, meter_first};

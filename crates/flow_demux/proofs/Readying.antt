@@ -5,7 +5,7 @@ use Rattle.std.specs.List.{AllZip}
 use Rattle.std.specs.Option.{ForSome}
 use Rattle.std.proofs.Math.Seq.{map-set_same, take-append_seam}
 use Rattle.std.proofs.lemmas.List.{length-map}
-use Rattle.std.proofs.lemmas.List.Elements.{All-same}
+use Rattle.std.proofs.lemmas.List.Elements.{All-same, All-set}
 use Rattle.timing_base.specs.Captures.{Record}
 use Rattle.timing_base.specs.Media.{Media}
 use Rattle.timing_base.specs.Targets.{HaveOwnTargets}
@@ -78,6 +78,18 @@ ready-of {F} expects demux fs is h ordered = record {
   awaits = All-same (AwaitsExpected expects) (flows_of demux) fs is h;
   ordered = subst (λ (l : List (MediaFlow F)). ForSome demux.order (λ (o : Order). IsOrderOf o l)) (sym is) ordered;
 }
+
+-- where one of its flows went on, and the order is still that of its media
+pub ready-set : {F : Type 0} (expects : F → Option Rtp) (demux later : Demux F) (k : ℕ) (old new : MediaFlow F) → flows_of later ≡ set (flows_of demux) k new
+    → get_or (flows_of demux) k old ≡ old
+    → new.media ≡ old.media
+    → AwaitsExpected expects new
+    → IsReady expects demux
+    → ((fs : List (MediaFlow F)) → media_in fs ≡ media_in (flows_of demux) → ForSome later.order (λ (o : Order). IsOrderOf o fs))
+    → IsReady expects later
+ready-set expects demux later k old new is at media awaits ready ordered =
+    ready-of expects later (set (flows_of demux) k new) is (All-set (AwaitsExpected expects) (flows_of demux) k new awaits ready.awaits)
+    (ordered (set (flows_of demux) k new) (media-set (flows_of demux) k old new at media))
 
 -- and has room for as many packets less one
 pub room-of : {F : Type 0} (takes : Media → F → F → List Record → Type 0) (room : ℕ → F → Type 0) (expects : F → Option Rtp) (r : Record) (count : ℕ)

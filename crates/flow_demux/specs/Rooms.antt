@@ -1,5 +1,5 @@
--- What a `Demux` has room for. `expects` says which packet goes on in a flow, by what its taker keeps, and `room` that a
--- taker has room for so many packets more.
+-- What a `Demux` has room for. `expects` says which packet goes on in a flow, by what its taker keeps, and `room` that
+-- a taker has room for so many packets more.
 use Rattle.std.specs.Prelude.{◌≤◌, ℕ, All, List, Option}
 use Rattle.std.specs.Option.{ForSome}
 use Rattle.std.proofs.lemmas.List.Elements.{All-weaker}

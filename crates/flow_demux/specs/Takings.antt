@@ -1,5 +1,5 @@
--- The flows of media that are taken off the records of a capture. `takes` says of what takes one flow that by the flow of
--- a media in these records, and by nothing else, the first became the second.
+-- The flows of media that are taken off the records of a capture. `takes` says of what takes one flow that by the flow
+-- of a media in these records, and by nothing else, the first became the second.
 use Rattle.std.specs.Prelude.{◌≡◌, ℕ, List, [], ◌∷◌, ◌++◌, map, Some}
 use Rattle.std.specs.List.{AllZip}
 use Rattle.std.proofs.Common.{refl, subst, ◌∙◌}

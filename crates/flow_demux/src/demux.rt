@@ -50,8 +50,8 @@ fn order_of<F: Drop>(alloc: Global, flows: &[MediaFlow<F>]) -> Result<Option<Ord
     Ok(Some(Order::new(alloc, flows.len())?))
 }
 
-/// The flows of the media of a session, each with what takes it, over the records of one capture, or of captures that are
-/// joined.
+/// The flows of the media of a session, each with what takes it, over the records of one capture, or of captures that
+/// are joined.
 #[derive(Drop)]
 pub struct Demux<F: Drop> {
     /// One for each media, in order.
@@ -82,9 +82,9 @@ impl<F: FlowTaker> Demux<F> {
         flows
     }
 
-    /// Takes a record: its number from 1, its timestamp in nanoseconds, and its frame. The packet of the frame goes to the
-    /// flow of each media whose target is the frame's. `Err` is want of memory; what the flows took isn't known from then
-    /// on.
+    /// Takes a record: its number from 1, its timestamp in nanoseconds, and its frame. The packet of the frame goes to
+    /// the flow of each media whose target is the frame's. `Err` is want of memory; what was taken isn't known from
+    /// then on.
     #[inline(always)]
     pub fn take(&mut self, number: u64, at: u64, frame: &[u8]) -> Result<(), OutOfMemory>
         requires stamp { IsStamp at }
@@ -102,8 +102,9 @@ impl<F: FlowTaker> Demux<F> {
         self.take_expected(number, at, frame)
     }
 
-    /// Takes a record whose frame carries the packet that is expected of the flow whose turn it is, as most do, where that
-    /// flow's taker takes it by [`FlowTaker::take_next`], and returns whether it did. Else nothing changes.
+    /// Takes a record whose frame carries the packet that is expected of the flow whose turn it is, as most do, where
+    /// that flow's taker takes it by [`FlowTaker::take_next`], and returns whether it did. Else nothing changes. `Err`
+    /// is want of memory.
     #[inline(always)]
     fn take_ahead(&mut self, number: u64, at: u64, frame: &[u8]) -> Result<bool, OutOfMemory>
         requires stamp { IsStamp at }

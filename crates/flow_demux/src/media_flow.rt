@@ -1,6 +1,6 @@
 //! The flow of one media, and what takes it.
 
-ghost use Rattle.std.specs.Prelude.{◌≡◌, ◌≤◌, ◌+◌, ◌∷◌, [], ℕ, Some, Ok, IfOk, IfSome, length, true, false};
+ghost use Rattle.std.specs.Prelude.{◌≡◌, ◌≤◌, ◌+◌, ◌∷◌, [], ℕ, Some, Ok, IfOk, IfSome, IsOkAnd, length, true, false};
 ghost use Rattle.timing_base.specs.Captures.{IsStamp, Record};
 ghost use Rattle.timing_base.specs.Targets.{target_of};
 ghost use Rattle.udp_rtp.specs.Flow.{flow_packet, is_same_target};
@@ -38,6 +38,25 @@ impl<F: FlowTaker> MediaFlow<F> {
         }
     }
 
+    /// The packet of a record whose frame carries the one that is expected.
+    #[inline(always)]
+    pub fn packet_in(&self, number: u64, at: u64, frame: &[u8]) -> Option<FlowPacket>
+        requires awaits { AwaitsExpected F.expects self.now }
+        ensures packet { IfSome result (λ packet. flow_packet self.now.media
+            (record { number = number; stamp = at; bytes = frame.now }) ≡ Some packet) }
+        ensures expected { IfSome result (λ packet. IsOkAnd packet.rtp
+            (λ p. F.expects self.now.taker ≡ Some p)) }
+    {
+        if !self.awaited.is_in(frame) {
+            return None;
+        }
+        Some(FlowPacket {
+            rec: number,
+            at,
+            rtp: Ok(self.awaited.packet()),
+        })
+    }
+
     /// Takes a record whose frame carries the packet that is expected, where the flow's taker takes that by
     /// [`FlowTaker::take_next`], and returns whether it did. Else nothing changes. `Err` is want of memory.
     #[inline(always)]
@@ -55,10 +74,10 @@ impl<F: FlowTaker> MediaFlow<F> {
         ensures takes { result ≡ Ok true → TakesFlow F.takes self.old self.new
             (record { number = number; stamp = at; bytes = frame.now } ∷ []) }
     {
-        if !self.awaited.is_in(frame) {
+        let Some(packet) = self.packet_in(number, at, frame) else {
             return Ok(false);
-        }
-        match self.taker.take_next(number, at, frame) {
+        };
+        match self.taker.take_next(&packet, frame) {
             Ok(true) => {
                 self.awaited.go_on();
                 Ok(true)
@@ -69,24 +88,6 @@ impl<F: FlowTaker> MediaFlow<F> {
                 Err(refused)
             }
         }
-    }
-
-    /// The packet of a record whose frame carries the one that is expected.
-    #[inline(always)]
-    pub fn packet_in(&self, number: u64, at: u64, frame: &[u8]) -> Option<FlowPacket>
-        requires awaits { AwaitsExpected F.expects self.now }
-        ensures packet { IfSome result (λ packet. flow_packet self.now.media
-            (record { number = number; stamp = at; bytes = frame.now }) ≡ Some packet) }
-        ensures reading { IfSome result (λ packet. IsReading packet.rtp) }
-    {
-        if !self.awaited.is_in(frame) {
-            return None;
-        }
-        Some(FlowPacket {
-            rec: number,
-            at,
-            rtp: Ok(self.awaited.packet()),
-        })
     }
 
     /// Takes the next packet of the flow, and the frame that carried it. `Err` is want of memory.

@@ -1,6 +1,6 @@
 //! What takes the packets of a media's flow, one after the other.
 
-ghost use Rattle.std.specs.Prelude.{◌≡◌, ◌≤◌, ◌+◌, ◌++◌, ◌∷◌, [], ℕ, List, Option, None, Some, Ok, IfOk, IsSome, length, true, false};
+ghost use Rattle.std.specs.Prelude.{◌≡◌, ◌≤◌, ◌+◌, ◌++◌, ◌∷◌, [], ℕ, List, Option, None, Some, Ok, IfOk, IsOkAnd, length, true, false};
 ghost use Rattle.timing_base.specs.Captures.{IsStamp, Record};
 ghost use Rattle.timing_base.specs.Media.{Media as MediaValue};
 ghost use Rattle.timing_base.specs.declared.packet.Rtp.{Rtp as RtpValue};
@@ -26,22 +26,23 @@ pub trait FlowTaker: Drop {
     fn expected(&self) -> Option<Rtp>
         ensures { result ≡ expects self.now };
 
-    /// Takes the packet that is expected, off the record with this number, timestamp and frame, if it is one that takes
-    /// little, and returns whether it did. Else nothing changes. `Err` is want of memory.
-    fn take_next(&mut self, number: u64, at: u64, frame: &[u8]) -> Result<bool, OutOfMemory>
-        requires stamp { IsStamp at }
+    /// Takes the packet that is expected, and the frame that carried it, where it takes that on a short way, and returns
+    /// whether it did. Else nothing changes. `Err` is want of memory; what was taken isn't known from then on.
+    fn take_next(&mut self, packet: &FlowPacket, frame: &[u8]) -> Result<bool, OutOfMemory>
+        requires stamp { IsStamp packet.now.at }
+        requires reading { IsReading packet.now.rtp }
         requires short { length frame.now ≤ 262144 }
         requires room { room 1 self.old }
+        requires expected { IsOkAnd packet.now.rtp (λ p. expects self.old ≡ Some p) }
         ensures other { result ≡ Ok false → self.new ≡ self.old }
-        ensures expected { result ≡ Ok true → IsSome (expects self.old) }
         ensures next { result ≡ Ok true → expects self.new ≡ after (expects self.old) }
         ensures room { (count : ℕ) → result ≡ Ok true → room (count + 1) self.old → room count self.new }
-        ensures takes { result ≡ Ok true → (m : MediaValue) (p : RtpValue) (r : Record)
-            → expects self.old ≡ Some p
-            → flow_packet m r ≡ Some (record { rec = number; at = at; rtp = Ok p })
-            → r.bytes ≡ frame.now → takes m self.old self.new (r ∷ []) };
+        ensures takes { result ≡ Ok true → (m : MediaValue) (r : Record)
+            → flow_packet m r ≡ Some packet.now → r.bytes ≡ frame.now
+            → takes m self.old self.new (r ∷ []) };
 
-    /// Takes the next packet, and the frame that carried it. `Err` is want of memory.
+    /// Takes the next packet, and the frame that carried it. `Err` is want of memory; what was taken isn't known from
+    /// then on.
     fn take(&mut self, packet: &FlowPacket, frame: &[u8]) -> Result<(), OutOfMemory>
         requires stamp { IsStamp packet.now.at }
         requires reading { IsReading packet.now.rtp }

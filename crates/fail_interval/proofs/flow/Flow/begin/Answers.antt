@@ -1,4 +1,4 @@
-use Rattle.std.proofs.Common.{◌+◌, ◌∙◌, arith, length, refl}
+use Rattle.std.proofs.Common.{◌+◌, ◌∙◌, arith, refl}
 use Rattle.fail_interval.proofs.Flows.{begins-as}
 use Rattle.fail_interval.proofs.FlowTold.{begins-told-as}
 use Rattle.fail_interval.proofs.flow.Flow.begin.Goals as goal
@@ -16,5 +16,6 @@ returns-clause-tells g c = λ wants past packets i so_far rtp next number marker
     begins-told-as g.M.RunMeter.stands g.M.RunMeter.tells past c.args.self.now.media c.close.new.self.media packets c.args.self.now.tai c.close.new.self.tai i
     c.args.self.now.media.pt rtp c.args.marker so_far c.args.self.now.done.items c.close.new.self.done.items c.args.self.now.open c.in_ok-open.open
     (record { run = c.len.result + 1; rec = c.args.packet.rec; number = c.args.number }) c.args.packet c.args.out.now c.close.new.out c.start.new.out
-    c.close.ensures.media c.close.ensures.tai marker next timestamp starts o sound (omega (arith, c.len.ensures, c.close.new.self.done.ok.0)) refl number (closed.done _)
+    c.close.ensures.media c.close.ensures.tai marker next timestamp starts o sound (omega (arith, c.len.ensures, c.close.new.self.done.ok.0)) refl number
+    (closed.done _)
     closed.tells run.judge (run.tells wants) t

@@ -54,7 +54,8 @@ returns-in-Some-clause-tells g c = λ _ wants past packets h t.
 
 pub returns-clause-tells : goal.returns-clause-tells
 returns-clause-tells g c = λ _ wants past packets h t.
-    begins-tells g.M.RunMeter.stands g.M.RunMeter.tells past c.args.self.now c.if-is_none.self c.begin.new.self packets c.args.rec c.args.at c.args.rtp c.in-Ok.cut
+    begins-tells g.M.RunMeter.stands g.M.RunMeter.tells past c.args.self.now c.if-is_none.self c.begin.new.self packets c.args.rec c.args.at c.args.rtp
+    c.in-Ok.cut
     c.feed.new.self c.args.out.now c.begin.new.out
     (elim c.if-is_none.branch as (λ _. c.if-is_none.self ≡ with_parts c.args.self.now c.feed.new.self c.args.self.now.open) [
       | then-is_none+in_default w ↦ w.self-is

@@ -1,4 +1,4 @@
-use Rattle.std.proofs.Common.{◌≡◌, ◌+◌, ◌∙◌, ap, arith, None, Some, length, refl, sym}
+use Rattle.std.proofs.Common.{◌≡◌, ◌+◌, ◌∙◌, ap, arith, None, Some, length, refl}
 use Rattle.frame_group.specs.Expected.{after, going_on, next_of}
 use Rattle.frame_group.proofs.Expecting.{expected-is}
 use Rattle.run_meter.specs.declared.run.RunHead.{RunHead}
@@ -36,7 +36,8 @@ returns-in_ok-feed_whole-in-Some-clause-tells g c = λ _ wants past out packets 
     let head : RunHead = record { run = length c.args.self.now.done.items + 1; rec = open_run.rec; number = open_run.number } in
     let expects : c.expected.result ≡ Some (next_of seen) =
     c.expected.ensures.is
-    ∙ (c.if-not-feed_expected.ensures.next refl ∙ ap after (expected-is _ _ packets h.stands.grouper ∙ c.if-not-feed_expected.ensures.expects refl _ packets h.stands.grouper)) in
+    ∙ (c.if-not-feed_expected.ensures.next refl ∙ ap after (expected-is _ _ packets h.stands.grouper ∙ c.if-not-feed_expected.ensures.expects refl _ packets
+    h.stands.grouper)) in
     goes_on-tells g.M.RunMeter.stands g.M.RunMeter.tells past c.args.self.now packets c.args.rec c.args.at c.timestamp_of.result seen None open_run
     c.feed_whole.new.self head out out c.in-Some.is refl
     (λ rest. c.if-not-feed_expected.ensures.answer refl _ packets rest c.args.rec h.stands.grouper)

@@ -31,8 +31,10 @@ returns-in-None-clause-tells g c = λ past packets s t.
 
 pub returns-then-is_empty-clause-tells : goal.returns-then-is_empty-clause-tells
 returns-then-is_empty-clause-tells g c = λ past packets s t.
-    over-tells g.M.RunMeter.stands g.M.RunMeter.tells past c.args.self packets c.in-Some.open c.args.out.now c.close.new.out c.in-Some.is c.in_ok-over.ensures.tells s t
+    over-tells g.M.RunMeter.stands g.M.RunMeter.tells past c.args.self packets c.in-Some.open c.args.out.now c.close.new.out c.in-Some.is
+    c.in_ok-over.ensures.tells s t
 
 pub returns-clause-tells : goal.returns-clause-tells
 returns-clause-tells g c = λ past packets s t.
-    over-tells g.M.RunMeter.stands g.M.RunMeter.tells past c.args.self packets c.in-Some.open c.args.out.now c.close.new.out c.in-Some.is c.in_ok-over.ensures.tells s t
+    over-tells g.M.RunMeter.stands g.M.RunMeter.tells past c.args.self packets c.in-Some.open c.args.out.now c.close.new.out c.in-Some.is
+    c.in_ok-over.ensures.tells s t

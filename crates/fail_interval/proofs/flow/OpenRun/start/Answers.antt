@@ -9,7 +9,11 @@ feed-requires g c = ∣ (in_head 0, record { stands = c.new-judge.ensures.stands
 
 pub returns-clause-tells : goal.returns-clause-tells
 returns-clause-tells g c = λ wants past tai first over is heads telling.
-    c.in_ok-feed.ensures.tells wants past tai first first over (in_head 0) [] [] (record { stands = c.new-judge.ensures.stands _; fits = fresh-fits c.args.packet.at _ })
+    c.in_ok-feed.ensures.tells wants past tai first first over (in_head 0) [] [] (record {
+      stands = c.new-judge.ensures.stands _;
+      fits = fresh-fits
+          c.args.packet.at _;
+    })
     is heads refl tt
     (subst (λ judge. TellsOf g.M.RunMeter.stands g.M.RunMeter.tells past c.args.media.now tai c.args.run.run first over judge c.args.out.now [] [])
     (sym c.new-judge.ensures.is) (record { told = (refl, refl); out_tells = telling }))

@@ -1,6 +1,6 @@
-use Rattle.std.proofs.Common.{Ok, ap, ◌∙◌, refl, subst, sym}
-use Rattle.fail_interval.specs.States.{IsKnown}
+use Rattle.std.proofs.Common.{Ok, ap, ◌∙◌, refl}
 use Rattle.fail_interval.proofs.Expecting.{expected-next}
+use Rattle.fail_interval.proofs.JudgeTold.{expected-tells}
 use Rattle.fail_interval.proofs.Judging.{flow-known, known-expected, stands-expected, took-expected}
 use Rattle.fail_interval.proofs.judge.FlowJudge.feed_judged.Goals as goal
 
@@ -23,3 +23,9 @@ returns-in-Ok-true-clause-took g c = λ _.
       going = λ spent. let was = went.is in cc;
       next = expected-next c.args.at c.args.self.now.state _ went;
     }
+
+pub returns-in-Ok-true-clause-tells : goal.returns-in-Ok-true-clause-tells
+returns-in-Ok-true-clause-tells g c = λ _ wants past out media key tai packets s t.
+    let went = c.feed_judged.ensures.tells (c.in-Ok-true.is ∙ ap Ok c.in-Ok-true.field-0-test) wants in
+    expected-tells g.M.RunMeter.stands g.M.RunMeter.tells past media key tai c.args.rec c.args.at c.args.self.now _ packets out went c.requires.few
+    c.requires.stamp s t

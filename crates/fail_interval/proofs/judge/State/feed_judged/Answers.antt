@@ -11,3 +11,14 @@ returns-in-Going-clause-goes_on g c = λ took. record {
   tai = c.feed_judged.ensures.tai;
   goes = c.feed_judged.ensures.goes_on took;
 }
+
+pub returns-in-Going-clause-tells : goal.returns-in-Going-clause-tells
+returns-in-Going-clause-tells g c = λ took wants. record {
+  flow = c.in-Going.flow;
+  later = c.feed_judged.new.self;
+  is = c.in-Going.is;
+  becomes = refl;
+  media = c.feed_judged.ensures.media;
+  tai = c.feed_judged.ensures.tai;
+  goes = c.feed_judged.ensures.tells took wants;
+}

@@ -1,4 +1,4 @@
-use Rattle.std.proofs.Common.{◌++◌, ◌∷◌, [], arith, length-append, true, false}
+use Rattle.std.proofs.Common.{◌∷◌, [], arith, length-append, true, false}
 use Rattle.fail_interval.proofs.Fit.{bounds-known}
 use Rattle.fail_interval.proofs.Metering.{asked-again, count-there, held-there}
 use Rattle.fail_interval.proofs.meters.RunMeters.feed_level.Goals as goal

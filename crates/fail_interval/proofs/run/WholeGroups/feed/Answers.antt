@@ -24,9 +24,11 @@ returns-else-marker-clause-whole g c = λ m so_far h.
 pub returns-in_ok-end_group-clause-told : goal.returns-in_ok-end_group-clause-told
 returns-in_ok-end_group-clause-told g c = λ wants past m so_far tai number first p over fed committed h stamps told whole stood tells.
     let ends = c.in_ok-end_group.ensures in
-    let now = marked-told g.M.RunMeter.stands g.M.RunMeter.tells past m c.args.self.now c.put.new.self c.end_group.new.self c.args.out.now c.end_group.new.out so_far
+    let now = marked-told g.M.RunMeter.stands g.M.RunMeter.tells past m c.args.self.now c.put.new.self c.end_group.new.self c.args.out.now
+    c.end_group.new.out so_far
     c.args.packet c.args.marker tai number first p over fed committed c.if-marker.true c.put.ensures.params c.end_group.ensures.params
-    (c.in_ok-put.ensures.told wants) (record { told_so = ends.told; tells_so = ends.tells }) h stamps told whole (record { stands_so = stood; tells_so = tells }) in
+    (c.in_ok-put.ensures.told wants) (record { told_so = ends.told; tells_so = ends.tells }) h stamps told whole
+    (record { stands_so = stood; tells_so = tells }) in
     (now.stands_so, now.tells_so)
 
 pub returns-else-marker-clause-told : goal.returns-else-marker-clause-told

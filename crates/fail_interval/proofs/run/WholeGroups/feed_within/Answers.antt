@@ -17,6 +17,7 @@ pub returns-clause-told : goal.returns-clause-told
 returns-clause-told g c = λ wants.
     IfOk-weaker c.put.result _ _
     (λ _ put m so_far tai number first p fed committed h stamps told stood.
-    put-told g.M.RunMeter.stands m c.args.self.now c.put.new.self so_far c.args.packet false tai number first p fed committed c.put.ensures.params put h stamps told
+    put-told g.M.RunMeter.stands m c.args.self.now c.put.new.self so_far c.args.packet false tai number first p fed committed c.put.ensures.params put h
+    stamps told
     stood)
     (c.put.ensures.told wants)

@@ -1,43 +1,36 @@
 use Rattle.std.proofs.Common.{◌≡◌, ◌<◌, Ok, arith, length, refl, rules, set, sym, true}
-use Rattle.std.proofs.lemmas.List.Elements.{All-set}
 use Rattle.timing_base.specs.Captures.{Record}
-use Rattle.flow_demux.specs.Awaits.{AwaitsExpected}
-use Rattle.flow_demux.proofs.Readying.{media-set, order-passed, ready-of, room-of}
+use Rattle.flow_demux.proofs.Readying.{order-passed, ready-set, room-of}
 use Rattle.flow_demux.proofs.Taking.{all-take, one-steps}
 use Rattle.flow_demux.proofs.demux.Demux.take_ahead.Goals as goal
 
 -- memory was refused
 pub returns-in_err-take_next-clause-ready : goal.returns-in_err-take_next-clause-ready
 returns-in_err-take_next-clause-ready g c =
-    let flows = c.args.self.now.flows.items in
-    let news = set flows c.ahead-ahead.result c.take_next-2.new.self in
-    ready-of g.F.FlowTaker.expects _ news refl
-    (All-set (AwaitsExpected g.F.FlowTaker.expects) flows c.ahead-ahead.result c.take_next-2.new.self c.take_next-2.ensures.awaits c.requires.room.ready.awaits)
-    (order-passed c.in-Some.order c.in-Some.order flows news refl
-    (media-set flows c.ahead-ahead.result c.index_mut-2.result.now c.take_next-2.new.self (sym c.index_mut-2.ensures.value) c.take_next-2.ensures.media)
-    (c.requires.room.ready.ordered c.in-Some.order c.in-Some.is))
+    let flow = c.index_mut-2.result.now in
+    let order = c.in-Some.order in
+    ready-set g.F.FlowTaker.expects c.args.self.now _ c.ahead-ahead.result flow c.take_next-2.new.self refl (sym c.index_mut-2.ensures.value)
+    c.take_next-2.ensures.media c.take_next-2.ensures.awaits c.requires.room.ready
+    (λ fs same. order-passed order order c.args.self.now.flows.items fs refl same (c.requires.room.ready.ordered order c.in-Some.is))
 
 -- it goes on otherwise
 pub returns-then-not-branch-clause-ready : goal.returns-then-not-branch-clause-ready
 returns-then-not-branch-clause-ready g c =
-    let flows = c.args.self.now.flows.items in
-    let news = set flows c.ahead-ahead.result c.take_next-2.new.self in
-    ready-of g.F.FlowTaker.expects _ news refl
-    (All-set (AwaitsExpected g.F.FlowTaker.expects) flows c.ahead-ahead.result c.take_next-2.new.self c.take_next-2.ensures.awaits c.requires.room.ready.awaits)
-    (order-passed c.in-Some.order c.in-Some.order flows news refl
-    (media-set flows c.ahead-ahead.result c.index_mut-2.result.now c.take_next-2.new.self (sym c.index_mut-2.ensures.value) c.take_next-2.ensures.media)
-    (c.requires.room.ready.ordered c.in-Some.order c.in-Some.is))
+    let flow = c.index_mut-2.result.now in
+    let order = c.in-Some.order in
+    ready-set g.F.FlowTaker.expects c.args.self.now _ c.ahead-ahead.result flow c.take_next-2.new.self refl (sym c.index_mut-2.ensures.value)
+    c.take_next-2.ensures.media c.take_next-2.ensures.awaits c.requires.room.ready
+    (λ fs same. order-passed order order c.args.self.now.flows.items fs refl same (c.requires.room.ready.ordered order c.in-Some.is))
 
 -- it goes on so
 pub returns-clause-ready : goal.returns-clause-ready
 returns-clause-ready g c =
-    let flows = c.args.self.now.flows.items in
-    let news = set flows c.ahead-ahead.result c.take_next-2.new.self in
-    ready-of g.F.FlowTaker.expects _ news refl
-    (All-set (AwaitsExpected g.F.FlowTaker.expects) flows c.ahead-ahead.result c.take_next-2.new.self c.take_next-2.ensures.awaits c.requires.room.ready.awaits)
-    (order-passed c.in-Some.order c.pass.new.self flows news c.pass.ensures.next
-    (media-set flows c.ahead-ahead.result c.index_mut-2.result.now c.take_next-2.new.self (sym c.index_mut-2.ensures.value) c.take_next-2.ensures.media)
-    (c.requires.room.ready.ordered c.in-Some.order c.in-Some.is))
+    let flow = c.index_mut-2.result.now in
+    let order = c.in-Some.order in
+    ready-set g.F.FlowTaker.expects c.args.self.now _ c.ahead-ahead.result flow c.take_next-2.new.self refl (sym c.index_mut-2.ensures.value)
+    c.take_next-2.ensures.media c.take_next-2.ensures.awaits c.requires.room.ready
+    (λ fs same. order-passed order c.pass.new.self c.args.self.now.flows.items fs c.pass.ensures.next same
+    (c.requires.room.ready.ordered order c.in-Some.is))
 
 pub returns-clause-room : goal.returns-clause-room
 returns-clause-room g c = λ count _ has.

@@ -1,24 +1,19 @@
 use Rattle.std.proofs.Common.{◌≡◌, ◌<◌, ◌+◌, arith, length, refl, set, subst, sym}
 use Rattle.std.specs.Prelude.{IfOk, Some}
-use Rattle.std.proofs.lemmas.List.Elements.{All-set}
 use Rattle.timing_base.specs.Captures.{Record}
 use Rattle.udp_rtp.specs.Flow.{flow_packet}
-use Rattle.flow_demux.specs.Awaits.{AwaitsExpected}
 use Rattle.flow_demux.specs.Rooms.{HasRoom}
 use Rattle.flow_demux.specs.declared.media_flow.MediaFlow.{MediaFlow}
-use Rattle.flow_demux.proofs.Readying.{media-set, one-at, order-learned, ready-of, room-of}
+use Rattle.flow_demux.proofs.Readying.{one-at, order-learned, ready-set, room-of}
 use Rattle.flow_demux.proofs.Taking.{all-take, if-ok, packet-steps}
 use Rattle.flow_demux.proofs.demux.Demux.take_expected.Goals as goal
 use Rattle.flow_demux.proofs.demux.Demux.take_expected.Goals.{in-Some+in_default-packet_in, in_default}
 
 pub returns-in-Some-packet_in-clause-ready : goal.returns-in-Some-packet_in-clause-ready
 returns-in-Some-packet_in-clause-ready g c =
-    let flows = c.args.self.now.flows.items in
-    let news = set flows c.ahead-ahead.result c.take_packet.new.self in
-    ready-of g.F.FlowTaker.expects _ news refl
-    (All-set (AwaitsExpected g.F.FlowTaker.expects) flows c.ahead-ahead.result c.take_packet.new.self c.take_packet.ensures.awaits c.requires.room.ready.awaits)
-    (order-learned c.args.self.now.order c.learn_in.new.order flows news c.learn_in.ensures.same c.learn_in.ensures.count
-    (media-set flows c.ahead-ahead.result c.index_mut.result.now c.take_packet.new.self (sym c.index_mut.ensures.value) c.take_packet.ensures.media)
+    ready-set g.F.FlowTaker.expects c.args.self.now _ c.ahead-ahead.result c.index_mut.result.now c.take_packet.new.self refl (sym c.index_mut.ensures.value)
+    c.take_packet.ensures.media c.take_packet.ensures.awaits c.requires.room.ready
+    (λ fs same. order-learned c.args.self.now.order c.learn_in.new.order c.args.self.now.flows.items fs c.learn_in.ensures.same c.learn_in.ensures.count same
     c.requires.room.ready.ordered)
 
 pub returns-in-Some-packet_in-clause-room : goal.returns-in-Some-packet_in-clause-room

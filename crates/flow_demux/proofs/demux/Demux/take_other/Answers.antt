@@ -42,15 +42,17 @@ pub returns-in_err-take_datagram-clause-ready : goal.returns-in_err-take_datagra
 returns-in_err-take_datagram-clause-ready g c =
     let flows = c.args.self.now.flows.items in
     let items = c.loop-flow.flow-items in
-    let news : List (MediaFlow g.row.F.Denot) = set items c.loop-flow.flow-index c.take_datagram.new.self in
+    let new = c.take_datagram.new.self in
+    let news : List (MediaFlow g.row.F.Denot) = set items c.loop-flow.flow-index new in
     let long : length items ≡ c.args.self.now.flows.len = search rules in
-    let size : length news ≡ c.args.self.now.flows.len = length-set items c.loop-flow.flow-index c.take_datagram.new.self ∙ long in
+    let size : length news ≡ c.args.self.now.flows.len = length-set items c.loop-flow.flow-index new ∙ long in
+    let media = c.take_datagram.ensures.media ∙ sym (ap (λ (f : MediaFlow g.row.F.Denot). f.media) c.flow-item.is) in
     ready-of g.F.FlowTaker.expects _ news (whole c.args.self.now.flows.len news (drop (length news) flows) size)
-    (All-set (AwaitsExpected g.F.FlowTaker.expects) items c.loop-flow.flow-index c.take_datagram.new.self c.take_datagram.ensures.awaits
+    (All-set (AwaitsExpected g.F.FlowTaker.expects) items c.loop-flow.flow-index new c.take_datagram.ensures.awaits
     (step-each _ (AwaitsExpected g.F.FlowTaker.expects) c.loop-flow.flow-index flows items (λ o n step _. step.awaited) c.loop-flow.invariant.steps
     c.requires.room.ready.awaits))
     (order-learned c.args.self.now.order c.args.self.now.order flows news refl (λ n h. h)
-    (media-set items c.loop-flow.flow-index c.flow-item.result c.take_datagram.new.self (sym c.flow-item.is) (c.take_datagram.ensures.media ∙ sym (ap (λ (f : MediaFlow g.row.F.Denot). f.media) c.flow-item.is))
+    (media-set items c.loop-flow.flow-index c.flow-item.result new (sym c.flow-item.is) media
     ∙ media-stepped g.F.FlowTaker.takes g.F.FlowTaker.room g.F.FlowTaker.expects _ c.loop-flow.flow-index flows items c.loop-flow.invariant.steps)
     c.requires.room.ready.ordered)
 

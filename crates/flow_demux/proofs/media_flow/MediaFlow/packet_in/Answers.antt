@@ -14,3 +14,9 @@ returns-clause-packet g c =
     let f = found g.F.FlowTaker.expects c.args.self.now r.bytes c.requires.awaits is in
     subst (λ p. flow_packet c.args.self.now.media r ≡ Some (record { rec = r.number; at = r.stamp; rtp = Ok p })) (sym (c.packet.ensures ∙ f.is))
     (packet-carried c.args.self.now.media f.packet r f.carried)
+
+pub returns-clause-expected : goal.returns-clause-expected
+returns-clause-expected g c =
+    let is : carries_awaited (awaited c.args.self.now.awaited) c.args.frame.now ≡ true = search rules in
+    let f = found g.F.FlowTaker.expects c.args.self.now c.args.frame.now c.requires.awaits is in
+    subst (λ p. g.F.FlowTaker.expects c.args.self.now.taker ≡ Some p) (sym (c.packet.ensures ∙ f.is)) f.expected
