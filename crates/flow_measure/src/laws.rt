@@ -70,7 +70,8 @@ pub fn widths_by_hand()
 {}
 
 /// The width of a curve is the least power of two that makes no more columns than there may be, and there is one
-/// such. It has as many columns as it takes to hold all numbers, and no more than there may be.
+/// such. It has as many columns as it takes to hold all numbers, and no more than there may be. One number more
+/// than full columns hold leaves half of them, rounded down, and one.
 pub fn widths_are_least()
     ensures width { (count most : ℕ) → 1 ≤ most → IsWidth count most (width_of count most) }
     ensures once { (count most w other : ℕ) → IsWidth count most w → IsWidth count most other → w ≡ other }
@@ -78,6 +79,7 @@ pub fn widths_are_least()
         → AreCurve most numbers count columns → length columns ≡ columns_of count most }
     ensures most { (most : ℕ) (numbers : ℕ → ℤ) (count : ℕ) (columns : List Extremes) → 1 ≤ most
         → AreCurve most numbers count columns → length columns ≤ most }
+    ensures full { (most k : ℕ) → 1 ≤ most → columns_of (most * 2 ^ k + 1) most ≡ most / 2 + 1 }
 {}
 
 /// Five numbers in at most two columns: four in the one, and the last alone. In groups of two numbers, with at
