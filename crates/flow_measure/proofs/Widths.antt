@@ -312,6 +312,26 @@ columns-full most k some =
     ] in
     ap (div_ceil count) is ∙ omega (arith, low, high)
 
+-- no fewer numbers than two or more columns are as many as a column takes
+pub width-below : (count most : ℕ) → 2 ≤ most → most ≤ count → width_of count most ≤ count
+width-below count most some enough =
+    let h = width_of-is count most (omega (arith, some)) in
+    let w = width_of count most in
+    elim (cases_lt count w) as (λ _. w ≤ count) [
+      | inl above ↦ absurd (too-wide h.power.0 h.power.1 above)
+      | inr below ↦ below
+    ]
+  where
+    too-wide : (k : ℕ) → width_of count most ≡ 2 ^ k → count < width_of count most → ⊥
+    too-wide zero is above = omega (arith, is, above, some, enough)
+    too-wide (suc j) is above =
+        let h = width_of-is count most (omega (arith, some)) in
+        let next : suc j ≡ j + 1 = omega arith in
+        let twice : 2 ^ suc j ≡ 2 * 2 ^ j = ap (λ x. 2 ^ x) next ∙ omega (arith, pow_more 2 j) in
+        let p : 2 * 2 ^ j ≤ most * 2 ^ j = mul-le-mul_right (2 ^ j) some in
+        let fits = ceil-least count (2 ^ j) most (omega (arith, pow_pos j)) (omega (arith, above, is, twice, p)) in
+        omega (arith, h.least j fits, is, twice, pow_pos j)
+
 -- ---- bins
 
 -- the width of bins, without a sum that may be too great

@@ -19,12 +19,14 @@ ghost use Rattle.sender_params.specs.Worked.{hd_50, hd_59_94, linear_two};
 ghost use Rattle.flow_measure.specs.Broken.{broken_groups};
 ghost use Rattle.flow_measure.specs.Frames.{after_start, timestamp_latency, timestamp_offset, timestamp_step};
 ghost use Rattle.flow_measure.specs.Occupancy.{AreOccupancies, IsOccupancy, IsPeak, buckets_of, late_of, margin_of};
+ghost use Rattle.flow_measure.specs.Slope.{IsSlope, slope_between};
 ghost use Rattle.flow_measure.specs.Stands.{Classifies, Counts, CountsBroken, DrawsCurve, DrawsEye, Summarizes};
 ghost use Rattle.flow_measure.specs.declared.bins.Bins.{Bins};
 ghost use Rattle.flow_measure.specs.declared.broken.BrokenGroups.{BrokenGroups};
 ghost use Rattle.flow_measure.specs.declared.classes.Classes.{Classes};
 ghost use Rattle.flow_measure.specs.declared.columns.curve.Curve.{Curve};
 ghost use Rattle.flow_measure.specs.declared.columns.eye.Eye.{Eye};
+ghost use Rattle.flow_measure.specs.declared.columns.slope.Slope.{Slope};
 ghost use Rattle.flow_measure.specs.declared.summary.SummaryMeter.{SummaryMeter};
 ghost use Rattle.flow_measure.specs.Summary.{IsGreatest, IsLeast, IsSummary};
 ghost use Rattle.timing_base.specs.declared.media.Kind.TheVariants.{N, NL};
@@ -89,6 +91,22 @@ pub fn columns_by_hand()
         (column (negsuc 4) (pos 4) ∷ column (pos 0) (pos 0) ∷ []) }
     ensures eye { AreEye 2 2 (listed (pos 3 ∷ negsuc 4 ∷ pos 4 ∷ pos 2 ∷ [])) 4
         (column (pos 3) (pos 4) ∷ column (negsuc 4) (pos 2) ∷ []) }
+{}
+
+/// From 0 to 2 and then from 10 to 13, over seven numbers: they rise by 10, since they scatter by 3 at most. The
+/// other way they fall by 10. From 0 to 10 and then from 10 to 13 nothing stands out.
+pub fn slopes_by_hand()
+    ensures rises { slope_between (column (pos 0) (pos 2)) (column (pos 10) (pos 13)) 7
+        ≡ Some (record { falls = false; by = 10; over = 7 }) }
+    ensures falls { slope_between (column (pos 10) (pos 13)) (column (pos 0) (pos 2)) 7
+        ≡ Some (record { falls = true; by = 10; over = 7 }) }
+    ensures none { slope_between (column (pos 0) (pos 10)) (column (pos 10) (pos 13)) 7 ≡ None }
+{}
+
+/// Numbers have one slope.
+pub fn one_slope()
+    ensures { (most : ℕ) (numbers : ℕ → ℤ) (count : ℕ) (s other : Option Slope)
+        → IsSlope most numbers count s → IsSlope most numbers count other → s ≡ other }
 {}
 
 /// A limit of 4 has bins of width 1, a limit of 63 too, and one of 64 bins of width 2. A number at the
