@@ -1,5 +1,6 @@
 -- A curve with one number more.
-use Rattle.std.proofs.Common.{◌≡◌, ◌<◌, ◌≤◌, ◌+◌, ◌-◌, ◌/◌, ◌*◌, ℕ, ℤ, pos, List, length, map, set, take, max, vec_len, inl, inr, ap, ◌∙◌, sym, subst, refl, arith}
+use Rattle.std.proofs.Common.{◌≡◌, ◌<◌, ◌≤◌, ◌+◌, ◌-◌, ◌/◌, ◌*◌, ℕ, ℤ, pos, List, length, map, set, take, max}
+use Rattle.std.proofs.Common.{inl, inr, ap, ◌∙◌, sym, subst, arith}
 use Rattle.std.proofs.Math.Nat.{lt-div-mul-add, mul-le-mul_right}
 use Rattle.std.proofs.lemmas.Bool.{cases_eq, cases_lt}
 use Rattle.std.proofs.lemmas.List.{get_or-map, get_or-set_other, get_or-set_same, length-map, map-set}
@@ -43,7 +44,8 @@ pub curve-more : {N : Type 0} (value : N → ℤ) (b c : Curve N) (numbers : ℕ
 curve-more value b c numbers k e ew es eb ec here next inside w h =
     let column_of : ℕ → ℕ = λ i. i / b.width in
     let columns = curve_columns value b in
-    let changed : curve_columns value c ≡ set columns k (extremes_of value e) = ap (map (extremes_of value)) ec ∙ map-set (extremes_of value) b.columns.items k e in
+    let changed : curve_columns value c ≡ set columns k (extremes_of value e) =
+    ap (map (extremes_of value)) ec ∙ map-set (extremes_of value) b.columns.items k e in
     let all = columns-more column_of numbers b.seen b.begun k columns (extremes_of value e) here next (omega (arith, columns-long value b, inside))
     (λ i few. number-within b.seen b.room b.begun b.width i b.filled b.width_some few) h.each w in
     record {
@@ -142,22 +144,6 @@ curve-doubled value b mid c numbers e full all em ew es eb ec joins odd even h =
           (subst (λ l. AreExtremes numbers (places_in (λ i. i / (2 * b.width)) (b.most * b.width + 1) k) (column_at l k)) (sym changed)
           (drawn k (omega (arith, few, eb)))));
     }
-
--- it has room for the next number, and less than a column of it stays free
-pub room-doubled : (most w : ℕ) → 1 ≤ w → (most * w + 1 ≤ (most / 2 + 1) * (w * 2)) × ((most / 2 + 1) * (w * 2) ≤ most * w + w * 2)
-room-doubled most w some =
-    let p = most / 2 in
-    let twice : (p + 1) * (w * 2) ≡ 2 * p * w + w * 2 = omega arith in
-    elim (cases_eq (2 * p) most) as (λ _. (most * w + 1 ≤ (p + 1) * (w * 2)) × ((p + 1) * (w * 2) ≤ most * w + w * 2)) [
-      | inl whole ↦
-          let e : 2 * p * w ≡ most * w = ap (λ x. x * w) whole in
-          (omega (arith, e, twice, some), omega (arith, e, twice))
-      | inr rest ↦
-          let one : 2 * p + 1 ≡ most = omega (arith, rest) in
-          let e : (2 * p + 1) * w ≡ most * w = ap (λ x. x * w) one in
-          let split : (2 * p + 1) * w ≡ 2 * p * w + w = omega arith in
-          (omega (arith, e, twice, split, some), omega (arith, e, twice, split))
-    ]
 
 -- the curve of all numbers
 pub curve-drawn : {N : Type 0} (value : N → ℤ) (c : Curve N) (numbers : ℕ → ℤ) → DrawsCurve value c numbers

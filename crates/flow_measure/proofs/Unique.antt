@@ -1,5 +1,5 @@
 -- Numbers have one summary and one list of columns, in which no peak is hidden.
-use Rattle.std.proofs.Common.{◌≡◌, ◌<◌, ◌≤◌, ◌+◌, ◌*◌, ◌/◌, ◌%◌, ℕ, ℤ, pos, ◌≤ℤ◌, List, length, inl, inr, ap, ◌∙◌, sym, refl, arith}
+use Rattle.std.proofs.Common.{◌≡◌, ◌<◌, ◌≤◌, ◌+◌, ◌*◌, ◌/◌, ◌%◌, ℕ, ℤ, pos, ◌≤ℤ◌, List, length, Option, inl, inr, ap, ◌∙◌, sym, refl, arith}
 use Rattle.std.proofs.Math.Nat.{mul-le-mul_right}
 use Rattle.std.proofs.lemmas.Bool.{cases_lt, cases_order}
 use Rattle.std.proofs.lemmas.Grind.{div_ceil_times}
@@ -8,9 +8,11 @@ use Rattle.std.proofs.lemmas.List.{ext_get_or}
 use Rattle.std.proofs.lemmas.Nat.{div-add-mod', div-mul-add}
 use Rattle.std.specs.Int.{div_ceil}
 use Rattle.flow_measure.specs.Columns.{AreColumns, AreCurve, AreExtremes, column_at, columns_of, greatest_at, least_at, places_in, width_of}
+use Rattle.flow_measure.specs.Slope.{IsSlope, slope_of}
 use Rattle.flow_measure.specs.Summary.{IsGreatest, IsLeast, IsSummary}
 use Rattle.flow_measure.specs.Worked.{column, summary}
 use Rattle.flow_measure.specs.declared.columns.Extremes.{Extremes}
+use Rattle.flow_measure.specs.declared.columns.slope.Slope.{Slope}
 use Rattle.flow_measure.specs.declared.summary.Summary.{Summary}
 use Rattle.flow_measure.proofs.Bounds.{AreExtremes-one}
 use Rattle.flow_measure.proofs.Widths.{ceil-room, width-fits, width-some, width_of-is}
@@ -166,3 +168,13 @@ pub curve-short : (most : ℕ) (numbers : ℕ → ℤ) (count : ℕ) (columns : 
     → length columns ≤ most
 curve-short most numbers count columns some h =
     omega (arith, curve-length most numbers count columns some h, (width_of-is count most some).fits)
+
+-- ---- slopes
+
+-- numbers have one slope
+pub slope-once : (most : ℕ) (numbers : ℕ → ℤ) (count : ℕ) (s other : Option Slope) → IsSlope most numbers count s
+    → IsSlope most numbers count other → s ≡ other
+slope-once most numbers count s other h k =
+    h.is
+    ∙ ap (slope_of count most) (columns-once (λ i. i / width_of count most) numbers count h.columns k.columns h.are k.are)
+    ∙ sym k.is

@@ -5,7 +5,7 @@ use Rattle.std.proofs.lemmas.Bool.{cases_Bool, cases_eq, cases_lt, le-ltb, lt-lt
 use Rattle.std.proofs.lemmas.Grind.{div_ceil_times, pow_more}
 use Rattle.std.proofs.lemmas.Nat.{pow_below, pow_pos}
 use Rattle.std.specs.Int.{IsPowerOfTwo, div_ceil}
-use Rattle.flow_measure.specs.Columns.{IsWidth, width_of}
+use Rattle.flow_measure.specs.Columns.{IsWidth, columns_of, width_of}
 use Rattle.flow_measure.specs.Counts.{count_of}
 use Rattle.flow_measure.proofs.Counted.{count_of-more, count_of-no, count_of-yes}
 
@@ -271,6 +271,66 @@ width_of-full seen most w some is full =
     width-once (seen + 1) most (2 * w) (width_of (seen + 1) most)
     (width-doubles seen most w some_w some (subst (IsWidth seen most) (sym is) (width_of-is seen most some)) full)
     (width_of-is (seen + 1) most some)
+
+-- it has room for the next number, and less than a column of it stays free
+pub room-doubled : (most w : ℕ) → 1 ≤ w → (most * w + 1 ≤ (most / 2 + 1) * (w * 2)) × ((most / 2 + 1) * (w * 2) ≤ most * w + w * 2)
+room-doubled most w some =
+    let p = most / 2 in
+    let twice : (p + 1) * (w * 2) ≡ 2 * p * w + w * 2 = omega arith in
+    elim (cases_eq (2 * p) most) as (λ _. (most * w + 1 ≤ (p + 1) * (w * 2)) × ((p + 1) * (w * 2) ≤ most * w + w * 2)) [
+      | inl whole ↦
+          let e : 2 * p * w ≡ most * w = ap (λ x. x * w) whole in
+          (omega (arith, e, twice, some), omega (arith, e, twice))
+      | inr rest ↦
+          let one : 2 * p + 1 ≡ most = omega (arith, rest) in
+          let e : (2 * p + 1) * w ≡ most * w = ap (λ x. x * w) one in
+          let split : (2 * p + 1) * w ≡ 2 * p * w + w = omega arith in
+          (omega (arith, e, twice, split, some), omega (arith, e, twice, split))
+    ]
+
+-- one number more than full columns hold leaves half of them, and one
+pub columns-full : (most k : ℕ) → 1 ≤ most → columns_of (most * 2 ^ k + 1) most ≡ most / 2 + 1
+columns-full most k some =
+    let w = 2 ^ k in
+    let count = most * w + 1 in
+    let some_w : 1 ≤ w = omega (arith, pow_pos k) in
+    let before : (j : ℕ) → j < k → most * 2 ^ j < most * w =
+    λ j less.
+    let p : most * (2 ^ j + 1) ≤ most * w = mul-le-mul_left most (omega (arith, pow_below j k less)) in
+    omega (arith, p, some) in
+    let full = IsWidth-from (most * w) most k (omega arith) before in
+    let is : width_of count most ≡ 2 * w =
+    width-once count most (width_of count most) (2 * w) (width_of-is count most some) (width-doubles (most * w) most w some_w some full (omega arith)) in
+    let room = (room-doubled most w some_w).0 in
+    let low : div_ceil count (2 * w) ≤ most / 2 + 1 = ceil-least count (2 * w) (most / 2 + 1) (omega (arith, some_w)) (omega (arith, room)) in
+    let high : most / 2 < div_ceil count (2 * w) = elim (cases_lt (most / 2) (div_ceil count (2 * w))) as (λ _. most / 2 < div_ceil count (2 * w)) [
+      | inl more ↦ more
+      | inr enough ↦
+          let held = fits-room count (most / 2) (2 * w) (omega (arith, some_w)) enough in
+          let p : 2 * (most / 2) * w ≤ most * w = mul-le-mul_right w (omega arith) in
+          absurd (omega (arith, held, p))
+    ] in
+    ap (div_ceil count) is ∙ omega (arith, low, high)
+
+-- no fewer numbers than two or more columns are as many as a column takes
+pub width-below : (count most : ℕ) → 2 ≤ most → most ≤ count → width_of count most ≤ count
+width-below count most some enough =
+    let h = width_of-is count most (omega (arith, some)) in
+    let w = width_of count most in
+    elim (cases_lt count w) as (λ _. w ≤ count) [
+      | inl above ↦ absurd (too-wide h.power.0 h.power.1 above)
+      | inr below ↦ below
+    ]
+  where
+    too-wide : (k : ℕ) → width_of count most ≡ 2 ^ k → count < width_of count most → ⊥
+    too-wide zero is above = omega (arith, is, above, some, enough)
+    too-wide (suc j) is above =
+        let h = width_of-is count most (omega (arith, some)) in
+        let next : suc j ≡ j + 1 = omega arith in
+        let twice : 2 ^ suc j ≡ 2 * 2 ^ j = ap (λ x. 2 ^ x) next ∙ omega (arith, pow_more 2 j) in
+        let p : 2 * 2 ^ j ≤ most * 2 ^ j = mul-le-mul_right (2 ^ j) some in
+        let fits = ceil-least count (2 ^ j) most (omega (arith, pow_pos j)) (omega (arith, above, is, twice, p)) in
+        omega (arith, h.least j fits, is, twice, pow_pos j)
 
 -- ---- bins
 

@@ -41,7 +41,7 @@ pub record IsWidth (count most w : ℕ) : Type 0 where
   pub fits : div_ceil count w ≤ most
   pub least : (k : ℕ) → div_ceil count (2 ^ k) ≤ most → w ≤ 2 ^ k
 
--- it is doubled once for each power of two that makes too many
+-- that width: it is doubled once for each power of two that is too narrow
 unfoldable pub width_of : (count most : ℕ) → ℕ
 width_of count most = 2 ^ count_of (λ k. nat_lt most (div_ceil count (2 ^ k))) count
 
@@ -54,7 +54,7 @@ columns_of count most = div_ceil count (width_of count most)
 abbrev pub AreCurve : (most : ℕ) → (numbers : ℕ → ℤ) → (count : ℕ) → List Extremes → Type 0
 AreCurve most numbers count columns = AreColumns (λ i. i / width_of count most) numbers count columns
 
--- how many places of a group each column of an eye has, where there are at most so many columns; the last may have fewer
+-- how many places of a group a column of an eye has, where there are at most so many columns; the last may have fewer
 abbrev pub strip_of : (group most : ℕ) → ℕ
 strip_of group most = div_ceil group most
 

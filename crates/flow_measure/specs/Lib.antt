@@ -1,6 +1,7 @@
 -- what is promised
 pub mod Summary
 pub mod Columns
+pub mod Slope
 pub mod Counts
 pub mod Bins
 pub mod Classes

@@ -7,9 +7,11 @@ ghost use Rattle.flow_measure.specs.Extremes.{extremes_of, joined, only};
 
 mod curve;
 mod eye;
+mod slope;
 
 pub use curve::Curve;
 pub use eye::Eye;
+pub use slope::Slope;
 
 use std::alloc::{AllocError, Global};
 

@@ -19,6 +19,7 @@ ghost use Rattle.sender_params.specs.Worked.{hd_50, hd_59_94, linear_two};
 ghost use Rattle.flow_measure.specs.Broken.{broken_groups};
 ghost use Rattle.flow_measure.specs.Frames.{after_start, timestamp_latency, timestamp_offset, timestamp_step};
 ghost use Rattle.flow_measure.specs.Occupancy.{AreOccupancies, IsPeak, buckets_of, late_of, margin_of};
+ghost use Rattle.flow_measure.specs.Slope.{IsSlope, slope_between};
 ghost use Rattle.vrx_buffer.specs.Occupancy.{IsOccupancy};
 ghost use Rattle.flow_measure.specs.Stands.{Classifies, Counts, CountsBroken, DrawsCurve, DrawsEye, Summarizes};
 ghost use Rattle.flow_measure.specs.declared.bins.Bins.{Bins};
@@ -26,6 +27,7 @@ ghost use Rattle.flow_measure.specs.declared.broken.BrokenGroups.{BrokenGroups};
 ghost use Rattle.flow_measure.specs.declared.classes.Classes.{Classes};
 ghost use Rattle.flow_measure.specs.declared.columns.curve.Curve.{Curve};
 ghost use Rattle.flow_measure.specs.declared.columns.eye.Eye.{Eye};
+ghost use Rattle.flow_measure.specs.declared.columns.slope.Slope.{Slope};
 ghost use Rattle.flow_measure.specs.declared.summary.SummaryMeter.{SummaryMeter};
 ghost use Rattle.flow_measure.specs.Summary.{IsGreatest, IsLeast, IsSummary};
 ghost use Rattle.timing_base.specs.declared.media.Kind.TheVariants.{N, NL};
@@ -71,7 +73,8 @@ pub fn widths_by_hand()
 {}
 
 /// The width of a curve is the least power of two that makes no more columns than there may be, and there is one
-/// such. It has as many columns as it takes to hold all numbers, and no more than there may be.
+/// such. It has as many columns as it takes to hold all numbers, and no more than there may be. One number more
+/// than full columns hold leaves half of them, rounded down, and one.
 pub fn widths_are_least()
     ensures width { (count most : ℕ) → 1 ≤ most → IsWidth count most (width_of count most) }
     ensures once { (count most w other : ℕ) → IsWidth count most w → IsWidth count most other → w ≡ other }
@@ -79,6 +82,7 @@ pub fn widths_are_least()
         → AreCurve most numbers count columns → length columns ≡ columns_of count most }
     ensures most { (most : ℕ) (numbers : ℕ → ℤ) (count : ℕ) (columns : List Extremes) → 1 ≤ most
         → AreCurve most numbers count columns → length columns ≤ most }
+    ensures full { (most k : ℕ) → 1 ≤ most → columns_of (most * 2 ^ k + 1) most ≡ most / 2 + 1 }
 {}
 
 /// Five numbers in at most two columns: four in the one, and the last alone. In groups of two numbers, with at
@@ -88,6 +92,22 @@ pub fn columns_by_hand()
         (column (negsuc 4) (pos 4) ∷ column (pos 0) (pos 0) ∷ []) }
     ensures eye { AreEye 2 2 (listed (pos 3 ∷ negsuc 4 ∷ pos 4 ∷ pos 2 ∷ [])) 4
         (column (pos 3) (pos 4) ∷ column (negsuc 4) (pos 2) ∷ []) }
+{}
+
+/// From 0 to 2 and then from 10 to 13, over seven numbers: they rise by 10, since they scatter by 3 at most. The
+/// other way they fall by 10. From 0 to 10 and then from 10 to 13 nothing stands out.
+pub fn slopes_by_hand()
+    ensures rises { slope_between (column (pos 0) (pos 2)) (column (pos 10) (pos 13)) 7
+        ≡ Some (record { falls = false; by = 10; over = 7 }) }
+    ensures falls { slope_between (column (pos 10) (pos 13)) (column (pos 0) (pos 2)) 7
+        ≡ Some (record { falls = true; by = 10; over = 7 }) }
+    ensures none { slope_between (column (pos 0) (pos 10)) (column (pos 10) (pos 13)) 7 ≡ None }
+{}
+
+/// Numbers have one slope.
+pub fn one_slope()
+    ensures { (most : ℕ) (numbers : ℕ → ℤ) (count : ℕ) (s other : Option Slope)
+        → IsSlope most numbers count s → IsSlope most numbers count other → s ≡ other }
 {}
 
 /// A limit of 4 has bins of width 1, a limit of 63 too, and one of 64 bins of width 2. A number at the

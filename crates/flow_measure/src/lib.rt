@@ -37,7 +37,7 @@ mod target;
 pub use bins::Bins;
 pub use broken::BrokenGroups;
 pub use classes::Classes;
-pub use columns::{Curve, Extremes, Eye, Integer, width_of};
+pub use columns::{Curve, Extremes, Eye, Integer, Slope, width_of};
 pub use frames::{latency_of, offset_of, since_start, step_of};
 pub use group_walk::GroupWalk;
 pub use margin::Margins;

@@ -2,7 +2,6 @@
 -- with its limit. Packets count from 0. This project's own.
 use Rattle.std.specs.Prelude.{ℕ, pos, ◌-◌, ◌^◌, ◌==◌, min, if◌then◌else◌, false, List, [], ◌∷◌, ◌++◌, codes, Some}
 use Rattle.std.specs.Fmt.{decimal}
-use Rattle.std.specs.Int.{div_ceil}
 use Rattle.std.specs.List.{flat_map}
 use Rattle.timing_base.specs.declared.fail.Broken.{Broken}
 use Rattle.timing_base.specs.declared.fail.Broken.TheVariants.{Bucket, Over, Empty}
@@ -10,6 +9,7 @@ use Rattle.timing_base.specs.declared.fail.FailProof.{FailProof}
 use Rattle.timing_base.specs.declared.media.Kind.{Kind}
 use Rattle.timing_report.specs.Outcomes.{place_of}
 use Rattle.timing_report.specs.Words.{kind_name, model_name}
+use Rattle.flow_measure.specs.Columns.{width_of}
 use Rattle.flow_page.specs.chart.Charts.{curve_figure}
 use Rattle.flow_page.specs.declared.chart.chart.Scene.{Scene}
 use Rattle.flow_page.specs.declared.chart.grid.Unit.TheVariants.{Packets}
@@ -41,7 +41,7 @@ around_scene r = record {
   wide = false;
   unit = Packets;
   along = Packet;
-  across = record { start = r.start; count = min r.count (2 ^ 60); each = div_ceil r.count 400 };
+  across = record { start = r.start; count = min r.count (2 ^ 60); each = width_of r.count 400 };
   every = 0;
   shade = Some (record { from = r.proof.from - r.start; to = r.proof.to - r.start });
 }

@@ -8,6 +8,7 @@ ghost use Rattle.flow_page.specs.Around.{around_detail, around_figure, around_fi
 use crate::chart::{Across, Limit, LineName, Scene, Shade, Unit, UnitAcross, add_curve_figure};
 use crate::levels::{line_name, one_line};
 use crate::shown::{Region, TypeShown};
+use flow_measure::width_of;
 use std::alloc::{AllocError as OutOfMemory, Global};
 use timing_base::{Broken, FailProof, Kind};
 use timing_report::{kind_name, model_name};
@@ -58,7 +59,7 @@ fn around_scene(region: &Region) -> Scene
     let across = Across {
         start: region.start,
         count: region.count.min(1 << 60),
-        each: region.count.div_ceil(400),
+        each: width_of(region.count, 400),
     };
     let shade = Shade {
         from: region.proof.from.saturating_sub(region.start),

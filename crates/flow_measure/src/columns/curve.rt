@@ -4,7 +4,7 @@ ghost use Rattle.std.specs.Prelude.{◌≡◌, ◌<◌, ◌≤◌, ◌+◌, ◌*
 ghost use Rattle.flow_measure.specs.Columns.{width_of};
 ghost use Rattle.flow_measure.specs.Extremes.{extremes_of, joined, only};
 
-use super::{Column, Extremes, Integer, listed};
+use super::{Column, Extremes, Integer, Slope, listed};
 use std::alloc::{AllocError, Global};
 use timing_base::Items;
 
@@ -37,6 +37,7 @@ pub struct Curve<N> {
 
 impl<N: Integer> Curve<N> {
     ghost use Rattle.flow_measure.specs.Columns.{AreCurve, column_at};
+    ghost use Rattle.flow_measure.specs.Slope.{IsSlope};
     ghost use Rattle.flow_measure.specs.Stands.{DrawsCurve, curve_columns};
 
     /// A curve of at most so many columns, before the first number. `Err` is want of memory.
@@ -209,6 +210,36 @@ impl<N: Integer> Curve<N> {
             self.begun.saturating_sub(1)
         } else {
             0
+        }
+    }
+
+    /// How the numbers rise or fall from the first column to the last full one, where that stands out of their scatter. Of
+    /// fewer numbers than there may be columns nothing is told.
+    pub fn slope(&self) -> Option<Slope>
+        requires { 2 ≤ self.now.most }
+        ensures { (numbers : ℕ → ℤ) → DrawsCurve N.value self.now numbers
+            → IsSlope self.now.most numbers self.now.seen result }
+    {
+        if self.seen < u64::from(self.most) {
+            return None;
+        }
+        let last = self.full() - 1;
+        Slope::between(
+            self.columns[0].extremes(),
+            self.columns[last].extremes(),
+            last as u64 * self.width,
+        )
+    }
+
+    /// How many columns are full.
+    fn full(&self) -> usize
+        ensures value { result ≡ self.now.seen / self.now.width }
+        ensures most { result ≤ self.now.begun }
+    {
+        if self.room == 0 {
+            self.begun
+        } else {
+            self.begun - 1
         }
     }
 

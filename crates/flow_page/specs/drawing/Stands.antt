@@ -19,8 +19,8 @@ pub record IsDrawable (judged : Judged) : Type 0 where
 -- the packets with these stamps and timestamps were fed, and no others, of a run of which this is judged
 pub record Draws (m : Media) (judged : Judged) (x : RunDrawing) (stamps timestamps : List ℕ) : Type 0 where
   pub levels_stand : LevelsStandFor m judged.n x.levels stamps
-  pub packets_draw : DrawsPackets m judged.n (judged.n * judged.frames) x.packets stamps
-  pub groups_draw : DrawsGroups m judged.n judged.frames x.groups stamps timestamps
+  pub packets_draw : DrawsPackets m judged.n x.packets stamps
+  pub groups_draw : DrawsGroups m judged.n x.groups stamps timestamps
   pub narrow_draws : DrawsKind m judged.n (judged.n * judged.frames) N (slice_index_or judged.kinds 0 Pass) x.narrow
       stamps
   pub narrow_linear_draws : DrawsKind m judged.n (judged.n * judged.frames) NL (slice_index_or judged.kinds 1 Pass)

@@ -7,7 +7,7 @@ ghost use Rattle.timing_base.specs.Media.{Media as MediaValue};
 ghost use Rattle.timing_base.specs.Verdicts.{Judged as JudgedValue};
 
 use crate::drawing::groups::GroupColumns;
-use crate::drawing::packets::{PacketColumns, listed};
+use crate::drawing::packets::PacketColumns;
 use crate::drawing::region::RegionMeter;
 use crate::drawing::regions::{begin_region, feed_region, put_region};
 use crate::{Curves, Region};
@@ -19,13 +19,12 @@ use timing_base::{Items, Judged, Kind, Media};
 /// No run has as many packets.
 const TOO_MANY: u64 = 1 << 41;
 
-/// How many packets or groups are drawn: one at least, and fewer than too many.
+/// How many packets are drawn: fewer than too many.
 fn drawn(count: u64) -> u64
-    ensures some { 1 ≤ result }
     ensures few { result < 2 ^ 41 }
-    ensures value { 1 ≤ count → count < 2 ^ 41 → result ≡ count }
+    ensures value { count < 2 ^ 41 → result ≡ count }
 {
-    count.min(TOO_MANY - 1).max(1)
+    count.min(TOO_MANY - 1)
 }
 
 /// What is drawn of the judged packets of one run, as far as they were fed. Its size doesn't grow
@@ -58,12 +57,11 @@ impl RunDrawing {
     {
         let params = Params::of(media, judged.n);
         let packets = drawn(u64::from(judged.n).saturating_mul(judged.frames));
-        let groups = drawn(judged.frames);
         let [narrow, narrow_linear, wide] = judged.kinds;
         Ok(RunDrawing {
             levels: LevelMeter::new(&params),
-            packets: PacketColumns::new(alloc, u64::from(judged.n), packets)?,
-            groups: GroupColumns::new(alloc, &params, groups)?,
+            packets: PacketColumns::new(alloc, u64::from(judged.n))?,
+            groups: GroupColumns::new(alloc, &params)?,
             narrow: begin_region(alloc, Kind::N, &narrow, packets)?,
             narrow_linear: begin_region(alloc, Kind::NL, &narrow_linear, packets)?,
             wide: begin_region(alloc, Kind::W, &wide, packets)?,
@@ -123,10 +121,10 @@ impl RunDrawing {
             bucket_eye: self.packets.bucket.eye(alloc)?,
             gapped_eye: self.packets.gapped.eye(alloc)?,
             linear_eye: self.packets.linear.eye(alloc)?,
-            first: listed(alloc, &self.groups.firsts.first)?,
-            last: listed(alloc, &self.groups.last)?,
-            offset: listed(alloc, &self.groups.firsts.offset)?,
-            latency: listed(alloc, &self.groups.firsts.latency)?,
+            first: self.groups.firsts.first.finish(alloc)?,
+            last: self.groups.last.finish(alloc)?,
+            offset: self.groups.firsts.offset.finish(alloc)?,
+            latency: self.groups.firsts.latency.finish(alloc)?,
         })
     }
 

@@ -1,11 +1,11 @@
 //! The columns of when the judged groups of a run come, and of their RTP timestamps.
 
-ghost use Rattle.std.specs.Prelude.{◌≡◌, ◌≤◌, ◌<◌, ◌+◌, ◌^◌, ◌++◌, ◌∷◌, [], ℕ, ℤ, List, IfOk};
+ghost use Rattle.std.specs.Prelude.{◌≡◌, ◌<◌, ◌+◌, ◌^◌, ◌++◌, ◌∷◌, [], ℕ, ℤ, List, IfOk};
 ghost use Rattle.timing_base.specs.Media.{Media as MediaValue};
 ghost use Rattle.flow_measure.specs.Begun.{HaveBegun};
 
 use crate::drawing::packets::CURVE;
-use flow_measure::{Columns, GroupWalk, latency_of, offset_of, since_start};
+use flow_measure::{Curve, GroupWalk, latency_of, offset_of, since_start};
 use sender_params::Params;
 use std::alloc::{AllocError as OutOfMemory, Global};
 
@@ -15,12 +15,12 @@ pub struct FirstColumns {
     /// The groups that have begun.
     pub seen: u64,
     /// By how many nanoseconds the first packet of each group comes after the group begins.
-    pub first: Columns,
+    pub first: Curve<i128>,
     /// By how many ticks each group's timestamp is after that of the instant with which the group
     /// begins.
-    pub offset: Columns,
+    pub offset: Curve<i128>,
     /// The ticks from the timestamp to the first packet.
-    pub latency: Columns,
+    pub latency: Curve<i128>,
     ghost first_is: { first.seen ≡ seen },
     ghost offset_is: { offset.seen ≡ seen },
     ghost latency_is: { latency.seen ≡ seen },
@@ -29,19 +29,17 @@ pub struct FirstColumns {
 impl FirstColumns {
     ghost use Rattle.flow_page.specs.drawing.drawing.Columns.{DrawsFirsts};
 
-    /// Before the first of so many groups. `Err` is want of memory.
-    fn new(alloc: Global, groups: u64) -> Result<FirstColumns, OutOfMemory>
-        requires some { 1 ≤ groups }
-        requires few { groups < 2 ^ 41 }
+    /// Before the first group. `Err` is want of memory.
+    fn new(alloc: Global) -> Result<FirstColumns, OutOfMemory>
         ensures seen { IfOk result (λ c. c.seen ≡ 0) }
         ensures draws { IfOk result (λ c. (m : MediaValue) (anchor : ℤ) (stamp timestamp : ℕ → ℕ)
-            → DrawsFirsts m anchor groups c stamp timestamp) }
+            → DrawsFirsts m anchor c stamp timestamp) }
     {
         Ok(FirstColumns {
             seen: 0,
-            first: Columns::new(alloc, groups, CURVE)?,
-            offset: Columns::new(alloc, groups, CURVE)?,
-            latency: Columns::new(alloc, groups, CURVE)?,
+            first: Curve::new(alloc, CURVE)?,
+            offset: Curve::new(alloc, CURVE)?,
+            latency: Curve::new(alloc, CURVE)?,
         })
     }
 
@@ -52,10 +50,10 @@ impl FirstColumns {
         requires in_time { at < 2 ^ 62 }
         ensures kept { 0 < walk.now.place → self.new ≡ self.old }
         ensures seen { walk.now.place ≡ 0 → self.new.seen ≡ self.old.seen + 1 }
-        ensures draws { (groups : ℕ) (stamp timestamps : ℕ → ℕ) → walk.now.place ≡ 0
-            → DrawsFirsts params.now.media walk.now.n0 groups self.old stamp timestamps
+        ensures draws { (stamp timestamps : ℕ → ℕ) → walk.now.place ≡ 0
+            → DrawsFirsts params.now.media walk.now.n0 self.old stamp timestamps
             → stamp self.old.seen ≡ at → timestamps self.old.seen ≡ timestamp
-            → DrawsFirsts params.now.media walk.now.n0 groups self.new stamp timestamps }
+            → DrawsFirsts params.now.media walk.now.n0 self.new stamp timestamps }
     {
         if walk.place == 0 {
             self.feed(walk, params, at, timestamp);
@@ -69,10 +67,10 @@ impl FirstColumns {
         requires few { self.old.seen < 2 ^ 41 }
         requires in_time { at < 2 ^ 62 }
         ensures seen { self.new.seen ≡ self.old.seen + 1 }
-        ensures draws { (groups : ℕ) (stamp timestamps : ℕ → ℕ)
-            → DrawsFirsts params.now.media walk.now.n0 groups self.old stamp timestamps
+        ensures draws { (stamp timestamps : ℕ → ℕ)
+            → DrawsFirsts params.now.media walk.now.n0 self.old stamp timestamps
             → stamp self.old.seen ≡ at → timestamps self.old.seen ≡ timestamp
-            → DrawsFirsts params.now.media walk.now.n0 groups self.new stamp timestamps }
+            → DrawsFirsts params.now.media walk.now.n0 self.new stamp timestamps }
     {
         let group = self.seen;
         self.first.feed(since_start(params, walk.n0, group, at));
@@ -91,7 +89,7 @@ pub struct GroupColumns {
     /// Of each group that has begun.
     pub firsts: FirstColumns,
     /// By how many nanoseconds the last packet of each whole group comes after the group begins.
-    pub last: Columns,
+    pub last: Curve<i128>,
     ghost last_is: { last.seen ≡ walk.whole },
     ghost firsts_are: { HaveBegun walk firsts.seen },
 }
@@ -99,18 +97,15 @@ pub struct GroupColumns {
 impl GroupColumns {
     ghost use Rattle.flow_page.specs.drawing.drawing.Columns.{DrawsGroups};
 
-    /// Before the first packet of so many groups. `Err` is want of memory.
-    pub fn new(alloc: Global, params: &Params, groups: u64) -> Result<GroupColumns, OutOfMemory>
-        requires some { 1 ≤ groups }
-        requires few { groups < 2 ^ 41 }
+    /// Before the first packet. `Err` is want of memory.
+    pub fn new(alloc: Global, params: &Params) -> Result<GroupColumns, OutOfMemory>
         ensures seen { IfOk result (λ c. c.walk.seen ≡ 0) }
-        ensures draws { IfOk result (λ c.
-            DrawsGroups params.now.media params.now.n groups c [] []) }
+        ensures draws { IfOk result (λ c. DrawsGroups params.now.media params.now.n c [] []) }
     {
         Ok(GroupColumns {
             walk: GroupWalk::new(params, 0),
-            firsts: FirstColumns::new(alloc, groups)?,
-            last: Columns::new(alloc, groups, CURVE)?,
+            firsts: FirstColumns::new(alloc)?,
+            last: Curve::new(alloc, CURVE)?,
         })
     }
 
@@ -122,9 +117,9 @@ impl GroupColumns {
         ensures seen { self.new.walk.seen ≡ self.old.walk.seen + 1 }
 
         // Whatever packets the columns were fed, they were now fed this one, too.
-        ensures draws { (groups : ℕ) (stamps timestamps : List ℕ)
-            → DrawsGroups params.now.media params.now.n groups self.old stamps timestamps
-            → DrawsGroups params.now.media params.now.n groups self.new (stamps ++ at ∷ [])
+        ensures draws { (stamps timestamps : List ℕ)
+            → DrawsGroups params.now.media params.now.n self.old stamps timestamps
+            → DrawsGroups params.now.media params.now.n self.new (stamps ++ at ∷ [])
             (timestamps ++ timestamp ∷ []) }
     {
         self.walk.begin_at(params, at);

@@ -1,6 +1,6 @@
 //! The columns around a fail.
 
-ghost use Rattle.std.specs.Prelude.{◌≡◌, ◌≤◌, ◌<◌, ◌+◌, ◌-◌, ◌^◌, ◌++◌, ◌∷◌, [], min, max, ℕ, ℤ};
+ghost use Rattle.std.specs.Prelude.{◌≡◌, ◌≤◌, ◌<◌, ◌+◌, ◌-◌, ◌^◌, ◌++◌, ◌∷◌, [], min, ℕ, ℤ};
 ghost use Rattle.std.specs.Prelude.{IfOk, List, length};
 ghost use Rattle.timing_base.specs.Media.{IsMedia, Media};
 ghost use Rattle.timing_base.specs.declared.fail.FailProof.{FailProof as ProofValue};
@@ -9,8 +9,7 @@ ghost use Rattle.flow_page.specs.drawing.Drawn.{IsRegion, count_around, start_ar
 ghost use Rattle.flow_page.specs.drawing.drawing.Held.{Holds, buffer_of, held_by};
 
 use crate::Region;
-use crate::drawing::packets::listed;
-use flow_measure::Columns;
+use flow_measure::Curve;
 use flow_measure::rows::Level;
 use std::alloc::{AllocError as OutOfMemory, Global};
 use timing_base::{Broken, FailProof, Kind};
@@ -47,7 +46,7 @@ pub struct RegionMeter {
     /// The first packet that is shown, counted from 0, and how many are.
     start: u64,
     count: u64,
-    columns: Columns,
+    columns: Curve<i128>,
     ghost count_few: { count < 2 ^ 41 },
     ghost fed_few: { columns.seen ≤ count },
 }
@@ -95,7 +94,7 @@ impl RegionMeter {
             proof,
             start: start_around(proof),
             count,
-            columns: Columns::new(alloc, count.max(1), MOST)?,
+            columns: Curve::new(alloc, MOST)?,
         })
     }
 
@@ -130,7 +129,7 @@ impl RegionMeter {
             proof: self.proof,
             start: self.start,
             count: self.count,
-            columns: listed(alloc, &self.columns)?,
+            columns: self.columns.finish(alloc)?,
         })
     }
 }

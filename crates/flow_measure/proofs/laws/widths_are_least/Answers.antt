@@ -1,5 +1,5 @@
 use Rattle.flow_measure.proofs.Unique.{curve-length, curve-short}
-use Rattle.flow_measure.proofs.Widths.{width-once, width_of-is}
+use Rattle.flow_measure.proofs.Widths.{columns-full, width-once, width_of-is}
 use Rattle.flow_measure.proofs.laws.widths_are_least.Goals as goal
 
 pub returns-clause-width : goal.returns-clause-width
@@ -13,3 +13,6 @@ returns-clause-columns c = curve-length
 
 pub returns-clause-most : goal.returns-clause-most
 returns-clause-most c = curve-short
+
+pub returns-clause-full : goal.returns-clause-full
+returns-clause-full c = columns-full

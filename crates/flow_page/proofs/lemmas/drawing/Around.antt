@@ -26,7 +26,6 @@ region-same m n packets kind proof r stamps at same h =
       proof_is = h.proof_is;
       start_is = h.start_is;
       count_is = h.count_is;
-      group_is = h.group_is;
       most_is = h.most_is;
       seen_is = omega (arith, long, was, same);
       draws = λ level held. h.draws level (held-front m n stamps at kind proof.model level held);

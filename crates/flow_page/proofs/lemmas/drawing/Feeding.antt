@@ -13,8 +13,9 @@ use Rattle.flow_measure.specs.Filled.{AreBuckets}
 use Rattle.flow_measure.specs.Groups.{firsts_of, lasts_of, since_at}
 use Rattle.flow_measure.specs.Occupancy.{AreOccupancies, buckets_of}
 use Rattle.flow_measure.specs.RunStands.{IsLatest}
-use Rattle.flow_measure.specs.Stands.{Draws}
-use Rattle.flow_measure.specs.declared.columns.Columns.{Columns}
+use Rattle.flow_measure.specs.Stands.{DrawsCurve, DrawsEye}
+use Rattle.flow_measure.specs.declared.columns.curve.Curve.{Curve}
+use Rattle.flow_measure.specs.declared.columns.eye.Eye.{Eye}
 use Rattle.flow_measure.specs.declared.group_walk.GroupWalk.{GroupWalk}
 use Rattle.flow_measure.proofs.Filled.{buckets-front}
 use Rattle.flow_measure.proofs.Followed.{front-is, last-is, occupancies-front}
@@ -24,7 +25,7 @@ use Rattle.flow_measure.proofs.Passes.{occupancy-once}
 use Rattle.flow_measure.specs.declared.rows.levels.Level.{Level}
 use Rattle.flow_page.specs.drawing.Drawn.{IsHeld}
 use Rattle.flow_page.specs.declared.drawing.groups.GroupColumns.{GroupColumns}
-use Rattle.flow_page.specs.drawing.drawing.Columns.{DrawsFirsts, DrawsGroups, DrawsIn}
+use Rattle.flow_page.specs.drawing.drawing.Columns.{DrawsFirsts, DrawsGroups, DrawsIn, OverlaysIn}
 use Rattle.flow_page.specs.drawing.drawing.Held.{Holds, held_by}
 
 -- the last place is among those of a list and one more
@@ -38,15 +39,27 @@ latest-of stamps at rising = λ i few.
     let last = last-is stamps at in
     omega (arith, rising i (length stamps) (omega (arith, few)) (ends stamps at), here, last)
 
--- the columns of numbers, with one more
-pub draws-more : (group most : ℕ) (old new : Columns) (numbers : ℕ → ℤ) (number : ℤ)
+-- the curve of numbers, with one more
+pub draws-more : (most : ℕ) (old new : Curve ℤ) (numbers : ℕ → ℤ) (number : ℤ)
+    → new.most ≡ old.most
+    → ((numbers : ℕ → ℤ) → DrawsCurve (λ x. x) old numbers → numbers old.seen ≡ number → DrawsCurve (λ x. x) new numbers)
+    → DrawsIn most old numbers
+    → numbers old.seen ≡ number
+    → DrawsIn most new numbers
+draws-more most old new numbers number same_most draws h is = record {
+  most_is = same_most ∙ h.most_is;
+  draws = draws numbers h.draws is;
+}
+
+-- their eye
+pub overlays-more : (group most : ℕ) (old new : Eye ℤ) (numbers : ℕ → ℤ) (number : ℤ)
     → new.group ≡ old.group
     → new.most ≡ old.most
-    → ((numbers : ℕ → ℤ) → Draws old numbers → numbers old.seen ≡ number → Draws new numbers)
-    → DrawsIn group most old numbers
+    → ((numbers : ℕ → ℤ) → DrawsEye (λ x. x) old numbers → numbers old.seen ≡ number → DrawsEye (λ x. x) new numbers)
+    → OverlaysIn group most old numbers
     → numbers old.seen ≡ number
-    → DrawsIn group most new numbers
-draws-more group most old new numbers number same_group same_most draws h is = record {
+    → OverlaysIn group most new numbers
+overlays-more group most old new numbers number same_group same_most draws h is = record {
   group_is = same_group ∙ h.group_is;
   most_is = same_most ∙ h.most_is;
   draws = draws numbers h.draws is;
@@ -121,19 +134,19 @@ first-more [] at seen old new is first later known = first is
 first-more (x ∷ xs) at seen old new is first later known = later (omega (arith, is)) ∙ known (omega arith)
 
 -- the columns of groups were fed a packet: so they are drawn, if those of the last packets are; `walk` has the group of the first packet
-pub groups-fed : (m : Media) (n groups : ℕ) (s new : GroupColumns) (walk : GroupWalk) (stamps timestamps : List ℕ) (at ticks : ℕ)
-    → DrawsGroups m n groups s stamps timestamps
+pub groups-fed : (m : Media) (n : ℕ) (s new : GroupColumns) (walk : GroupWalk) (stamps timestamps : List ℕ) (at ticks : ℕ)
+    → DrawsGroups m n s stamps timestamps
     → (s.walk.seen ≡ 0 → walk.n0 ≡ anchor_of m at)
     → (0 < s.walk.seen → walk.n0 ≡ s.walk.n0)
     → walk.n ≡ s.walk.n → walk.seen ≡ s.walk.seen → walk.place ≡ s.walk.place → walk.whole ≡ s.walk.whole
     → new.walk.n ≡ walk.n → new.walk.n0 ≡ walk.n0 → new.walk.seen ≡ walk.seen + 1
     → (0 < walk.place → new.firsts ≡ s.firsts)
-    → ((k : ℕ) (stamp timestamp : ℕ → ℕ) → walk.place ≡ 0 → DrawsFirsts m walk.n0 k s.firsts stamp timestamp → stamp s.firsts.seen ≡ at
-    → timestamp s.firsts.seen ≡ ticks → DrawsFirsts m walk.n0 k new.firsts stamp timestamp)
-    → ((anchor : ℤ) (stamp : ℕ → ℕ) → walk.n0 ≡ anchor → stamp walk.seen ≡ at → DrawsIn groups 1000 s.last (since_at m anchor (lasts_of n stamp))
-    → DrawsIn groups 1000 new.last (since_at m anchor (lasts_of n stamp)))
-    → DrawsGroups m n groups new (stamps ++ at ∷ []) (timestamps ++ ticks ∷ [])
-groups-fed m n groups s new walk stamps timestamps at ticks h first later n_is seen_is place_is whole_is n_kept here count kept begins last =
+    → ((stamp timestamp : ℕ → ℕ) → walk.place ≡ 0 → DrawsFirsts m walk.n0 s.firsts stamp timestamp → stamp s.firsts.seen ≡ at
+    → timestamp s.firsts.seen ≡ ticks → DrawsFirsts m walk.n0 new.firsts stamp timestamp)
+    → ((anchor : ℤ) (stamp : ℕ → ℕ) → walk.n0 ≡ anchor → stamp walk.seen ≡ at → DrawsIn 1000 s.last (since_at m anchor (lasts_of n stamp))
+    → DrawsIn 1000 new.last (since_at m anchor (lasts_of n stamp)))
+    → DrawsGroups m n new (stamps ++ at ∷ []) (timestamps ++ ticks ∷ [])
+groups-fed m n s new walk stamps timestamps at ticks h first later n_is seen_is place_is whole_is n_kept here count kept begins last =
     let long : length (stamps ++ at ∷ []) ≡ length stamps + 1 = length-append stamps (at ∷ []) in
     let ticks_long : length (timestamps ++ ticks ∷ []) ≡ length timestamps + 1 = length-append timestamps (ticks ∷ []) in
     let seen = seen_is ∙ h.seen_is in
@@ -145,9 +158,9 @@ groups-fed m n groups s new walk stamps timestamps at ticks h first later n_is s
       same = omega (arith, h.same, long, ticks_long);
       anchor_is = λ _. here ∙ anchor-more m stamps at s.walk.seen s.walk.n0 walk.n0 h.seen_is first later h.anchor_is;
       firsts_draw = λ anchor stamp timestamp is listed ticks_listed.
-          firsts-next (λ a c s t. DrawsFirsts m a groups c s t) n walk.n walk.seen walk.place s.firsts.seen walk.n0 anchor s.firsts new.firsts stamp
+          firsts-next (λ a c s t. DrawsFirsts m a c s t) n walk.n walk.seen walk.place s.firsts.seen walk.n0 anchor s.firsts new.firsts stamp
           timestamp at ticks (same anchor is) (n_is ∙ h.n_is) walk.place_is
-          (λ none. s.firsts_are.between (sym place_is ∙ none) ∙ sym whole_is ∙ walk.whole_is) kept (begins groups)
+          (λ none. s.firsts_are.between (sym place_is ∙ none) ∙ sym whole_is ∙ walk.whole_is) kept begins
           (listed-last stamps at walk.seen stamp seen listed)
           (listed-last timestamps ticks walk.seen timestamp (seen ∙ sym h.same) ticks_listed)
           (h.firsts_draw anchor stamp timestamp (before anchor (same anchor is)) (listed-front stamps at stamp listed)

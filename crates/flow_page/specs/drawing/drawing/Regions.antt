@@ -1,11 +1,11 @@
 -- What a `RegionMeter` says of the judged packets that it was fed: their stamps, in nanoseconds of TAI.
-use Rattle.std.specs.Prelude.{◌≡◌, ◌+◌, ◌-◌, min, max, ℕ, ℤ, ⊤, List, [], ◌∷◌, ◌++◌, length, Option, Some, None}
+use Rattle.std.specs.Prelude.{◌≡◌, ◌+◌, ◌-◌, min, ℕ, ℤ, ⊤, List, [], ◌∷◌, ◌++◌, length, Option, Some, None}
 use Rattle.timing_base.specs.Media.{Media}
 use Rattle.timing_base.specs.declared.fail.FailProof.{FailProof}
 use Rattle.timing_base.specs.declared.media.Kind.{Kind}
 use Rattle.timing_base.specs.declared.row.KindVerdict.{KindVerdict}
 use Rattle.timing_base.specs.declared.row.KindVerdict.TheVariants.{Pass, Fail}
-use Rattle.flow_measure.specs.Stands.{Draws}
+use Rattle.flow_measure.specs.Stands.{DrawsCurve}
 use Rattle.flow_page.specs.declared.shown.Region.{Region}
 use Rattle.flow_page.specs.drawing.Drawn.{IsHeld, IsRegion, count_around, start_around}
 use Rattle.flow_page.specs.declared.drawing.region.RegionMeter.{RegionMeter}
@@ -21,11 +21,10 @@ pub record DrawsRegion (m : Media) (n packets : ℕ) (kind : Kind) (proof : Fail
   pub proof_is : r.proof ≡ proof
   pub start_is : r.start ≡ start_around proof
   pub count_is : r.count ≡ count_around proof packets
-  pub group_is : r.columns.group ≡ max 1 (count_around proof packets)
   pub most_is : r.columns.most ≡ 400
   pub seen_is : r.columns.seen ≡ among r.start r.count (length stamps)
   pub draws : (level : ℕ → ℤ) → IsHeld m n stamps kind proof.model level
-      → Draws r.columns (λ i. level (start_around proof + i))
+      → DrawsCurve (λ x. x) r.columns (λ i. level (start_around proof + i))
 
 -- there is a meter exactly where the type fails
 abbrev pub DrawsKind : Media → (n packets : ℕ) → Kind → KindVerdict → Option RegionMeter → List ℕ → Type 0

@@ -2,8 +2,8 @@ use Rattle.std.proofs.Common.{◌≡◌, ◌≤◌, ◌<◌, ◌+◌, ◌-◌, �
 use Rattle.flow_measure.specs.Columns.{column_at, width_of}
 use Rattle.flow_measure.specs.Extremes.{extremes_of, joined, only}
 use Rattle.flow_measure.specs.Stands.{curve_columns}
-use Rattle.flow_measure.proofs.Curved.{curve-doubled, room-doubled}
-use Rattle.flow_measure.proofs.Widths.{width_of-full}
+use Rattle.flow_measure.proofs.Curved.{curve-doubled}
+use Rattle.flow_measure.proofs.Widths.{room-doubled, width_of-full}
 use Rattle.flow_measure.proofs.columns.curve.Curve.double.Goals as goal
 
 -- the numbers in columns that are all full
@@ -62,17 +62,16 @@ returns-clause-draws g c = λ numbers h e.
     let last : only (value c.args.number) ≡ only (numbers s.seen) = ap only (sym e) in
     let columns = curve_columns value s in
     let b = c.behind.ensures in
-    let odd : 2 * (s.most / 2) + 1 ≡ s.most
-        → extremes_of value c.behind.result ≡ joined (column_at (curve_columns value mid) (2 * (s.most / 2))) (only (value c.args.number)) =
-    subst (λ m. 2 * (m / 2) + 1 ≡ m → extremes_of value c.behind.result ≡ joined (column_at (curve_columns value mid) (2 * (m / 2))) (only (value c.args.number)))
-    j.most b.odd in
-    let even : 2 * (s.most / 2) ≡ s.most → extremes_of value c.behind.result ≡ only (value c.args.number) =
-    subst (λ m. 2 * (m / 2) ≡ m → extremes_of value c.behind.result ≡ only (value c.args.number)) j.most b.even in
+    let e_last = extremes_of value c.behind.result in
+    let number = only (value c.args.number) in
+    let odd : 2 * (s.most / 2) + 1 ≡ s.most → e_last ≡ joined (column_at (curve_columns value mid) (2 * (s.most / 2))) number =
+    subst (λ m. 2 * (m / 2) + 1 ≡ m → e_last ≡ joined (column_at (curve_columns value mid) (2 * (m / 2))) number) j.most b.odd in
+    let even : 2 * (s.most / 2) ≡ s.most → e_last ≡ number = subst (λ m. 2 * (m / 2) ≡ m → e_last ≡ number) j.most b.even in
     curve-doubled value s mid _ numbers c.behind.result
     (full s.seen s.room s.begun s.most s.width s.filled c.requires.full c.requires.none) c.requires.none j.most
     (omega (arith, j.width)) (omega (arith, j.seen)) (omega (arith, len)) (ap (λ m. set mid.columns.items (m / 2) c.behind.result) len)
     j.joined
     (λ one. odd one
-    ∙ ap (λ x. joined x (only (value c.args.number))) (j.alone (s.most / 2) one)
+    ∙ ap (λ x. joined x number) (j.alone (s.most / 2) one)
     ∙ ap (joined (column_at columns (2 * (s.most / 2)))) last)
     (λ one. even one ∙ last) h

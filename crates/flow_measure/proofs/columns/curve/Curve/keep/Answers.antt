@@ -28,5 +28,6 @@ returns-clause-draws g c = λ numbers drawn more other_drawn.
     let s = c.args.self.now in
     let o = c.args.other.now in
     let h = c.loop-column.invariant in
-    curve-kept g.N.Integer.value s o _ numbers c.unchanged_in-column.result refl refl refl c.unchanged_in-column.ensures.same c.unchanged_in-column.ensures.doubled
+    let from = c.unchanged_in-column in
+    curve-kept g.N.Integer.value s o _ numbers from.result refl refl refl from.ensures.same from.ensures.doubled
     h.kept (λ k past few. h.copied k past (omega (arith, few, c.loop-column-test.false, h.end))) drawn more other_drawn

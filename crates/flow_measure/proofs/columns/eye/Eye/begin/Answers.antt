@@ -29,7 +29,8 @@ returns-clause-draws g c = λ numbers h e.
     let s = c.args.self.now in
     let value = g.N.Integer.value in
     let last = ap only (sym e) in
-    eye-more value s _ numbers s.opened c.widened.result refl refl refl c.max-self.ensures refl (next-column s c.requires.full c.requires.more) s.opened_begun c.requires.more
+    let here = next-column s c.requires.full c.requires.more in
+    eye-more value s _ numbers s.opened c.widened.result refl refl refl c.max-self.ensures refl here s.opened_begun c.requires.more
     (record {
       fresh = λ few. c.widened.ensures.fresh few ∙ last;
       kept = λ some. c.widened.ensures.begun some ∙ ap (joined (column_at (eye_columns value s) s.opened)) last;

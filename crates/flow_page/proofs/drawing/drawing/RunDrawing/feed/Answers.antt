@@ -30,15 +30,14 @@ returns-clause-draws c = λ m judged stamps timestamps rising h.
       gapped_is = f.gapped m n stamps h.levels_stand latest;
       linear_is = f.linear m n stamps h.levels_stand latest;
     } in
-    let groups : DrawsGroups params.media params.n judged.frames s.groups stamps timestamps =
-    subst (λ k. DrawsGroups params.media k judged.frames s.groups stamps timestamps) (sym stands.n_is)
-    (subst (λ (x : Media). DrawsGroups x n judged.frames s.groups stamps timestamps) (sym stands.media_is) h.groups_draw) in
+    let groups : DrawsGroups params.media params.n s.groups stamps timestamps =
+    subst (λ k. DrawsGroups params.media k s.groups stamps timestamps) (sym stands.n_is)
+    (subst (λ (x : Media). DrawsGroups x n s.groups stamps timestamps) (sym stands.media_is) h.groups_draw) in
     record {
       levels_stand = record { media_is = stands.media_is; n_is = stands.n_is; seen = stands.seen; fills = stands.fills };
-      packets_draw = c.feed.ensures.draws m n packets stamps at h.packets_draw holds;
-      groups_draw = subst (λ k. DrawsGroups m k judged.frames c.feed-2.new.self new ticks) stands.n_is
-          (subst (λ (x : Media). DrawsGroups x params.n judged.frames c.feed-2.new.self new ticks) stands.media_is
-          (c.feed-2.ensures.draws judged.frames stamps timestamps groups));
+      packets_draw = c.feed.ensures.draws m n stamps at h.packets_draw holds;
+      groups_draw = subst (λ k. DrawsGroups m k c.feed-2.new.self new ticks) stands.n_is
+          (subst (λ (x : Media). DrawsGroups x params.n c.feed-2.new.self new ticks) stands.media_is (c.feed-2.ensures.draws stamps timestamps groups));
       narrow_draws = c.feed_region.ensures m n packets N (slice_index_or judged.kinds 0 Pass) stamps at (sym seen) h.narrow_draws holds;
       narrow_linear_draws = c.feed_region-2.ensures m n packets NL (slice_index_or judged.kinds 1 Pass) stamps at (sym seen) h.narrow_linear_draws
           holds;

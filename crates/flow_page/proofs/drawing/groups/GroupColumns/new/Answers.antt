@@ -14,8 +14,7 @@ returns-clause-draws c =
       firsts_draw = λ anchor stamp timestamp is listed ticks.
           c.in_ok-new.ensures.draws m anchor (firsts_of n stamp) (firsts_of n timestamp);
       last_draws = λ anchor stamp is listed. record {
-        group_is = c.in_ok-new-2.ensures.group;
         most_is = c.in_ok-new-2.ensures.most;
-        draws = c.in_ok-new-2.ensures.stands (since_at m anchor (lasts_of n stamp));
+        draws = c.in_ok-new-2.ensures.draws (since_at m anchor (lasts_of n stamp));
       };
     }

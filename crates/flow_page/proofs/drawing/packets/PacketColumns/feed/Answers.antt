@@ -7,7 +7,7 @@ use Rattle.flow_page.proofs.lemmas.drawing.Feeding.{bucket-last, gapped-last, li
 use Rattle.flow_page.proofs.drawing.packets.PacketColumns.feed.Goals as goal
 
 pub returns-clause-draws : goal.returns-clause-draws
-returns-clause-draws c = λ m n packets stamps at h holds.
+returns-clause-draws c = λ m n stamps at h holds.
     let s = c.args.self.now in
     let l = c.args.level in
     let long : length (stamps ++ at ∷ []) ≡ length stamps + 1 = length-append stamps (at ∷ []) in
@@ -16,11 +16,11 @@ returns-clause-draws c = λ m n packets stamps at h holds.
     let linear_fits : FitsSigned w128 l.linear = search rules in
     record {
       seen_is = omega (arith, h.seen_is, long);
-      bucket_draws = λ level are. c.feed.ensures.draws n packets level (h.bucket_draws level (buckets-front m n stamps at level are))
+      bucket_draws = λ level are. c.feed.ensures.draws n level (h.bucket_draws level (buckets-front m n stamps at level are))
           (ap level (s.bucket_is ∙ h.seen_is) ∙ bucket-last m n stamps at l level are holds
           ∙ sym (to_z-of_z w128 c.from.result from_fits ∙ c.from.ensures));
-      gapped_draws = λ level are. c.feed-2.ensures.draws n packets level (h.gapped_draws level (occupancies-front m n true stamps at level are))
+      gapped_draws = λ level are. c.feed-2.ensures.draws n level (h.gapped_draws level (occupancies-front m n true stamps at level are))
           (ap level (s.gapped_is ∙ h.seen_is) ∙ gapped-last m n stamps at l level are holds ∙ sym (to_z-of_z w128 l.gapped gapped_fits));
-      linear_draws = λ level are. c.feed-3.ensures.draws n packets level (h.linear_draws level (occupancies-front m n false stamps at level are))
+      linear_draws = λ level are. c.feed-3.ensures.draws n level (h.linear_draws level (occupancies-front m n false stamps at level are))
           (ap level (s.linear_is ∙ h.seen_is) ∙ linear-last m n stamps at l level are holds ∙ sym (to_z-of_z w128 l.linear linear_fits));
     }

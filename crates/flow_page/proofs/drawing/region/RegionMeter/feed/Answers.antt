@@ -32,10 +32,9 @@ returns-then-self c = λ m n packets kind proof stamps at place h holds.
       proof_is = h.proof_is;
       start_is = h.start_is;
       count_is = h.count_is;
-      group_is = c.feed.ensures.group ∙ h.group_is;
       most_is = c.feed.ensures.most ∙ h.most_is;
       seen_is = omega (arith, long, was, c.feed.ensures.seen, c.if-place-self.false, c.if-self.true, place);
-      draws = λ level held. c.feed.ensures.stands (λ i. level (start_around proof + i)) (h.draws level (held-front m n stamps at kind proof.model level held))
+      draws = λ level held. c.feed.ensures.draws (λ i. level (start_around proof + i)) (h.draws level (held-front m n stamps at kind proof.model level held))
           (ap level here ∙ held-last m n stamps at kind proof.model l level held holds ∙ value ∙ sym (to_z-of_z w128 x fits));
     }
 

@@ -1,4 +1,5 @@
-use Rattle.std.proofs.Common.{◌≡◌, ◌+◌, ◌-◌, min, length, arith}
+use Rattle.std.proofs.Common.{◌≡◌, ◌+◌, ◌-◌, ℕ, min, length, subst, arith}
+use Rattle.flow_measure.specs.Columns.{AreCurve}
 use Rattle.flow_page.specs.drawing.Drawn.{count_around, start_around}
 use Rattle.flow_page.proofs.lemmas.drawing.Feeding.{held-some}
 use Rattle.flow_page.proofs.drawing.region.RegionMeter.finish.Goals as goal
@@ -17,6 +18,8 @@ returns c = λ m n kind proof stamps is some h.
       count_is = h.count_is;
       level = held.0;
       held = held.1;
-      columns = c.in_ok-listed.ensures.curve 400 (count_around proof (length stamps)) (λ i. held.0 (start_around proof + i)) (h.draws held.0 held.1)
-          h.group_is h.most_is (omega (arith, all, h.count_is));
+      columns =
+          let shown = λ (i : ℕ). held.0 (start_around proof + i) in
+          subst (λ k. AreCurve 400 shown k c.in_ok-finish.field-0) (omega (arith, all, h.count_is))
+          (subst (λ most. AreCurve most shown s.columns.seen c.in_ok-finish.field-0) h.most_is (c.in_ok-finish.ensures.curve shown (h.draws held.0 held.1)));
     }
