@@ -1,32 +1,37 @@
 -- What a bank of judges says of the records that it was fed: each judge was fed the flow of its media. Media count
 -- from 0.
-use Rattle.std.specs.Prelude.{◌≡◌, ◌≤◌, ◌+◌, ◌^◌, ℕ, ⊤, List, [], ◌∷◌, ◌++◌}
+use Rattle.std.specs.Prelude.{◌≡◌, ◌≤◌, ◌+◌, ◌^◌, ℕ, max, ⊤, List, [], ◌∷◌, ◌++◌}
 use Rattle.std.proofs.Common.{arith, subst, sym, append_assoc, append-nil}
 use Rattle.timing_base.specs.Captures.{Record}
-use Rattle.timing_base.specs.Media.{Media}
-use Rattle.timing_base.specs.Targets.{target_of}
-use Rattle.udp_rtp.specs.Flow.{flow}
-use Rattle.fail_interval.specs.Stands.{StandsFor as JudgeStandsFor}
 use Rattle.timing_base.specs.Keys.{key_of}
+use Rattle.timing_base.specs.Media.{Media}
+use Rattle.udp_rtp.specs.Flow.{flow}
+use Rattle.flow_demux.specs.Rooms.{flows_of}
+use Rattle.flow_demux.specs.declared.media_flow.MediaFlow.{MediaFlow}
+use Rattle.fail_interval.specs.Stands.{StandsFor as JudgeStandsFor, count_fed}
 use Rattle.fail_interval.specs.declared.bank.Bank.{Bank}
-use Rattle.fail_interval.specs.declared.media_judge.MediaJudge.{MediaJudge}
+use Rattle.fail_interval.specs.declared.metered.Metered.{Metered}
 
--- the judge is that of this media, and was fed its flow of these records
-pub record IsJudgeOf (m : Media) (file number tai : ℕ) (j : MediaJudge) (items : List Record) : Type 0 where
-  pub target : j.target ≡ target_of m
-  pub judge : JudgeStandsFor m (key_of file number) tai j.judge (flow items m)
+-- a judge whose flow has no meters
+abbrev pub Judging : Type 0
+Judging = Metered (Unit {0}) (Unit {0})
+
+-- the judge takes the flow of this media, and was fed that of these records
+pub record IsJudgeOf (m : Media) (file number tai : ℕ) (f : MediaFlow Judging) (items : List Record) : Type 0 where
+  pub media : f.media ≡ m
+  pub judge : JudgeStandsFor m (key_of file number) tai f.taker.judge (flow items m)
 
 -- the judges are those of these media, the first of them with this number
-abbrev pub AreJudgesOf : (tai file number : ℕ) → List Media → List MediaJudge → List Record → Type 0
+abbrev pub AreJudgesOf : (tai file number : ℕ) → List Media → List (MediaFlow Judging) → List Record → Type 0
 AreJudgesOf tai file number [] [] items = ⊤
-AreJudgesOf tai file number [] (j ∷ js) items = ⊥
+AreJudgesOf tai file number [] (f ∷ fs) items = ⊥
 AreJudgesOf tai file number (m ∷ ms) [] items = ⊥
-AreJudgesOf tai file number (m ∷ ms) (j ∷ js) items =
-    IsJudgeOf m file number tai j items × AreJudgesOf tai file (number + 1) ms js items
+AreJudgesOf tai file number (m ∷ ms) (f ∷ fs) items =
+    IsJudgeOf m file number tai f items × AreJudgesOf tai file (number + 1) ms fs items
 
 -- the bank was fed these records of one file and no others
 abbrev pub StandsFor : List Media → (file tai : ℕ) → Bank → List Record → Type 0
-StandsFor media file tai bank items = AreJudgesOf tai file 0 media bank.judges.items items
+StandsFor media file tai bank items = AreJudgesOf tai file 0 media (flows_of bank.demux) items
 
 -- whatever records the bank was fed, it was then fed these too, and no others
 abbrev pub Feeds : (old new : Bank) → List Record → Type 0
@@ -42,9 +47,14 @@ feeds_more old mid new a b first second media file tai items h =
     subst (StandsFor media file tai new) (append_assoc items a b)
     (second media file tai (items ++ a) (first media file tai items h))
 
--- the records that were taken
+-- the most packets that one of these judges was fed
+abbrev pub most_fed : List (MediaFlow Judging) → ℕ
+most_fed [] = 0
+most_fed (f ∷ fs) = max (count_fed f.taker.judge) (most_fed fs)
+
+-- the records that were taken of one media, at most
 abbrev pub records : Bank → ℕ
-records bank = bank.records
+records bank = most_fed (flows_of bank.demux)
 
 -- it has room for so many records more
 abbrev pub HasRoom : (number count : ℕ) → Bank → Type 0

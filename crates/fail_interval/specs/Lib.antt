@@ -13,16 +13,13 @@ pub mod Found
 -- flows that are worked by hand
 pub mod Worked
 -- these only serve proofs
-pub mod Awaits
 pub mod Early
-pub mod Few
 pub mod Flowing
 pub mod Goings
 pub mod Groups
 pub mod Kinds
 pub mod Lulls
 pub mod Meters
-pub mod Orders
 pub mod Runs
 pub mod SoFar
 pub mod States

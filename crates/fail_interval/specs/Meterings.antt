@@ -8,10 +8,11 @@ use Rattle.timing_base.specs.Captures.{Record}
 use Rattle.timing_base.specs.Media.{Media}
 use Rattle.timing_base.specs.declared.key.FlowKey.{FlowKey}
 use Rattle.timing_base.specs.declared.packet.FlowPacket.{FlowPacket}
+use Rattle.timing_base.specs.declared.packet.Rtp.{Rtp}
 use Rattle.udp_rtp.specs.Flow.{flow, flow_packet}
 use Rattle.fail_interval.specs.Measured.{JudgeTells}
 use Rattle.fail_interval.specs.Metered.{Standing, Telling}
-use Rattle.fail_interval.specs.Stands.{StandsFor, count_fed}
+use Rattle.fail_interval.specs.Stands.{StandsFor, count_fed, expected_of}
 use Rattle.fail_interval.specs.declared.metered.Metered.{Metered}
 
 -- the judge stands for these packets, and the output of its meters tells of them
@@ -54,3 +55,7 @@ HasRoom count x = count_fed x.judge + count ≤ 2 ^ 41
 
 pub room_less : {M O : Type 0} (few many : ℕ) (x : Metered M O) → few ≤ many → HasRoom many x → HasRoom few x
 room_less few many x less room = omega (arith, less, room)
+
+-- the packet that is expected next, by what the judge keeps
+abbrev pub expected_next : {M O : Type 0} → Metered M O → Option Rtp
+expected_next x = expected_of x.judge

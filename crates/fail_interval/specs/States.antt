@@ -1,20 +1,16 @@
 -- What a `FlowJudge` keeps of the packets that it was fed. Packets count from 0.
-use Rattle.std.specs.Prelude.{◌≡◌, ℕ, ⊤, List, ◌++◌, length, Option, Some, None, Result, Ok, Err, ◌⊎◌}
+use Rattle.std.specs.Prelude.{◌≡◌, ℕ, ⊤, List, ◌++◌, length, Option, Some, None}
 use Rattle.timing_base.specs.Flows.{AreStamped, first_fault_below, packet}
 use Rattle.timing_base.specs.Media.{Media}
 use Rattle.timing_base.specs.declared.packet.FlowPacket.{FlowPacket}
 use Rattle.timing_base.specs.declared.packet.PacketFault.{PacketFault}
-use Rattle.timing_base.specs.declared.packet.PacketFault.TheVariants.{Short, Version}
 use Rattle.timing_base.specs.declared.packet.Rtp.{Rtp}
 use Rattle.fail_interval.specs.Flowing.{StandsFor as FlowStandsFor, flow_expects}
 use Rattle.fail_interval.specs.declared.flow.Flow.{Flow}
 use Rattle.fail_interval.specs.declared.judge.State.{State}
 use Rattle.fail_interval.specs.declared.judge.State.TheVariants.{Going, Refused, Spent}
-
--- a packet that was not read is too short, or of another version
-abbrev pub IsReading : Result Rtp PacketFault → Type 0
-IsReading (Ok rtp) = ⊤
-IsReading (Err fault) = (fault ≡ Short) ⊎ (fault ≡ Version)
+-- what the reading of a packet can come to
+pub use Rattle.flow_demux.specs.Readings.{IsReading}
 
 -- the first fault of a flow that begins so, and the record of its packet; whatever packets follow
 pub record IsRefused (m : Media) (packets : List FlowPacket) (rec : ℕ) (fault : PacketFault) : Type 0 where

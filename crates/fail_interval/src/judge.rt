@@ -1,6 +1,6 @@
 //! The judge of one flow.
 
-ghost use Rattle.std.specs.Prelude.{◌≡◌, ◌≤◌, ◌<◌, ◌+◌, ◌^◌, ◌++◌, ◌∷◌, [], ℕ, List, Ok, Err, IfOk, IsErr, OnErr, OnOk, true, false};
+ghost use Rattle.std.specs.Prelude.{◌≡◌, ◌≤◌, ◌<◌, ◌+◌, ◌^◌, ◌++◌, ◌∷◌, [], ℕ, List, Ok, Err, IfOk, IsErr, OnErr, OnOk, length, true, false};
 ghost use Rattle.frame_group.specs.Expected.{expected_after};
 ghost use Rattle.timing_base.specs.Captures.{IsStamp};
 ghost use Rattle.timing_base.specs.declared.packet.FlowPacket.{FlowPacket};
@@ -132,6 +132,16 @@ impl<M: RunMeter> FlowJudge<M> {
             fed: 0,
             state: State::Going(Flow::new(alloc, media, tai)),
         }
+    }
+
+    /// The packets fed so far.
+    #[inline(always)]
+    pub fn fed(&self) -> u64
+        ensures is { result ≡ count_fed self.now }
+        ensures count { (media : MediaValue) (key : KeyValue) (tai : ℕ) (packets : List FlowPacket)
+            → StandsFor media key tai self.now packets → result ≡ length packets }
+    {
+        self.fed
     }
 
     /// The next packet of the flow, if it goes on in its frame or field as most do: with the number after the last

@@ -17,10 +17,8 @@ mod judge;
 mod kind;
 pub mod laws;
 mod lull;
-mod media_judge;
 mod metered;
 mod meters;
-mod order;
 mod run;
 
 pub use bank::Bank;

@@ -1,5 +1,11 @@
 //! The judge of a flow, and what the meters of the flow's runs put out.
 
+ghost use Rattle.std.specs.Prelude.{◌≡◌, ◌≤◌, [], ℕ, List, IfOk, None, true};
+ghost use Rattle.timing_base.specs.Media.{Media as MediaValue};
+ghost use Rattle.timing_base.specs.declared.key.FlowKey.{FlowKey as KeyValue};
+ghost use Rattle.timing_base.specs.declared.packet.FlowPacket.{FlowPacket as PacketValue};
+ghost use Rattle.fail_interval.specs.Row.{row};
+
 use crate::judge::FlowJudge;
 use flow_demux::FlowTaker;
 use run_meter::RunMeter;
@@ -13,15 +19,50 @@ pub struct Metered<M: Drop, O: Drop> {
     pub out: O,
 }
 
+impl<M: RunMeter<Out = O>, O: Drop> Metered<M, O> {
+    ghost use Rattle.fail_interval.specs.Measured.{TellsOfAll};
+    ghost use Rattle.fail_interval.specs.Meterings.{IsFed};
+    ghost use Rattle.fail_interval.specs.Stands.{StandsFor, count_fed};
+
+    /// The judge of the flow with this key, of packets of this media, and an output that tells of none yet. `tai`
+    /// seconds are added to the stamps of the judged packets, but not to those that a fault tells.
+    pub fn new(alloc: Global, media: &Media, key: FlowKey, tai: u64, out: O) -> Metered<M, O>
+        requires { tai ≤ 1000 }
+        ensures fed { (past : M.Past) → M.tells past out media.now tai [] None
+            → IsFed M.WANTS_LEVELS M.stands M.tells past media.now key tai result [] }
+        ensures none { count_fed result.judge ≡ 0 }
+        ensures stands { StandsFor media.now key tai result.judge [] }
+        ensures out { result.out ≡ out }
+    {
+        Metered {
+            judge: FlowJudge::new(alloc, media, key, tai),
+            out,
+        }
+    }
+
+    /// The row of the flow, where it ends here, and the output of its meters. `Err` is want of memory.
+    pub fn finish(self) -> Result<(Row, O), OutOfMemory>
+        ensures row { IfOk result (λ told. (media : MediaValue) (key : KeyValue) (tai : ℕ) (packets : List PacketValue)
+            → StandsFor media key tai self.judge packets → told.0 ≡ row packets key media tai) }
+        ensures tells { M.WANTS_LEVELS ≡ true → IfOk result (λ told. (past : M.Past) (media : MediaValue)
+            (key : KeyValue) (tai : ℕ) (packets : List PacketValue)
+            → IsFed M.WANTS_LEVELS M.stands M.tells past media key tai self packets
+            → TellsOfAll M.tells past media tai packets told.1) }
+    {
+        let Metered { judge, mut out } = self;
+        let row = judge.finish(&mut out)?;
+        Ok((row, out))
+    }
+}
+
 impl<M: RunMeter<Out = O>, O: Drop> FlowTaker for Metered<M, O> {
-    ghost use Rattle.fail_interval.specs.Stands.{expected_of};
-    ghost use Rattle.fail_interval.specs.Meterings.{Feeds, HasRoom, feeds_more, feeds_none, feeds_other, room_less};
+    ghost use Rattle.fail_interval.specs.Meterings.{Feeds, HasRoom, expected_next, feeds_more, feeds_none, feeds_other, room_less};
 
     ghost takes = { λ m old new items. Feeds M.WANTS_LEVELS M.stands M.tells m old new items };
 
     ghost room = { HasRoom };
 
-    ghost expects = { λ x. expected_of x.judge };
+    ghost expects = { expected_next };
 
     ghost none = { λ m x. feeds_none M.WANTS_LEVELS M.stands M.tells m x };
 
