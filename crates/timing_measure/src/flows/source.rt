@@ -7,6 +7,7 @@ ghost use Rattle.timing_measure.specs.Measured.{first_source};
 use timing_base::FlowPacket;
 
 /// The source so far, and where no packet was read yet that of this one.
+#[inline(always)]
 pub fn source_with(before: Option<u32>, packet: &FlowPacket) -> Option<u32>
     ensures { (packets : List PacketValue) → before ≡ first_source packets
         → result ≡ first_source (packets ++ packet.now ∷ []) }
