@@ -1,126 +1,106 @@
 -- What the judges of all media were fed: when they are made, when each takes one record more, and what rows they give.
-use Rattle.std.proofs.Common.{◌≡◌, ◌≤◌, ◌<◌, ◌+◌, ℕ, zero, suc, List, [], ◌∷◌, ◌++◌, length, take, get_or, set, sym, ap, ◌∙◌, subst, append_assoc, append-nil}
+use Rattle.std.proofs.Common.{◌≡◌, ◌≤◌, ◌<◌, ◌+◌, ℕ, List, [], ◌∷◌, ◌++◌, length, take, get_or, sym, ap, ◌∙◌, subst, append_assoc, append-nil}
 use Rattle.std.proofs.Common.{arith}
-use Rattle.std.proofs.Math.Seq.{take-append_seam}
+use Rattle.std.specs.Prelude.{All, ⊤, false, true}
 use Rattle.std.proofs.lemmas.List.{length-take-le, take_more}
-use Rattle.std.proofs.lemmas.List.Elements.{All-push, All-same, All-set, All-weaker}
+use Rattle.std.proofs.lemmas.List.Elements.{All-cons, All-head, All-nil, All-tail, filter_map-append}
 use Rattle.timing_base.specs.Captures.{Record}
+use Rattle.timing_base.specs.Keys.{key_of}
 use Rattle.timing_base.specs.Media.{Media}
 use Rattle.timing_base.specs.declared.row.Row.{Row}
-use Rattle.udp_rtp.specs.Flow.{flow}
+use Rattle.udp_rtp.specs.Flow.{flow, flow_packet}
+use Rattle.flow_demux.specs.Takings.{TakesAll, TakesFlow}
+use Rattle.flow_demux.specs.declared.media_flow.MediaFlow.{MediaFlow}
+use Rattle.fail_interval.specs.BankStands.{AreJudgesOf, IsJudgeOf, Judging, most_fed}
+use Rattle.fail_interval.specs.Meterings.{Feeds}
 use Rattle.fail_interval.specs.Row.{row}
-use Rattle.fail_interval.specs.Stands.{count_fed}
-use Rattle.fail_interval.specs.Few.{HasTakenFew}
 use Rattle.fail_interval.specs.Rows.{rows_from, rows_of}
-use Rattle.timing_base.specs.Keys.{key_of}
-use Rattle.fail_interval.specs.BankStands.{AreJudgesOf, IsJudgeOf}
-use Rattle.fail_interval.specs.Taken.{HasRows, TakesRecord, TakesUpTo}
-use Rattle.fail_interval.specs.declared.media_judge.MediaJudge.{MediaJudge}
+use Rattle.fail_interval.specs.Stands.{StandsFor, count_fed}
+use Rattle.fail_interval.specs.Taken.{HasRows}
 
 -- the judges of media and of one more
-judges-append : (tai file number : ℕ) (ms : List Media) (js : List MediaJudge) (items : List Record) (m : Media) (j : MediaJudge)
-    → AreJudgesOf tai file number ms js items
-    → IsJudgeOf m file (number + length ms) tai j items → AreJudgesOf tai file number (ms ++ m ∷ []) (js ++ j ∷ []) items
-judges-append tai file number [] [] items m j h is = (subst (λ (n : ℕ). IsJudgeOf m file n tai j items) (omega arith) is, tt)
-judges-append tai file number [] (k ∷ js) items m j h is = absurd h
-judges-append tai file number (l ∷ ms) [] items m j h is = absurd h
-judges-append tai file number (l ∷ ms) (k ∷ js) items m j h is =
+judges-append : (tai file number : ℕ) (ms : List Media) (fs : List (MediaFlow Judging)) (items : List Record) (m : Media) (f : MediaFlow Judging)
+    → AreJudgesOf tai file number ms fs items
+    → IsJudgeOf m file (number + length ms) tai f items → AreJudgesOf tai file number (ms ++ m ∷ []) (fs ++ f ∷ []) items
+judges-append tai file number [] [] items m f h is = (subst (λ (n : ℕ). IsJudgeOf m file n tai f items) (omega arith) is, tt)
+judges-append tai file number [] (g ∷ fs) items m f h is = absurd h
+judges-append tai file number (l ∷ ms) [] items m f h is = absurd h
+judges-append tai file number (l ∷ ms) (g ∷ fs) items m f h is =
     let far : number + length (l ∷ ms) ≡ number + 1 + length ms = omega arith in
-    (h.0, judges-append tai file (number + 1) ms js items m j h.1 (subst (λ (n : ℕ). IsJudgeOf m file n tai j items) far is))
+    (h.0, judges-append tai file (number + 1) ms fs items m f h.1 (subst (λ (n : ℕ). IsJudgeOf m file n tai f items) far is))
 
 -- the judges of the first media, and that of the next one
-pub judges-more : (tai file n : ℕ) (media : List Media) (js more : List MediaJudge) (items : List Record) (m : Media) (j : MediaJudge) → n < length media
+pub judges-more : (tai file n : ℕ) (media : List Media) (fs more : List (MediaFlow Judging)) (items : List Record) (m : Media) (f : MediaFlow Judging)
+    → n < length media
     → get_or media n m ≡ m
-    → AreJudgesOf tai file 0 (take n media) js items → IsJudgeOf m file n tai j items → more ≡ js ++ j ∷ []
+    → AreJudgesOf tai file 0 (take n media) fs items → IsJudgeOf m file n tai f items → more ≡ fs ++ f ∷ []
     → AreJudgesOf tai file 0 (take (n + 1) media) more items
-judges-more tai file n media js more items m j within at h is e =
+judges-more tai file n media fs more items m f within at h is e =
     let long : 0 + length (take n media) ≡ n = omega (arith, length-take-le n media (omega arith)) in
     let next : take (n + 1) media ≡ take n media ++ m ∷ [] = take_more media n m within ∙ ap (λ (x : Media). take n media ++ x ∷ []) at in
     subst (λ (l : List Media). AreJudgesOf tai file 0 l more items) (sym next)
-    (subst (λ (l : List MediaJudge). AreJudgesOf tai file 0 (take n media ++ m ∷ []) l items) (sym e)
-    (judges-append tai file 0 (take n media) js items m j h (subst (λ (x : ℕ). IsJudgeOf m file x tai j items) (sym long) is)))
+    (subst (λ (l : List (MediaFlow Judging)). AreJudgesOf tai file 0 (take n media ++ m ∷ []) l items) (sym e)
+    (judges-append tai file 0 (take n media) fs items m f h (subst (λ (x : ℕ). IsJudgeOf m file x tai f items) (sym long) is)))
 
--- the next judge was fed nothing either
-pub few-more : (js more : List MediaJudge) (j : MediaJudge) → HasTakenFew 0 js → count_fed j.judge ≡ 0 → more ≡ js ++ j ∷ [] → HasTakenFew 0 more
-few-more js more j h none e =
-    All-same (λ x. count_fed x.judge ≤ 0) more (js ++ j ∷ []) e (All-push (λ x. count_fed x.judge ≤ 0) js j h (omega (arith, none)))
+-- by the flow of this media in these records, and by nothing else, the first became the second
+abbrev pub TakesFlowOf : Media → (old new : Judging) → List Record → Type 0
+TakesFlowOf m old new more = Feeds {Past = Unit {0}} false (λ _ _ _ _ _ _. ⊤) (λ _ _ _ _ _ _. ⊤) m old new more
 
--- a judge that hasn't come yet is as it was
-pub untouched : (r : Record) (i : ℕ) (olds news : List MediaJudge) (d : MediaJudge) → i < length olds → TakesUpTo r i olds news
-    → get_or news i d ≡ get_or olds i d
-untouched r i [] news d within h = absurd (omega arith)
-untouched r zero (o ∷ os) news d within h = ap (λ (l : List MediaJudge). get_or l 0 d) h
-untouched r (suc i) (o ∷ os) [] d within h = absurd h
-untouched r (suc i) (o ∷ os) (n ∷ ns) d within h = untouched r i os ns d (omega arith) h.1
+-- the judge of a media takes the flow of these records too
+judge-fed : (m : Media) (file number tai : ℕ) (f g : MediaFlow Judging) (items more : List Record) → TakesFlow TakesFlowOf f g more
+    → IsJudgeOf m file number tai f items
+    → IsJudgeOf m file number tai g (items ++ more)
+judge-fed m file number tai f g items more takes h = record {
+  media = takes.media ∙ h.media;
+  judge = subst (StandsFor m (key_of file number) tai g.taker.judge) (sym (filter_map-append (flow_packet m) items more))
+      (subst (λ (x : Media). TakesFlowOf x f.taker g.taker more) h.media takes.fed tt (key_of file number) tai (flow items m)
+      (record { judge_is = h.judge; told = λ wanted. cc })).judge_is;
+}
 
--- one judge more takes the record
-pub takes-more : (r : Record) (i : ℕ) (olds news : List MediaJudge) (d new : MediaJudge) → i < length olds → TakesUpTo r i olds news
-    → TakesRecord r (get_or news i d) new
-    → TakesUpTo r (suc i) olds (set news i new)
-takes-more r i [] news d new within h takes = absurd (omega arith)
-takes-more r zero (o ∷ os) [] d new within h takes = cc
-takes-more r zero (o ∷ os) (n ∷ ns) d new within h takes =
-    let same : n ≡ o = cc in
-    let rest : ns ≡ os = cc in
-    (subst (λ (x : MediaJudge). TakesRecord r x new) same takes, rest)
-takes-more r (suc i) (o ∷ os) [] d new within h takes = absurd h
-takes-more r (suc i) (o ∷ os) (n ∷ ns) d new within h takes = (h.0, takes-more r i os ns d new (omega arith) h.1 takes)
+-- and so do all
+pub judges-fed : (tai file number : ℕ) (ms : List Media) (fs gs : List (MediaFlow Judging)) (items more : List Record) → TakesAll TakesFlowOf fs gs more
+    → AreJudgesOf tai file number ms fs items
+    → AreJudgesOf tai file number ms gs (items ++ more)
+judges-fed tai file number [] [] [] items more takes h = tt
+judges-fed tai file number [] [] (g ∷ gs) items more takes h = absurd takes
+judges-fed tai file number [] (f ∷ fs) gs items more takes h = absurd h
+judges-fed tai file number (m ∷ ms) [] gs items more takes h = absurd h
+judges-fed tai file number (m ∷ ms) (f ∷ fs) [] items more takes h = absurd takes
+judges-fed tai file number (m ∷ ms) (f ∷ fs) (g ∷ gs) items more takes h =
+    (judge-fed m file number tai f g items more takes.0 h.0, judges-fed tai file (number + 1) ms fs gs items more takes.1 h.1)
 
--- no judges of no media
-none-take : (tai file number : ℕ) (ms : List Media) (items more : List Record) → AreJudgesOf tai file number ms [] items
-    → AreJudgesOf tai file number ms [] more
-none-take tai file number [] items more h = tt
-none-take tai file number (m ∷ ms) items more h = absurd h
+-- one more that was fed nothing
+pub most-push : (fs : List (MediaFlow Judging)) (f : MediaFlow Judging) → most_fed fs ≡ 0 → count_fed f.taker.judge ≡ 0 → most_fed (fs ++ f ∷ []) ≡ 0
+most-push [] f none new = omega (arith, new)
+most-push (g ∷ fs) f none new =
+    let rest : most_fed fs ≡ 0 = omega (arith, none) in
+    omega (arith, none, most-push fs f rest new)
 
--- all judges have taken it
-takes-all : (r : Record) (i : ℕ) (olds news : List MediaJudge) (tai file number : ℕ) (ms : List Media) (items : List Record) → length olds ≤ i
-    → TakesUpTo r i olds news
-    → AreJudgesOf tai file number ms olds items → AreJudgesOf tai file number ms news (items ++ r ∷ [])
-takes-all r zero [] news tai file number ms items all h js =
-    subst (λ (l : List MediaJudge). AreJudgesOf tai file number ms l (items ++ r ∷ [])) (sym h) (none-take tai file number ms items (items ++ r ∷ []) js)
-takes-all r zero (o ∷ os) news tai file number ms items all h js = absurd (omega arith)
-takes-all r (suc i) [] news tai file number ms items all h js =
-    subst (λ (l : List MediaJudge). AreJudgesOf tai file number ms l (items ++ r ∷ [])) (sym h) (none-take tai file number ms items (items ++ r ∷ []) js)
-takes-all r (suc i) (o ∷ os) [] tai file number ms items all h js = absurd h
-takes-all r (suc i) (o ∷ os) (n ∷ ns) tai file number [] items all h js = absurd js
-takes-all r (suc i) (o ∷ os) (n ∷ ns) tai file number (m ∷ ms) items all h js =
-    (h.0 m file number tai items js.0, takes-all r i os ns tai file (number + 1) ms items (omega arith) h.1 js.1)
+-- where the most packets that a judge was fed leave room, each judge has it, and the other way round
+pub each-few : (fs : List (MediaFlow Judging)) (count limit : ℕ) → most_fed fs + count ≤ limit
+    → All (λ (f : MediaFlow Judging). count_fed f.taker.judge + count ≤ limit) fs
+each-few [] count limit few = All-nil (λ (f : MediaFlow Judging). count_fed f.taker.judge + count ≤ limit)
+each-few (f ∷ fs) count limit few =
+    All-cons (λ (g : MediaFlow Judging). count_fed g.taker.judge + count ≤ limit) f fs (omega (arith, few)) (each-few fs count limit (omega (arith, few)))
 
--- they stand in the place of those before
-pub takes-whole : (r : Record) (i : ℕ) (olds news others : List MediaJudge) (long tai file : ℕ) (ms : List Media) (items : List Record) → length news ≡ long
-    → length olds ≤ i
-    → TakesUpTo r i olds news → AreJudgesOf tai file 0 ms olds items → AreJudgesOf tai file 0 ms (take long (news ++ others)) (items ++ r ∷ [])
-takes-whole r i olds news others long tai file ms items e all h js =
-    let whole : take long (news ++ others) ≡ news = ap (λ (n : ℕ). take n (news ++ others)) (sym e) ∙ take-append_seam news others in
-    subst (λ (l : List MediaJudge). AreJudgesOf tai file 0 ms l (items ++ r ∷ [])) (sym whole) (takes-all r i olds news tai file 0 ms items all h js)
+pub most-few : (fs : List (MediaFlow Judging)) (count limit : ℕ) → count ≤ limit
+    → All (λ (f : MediaFlow Judging). count_fed f.taker.judge + count ≤ limit) fs
+    → most_fed fs + count ≤ limit
+most-few [] count limit low each = omega (arith, low)
+most-few (f ∷ fs) count limit low each =
+    let first : count_fed f.taker.judge + count ≤ limit = All-head (λ (g : MediaFlow Judging). count_fed g.taker.judge + count ≤ limit) f fs each in
+    omega (arith, first, most-few fs count limit low (All-tail (λ (g : MediaFlow Judging). count_fed g.taker.judge + count ≤ limit) f fs each))
 
--- a record without a datagram
-pub nothing-takes : (r : Record) (tai file number : ℕ) (ms : List Media) (js : List MediaJudge) (items : List Record) → ((j : MediaJudge) → TakesRecord r j j)
-    → AreJudgesOf tai file number ms js items → AreJudgesOf tai file number ms js (items ++ r ∷ [])
-nothing-takes r tai file number [] [] items same h = tt
-nothing-takes r tai file number [] (j ∷ js) items same h = absurd h
-nothing-takes r tai file number (m ∷ ms) [] items same h = absurd h
-nothing-takes r tai file number (m ∷ ms) (j ∷ js) items same h =
-    (same j m file number tai items h.0, nothing-takes r tai file (number + 1) ms js items same h.1)
-
--- one record more
-pub few-later : (count : ℕ) (js : List MediaJudge) → HasTakenFew count js → HasTakenFew (count + 1) js
-few-later count js h = All-weaker (λ j. count_fed j.judge ≤ count) (λ j. count_fed j.judge ≤ count + 1) (λ j few. omega (arith, few)) js h
-
--- of judges in the place of others
-pub few-whole : (count long : ℕ) (js others : List MediaJudge) → length js ≡ long → HasTakenFew count js → HasTakenFew count (take long (js ++ others))
-few-whole count long js others e h =
-    All-same (λ j. count_fed j.judge ≤ count) (take long (js ++ others)) js (ap (λ (n : ℕ). take n (js ++ others)) (sym e) ∙ take-append_seam js others) h
-
-rows-step : (tai file : ℕ) (media : List Media) (items : List Record) (before rows more : List Row) (j : MediaJudge) (later : List MediaJudge) (r : Row)
+rows-step : (tai file : ℕ) (media : List Media) (items : List Record) (before rows more : List Row) (f : MediaFlow Judging)
+    (later : List (MediaFlow Judging)) (r : Row)
     → more ≡ rows ++ r ∷ []
-    → ((m : Media) (f number t : ℕ) (l : List Record) → IsJudgeOf m f number t j l → r ≡ row (flow l m) (key_of f number) m t)
+    → ((m : Media) (number : ℕ) → IsJudgeOf m file number tai f items → r ≡ row (flow items m) (key_of file number) m tai)
     → (number : ℕ) (rest : List Media) → rows ++ rows_from tai file number rest items ≡ before ++ rows_of tai file media items
-    → AreJudgesOf tai file number rest (j ∷ later) items
+    → AreJudgesOf tai file number rest (f ∷ later) items
     → HasRows tai file media items before more later
-rows-step tai file media items before rows more j later r pushed is number [] whole h = absurd h
-rows-step tai file media items before rows more j later r pushed is number (m ∷ ms) whole h =
-    let own : r ≡ row (flow items m) (key_of file number) m tai = is m file number tai items h.0 in
+rows-step tai file media items before rows more f later r pushed is number [] whole h = absurd h
+rows-step tai file media items before rows more f later r pushed is number (m ∷ ms) whole h =
+    let own : r ≡ row (flow items m) (key_of file number) m tai = is m number h.0 in
     record {
       number = number + 1;
       rest = ms;
@@ -137,35 +117,17 @@ rows-none tai file media items before rows number [] whole h = sym (append-nil r
 rows-none tai file media items before rows number (m ∷ ms) whole h = absurd h
 
 -- the rows so far, and the next one
-pub rows-more : (tai file : ℕ) (media : List Media) (items : List Record) (before rows more : List Row) (j : MediaJudge) (left later : List MediaJudge)
-    (r : Row)
-    → left ≡ j ∷ later → more ≡ rows ++ r ∷ []
-    → ((m : Media) (f number t : ℕ) (l : List Record) → IsJudgeOf m f number t j l → r ≡ row (flow l m) (key_of f number) m t)
+pub rows-more : (tai file : ℕ) (media : List Media) (items : List Record) (before rows more : List Row) (f : MediaFlow Judging)
+    (left later : List (MediaFlow Judging)) (r : Row)
+    → left ≡ f ∷ later → more ≡ rows ++ r ∷ []
+    → ((m : Media) (number : ℕ) → IsJudgeOf m file number tai f items → r ≡ row (flow items m) (key_of file number) m tai)
     → HasRows tai file media items before rows left → HasRows tai file media items before more later
-rows-more tai file media items before rows more j left later r e pushed is h =
-    rows-step tai file media items before rows more j later r pushed is h.number h.rest h.whole
-    (subst (λ (l : List MediaJudge). AreJudgesOf tai file h.number h.rest l items) e h.stands)
+rows-more tai file media items before rows more f left later r e pushed is h =
+    rows-step tai file media items before rows more f later r pushed is h.number h.rest h.whole
+    (subst (λ (l : List (MediaFlow Judging)). AreJudgesOf tai file h.number h.rest l items) e h.stands)
 
 -- all rows
-pub rows-all : (tai file : ℕ) (media : List Media) (items : List Record) (before rows : List Row) (left : List MediaJudge) → length left ≡ 0
+pub rows-all : (tai file : ℕ) (media : List Media) (items : List Record) (before rows : List Row) (left : List (MediaFlow Judging)) → length left ≡ 0
     → HasRows tai file media items before rows left → rows ≡ before ++ rows_of tai file media items
 rows-all tai file media items before rows [] e h = rows-none tai file media items before rows h.number h.rest h.whole h.stands
-rows-all tai file media items before rows (j ∷ js) e h = absurd (omega arith)
-
--- a judge that hasn't come yet was fed no more than before
-few-now : (r : Record) (i : ℕ) (olds news : List MediaJudge) (d : MediaJudge) (count : ℕ) → i < length olds → HasTakenFew count olds → TakesUpTo r i olds news
-    → count_fed (get_or news i d).judge ≤ count
-few-now r i olds news d count within few h = subst (λ (j : MediaJudge). count_fed j.judge ≤ count) (sym (untouched r i olds news d within h)) (few i d within)
-
--- and so fewer than a limit
-pub few-below : (r : Record) (i : ℕ) (olds news : List MediaJudge) (d : MediaJudge) (count limit : ℕ) → i < length olds → HasTakenFew count olds
-    → TakesUpTo r i olds news → count < limit
-    → count_fed (get_or news i d).judge < limit
-few-below r i olds news d count limit within few h below = omega (arith, few-now r i olds news d count within few h, below)
-
--- it was fed one packet more
-pub few-set : (r : Record) (i : ℕ) (olds news : List MediaJudge) (d new : MediaJudge) (count : ℕ) → i < length olds → HasTakenFew count olds
-    → TakesUpTo r i olds news
-    → HasTakenFew (count + 1) news → count_fed new.judge ≤ count_fed (get_or news i d).judge + 1 → HasTakenFew (count + 1) (set news i new)
-few-set r i olds news d new count within few h now more =
-    All-set (λ j. count_fed j.judge ≤ count + 1) news i new (omega (arith, more, few-now r i olds news d count within few h)) now
+rows-all tai file media items before rows (f ∷ fs) e h = absurd (omega arith)

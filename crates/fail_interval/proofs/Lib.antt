@@ -5,7 +5,6 @@ pub mod Judges
 pub mod PartsTold
 pub mod Runs
 -- of this crate alone
-mod Awaiting
 mod Banks
 mod Expecting
 mod Feeding
@@ -17,12 +16,10 @@ mod HandWorked
 mod Judging
 mod Limits
 mod Lulls
-mod Targets
 mod Told
 mod Metering
-mod OneTakes
+mod Offers
 mod Prefixes
-mod Readings
 mod Rows
 mod RunTold
 mod SenderTypes

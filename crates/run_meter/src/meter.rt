@@ -51,12 +51,7 @@ pub trait RunMeter: Drop {
 
     /// Takes the next packet, with what the models hold just after it. What it says of the packets is so where no stamp
     /// is below the one before.
-    fn feed(
-        &mut self,
-        params: &Params,
-        packet: RunPacket,
-        level: Level,
-    ) -> Result<(), OutOfMemory>
+    fn feed(&mut self, params: &Params, packet: RunPacket, level: Level) -> Result<(), OutOfMemory>
         requires { packet.at < 2 ^ 62 }
         ensures { IfOk result (λ _. (tai : ℕ) (r : RunOf) (fed committed : List PacketValue) (p : PacketValue)
             → r.n ≡ params.now.n → packet ≡ told_of tai p → length fed < 2 ^ 41
@@ -78,12 +73,7 @@ pub trait RunMeter: Drop {
             → tells past out.new params.now.media tai over (Some (record { run = r; packets = fed }))) };
 
     /// The run is over, and this is judged of the packets that were committed.
-    fn close(
-        self,
-        params: &Params,
-        judged: &Judged,
-        out: &mut Self::Out,
-    ) -> Result<(), OutOfMemory>
+    fn close(self, params: &Params, judged: &Judged, out: &mut Self::Out) -> Result<(), OutOfMemory>
         ensures { IfOk result (λ _. (past : Past) (tai : ℕ) (r : RunOf) (over : List JudgedPart)
             (fed committed : List PacketValue) → r.n ≡ params.now.n
             → IsJudgedOf params.now.media tai r committed judged.now

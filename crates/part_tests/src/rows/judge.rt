@@ -19,7 +19,7 @@ const KEY: FlowKey = FlowKey { file: 0, media: 0 };
 // A judge, and how many packets it was fed: their records are counted from 1.
 #[derive(Drop)]
 struct Flow {
-    judge: FlowJudge,
+    judge: FlowJudge<()>,
     count: u64,
     ghost counted: { count_fed judge ≡ count },
 }
@@ -43,15 +43,19 @@ impl Flow {
     fn feed(&mut self, rt: &impl Abort, at: u64, rtp: Rtp) {
         assert!(rt; at < 4_294_967_296_000_000_000);
         assert!(rt; self.count < 1 << 41);
-        let answer = self.judge.feed(self.count + 1, at, Ok(rtp));
+        let answer = self.judge.feed(self.count + 1, at, Ok(rtp), &mut ());
         self.count += 1;
         assert!(rt; answer.is_ok());
     }
 
-    fn finish(self) -> Row {
+    fn finish(self, rt: &impl Abort) -> Row {
         let Flow { judge, .. } = self;
-        judge.finish()
+        row_of(rt, judge)
     }
+}
+
+fn row_of(rt: &impl Abort, judge: FlowJudge<()>) -> Row {
+    judge.finish(&mut ()).expect(rt, "there is memory")
 }
 
 fn judged(row: &Row) -> Option<Judged> {
@@ -70,7 +74,7 @@ fn unjudged(row: &Row) -> Option<Unjudged> {
 
 // This comes of a flow that isn't judged.
 fn comes_to_none(rt: &impl Abort, flow: Flow, want: Unjudged) {
-    same(rt, &unjudged(&flow.finish()), &Some(want));
+    same(rt, &unjudged(&flow.finish(rt)), &Some(want));
 }
 
 // A made capture: a marked packet 1 ms before the first group, and a group every 20 ms.
@@ -142,7 +146,7 @@ impl Made {
         let mut flow = Flow::later(alloc, media, self.tai);
         self.feed_head(rt, &mut flow);
         self.feed(rt, &mut flow, 0, count);
-        same(rt, &judged(&flow.finish()), &Some(want));
+        same(rt, &judged(&flow.finish(rt)), &Some(want));
     }
 }
 
@@ -389,7 +393,7 @@ fn usual_equipment(rt: HostRuntime) {
             KindVerdict::Pass,
         ],
     };
-    same(&rt, &judged(&flow.finish()), &Some(want));
+    same(&rt, &judged(&flow.finish(&rt)), &Some(want));
 }
 
 #[test]
@@ -452,10 +456,10 @@ fn stamp_back(rt: HostRuntime) {
 #[test]
 fn captured_at_40(rt: HostRuntime) {
     let mut judge = FlowJudge::new(rt.alloc(), &plain(), KEY, 0);
-    let answer = judge.feed(1, 7, Err(PacketFault::Short));
+    let answer = judge.feed(1, 7, Err(PacketFault::Short), &mut ());
     assert!(rt; answer.is_ok());
     let want = refused(1, PacketFault::Short);
-    same(&rt, &unjudged(&judge.finish()), &Some(want));
+    same(&rt, &unjudged(&row_of(&rt, judge)), &Some(want));
 }
 
 #[test]
@@ -493,7 +497,7 @@ fn runs(row: &Row) -> &[Run] {
 
 // These runs come of a flow.
 fn comes_to_runs(rt: &impl Abort, flow: Flow, want: &[Run]) {
-    same(rt, &runs(&flow.finish()), &want);
+    same(rt, &runs(&flow.finish(rt)), &want);
 }
 
 #[test]
