@@ -1,9 +1,8 @@
 //! The flow of a job, and the rows of its judged runs that aren't written yet.
 
-ghost use Rattle.std.specs.Prelude.{◌≡◌, ◌≤◌, ◌<◌, ◌+◌, ◌^◌, ◌++◌, ◌∷◌, [], ℕ, List, IfErr, IfOk, length};
+ghost use Rattle.std.specs.Prelude.{◌≡◌, ◌≤◌, ◌+◌, ◌^◌, ◌∷◌, [], ℕ, List, IfErr, IfOk, length};
 ghost use Rattle.std.specs.Io.KnownBytes.{Appends};
-ghost use Rattle.timing_base.specs.Captures.{IsStamp, Record};
-ghost use Rattle.timing_base.specs.Media.{Media as MediaValue};
+ghost use Rattle.timing_base.specs.Captures.{IsStamp};
 ghost use Rattle.timing_outside.specs.Causes.{Rose};
 ghost use Rattle.timing_outside.specs.Written.{AppendsFront};
 ghost use Rattle.timing_reach.specs.declared.steps.failure.Failure.TheVariants as failure;
@@ -42,7 +41,6 @@ fn status_of(note: FileNote, verdict: &Verdict) -> Status
     }
 }
 
-ghost use Rattle.timing_base.specs.Targets.{target_of};
 ghost use Rattle.flow_demux.specs.Awaits.{AwaitsExpected};
 ghost use Rattle.flow_demux.specs.Takings.{TakesFlow};
 
@@ -100,7 +98,7 @@ fn take_read<F: FlowTaker>(
 }
 
 impl SeriesFlow {
-    ghost use Rattle.timing_measure.specs.series.Stands.{HasRoom, HoldsText, StandsFor, TakesOn, text_of};
+    ghost use Rattle.timing_measure.specs.series.Stands.{HasRoom, HoldsText, PoursOn, StandsFor, TakesOn, text_of};
     ghost use Rattle.timing_measure.specs.series.Ends.{EndsSeries};
 
     /// Before the first record of a capture. Groups are listed, or packets; `tai` seconds are added to the stamps.
@@ -149,10 +147,7 @@ impl SeriesFlow {
     pub fn pour<K: Sink>(&mut self, out: &mut K) -> Result<(), Failure>
         ensures room { (count : ℕ) → HasRoom count self.old → HasRoom count self.new }
         ensures poured { IfOk result (λ _. (poured : List ℕ)
-            × Appends (K.written out.old) (K.written out.new) poured
-            × ((frames : _) (m : MediaValue) (number tai : ℕ) (gone : List ℕ) (items : List Record)
-            → StandsFor frames m number tai gone self.old items
-            → StandsFor frames m number tai (gone ++ poured) self.new items)) }
+            × Appends (K.written out.old) (K.written out.new) poured × PoursOn self.old self.new poured) }
         ensures failed { IfErr result (λ e. (e ≡ failure.WriteFault)
             × Rose (K.faults out.old) (K.faults out.new)
             × HoldsText self.old × AppendsFront (K.written out.old) (K.written out.new) (text_of self.old)) }
@@ -171,9 +166,7 @@ impl SeriesFlow {
         requires some { HoldsText self.old }
         ensures room { (count : ℕ) → HasRoom count self.old → HasRoom count self.new }
         ensures poured { IfOk result (λ _. Appends (K.written out.old) (K.written out.new) (text_of self.old)
-            × ((frames : _) (m : MediaValue) (number tai : ℕ) (gone : List ℕ) (items : List Record)
-            → StandsFor frames m number tai gone self.old items
-            → StandsFor frames m number tai (gone ++ text_of self.old) self.new items)) }
+            × PoursOn self.old self.new (text_of self.old)) }
         ensures failed { IfErr result (λ e. (e ≡ failure.WriteFault)
             × Rose (K.faults out.old) (K.faults out.new)
             × AppendsFront (K.written out.old) (K.written out.new) (text_of self.old)) }
