@@ -30,10 +30,21 @@ abbrev pub around_title : Kind → Broken → List ℕ
 around_title kind model =
     codes "Around the fail: " ++ (kind_name kind ++ (codes ", " ++ model_name model))
 
-abbrev pub around_detail : FailProof → List ℕ
-around_detail proof =
+abbrev pub around_count : FailProof → List ℕ
+around_count proof =
     codes "packets " ++ (decimal proof.from ++ (codes " to " ++ (decimal proof.to ++ (codes ": count "
     ++ (decimal proof.count ++ (codes ", limit " ++ decimal proof.limit))))))
+
+-- so where the first of them come before those that are shown
+abbrev pub around_ahead : FailProof → (ahead : ℕ) → List ℕ
+around_ahead proof ahead =
+    codes "packets " ++ (decimal proof.from ++ (codes " to " ++ (decimal proof.to ++ (codes ": count "
+    ++ (decimal proof.count ++ (codes ", limit " ++ (decimal proof.limit ++ (codes "; the first "
+    ++ (decimal ahead ++ codes " of them come before the picture")))))))))
+
+abbrev pub around_detail : Region → List ℕ
+around_detail r =
+    if r.start - r.proof.from == 0 then around_count r.proof else around_ahead r.proof (r.start - r.proof.from)
 
 -- the packets that are shown, with those that the verdict names shaded
 abbrev pub around_scene : Region → Scene
@@ -48,7 +59,7 @@ around_scene r = record {
 
 abbrev pub around_figure : TypeShown → Region → List ℕ
 around_figure t r =
-    curve_figure (around_title t.kind r.proof.model) (around_detail r.proof) (around_scene r)
+    curve_figure (around_title t.kind r.proof.model) (around_detail r) (around_scene r)
     (broken_line t r.proof.model ∷ []) r.columns
 
 -- where it is of this type

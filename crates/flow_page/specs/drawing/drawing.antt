@@ -1,3 +1,4 @@
 pub mod Held
 pub mod Columns
 pub mod Regions
+pub mod Longest

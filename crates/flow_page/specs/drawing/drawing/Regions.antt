@@ -1,37 +1,70 @@
--- What a `RegionMeter` says of the judged packets that it was fed: their stamps, in nanoseconds of TAI.
-use Rattle.std.specs.Prelude.{◌≡◌, ◌+◌, ◌-◌, min, ℕ, ℤ, ⊤, List, [], ◌∷◌, ◌++◌, length, Option, Some, None}
+-- What a `RegionMeter` says of the packets that it was fed: their stamps, in nanoseconds of TAI.
+use Rattle.std.specs.Prelude.{◌≡◌, ◌<◌, ◌≤◌, ◌+◌, ◌-◌, ◌%◌, min, nat_le, cond, ℕ, ℤ, pos, Bool, true, false}
+use Rattle.std.specs.Prelude.{List, [], ◌∷◌, ◌++◌, length, Option, Some, None}
+use Rattle.std.specs.List.{slice_index_or}
 use Rattle.timing_base.specs.Media.{Media}
-use Rattle.timing_base.specs.declared.fail.FailProof.{FailProof}
+use Rattle.timing_base.specs.declared.fail.Broken.{Broken}
 use Rattle.timing_base.specs.declared.media.Kind.{Kind}
+use Rattle.timing_base.specs.declared.media.Kind.TheVariants.{N, NL, W}
 use Rattle.timing_base.specs.declared.row.KindVerdict.{KindVerdict}
 use Rattle.timing_base.specs.declared.row.KindVerdict.TheVariants.{Pass, Fail}
-use Rattle.flow_measure.specs.Stands.{DrawsCurve}
+use Rattle.sender_params.specs.Limits.{c_max_of, vrx_full_of}
+use Rattle.vrx_buffer.specs.declared.held.Held.{Held}
+use Rattle.run_meter.specs.Levels.{IsLevel}
+use Rattle.run_meter.specs.Runs.{is_broken}
+use Rattle.run_meter.specs.declared.level.Level.{Level}
+use Rattle.flow_measure.specs.First.{IsFirst}
 use Rattle.flow_page.specs.declared.shown.Region.{Region}
-use Rattle.flow_page.specs.drawing.Drawn.{IsHeld, IsRegion, count_around, start_around}
+use Rattle.flow_page.specs.drawing.Drawn.{IsRegion}
+use Rattle.flow_page.specs.drawing.drawing.Held.{held_by}
 use Rattle.flow_page.specs.declared.drawing.region.RegionMeter.{RegionMeter}
+use Rattle.flow_page.specs.declared.drawing.regions.RegionMeters.{RegionMeters}
 
--- how many of the first `seen` packets are among `count` ones from a place on
-abbrev pub among : (start count seen : ℕ) → ℕ
-among start count seen = min (seen - start) count
+-- the first packet that breaks a model, with one packet more
+abbrev pub first_with : Option ℕ → (packet : ℕ) → (breaks : Bool) → Option ℕ
+first_with None packet breaks = cond breaks (Some packet) None
+first_with (Some first) packet breaks = Some first
 
--- the meter around this fail of a type, of so many judged packets, was fed those with these stamps
-pub record DrawsRegion (m : Media) (n packets : ℕ) (kind : Kind) (proof : FailProof) (r : RegionMeter) (stamps : List ℕ)
-    : Type 0 where
-  pub kind_is : r.kind ≡ kind
-  pub proof_is : r.proof ≡ proof
-  pub start_is : r.start ≡ start_around proof
-  pub count_is : r.count ≡ count_around proof packets
-  pub most_is : r.columns.most ≡ 400
-  pub seen_is : r.columns.seen ≡ among r.start r.count (length stamps)
-  pub draws : (level : ℕ → ℤ) → IsHeld m n stamps kind proof.model level
-      → DrawsCurve (λ x. x) r.columns (λ i. level (start_around proof + i))
+-- up to fifty packets behind that one are taken
+abbrev pub is_open : Option ℕ → (taken : ℕ) → Bool
+is_open None taken = true
+is_open (Some first) taken = nat_le (taken - first) 50
 
--- there is a meter exactly where the type fails
-abbrev pub DrawsKind : Media → (n packets : ℕ) → Kind → KindVerdict → Option RegionMeter → List ℕ → Type 0
-DrawsKind m n packets kind Pass None stamps = ⊤
-DrawsKind m n packets kind Pass (Some r) stamps = ⊥
-DrawsKind m n packets kind (Fail proof) None stamps = ⊥
-DrawsKind m n packets kind (Fail proof) (Some r) stamps = DrawsRegion m n packets kind proof r stamps
+-- so many of the packets
+abbrev pub taken_of : Option ℕ → (count : ℕ) → ℕ
+taken_of None count = count
+taken_of (Some first) count = min count (first + 51)
+
+-- what is held after packet i, where it is one of the last 400 that were taken
+abbrev pub no_level : Level
+no_level = record {
+  bucket = 0;
+  gapped = record { occupancy = pos 0; late = false };
+  linear = record { occupancy = pos 0; late = false };
+}
+
+abbrev pub level_at : List Level → ℕ → Level
+level_at ring i = slice_index_or ring (i % 400) no_level
+
+-- the meter of this type was fed the packets with these stamps
+pub record DrawsRegion (m : Media) (n : ℕ) (kind : Kind) (r : RegionMeter) (stamps : List ℕ) : Type 0 where
+  pub kind_is : r.bounds.kind ≡ kind
+  pub c_max_is : r.bounds.c_max ≡ c_max_of m n kind
+  pub full_is : r.bounds.vrx_full ≡ vrx_full_of m n kind
+  pub first_is : IsFirst (is_broken m n stamps kind) (length stamps) r.first
+  pub taken_is : r.taken ≡ taken_of r.first (length stamps)
+  pub held : (i : ℕ) → i < r.taken → r.taken ≤ i + 400 → IsLevel m n stamps i (level_at r.ring.items i)
+
+-- these are what a model is about at the packets from one place on and before another
+abbrev pub ShowsFrom : RegionMeter → Broken → (start end : ℕ) → (numbers : ℕ → ℤ) → Type 0
+ShowsFrom r model start end numbers = (j : ℕ) → start + j < end
+    → numbers j ≡ held_by r.bounds.kind model (level_at r.ring.items (start + j))
+
+-- so the meters of all three types
+pub record DrawsRegions (m : Media) (n : ℕ) (x : RegionMeters) (stamps : List ℕ) : Type 0 where
+  pub narrow_draws : DrawsRegion m n N x.narrow stamps
+  pub narrow_linear_draws : DrawsRegion m n NL x.narrow_linear stamps
+  pub wide_draws : DrawsRegion m n W x.wide stamps
 
 -- behind the regions of the types before stands that of this one, where it fails
 abbrev pub PutsKind : Media → (n : ℕ) → (stamps : List ℕ) → Kind → KindVerdict → (old new : List Region) → Type 0
