@@ -13,14 +13,17 @@ AreRowsSoFar frames m tai over (Some part) text =
     (past : List ℕ) × (here : List ℕ) × (text ≡ past ++ here) × AreRowsOf frames m tai over past
     × AreRows frames m tai part.run.number part.run.n [] part.packets here
 
--- what a text held before: what stood there before the first row, and what was taken from its front
+-- what a text held before: what stood there before the first row, and what was taken from its front; whether groups are
+-- listed, in place of packets
 pub record PastRows : Type 0 where
+  pub frames : Bool
   pub first : List ℕ
   pub gone : List ℕ
 
 -- behind what stood there at first these rows were put, and so much was taken from the front
 pub record Tells (past : PastRows) (rows : Rows) (m : Media) (tai : ℕ) (over : List JudgedPart)
     (part : Option OpenPart) : Type 0 where
+  pub frames_is : rows.frames ≡ past.frames
   pub put : List ℕ
   pub are : AreRowsSoFar rows.frames m tai over part put
   pub text_is : past.gone ++ rows.text.items ≡ past.first ++ put
@@ -29,6 +32,7 @@ pub record Tells (past : PastRows) (rows : Rows) (m : Media) (tai : ℕ) (over :
 pub begins_open : (past : PastRows) (rows : Rows) (m : Media) (tai : ℕ) (over : List JudgedPart) (r : RunOf)
     → Tells past rows m tai over None → Tells past rows m tai over (Some (record { run = r; packets = [] }))
 begins_open past rows m tai over r h = record {
+  frames_is = h.frames_is;
   put = h.put;
   are = (h.put, [], sym (append-nil h.put), h.are, refl);
   text_is = h.text_is;

@@ -1,8 +1,9 @@
 //! What the meters of a flow's runs put out, before the first run.
 
-ghost use Rattle.std.specs.Prelude.{◌≡◌, [], IfOk};
+ghost use Rattle.std.specs.Prelude.{◌≡◌, [], IfOk, None};
 
 use flow_measure::MeasuredRuns;
+use flow_page::drawing::LongestRun;
 use std::alloc::{AllocError as OutOfMemory, Global};
 
 /// What the meters of a flow's runs put out, one after the other.
@@ -20,6 +21,14 @@ impl FlowOutput for MeasuredRuns {
 
     fn empty(alloc: Global) -> Result<MeasuredRuns, OutOfMemory> {
         Ok(MeasuredRuns::new(alloc))
+    }
+}
+
+impl FlowOutput for LongestRun {
+    ghost empty = { λ out. out.drawn ≡ None };
+
+    fn empty(_alloc: Global) -> Result<LongestRun, OutOfMemory> {
+        Ok(LongestRun::new())
     }
 }
 

@@ -175,6 +175,7 @@ told-more past old new m tai r over packets more here frames text are t =
     (a.0, a.1 ++ here, ap (λ x. x ++ here) a.2 ∙ append-assoc a.0 a.1 here, a.3,
     rows-append old.frames m tai r.number r.n [] packets more a.1 here a.4 are) in
     record {
+      frames_is = frames ∙ t.frames_is;
       put = put;
       are = subst (λ f. AreRowsSoFar f m tai over (Some (record { run = r; packets = packets ++ more })) put) (sym frames) so;
       text_is = ap (λ x. past.gone ++ x) text ∙ sym (append-assoc past.gone old.text.items here) ∙ ap (λ x. x ++ here) t.text_is
@@ -189,6 +190,7 @@ pub told-over : (past : PastRows) (rows : Rows) (m : Media) (tai : ℕ) (r : Run
 told-over past rows m tai r values over packets size t =
     let a = t.are in
     record {
+      frames_is = t.frames_is;
       put = t.put;
       are = subst (AreRowsOf rows.frames m tai (over ++ part_of r values packets ∷ [])) (sym a.2)
           (parts-append rows.frames m tai over (part_of r values packets) a.0 a.1 a.3
