@@ -77,7 +77,7 @@ fn read<H: Shelf>(
     let flow = &job.flow;
     let reading = Reading::new(alloc, media, flow.media, flow.tai, job.list)?;
     let reading = take_flow(alloc, shelf, flow.capture.as_str(), media, reading)?;
-    Ok(reading.finish())
+    Ok(reading.finish()?)
 }
 
 /// The answer on a flow of which a reading came to this.

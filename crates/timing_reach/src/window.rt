@@ -73,7 +73,7 @@ fn measure<H: Shelf>(
 {
     let reading = Reading::new(alloc, media, job.media, job.tai);
     let reading = take_flow(alloc, shelf, job.capture.as_str(), media, reading)?;
-    Ok(reading.finish())
+    Ok(reading.finish()?)
 }
 
 /// The answer on the flow of this media.

@@ -22,7 +22,7 @@ pub struct KeptFlow {
 /// The judge of a flow, and its packets.
 #[derive(Drop)]
 pub struct Reading {
-    judge: FlowJudge,
+    judge: FlowJudge<()>,
     packets: Kept,
 }
 
@@ -53,17 +53,17 @@ impl Reading {
         })
     }
 
-    /// What comes of the flow, where it ends here.
-    pub fn finish(self) -> KeptFlow
+    /// What comes of the flow, where it ends here. `Err` is want of memory.
+    pub fn finish(self) -> Result<KeptFlow, OutOfMemory>
         requires { count_read self < 2 ^ 41 }
-        ensures { (m : MediaValue) (key : KeyValue) (tai : ℕ) (list : Bool) (items : List Record) → tai ≤ 1000
-            → IsReading m key tai list self items → IsKeptFlow m tai list items result }
+        ensures { IfOk result (λ kept. (m : MediaValue) (key : KeyValue) (tai : ℕ) (list : Bool) (items : List Record)
+            → tai ≤ 1000 → IsReading m key tai list self items → IsKeptFlow m tai list items kept) }
     {
         let Reading { judge, packets } = self;
-        KeptFlow {
-            verdict: judge.finish().verdict,
+        Ok(KeptFlow {
+            verdict: judge.finish(&mut ())?.verdict,
             packets,
-        }
+        })
     }
 }
 
@@ -92,7 +92,8 @@ impl FlowTaker for Reading {
 
     #[inline(always)]
     fn take(&mut self, packet: &FlowPacket, frame: &[u8]) -> Result<(), OutOfMemory> {
-        self.judge.feed(packet.rec, packet.at, packet.rtp)?;
+        self.judge
+            .feed(packet.rec, packet.at, packet.rtp, &mut ())?;
         self.packets.keep(packet.at, frame)
     }
 

@@ -1,6 +1,6 @@
 //! The one reading of a flow: it is measured while it is judged.
 
-ghost use Rattle.std.specs.Prelude.{◌≡◌, ◌<◌, ◌≤◌, ◌^◌, [], ℕ, List, Some};
+ghost use Rattle.std.specs.Prelude.{◌≡◌, ◌<◌, ◌≤◌, ◌^◌, [], ℕ, List, IfOk, Some};
 ghost use Rattle.timing_base.specs.Media.{Media as MediaValue};
 ghost use Rattle.timing_base.specs.declared.key.FlowKey.{FlowKey as KeyValue};
 ghost use Rattle.timing_base.specs.declared.packet.FlowPacket.{FlowPacket as PacketValue};
@@ -24,7 +24,7 @@ pub struct Measured {
 /// The judge of a flow, and its gauge.
 #[derive(Drop)]
 pub struct Reading {
-    judge: FlowJudge,
+    judge: FlowJudge<()>,
     gauge: Gauge,
 }
 
@@ -47,16 +47,16 @@ impl Reading {
         }
     }
 
-    /// What comes of the flow, where it ends here.
-    pub fn finish(self) -> Measured
-        ensures { (m : MediaValue) (key : KeyValue) (tai : ℕ) (packets : List PacketValue)
-            → IsReading m key tai self packets → IsMeasured m tai packets result }
+    /// What comes of the flow, where it ends here. `Err` is want of memory.
+    pub fn finish(self) -> Result<Measured, OutOfMemory>
+        ensures { IfOk result (λ measured. (m : MediaValue) (key : KeyValue) (tai : ℕ) (packets : List PacketValue)
+            → IsReading m key tai self packets → IsMeasured m tai packets measured) }
     {
         let Reading { judge, gauge } = self;
-        Measured {
-            verdict: judge.finish().verdict,
+        Ok(Measured {
+            verdict: judge.finish(&mut ())?.verdict,
             windows: gauge.windows(),
-        }
+        })
     }
 }
 
@@ -85,7 +85,8 @@ impl FlowTaker for Reading {
 
     #[inline(always)]
     fn take(&mut self, packet: &FlowPacket, _frame: &[u8]) -> Result<(), OutOfMemory> {
-        self.judge.feed(packet.rec, packet.at, packet.rtp)?;
+        self.judge
+            .feed(packet.rec, packet.at, packet.rtp, &mut ())?;
         self.gauge.pass(packet)
     }
 

@@ -3,5 +3,5 @@ use Rattle.timing_reach.proofs.shape.reading.ReadingFlowTaker.take_expected.Goal
 
 pub returns-clause-takes : goal.returns-clause-takes
 returns-clause-takes c =
-    reads-packet c.keep.result c.args.self.now _ c.args.packet.now c.args.frame.now c.requires.stamp c.requires.short c.in_ok-feed_expected.ensures.stands
+    reads-packet c.keep.result c.args.self.now _ c.args.packet.now c.args.frame.now c.requires.stamp c.requires.short c.in_ok-feed_expected.ensures.takes.stands
     c.keep.ensures
