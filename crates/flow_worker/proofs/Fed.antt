@@ -15,20 +15,19 @@ use Rattle.timing_base.specs.declared.key.FlowKey.{FlowKey}
 use Rattle.timing_base.specs.declared.packet.FlowPacket.{FlowPacket}
 use Rattle.timing_base.specs.declared.packet.PacketFault.{PacketFault}
 use Rattle.timing_base.specs.declared.packet.Rtp.{Rtp}
-use Rattle.fail_interval.specs.Stands.{StandsFor, Takes, TakesExpected}
+use Rattle.fail_interval.specs.Stands.{StandsFor, TakesExpected}
 use Rattle.fail_interval.specs.Taken.{IsExpected}
-use Rattle.fail_interval.specs.declared.judge.FlowJudge.{FlowJudge}
 use Rattle.ruled_intake.specs.Messages.{Batch}
 use Rattle.ruled_intake.specs.Packets.{Packet, flow_packet}
 use Rattle.flow_worker.specs.Messages.{media_packet, media_packets}
 use Rattle.flow_worker.specs.Opening.{Setting}
 use Rattle.flow_worker.specs.Posting.{raised_packet}
-use Rattle.flow_worker.specs.Judging.{AreFed, EachFrom, Expects, Feeds, HaveRoom, IsPlace, batched, fed_at, is_own, with_packets}
+use Rattle.flow_worker.specs.Judging.{AreFed, EachFrom, Expects, Feeds, HaveRoom, IsPlace, PlainJudge, batched, fed_at, is_own, with_packets}
 use Rattle.flow_worker.specs.declared.judges.Judges.{Judges}
 use Rattle.flow_worker.proofs.Each.{each-at, each-set, each-weaker}
 
 -- a place is the same under the same packets
-place-same : (s : Setting) (worker : ℕ) (key : FlowKey) (place : Option FlowJudge) (xs ys : List FlowPacket) → xs ≡ ys → IsPlace s worker key xs place
+place-same : (s : Setting) (worker : ℕ) (key : FlowKey) (place : Option PlainJudge) (xs ys : List FlowPacket) → xs ≡ ys → IsPlace s worker key xs place
     → IsPlace s worker key ys place
 place-same s worker key place xs ys e h = subst (λ (l : List FlowPacket). IsPlace s worker key l place) e h
 
@@ -73,13 +72,13 @@ feeds-beyond before p judges beyond s worker file fed h = record {
 }
 
 -- a place is written, and the others are as they were
-feeds-place : (before : ℕ) (p : Packet) (old new : Judges) (place : Option FlowJudge) → p.media < length old.places.items → new.places.items
+feeds-place : (before : ℕ) (p : Packet) (old new : Judges) (place : Option PlainJudge) → p.media < length old.places.items → new.places.items
     ≡ set old.places.items p.media place
     → (s : Setting) (worker file : ℕ) (fed : FlowKey → List FlowPacket) → AreFed s worker file fed old
     → IsPlace s worker (key_of file p.media) (with_packets before (p ∷ []) fed (key_of file p.media)) place
     → AreFed s worker file (with_packets before (p ∷ []) fed) new
 feeds-place before p old new place within e s worker file fed h is =
-    let Q : ℕ → Option FlowJudge → Type 0 = λ n. IsPlace s worker (key_of file n) (with_packets before (p ∷ []) fed (key_of file n)) in
+    let Q : ℕ → Option PlainJudge → Type 0 = λ n. IsPlace s worker (key_of file n) (with_packets before (p ∷ []) fed (key_of file n)) in
     let z : 0 + p.media ≡ p.media = omega arith in
     record {
       count = ap length e ∙ length-set old.places.items p.media place ∙ h.count;
@@ -91,16 +90,16 @@ feeds-place before p old new place within e s worker file fed h is =
     }
 
 -- what is at the place of the packet's media
-place-at : (s : Setting) (worker file : ℕ) (fed : FlowKey → List FlowPacket) (judges : Judges) (i : ℕ) (d place : Option FlowJudge) → i
+place-at : (s : Setting) (worker file : ℕ) (fed : FlowKey → List FlowPacket) (judges : Judges) (i : ℕ) (d place : Option PlainJudge) → i
     < length judges.places.items
     → get_or judges.places.items i d ≡ place → AreFed s worker file fed judges → IsPlace s worker (key_of file i) (fed (key_of file i)) place
 place-at s worker file fed judges i d place within e h =
-    let P : ℕ → Option FlowJudge → Type 0 = λ n. IsPlace s worker (key_of file n) (fed (key_of file n)) in
+    let P : ℕ → Option PlainJudge → Type 0 = λ n. IsPlace s worker (key_of file n) (fed (key_of file n)) in
     let z : 0 + i ≡ i = omega arith in
     subst (P i) e (subst (λ (n : ℕ). P n (get_or judges.places.items i d)) z (each-at P 0 judges.places.items i d within h.each))
 
 -- a packet of a media without a judge
-pub feeds-none : (before : ℕ) (p : Packet) (old new : Judges) (i : ℕ) (d place : Option FlowJudge) → i ≡ p.media → i < length old.places.items
+pub feeds-none : (before : ℕ) (p : Packet) (old new : Judges) (i : ℕ) (d place : Option PlainJudge) → i ≡ p.media → i < length old.places.items
     → get_or old.places.items i d ≡ None → place ≡ None → new.places.items ≡ set old.places.items i place → Feeds before (p ∷ []) old new
 feeds-none before p old new i d place at within none same written s worker file fed h =
     let is : is_own s worker (key_of file i) ≡ false = place-at s worker file fed old i d None within none h in
@@ -110,7 +109,7 @@ feeds-none before p old new i d place at within none same written s worker file 
     feeds-place before p old new None (subst (λ (n : ℕ). n < length old.places.items) at within) e s worker file fed h own
 
 -- a packet that the judge of its media is fed
-pub feeds-some : (before : ℕ) (p : Packet) (old new : Judges) (i : ℕ) (d : Option FlowJudge) (judge next : FlowJudge) → i ≡ p.media → i
+pub feeds-some : (before : ℕ) (p : Packet) (old new : Judges) (i : ℕ) (d : Option PlainJudge) (judge next : PlainJudge) → i ≡ p.media → i
     < length old.places.items
     → get_or old.places.items i d ≡ Some judge → new.places.items ≡ set old.places.items i (Some next)
     → ((m : Media) (key : FlowKey) (tai : ℕ) (packets : List FlowPacket) → StandsFor m key tai judge packets
@@ -126,7 +125,7 @@ feeds-some before p old new i d judge next at within some written feeds s worker
     (is.0, subst (StandsFor (media_of s.media key) key s.tai next) (with-one before p fed key refl) (feeds (media_of s.media key) key s.tai (fed key) is.1))
 
 -- where its judge takes it
-pub feeds-some_if : {X E : Type 0} (r : Result X E) (before : ℕ) (p : Packet) (old new : Judges) (i : ℕ) (d : Option FlowJudge) (judge next : FlowJudge)
+pub feeds-some_if : {X E : Type 0} (r : Result X E) (before : ℕ) (p : Packet) (old new : Judges) (i : ℕ) (d : Option PlainJudge) (judge next : PlainJudge)
     (q : FlowPacket) → i ≡ p.media
     → i < length old.places.items → get_or old.places.items i d ≡ Some judge → new.places.items ≡ set old.places.items i (Some next) → q ≡ flow_packet p
     → ((m : Media) (key : FlowKey) (tai : ℕ) (packets : List FlowPacket) → StandsFor m key tai judge packets
@@ -167,7 +166,7 @@ same-fields a b h =
     }
 
 -- a packet that is the one expected
-pub expects-same : (judge : FlowJudge) (expected came : Rtp) (rtp : Result Rtp PacketFault) → rtp ≡ Ok came → same_fields came expected ≡ true
+pub expects-same : (judge : PlainJudge) (expected came : Rtp) (rtp : Result Rtp PacketFault) → rtp ≡ Ok came → same_fields came expected ≡ true
     → IsExpected judge expected → Expects judge rtp
 expects-same judge expected came rtp is same h =
     subst (Expects judge) (sym is) (subst (IsExpected judge) (sym (same-fields came expected same)) h)
@@ -177,17 +176,13 @@ same-packet : (a b : Rtp) (o : Option Rtp) → Some a ≡ o → o ≡ Some b →
 same-packet a b o first second = cc
 
 -- a judge that took the packet that it expects was fed that one
-pub takes-expected : {E : Type 0} (old new : FlowJudge) (rec_number at : ℕ) (rtp : Result Rtp PacketFault) → Expects old rtp → TakesExpected old new at
-    → Takes {T = ⊤} {E = E} old new (record { rec = rec_number; at = at; rtp = rtp }) (Ok tt)
-takes-expected old new rec_number at (Err fault) expects takes = absurd expects
-takes-expected old new rec_number at (Ok rtp) expects takes = record {
-  fed = takes.fed;
-  stands = λ m key tai packets h.
-      subst (λ (p : Rtp). StandsFor m key tai new (packets ++ record { rec = rec_number; at = at; rtp = Ok p } ∷ []))
-      (same-packet rtp _ _ (expects m key tai packets h) (takes.expects m key tai packets h)) (takes.stands m key tai packets rec_number h);
-  spends = tt;
-  stays = λ spent. absurd (takes.going spent);
-}
+pub takes-expected : (old new : PlainJudge) (rec_number at : ℕ) (rtp : Result Rtp PacketFault) → Expects old rtp → TakesExpected old new at
+    → (m : Media) (key : FlowKey) (tai : ℕ) (packets : List FlowPacket) → StandsFor m key tai old packets
+    → StandsFor m key tai new (packets ++ record { rec = rec_number; at = at; rtp = rtp } ∷ [])
+takes-expected old new rec_number at (Err fault) expects takes m key tai packets h = absurd expects
+takes-expected old new rec_number at (Ok rtp) expects takes m key tai packets h =
+    subst (λ (p : Rtp). StandsFor m key tai new (packets ++ record { rec = rec_number; at = at; rtp = Ok p } ∷ []))
+    (same-packet rtp _ _ (expects m key tai packets h) (takes.expects m key tai packets h)) (takes.stands m key tai packets rec_number h)
 
 -- packets, and then more
 pub feeds-append : (before : ℕ) (xs ys : List Packet) (old mid new : Judges) → Feeds before xs old mid → Feeds before ys mid new
@@ -221,7 +216,7 @@ pub room-same : (m n : ℕ) (judges : Judges) → m ≡ n → HaveRoom m judges 
 room-same m n judges e h = subst (λ (k : ℕ). HaveRoom k judges) e h
 
 -- a judge of a flow without packets, where the flow is the worker's own
-pub place-new : (s : Setting) (worker file n : ℕ) (m : Media) (place : Option FlowJudge) (own : Bool) → n < length s.media → get_or s.media n m ≡ m
+pub place-new : (s : Setting) (worker file n : ℕ) (m : Media) (place : Option PlainJudge) (own : Bool) → n < length s.media → get_or s.media n m ≡ m
     → (if s.joined then 0 else file) ≡ file
     → own ≡ eqb (route (key_of file n) (length s.media) s.workers) worker
     → IfSome place (λ judge. IsTrue own × StandsFor m (key_of file n) s.tai judge []) → IfNone place (IsTrue own → ⊥)

@@ -10,12 +10,11 @@ use Rattle.timing_base.specs.declared.capture.FileNote.{FileNote}
 use Rattle.timing_base.specs.declared.key.FlowKey.{FlowKey}
 use Rattle.timing_base.specs.declared.packet.FlowPacket.{FlowPacket}
 use Rattle.timing_base.specs.Keys.{key_of}
-use Rattle.fail_interval.specs.declared.judge.FlowJudge.{FlowJudge}
 use Rattle.ruled_intake.specs.Lanes.{count_of, packets}
 use Rattle.ruled_intake.specs.Packets.{Packet, flow_packet}
 use Rattle.ruled_intake.specs.declared.message.Message.{Message}
 use Rattle.ruled_intake.specs.declared.message.Message.TheVariants.{Batch, End}
-use Rattle.flow_worker.specs.Judging.{AreFed, HaveRoom, IsPlace, fed_at}
+use Rattle.flow_worker.specs.Judging.{AreFed, HaveRoom, IsPlace, PlainJudge, fed_at}
 use Rattle.flow_worker.specs.Messages.{batch, before_end, ending, file_packets, media_packets, of_file, packets_in, records_told}
 use Rattle.flow_worker.specs.Opening.{Setting}
 use Rattle.flow_worker.specs.Posting.{joined_packets, raised_packet}
@@ -136,7 +135,7 @@ total-more file (suc n) taken =
     + length (file_packets (file + suc n) taken) = omega (arith, more, z) in
     ap (λ (x : ℕ). files_total file x taken) s ∙ e
 
-room-place : (s : Setting) (worker : ℕ) (key : FlowKey) (fed : List FlowPacket) (more : ℕ) (place : Option FlowJudge) → IsPlace s worker key fed place
+room-place : (s : Setting) (worker : ℕ) (key : FlowKey) (fed : List FlowPacket) (more : ℕ) (place : Option PlainJudge) → IsPlace s worker key fed place
     → length fed + more ≤ 2 ^ 41 → fed_at place + more ≤ 2 ^ 41
 room-place s worker key fed more None h few = omega (arith, few)
 room-place s worker key fed more (Some judge) h few = omega (arith, few, h.1.fed)

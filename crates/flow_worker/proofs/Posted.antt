@@ -8,10 +8,9 @@ use Rattle.timing_base.specs.declared.packet.FlowPacket.{FlowPacket}
 use Rattle.timing_base.specs.declared.row.Row.{Row}
 use Rattle.fail_interval.specs.Row.{row}
 use Rattle.fail_interval.specs.Stands.{StandsFor}
-use Rattle.fail_interval.specs.declared.judge.FlowJudge.{FlowJudge}
 use Rattle.flow_worker.specs.Opening.{Setting}
 use Rattle.flow_worker.specs.Posting.{row_over}
-use Rattle.flow_worker.specs.Judging.{AreFed, EachFrom, IsPlace, is_own}
+use Rattle.flow_worker.specs.Judging.{AreFed, EachFrom, IsPlace, PlainJudge, is_own}
 use Rattle.flow_worker.specs.declared.judges.Judges.{Judges}
 
 -- the rows of those of the flows that are the worker's own
@@ -19,7 +18,7 @@ abbrev pub own_rows : Setting → (worker : ℕ) → (FlowKey → List FlowPacke
 own_rows s worker fed keys = map (λ key. row_over s key (fed key)) (filter (is_own s worker) keys)
 
 -- with the rows of the places that are left, these are the rows of the file behind those that were there before
-pub record HasRows (s : Setting) (worker file : ℕ) (fed : FlowKey → List FlowPacket) (before rows : List Row) (left : List (Option FlowJudge)) : Type 0 where
+pub record HasRows (s : Setting) (worker file : ℕ) (fed : FlowKey → List FlowPacket) (before rows : List Row) (left : List (Option PlainJudge)) : Type 0 where
   pub number : ℕ
   pub each : EachFrom (λ n. IsPlace s worker (key_of file n) (fed (key_of file n))) number left
   pub whole : rows ++ own_rows s worker fed (keys_of_file file number (length left)) ≡ before ++ own_rows s worker fed (keys_of_file file 0 (length s.media))
@@ -37,7 +36,7 @@ own_rows-other s worker fed key keys e =
     ap (λ (b : Bool). map (λ key. row_over s key (fed key)) (cond b (key ∷ filter (is_own s worker) keys) (filter (is_own s worker) keys))) e
 
 -- no row is posted yet
-pub rows-first : (s : Setting) (worker file : ℕ) (fed : FlowKey → List FlowPacket) (judges : Judges) (before : List Row) (left : List (Option FlowJudge)) → left
+pub rows-first : (s : Setting) (worker file : ℕ) (fed : FlowKey → List FlowPacket) (judges : Judges) (before : List Row) (left : List (Option PlainJudge)) → left
     ≡ judges.places.items
     → AreFed s worker file fed judges → HasRows s worker file fed before before left
 rows-first s worker file fed judges before left e h = record {
@@ -47,11 +46,11 @@ rows-first s worker file fed judges before left e h = record {
 }
 
 -- a place without a judge
-pub rows-none : (s : Setting) (worker file : ℕ) (fed : FlowKey → List FlowPacket) (before rows : List Row) (place : Option FlowJudge)
-    (left later : List (Option FlowJudge))
+pub rows-none : (s : Setting) (worker file : ℕ) (fed : FlowKey → List FlowPacket) (before rows : List Row) (place : Option PlainJudge)
+    (left later : List (Option PlainJudge))
     → left ≡ place ∷ later → place ≡ None → HasRows s worker file fed before rows left → HasRows s worker file fed before rows later
 rows-none s worker file fed before rows place left later e none h =
-    let P : ℕ → Option FlowJudge → Type 0 = λ n. IsPlace s worker (key_of file n) (fed (key_of file n)) in
+    let P : ℕ → Option PlainJudge → Type 0 = λ n. IsPlace s worker (key_of file n) (fed (key_of file n)) in
     let each = subst (EachFrom P h.number) e h.each in
     let other : is_own s worker (key_of file h.number) ≡ false = subst (P h.number) none each.0 in
     record {
@@ -63,13 +62,13 @@ rows-none s worker file fed before rows place left later e none h =
     }
 
 -- the judge of a place gives its row
-pub rows-some : (s : Setting) (worker file : ℕ) (fed : FlowKey → List FlowPacket) (before rows more : List Row) (place : Option FlowJudge) (judge : FlowJudge)
-    (left later : List (Option FlowJudge)) (r : Row)
+pub rows-some : (s : Setting) (worker file : ℕ) (fed : FlowKey → List FlowPacket) (before rows more : List Row) (place : Option PlainJudge) (judge : PlainJudge)
+    (left later : List (Option PlainJudge)) (r : Row)
     → left ≡ place ∷ later → place ≡ Some judge
     → ((m : Media) (key : FlowKey) (tai : ℕ) (packets : List FlowPacket) → StandsFor m key tai judge packets → r ≡ row packets key m tai)
     → more ≡ rows ++ r ∷ [] → HasRows s worker file fed before rows left → HasRows s worker file fed before more later
 rows-some s worker file fed before rows more place judge left later r e some gives pushed h =
-    let P : ℕ → Option FlowJudge → Type 0 = λ n. IsPlace s worker (key_of file n) (fed (key_of file n)) in
+    let P : ℕ → Option PlainJudge → Type 0 = λ n. IsPlace s worker (key_of file n) (fed (key_of file n)) in
     let each = subst (EachFrom P h.number) e h.each in
     let key = key_of file h.number in
     let own = subst (P h.number) some each.0 in
@@ -84,7 +83,7 @@ rows-some s worker file fed before rows more place judge left later r e some giv
     }
 
 -- no place is left
-pub rows-all : (s : Setting) (worker file : ℕ) (fed : FlowKey → List FlowPacket) (before rows : List Row) (left : List (Option FlowJudge)) → length left ≡ 0
+pub rows-all : (s : Setting) (worker file : ℕ) (fed : FlowKey → List FlowPacket) (before rows : List Row) (left : List (Option PlainJudge)) → length left ≡ 0
     → HasRows s worker file fed before rows left → rows ≡ before ++ own_rows s worker fed (keys_of_file file 0 (length s.media))
 rows-all s worker file fed before rows left e h =
     sym (append-nil rows) ∙ ap (λ (n : ℕ). rows ++ own_rows s worker fed (keys_of_file file h.number n)) (sym e) ∙ h.whole

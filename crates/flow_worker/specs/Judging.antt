@@ -16,6 +16,10 @@ use Rattle.flow_worker.specs.Opening.{Setting}
 use Rattle.flow_worker.specs.Posting.{key_lane, raised_packet}
 use Rattle.flow_worker.specs.declared.judges.Judges.{Judges}
 
+-- a judge whose flow has no meters
+abbrev pub PlainJudge : Type 0
+PlainJudge = FlowJudge (Unit {0})
+
 -- each value stands in this relation to its number, the first of them to this one
 abbrev pub EachFrom : {X : Type 0} → (ℕ → X → Type 0) → (first : ℕ) → List X → Type 0
 EachFrom P first [] = ⊤
@@ -26,7 +30,7 @@ abbrev pub is_own : Setting → (worker : ℕ) → FlowKey → Bool
 is_own s worker key = key_lane s key == worker
 
 -- the place of a flow has a judge that was fed these packets, where the flow is the worker's own, and else none
-abbrev pub IsPlace : Setting → (worker : ℕ) → FlowKey → List FlowPacket → Option FlowJudge → Type 0
+abbrev pub IsPlace : Setting → (worker : ℕ) → FlowKey → List FlowPacket → Option PlainJudge → Type 0
 IsPlace s worker key packets None = is_own s worker key ≡ false
 IsPlace s worker key packets (Some judge) = (is_own s worker key ≡ true)
     × StandsFor (media_of s.media key) key s.tai judge packets
@@ -47,7 +51,7 @@ Feeds before packets old new = (s : Setting) (worker file : ℕ) (fed : FlowKey 
     → AreFed s worker file (with_packets before packets fed) new
 
 -- how many packets the judge at a place was fed
-abbrev pub fed_at : Option FlowJudge → ℕ
+abbrev pub fed_at : Option PlainJudge → ℕ
 fed_at None = 0
 fed_at (Some judge) = count_fed judge
 
@@ -56,7 +60,7 @@ abbrev pub HaveRoom : ℕ → Judges → Type 0
 HaveRoom more judges = All (λ place. fed_at place + more ≤ 2 ^ 41) judges.places.items
 
 -- what was read is the packet that the judge expects
-abbrev pub Expects : FlowJudge → Result Rtp PacketFault → Type 0
+abbrev pub Expects : PlainJudge → Result Rtp PacketFault → Type 0
 Expects judge (Ok rtp) = IsExpected judge rtp
 Expects judge (Err fault) = ⊥
 

@@ -1,11 +1,12 @@
 //! The judges of a worker for one file, or for files that are joined.
 
-ghost use Rattle.std.specs.Prelude.{◌≡◌, ◌≤◌, ◌<◌, ◌+◌, ◌^◌, ◌++◌, ◌∷◌, [], ℕ, Bool, List, All, IfOk, IfNone, IfSome, IsTrue, filter, length, map, true};
+ghost use Rattle.std.specs.Prelude.{◌≡◌, ◌≤◌, ◌<◌, ◌+◌, ◌^◌, ◌++◌, ◌∷◌, [], ℕ, Bool, List, All, IfOk, IfNone, IfSome, IsTrue, OnOk, filter, length, map, true};
 ghost use Rattle.timing_base.specs.declared.key.FlowKey.{FlowKey as KeyValue};
 ghost use Rattle.timing_base.specs.declared.packet.FlowPacket.{FlowPacket as PacketValue};
 ghost use Rattle.timing_base.specs.Keys.{keys_of_file};
+ghost use Rattle.timing_base.specs.Media.{Media as MediaValue};
 ghost use Rattle.timing_base.specs.Routes.{route};
-ghost use Rattle.fail_interval.specs.Stands.{StandsFor, Takes, count_fed};
+ghost use Rattle.fail_interval.specs.Stands.{StandsFor, count_fed};
 ghost use Rattle.fail_interval.specs.States.{IsReading};
 ghost use Rattle.timing_base.specs.Captures.{IsStamp};
 ghost use Rattle.flow_worker.specs.Judging.{Expects};
@@ -26,7 +27,7 @@ use verdict_book::{Book, Receipt};
 /// the worker's own.
 #[derive(Drop)]
 pub struct Judges {
-    places: Vec<Option<FlowJudge>>,
+    places: Vec<Option<FlowJudge<()>>>,
 }
 
 impl Judges {
@@ -125,7 +126,8 @@ impl Judges {
         let Judges { places } = self;
         for judge in places {
             if let Some(judge) = judge {
-                post_row(rt, book, judge.finish(), receipts)?;
+                let row = judge.finish(&mut ())?;
+                post_row(rt, book, row, receipts)?;
             }
         }
         Ok(())
@@ -133,7 +135,13 @@ impl Judges {
 }
 
 /// The judge of a flow that is the worker's own.
-fn own_judge(alloc: Global, media: &Media, key: FlowKey, tai: u64, own: bool) -> Option<FlowJudge>
+fn own_judge(
+    alloc: Global,
+    media: &Media,
+    key: FlowKey,
+    tai: u64,
+    own: bool,
+) -> Option<FlowJudge<()>>
     requires { tai ≤ 1000 }
     ensures judge { IfSome result (λ judge. IsTrue own × StandsFor media.now key tai judge []) }
     ensures none { IfNone result (¬ IsTrue own) }
@@ -147,7 +155,7 @@ fn own_judge(alloc: Global, media: &Media, key: FlowKey, tai: u64, own: bool) ->
 
 /// Whether this is the packet that goes on in the judge's flow as most do.
 #[inline(always)]
-fn is_expected(judge: &FlowJudge, rtp: Result<Rtp, PacketFault>) -> bool
+fn is_expected(judge: &FlowJudge<()>, rtp: Result<Rtp, PacketFault>) -> bool
     ensures { result ≡ true → Expects judge.now rtp }
 {
     let Some(expected) = judge.expected() else {
@@ -163,7 +171,7 @@ fn is_expected(judge: &FlowJudge, rtp: Result<Rtp, PacketFault>) -> bool
 /// then only their stamps are fed. `Err` is want of memory.
 #[inline(always)]
 fn feed_next(
-    judge: &mut FlowJudge,
+    judge: &mut FlowJudge<()>,
     rec: u64,
     at: u64,
     rtp: Result<Rtp, PacketFault>,
@@ -171,12 +179,15 @@ fn feed_next(
     requires stamp { IsStamp at }
     requires reading { IsReading rtp }
     requires few { count_fed judge.old < 2 ^ 41 }
-    ensures { Takes judge.old judge.new (record { rec = rec; at = at; rtp = rtp }) result }
+    ensures fed { count_fed judge.new ≤ count_fed judge.old + 1 }
+    ensures stands { (media : MediaValue) (key : KeyValue) (tai : ℕ) (packets : List PacketValue)
+        → StandsFor media key tai judge.old packets → OnOk result (StandsFor media key tai judge.new
+        (packets ++ record { rec = rec; at = at; rtp = rtp } ∷ [])) }
 {
-    if is_expected(judge, rtp) && judge.feed_judged(at) {
+    if is_expected(judge, rtp) && judge.feed_judged(rec, at)? {
         return Ok(());
     }
-    judge.feed(rec, at, rtp)
+    judge.feed(rec, at, rtp, &mut ())
 }
 
 /// Posts a row, and puts its receipt at the end of a list.
