@@ -1,2 +1,0 @@
-pub mod series
-pub mod page
