@@ -1,6 +1,6 @@
 -- What one record more does to a judge and the output of its meters, which take a flow.
 use Rattle.std.proofs.Common.{◌≡◌, ℕ, Bool, true, List, [], ◌∷◌, ◌++◌, Option, Some, sym, ◌∙◌, subst}
-use Rattle.std.specs.Prelude.{Err, IfOk, IsOkAnd, Ok, OnOk, Result}
+use Rattle.std.specs.Prelude.{Err, IfOk, IsOkAnd, Ok, Result}
 use Rattle.std.specs.List.{cons_option}
 use Rattle.timing_base.specs.Captures.{Record}
 use Rattle.timing_base.specs.Media.{Media}

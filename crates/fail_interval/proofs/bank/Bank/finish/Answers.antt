@@ -7,8 +7,8 @@ use Rattle.fail_interval.proofs.bank.Bank.finish.Goals as goal
 pub loop-flow-preserved : goal.loop-flow-preserved
 loop-flow-preserved c = λ media file tai items h.
     rows-more tai file media items c.args.rows.now.items c.loop-flow.rows.items c.push.new.self.items c.in-Some.flow c.loop-flow.flow-iterator.rest.items
-    c.next.new.self.rest.items c.finish.result c.in-Some.ensures.steps.0 c.in_ok-push.ensures.items
-    (λ m number is. c.finish.ensures m (key_of file number) tai (flow items m) is.judge) (c.loop-flow.invariant media file tai items h)
+    c.next.new.self.rest.items c.in_ok-row.row c.in-Some.ensures.steps.0 c.in_ok-push.ensures.items
+    (λ m number is. c.in_ok-row.ensures.row m (key_of file number) tai (flow items m) is.judge) (c.loop-flow.invariant media file tai items h)
 
 pub returns : goal.returns
 returns c = record {
