@@ -1,6 +1,6 @@
 //! The packets around the first one that breaks a sender type.
 
-ghost use Rattle.std.specs.Prelude.{◌≡◌, ◌≤◌, ◌<◌, ◌+◌, ◌-◌, ◌%◌, ◌^◌, ◌++◌, ◌∷◌, [], min, ℕ, ℤ, Option};
+ghost use Rattle.std.specs.Prelude.{◌≡◌, ◌≤◌, ◌<◌, ◌+◌, ◌-◌, ◌%◌, ◌^◌, ◌++◌, ◌∷◌, [], min, true, ℕ, ℤ, Option};
 ghost use Rattle.std.specs.Prelude.{IfOk, List, length, vec_len};
 ghost use Rattle.timing_base.specs.Media.{IsMedia, Media};
 ghost use Rattle.timing_base.specs.declared.media.Kind.{Kind as KindValue};
@@ -162,6 +162,7 @@ impl RegionMeter {
     fn take(&mut self, level: Level)
         requires { self.old.taken < 2 ^ 41 }
         ensures { (m : Media) (n : ℕ) (kind : KindValue) (stamps : List ℕ) (at : ℕ) → self.old.taken ≡ length stamps
+            → is_open self.old.first self.old.taken ≡ true
             → DrawsRegion m n kind self.old stamps → IsLevel m n (stamps ++ at ∷ []) (length stamps) level
             → DrawsRegion m n kind self.new (stamps ++ at ∷ []) }
     {
