@@ -1,7 +1,8 @@
 -- The row of a packet or of a group is put behind a text.
 use Rattle.std.proofs.Common.{◌≡◌, ◌≤◌, ◌<◌, ◌^◌, ◌++◌, ◌∷◌, [], ℕ, Bool, true, false, List, length, refl, sym, ap, ◌∙◌, subst, arith}
-use Rattle.std.proofs.Common.{append_assoc, append-nil, Option, Some, None}
+use Rattle.std.proofs.Common.{◌+◌, drop, get_or, append_assoc, append-nil, Option, Some, None}
 use Rattle.std.specs.Prelude.{IfOk, Result, Ok, Err, if◌then◌else◌, is_ok}
+use Rattle.std.proofs.lemmas.List.{at_drop_all, drop_more}
 use Rattle.timing_base.specs.Media.{Media}
 use Rattle.timing_base.specs.Verdicts.{Judged}
 use Rattle.timing_base.specs.declared.packet.FlowPacket.{FlowPacket}
@@ -139,6 +140,32 @@ puts-more frames m n old mid new one kept before between after first rest = reco
     stands-more tai run packets (p ∷ more) h stands =
         subst (StandsFor m tai run n new) (append_assoc packets (p ∷ []) more)
         (rest.stands tai run (packets ++ p ∷ []) more h.1 (first.stands tai run packets p h.0 stands))
+
+-- the next packet of a list before those behind it
+pub puts-next : (frames same : Bool) (m : Media) (n : ℕ) (old mid new : RowMaker) (kept : List Kept) (i : ℕ) (one : Kept) (before between after : List ℕ)
+    → same ≡ frames
+    → i < length kept
+    → get_or kept i one ≡ one
+    → PutsRow same m n old mid one before between
+    → PutsRows frames m n mid new (drop (i + 1) kept) between after
+    → PutsRows frames m n old new (drop i kept) before after
+puts-next frames same m n old mid new kept i one before between after e within at first rest =
+    subst (λ l. PutsRows frames m n old new l before after)
+    (sym (drop_more kept i one within ∙ ap (λ (x : Kept). x ∷ drop (i + 1) kept) at))
+    (puts-more frames m n old mid new one (drop (i + 1) kept) before between after (subst (λ f. PutsRow f m n old mid one before between) e first) rest)
+
+-- none is left
+pub puts-all : (frames : Bool) (m : Media) (n : ℕ) (x : RowMaker) (kept : List Kept) (i : ℕ) (text : List ℕ) → length kept ≤ i
+    → PutsRows frames m n x x (drop i kept) text text
+puts-all frames m n x kept i text all =
+    subst (λ l. PutsRows frames m n x x l text text) (sym (at_drop_all (λ (l : List Kept). l) kept i all)) (puts-none frames m n x text)
+
+-- the packets and the size of a group may be named otherwise
+pub puts-same : (frames : Bool) (m : Media) (n same : ℕ) (old new : RowMaker) (kept others : List Kept) (before after : List ℕ) → n ≡ same → kept ≡ others
+    → PutsRows frames m n old new kept before after
+    → PutsRows frames m same old new others before after
+puts-same frames m n same old new kept others before after e f h =
+    subst (λ k. PutsRows frames m k old new others before after) e (subst (λ l. PutsRows frames m n old new l before after) f h)
 
 -- rows behind others
 rows-append : (frames : Bool) (m : Media) (tai run n : ℕ) (before packets more : List FlowPacket) (text rest : List ℕ)
