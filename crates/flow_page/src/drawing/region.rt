@@ -106,7 +106,8 @@ pub struct RegionMeter {
 impl RegionMeter {
     ghost use Rattle.run_meter.specs.Levels.{IsLevel};
     ghost use Rattle.run_meter.specs.Runs.{NamesFirst, is_broken};
-    ghost use Rattle.flow_page.specs.drawing.drawing.Regions.{DrawsRegion, ShowsFrom, is_open};
+    ghost use Rattle.flow_page.specs.drawing.drawing.Regions.{DrawsRegion, ShowsFrom};
+    ghost use Rattle.flow_page.specs.drawing.drawing.Taken.{is_open};
 
     /// Before the first packet of a run. `Err` is want of memory.
     pub fn new(alloc: Global, params: &Params, kind: Kind) -> Result<RegionMeter, OutOfMemory>
@@ -217,7 +218,7 @@ impl RegionMeter {
     }
 }
 
-ghost use Rattle.flow_page.specs.drawing.drawing.Regions.{first_with};
+ghost use Rattle.flow_page.specs.drawing.drawing.Taken.{first_with};
 
 /// The first packet that breaks a model, where the next one has this number.
 #[inline(always)]

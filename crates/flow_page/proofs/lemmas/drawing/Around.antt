@@ -33,7 +33,8 @@ use Rattle.read_schedule.proofs.Held.{held_at-is}
 use Rattle.flow_page.specs.declared.shown.Region.{Region}
 use Rattle.flow_page.specs.drawing.Drawn.{AreRegions, IsHeld as IsDrawnHeld, IsRegion, start_around}
 use Rattle.flow_page.specs.drawing.drawing.Held.{breaks_at, buffer_of, held_by}
-use Rattle.flow_page.specs.drawing.drawing.Regions.{DrawsRegion, PutsKind, ShowsFrom, first_with, is_open, level_at, no_level, taken_of}
+use Rattle.flow_page.specs.drawing.drawing.Regions.{DrawsRegion, PutsKind, ShowsFrom}
+use Rattle.flow_page.specs.drawing.drawing.Taken.{first_with, is_open, level_at, no_level, taken_of}
 use Rattle.flow_page.specs.declared.drawing.region.Bounds.{Bounds}
 use Rattle.flow_page.specs.declared.drawing.region.RegionMeter.{RegionMeter}
 use Rattle.flow_page.proofs.lemmas.drawing.Keeping.{broken-after, bucket-after, level-after, occupancy-after}
@@ -83,10 +84,10 @@ first-next old new count None false h same last = λ i few. elim (cases_eq i cou
 
 -- so many packets are taken, with one more
 taken-next : (found : Option ℕ) (count taken : ℕ) (breaks : Bool) → taken ≡ count → is_open found taken ≡ true → taken + 1 ≡ taken_of (first_with found taken breaks) (count + 1)
-taken-next None count taken true same open = omega (arith, same)
-taken-next None count taken false same open = omega (arith, same)
-taken-next (Some first) count taken breaks same open =
-    let low : taken - first ≤ 50 = leb-true (taken - first) 50 open in
+taken-next None count taken true same goes = omega (arith, same)
+taken-next None count taken false same goes = omega (arith, same)
+taken-next (Some first) count taken breaks same goes =
+    let low : taken - first ≤ 50 = leb-true (taken - first) 50 goes in
     omega (arith, same, low)
 
 -- the packet that is taken, and those before it, are found again
@@ -108,7 +109,7 @@ pub region-taken : (m : Media) (n : ℕ) (kind : Kind) (old new : RegionMeter) (
     → DrawsRegion m n kind old stamps
     → IsLevel m n (stamps ++ at ∷ []) (length stamps) level
     → DrawsRegion m n kind new (stamps ++ at ∷ [])
-region-taken m n kind old new stamps at level bounds ring first taken all open h is =
+region-taken m n kind old new stamps at level bounds ring first taken all goes h is =
     let more = stamps ++ at ∷ [] in
     let count = length stamps in
     let long : length more ≡ count + 1 = length-append stamps (at ∷ []) in
@@ -126,7 +127,7 @@ region-taken m n kind old new stamps at level bounds ring first taken all open h
       full_is = ap (λ (b : Bounds). b.vrx_full) bounds ∙ h.full_is;
       first_is = subst (λ l. IsFirst (is_broken m n more kind) l new.first) (sym long)
           (subst (IsFirst (is_broken m n more kind) (count + 1)) found_is found);
-      taken_is = taken ∙ taken-next old.first count old.taken breaks all open
+      taken_is = taken ∙ taken-next old.first count old.taken breaks all goes
           ∙ ap (λ f. taken_of f (count + 1)) (sym first) ∙ ap (taken_of new.first) (sym long);
       held = λ i few recent. elim (cases_eq i old.taken) as (λ _. IsLevel m n more i (level_at new.ring.items i)) [
         | inl e ↦
@@ -146,29 +147,29 @@ region-taken m n kind old new stamps at level bounds ring first taken all open h
 
 -- where the packet may be shown, all packets so far were taken
 pub all-taken : (found : Option ℕ) (count taken : ℕ) → taken ≡ taken_of found count → is_open found taken ≡ true → taken ≡ count
-all-taken None count taken is open = is
-all-taken (Some first) count taken is open =
-    let low : taken - first ≤ 50 = leb-true (taken - first) 50 open in
+all-taken None count taken is goes = is
+all-taken (Some first) count taken is goes =
+    let low : taken - first ≤ 50 = leb-true (taken - first) 50 goes in
     omega (arith, is, low)
 
 -- where it may not be shown, no packet more is taken
 none-taken : (found : Option ℕ) (count taken : ℕ) → taken ≡ taken_of found count → is_open found taken ≡ false → taken ≡ taken_of found (count + 1)
-none-taken None count taken is open = absurd (true≢false open)
-none-taken (Some first) count taken is open =
-    let high : 50 < taken - first = leb-false (taken - first) 50 open in
+none-taken None count taken is goes = absurd (true≢false goes)
+none-taken (Some first) count taken is goes =
+    let high : 50 < taken - first = leb-false (taken - first) 50 goes in
     omega (arith, is, high)
 
 some-first : (old new : ℕ → Bool) (count : ℕ) (found : Option ℕ) (taken : ℕ) → is_open found taken ≡ false → IsFirst old count found
     → ((i : ℕ) → i < count → new i ≡ old i)
     → IsFirst new (count + 1) found
-some-first old new count None taken open h same = absurd (true≢false open)
-some-first old new count (Some first) taken open h same =
+some-first old new count None taken goes h same = absurd (true≢false goes)
+some-first old new count (Some first) taken goes h same =
     (omega (arith, h.0), same first h.0 ∙ h.1, λ k few. same k (omega (arith, few, h.0)) ∙ h.2 k few)
 
 pub region-same : (m : Media) (n : ℕ) (kind : Kind) (r : RegionMeter) (stamps : List ℕ) (at : ℕ) → is_open r.first r.taken ≡ false
     → DrawsRegion m n kind r stamps
     → DrawsRegion m n kind r (stamps ++ at ∷ [])
-region-same m n kind r stamps at open h =
+region-same m n kind r stamps at goes h =
     let more = stamps ++ at ∷ [] in
     let count = length stamps in
     let long : length more ≡ count + 1 = length-append stamps (at ∷ []) in
@@ -177,9 +178,9 @@ region-same m n kind r stamps at open h =
       c_max_is = h.c_max_is;
       full_is = h.full_is;
       first_is = subst (λ l. IsFirst (is_broken m n more kind) l r.first) (sym long)
-          (some-first (is_broken m n stamps kind) (is_broken m n more kind) count r.first r.taken open h.first_is
+          (some-first (is_broken m n stamps kind) (is_broken m n more kind) count r.first r.taken goes h.first_is
           (λ i few. broken-after m n stamps (at ∷ []) kind i few));
-      taken_is = none-taken r.first count r.taken h.taken_is open ∙ ap (taken_of r.first) (sym long);
+      taken_is = none-taken r.first count r.taken h.taken_is goes ∙ ap (taken_of r.first) (sym long);
       held = λ i few recent.
           level-after m n stamps (at ∷ []) i (level_at r.ring.items i) (omega (arith, few, most-taken r.first count r.taken h.taken_is)) (h.held i few recent);
     }

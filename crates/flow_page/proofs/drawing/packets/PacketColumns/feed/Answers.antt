@@ -1,6 +1,6 @@
 use Rattle.std.proofs.Common.{◌≡◌, ◌+◌, ◌++◌, ◌∷◌, [], true, false, length, FitsSigned, ap, ◌∙◌, sym, rules, arith, length-append}
 use Rattle.std.proofs.lemmas.Int.{to_z-of_z}
-use Rattle.std.specs.Int.{w128}
+use Rattle.std.specs.Int.{w64, w128}
 use Rattle.flow_measure.proofs.Fronts.{buckets-front, occupancies-front}
 use Rattle.flow_page.proofs.lemmas.drawing.Feeding.{bucket-last, occupancy-last}
 use Rattle.flow_page.proofs.drawing.packets.PacketColumns.feed.Goals as goal
@@ -20,8 +20,8 @@ returns-clause-draws c = λ m n stamps at h is.
           (ap level (s.bucket_is ∙ h.seen_is) ∙ bucket-last m n stamps at l level are is ∙ sym (to_z-of_z w128 c.from.result from_fits ∙ c.from.ensures));
       gapped_draws = λ level are. c.feed-2.ensures.draws level (h.gapped_draws level (occupancies-front m n true stamps at level are))
           (ap level (s.gapped_is ∙ h.seen_is) ∙ occupancy-last m n stamps at true l.gapped level are is.gapped
-          ∙ sym (to_z-of_z w128 c.from-2.result gapped_fits ∙ c.from-2.ensures));
+          ∙ sym (to_z-of_z w64 l.gapped.occupancy (search rules)) ∙ sym (to_z-of_z w128 c.from-2.result gapped_fits ∙ c.from-2.ensures));
       linear_draws = λ level are. c.feed-3.ensures.draws level (h.linear_draws level (occupancies-front m n false stamps at level are))
           (ap level (s.linear_is ∙ h.seen_is) ∙ occupancy-last m n stamps at false l.linear level are is.linear
-          ∙ sym (to_z-of_z w128 c.from-3.result linear_fits ∙ c.from-3.ensures));
+          ∙ sym (to_z-of_z w64 l.linear.occupancy (search rules)) ∙ sym (to_z-of_z w128 c.from-3.result linear_fits ∙ c.from-3.ensures));
     }
