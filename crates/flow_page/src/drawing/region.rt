@@ -141,10 +141,21 @@ impl RegionMeter {
             → DrawsRegion m n kind self.old stamps → IsLevel m n (stamps ++ at ∷ []) (length stamps) level
             → DrawsRegion m n kind self.new (stamps ++ at ∷ []) }
     {
-        // No run has more packets; a meter counts as many.
-        if self.taken < MOST && self.is_open() {
+        if self.takes_next() {
             self.take(level);
         }
+    }
+
+    /// Whether the next packet is taken. No run has more packets than a meter counts.
+    #[inline(always)]
+    fn takes_next(&self) -> bool
+        ensures room { result ≡ true → self.now.taken < 2 ^ 41 }
+        ensures opens { self.now.taken < 2 ^ 41 → result ≡ is_open self.now.first self.now.taken }
+    {
+        if self.taken == MOST {
+            return false;
+        }
+        self.is_open()
     }
 
     /// Whether the next packet may be shown.

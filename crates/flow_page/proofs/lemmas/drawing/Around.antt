@@ -7,7 +7,7 @@ use Rattle.std.specs.List.{slice_index_or}
 use Rattle.std.proofs.lemmas.Bool.{cases_eq, cases_lt, le-ltb, leb-false, leb-true}
 use Rattle.std.proofs.lemmas.Nat.{div-add-mod'}
 use Rattle.std.proofs.lemmas.Int.{clamps, ints}
-use Rattle.std.proofs.lemmas.List.{get_or-set_other, get_or-set_same}
+use Rattle.std.proofs.lemmas.List.{get_or-set_other, get_or-set_same, get_or_default}
 use Rattle.timing_base.specs.Media.{IsMedia, Media}
 use Rattle.timing_base.specs.declared.fail.Broken.{Broken}
 use Rattle.timing_base.specs.declared.fail.Broken.TheVariants.{Bucket, Over, Empty}
@@ -27,6 +27,8 @@ use Rattle.run_meter.specs.declared.level.Level.{Level}
 use Rattle.flow_measure.specs.First.{IsFirst}
 use Rattle.flow_measure.specs.Occupancy.{AreOccupancies, buckets_of}
 use Rattle.flow_measure.specs.Columns.{AreCurve}
+use Rattle.flow_measure.specs.Stands.{DrawsCurve}
+use Rattle.flow_measure.specs.declared.columns.curve.Curve.{Curve}
 use Rattle.flow_measure.proofs.Packets.{occupancies}
 use Rattle.flow_measure.proofs.Passes.{occupancy-once}
 use Rattle.read_schedule.proofs.Held.{held_at-is}
@@ -166,6 +168,11 @@ some-first old new count None taken goes h same = absurd (true≢false goes)
 some-first old new count (Some first) taken goes h same =
     (omega (arith, h.0), same first h.0 ∙ h.1, λ k few. same k (omega (arith, few, h.0)) ∙ h.2 k few)
 
+-- no more are taken than came
+pub most-taken : (found : Option ℕ) (count taken : ℕ) → taken ≡ taken_of found count → taken ≤ count
+most-taken None count taken is = omega (arith, is)
+most-taken (Some first) count taken is = omega (arith, is)
+
 pub region-same : (m : Media) (n : ℕ) (kind : Kind) (r : RegionMeter) (stamps : List ℕ) (at : ℕ) → is_open r.first r.taken ≡ false
     → DrawsRegion m n kind r stamps
     → DrawsRegion m n kind r (stamps ++ at ∷ [])
@@ -184,10 +191,6 @@ region-same m n kind r stamps at goes h =
       held = λ i few recent.
           level-after m n stamps (at ∷ []) i (level_at r.ring.items i) (omega (arith, few, most-taken r.first count r.taken h.taken_is)) (h.held i few recent);
     }
-  where
-    most-taken : (found : Option ℕ) (count taken : ℕ) → taken ≡ taken_of found count → taken ≤ count
-    most-taken None count taken is = omega (arith, is)
-    most-taken (Some first) count taken is = omega (arith, is)
 
 -- the first packet that breaks a model is the one that the verdict names
 first-named : (all judged : ℕ → Bool) (count few : ℕ) (found : Option ℕ) (proof : FailProof) → few ≤ count
@@ -263,6 +266,23 @@ region-shown m n kind r proof stamps more start end region is some start_is end_
           ap (λ s. held.0 (s + j)) (sym start_is) ∙ held-told m n stamps more kind proof.model held.0 i l few held.1 told
           ∙ ap (λ k. held_by k proof.model l) (sym h.kind_is)));
     }
+
+-- the columns of one packet more
+pub shown-more : (r : RegionMeter) (model : Broken) (start place : ℕ) (columns next : Curve ℤ) (level : Level) (x : ℤ)
+    → start ≤ place
+    → columns.seen ≡ place - start
+    → level ≡ slice_index_or r.ring.items (place % 400) level
+    → x ≡ held_by r.bounds.kind model level
+    → ((numbers : ℕ → ℤ) → ShowsFrom r model start place numbers → DrawsCurve (λ y. y) columns numbers)
+    → ((numbers : ℕ → ℤ) → DrawsCurve (λ y. y) columns numbers → numbers columns.seen ≡ x → DrawsCurve (λ y. y) next numbers)
+    → (numbers : ℕ → ℤ) → ShowsFrom r model start (place + 1) numbers → DrawsCurve (λ y. y) next numbers
+shown-more r model start place columns next level x past seen read told drawn draws numbers shows =
+    let room : length r.ring.items ≡ 400 = omega (arith, r.ring.ok.0, r.ring_is) in
+    let same : level_at r.ring.items place ≡ level = get_or_default r.ring.items (place % 400) no_level level (omega (arith, room)) ∙ sym read in
+    let here : start + columns.seen ≡ place = omega (arith, past, seen) in
+    draws numbers (drawn numbers (λ j few. shows j (omega (arith, few))))
+    (shows columns.seen (omega (arith, here)) ∙ ap (λ i. held_by r.bounds.kind model (level_at r.ring.items i)) here
+    ∙ ap (held_by r.bounds.kind model) same ∙ sym told)
 
 -- a region is put behind those before, where the type fails
 pub region-put : (m : Media) (n : ℕ) (stamps : List ℕ) (kind : Kind) (verdict : KindVerdict) (proof : FailProof) (r : Region) (old new : List Region)

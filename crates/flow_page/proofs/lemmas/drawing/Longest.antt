@@ -130,6 +130,21 @@ pub timestamps-parts : (fed committed rest : List FlowPacket) → fed ≡ commit
 timestamps-parts fed committed rest whole =
     ap timestamps_of whole ∙ map-append (λ (q : FlowPacket). (read_or_zeros q.rtp).timestamp) committed rest
 
+-- the columns that were committed, with those of the packets behind them
+pub drawn-kept : (m : Media) (n tai : ℕ) (old other new : RunColumns) (fed committed rest : List FlowPacket) → fed ≡ committed ++ rest
+    → ((m : Media) (n : ℕ) (stamps more timestamps ticks : List ℕ) → Draws m n old stamps timestamps → Draws m n other (stamps ++ more) (timestamps ++ ticks)
+    → Draws m n new (stamps ++ more) (timestamps ++ ticks))
+    → Draws m n old (stamps_of tai committed) (timestamps_of committed)
+    → Draws m n other (stamps_of tai fed) (timestamps_of fed)
+    → Draws m n new (stamps_of tai fed) (timestamps_of fed)
+drawn-kept m n tai old other new fed committed rest whole keeps h k =
+    let stamps = stamps-parts tai fed committed rest whole in
+    let ticks = timestamps-parts fed committed rest whole in
+    let parts = subst (λ l. Draws m n other l (timestamps_of committed ++ timestamps_of rest)) stamps (subst (Draws m n other (stamps_of tai fed)) ticks k) in
+    let kept = keeps m n (stamps_of tai committed) (stamps_of tai rest) (timestamps_of committed) (timestamps_of rest) h parts in
+    subst (λ l. Draws m n new l (timestamps_of fed)) (sym stamps)
+    (subst (Draws m n new (stamps_of tai committed ++ stamps_of tai rest)) (sym ticks) kept)
+
 -- what is drawn of a run that is over
 pub drawn-part : (m : Media) (tai : ℕ) (r : RunOf) (values : Judged) (packets : List FlowPacket) (x : RunColumns) (d : DrawnRun)
     → IsMedia m
