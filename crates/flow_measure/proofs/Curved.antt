@@ -1,17 +1,19 @@
 -- A curve with one number more.
 use Rattle.std.proofs.Common.{◌≡◌, ◌<◌, ◌≤◌, ◌+◌, ◌-◌, ◌/◌, ◌*◌, ℕ, ℤ, pos, List, length, map, set, take, max}
-use Rattle.std.proofs.Common.{inl, inr, ap, ◌∙◌, sym, subst, arith}
+use Rattle.std.proofs.Common.{Option, None, if◌then◌else◌, inl, inr, ap, ◌∙◌, sym, subst, arith}
 use Rattle.std.proofs.Math.Nat.{lt-div-mul-add, mul-le-mul_right}
-use Rattle.std.proofs.lemmas.Bool.{cases_eq, cases_lt}
-use Rattle.std.proofs.lemmas.List.{get_or-map, get_or-set_other, get_or-set_same, length-map, map-set}
+use Rattle.std.proofs.lemmas.Bool.{cases_eq, cases_lt, le-ltb, lt-ltb}
+use Rattle.std.proofs.lemmas.List.{get_or-map, get_or-set_other, get_or-set_same, get_or-take, length-map, map-set}
 use Rattle.std.proofs.lemmas.Nat.{div-mul-add, div_below}
 use Rattle.std.specs.List.{slice_index_or}
-use Rattle.flow_measure.specs.Columns.{AreColumns, AreCurve, AreExtremes, column_at, places_in}
+use Rattle.flow_measure.specs.Columns.{AreColumns, AreCurve, AreExtremes, column_at, places_in, width_of}
 use Rattle.flow_measure.specs.Extremes.{extremes_of, joined, only}
+use Rattle.flow_measure.specs.Slope.{IsSlope, last_full, slope_between}
 use Rattle.flow_measure.specs.Stands.{DrawsCurve, curve_columns}
 use Rattle.flow_measure.specs.declared.columns.Column.{Column}
 use Rattle.flow_measure.specs.declared.columns.curve.Curve.{Curve}
 use Rattle.flow_measure.specs.declared.columns.Extremes.{Extremes}
+use Rattle.flow_measure.specs.declared.columns.slope.Slope.{Slope}
 use Rattle.flow_measure.proofs.Bounds.{AreExtremes-same}
 use Rattle.flow_measure.proofs.Drawn.{Widens, columns-doubled, columns-more, columns-shown}
 
@@ -237,3 +239,52 @@ kept-more value items columns from p x past before k few =
     ap (λ l. column_at l k) (map-set (extremes_of value) items p x)
     ∙ get_or-set_other (map (extremes_of value) items) p k (extremes_of value x) (only (pos 0)) other
     ∙ before k few
+
+-- ---- the slope of a curve
+
+-- a column that has a number is among those that are told
+column-told : {N : Type 0} (value : N → ℤ) (c : Curve N) (k : ℕ) (x : Column N) → k < c.begun → x ≡ slice_index_or c.columns.items k x
+    → extremes_of value x ≡ column_at (take c.begun (curve_columns value c)) k
+column-told value c k x few read =
+    sym (get_or-take c.begun (curve_columns value c) k (only (pos 0)) few ∙ column-read value c k x (omega (arith, few, c.begun_most)) read)
+
+-- of enough numbers the first and the last full column tell it
+pub slope-told : {N : Type 0} (value : N → ℤ) (c : Curve N) (numbers : ℕ → ℤ) (first last : Column N) (s : Option Slope) (at : ℕ)
+    → c.most ≤ c.seen
+    → at + 1 ≡ c.seen / c.width
+    → at < c.begun
+    → first ≡ slice_index_or c.columns.items 0 first
+    → last ≡ slice_index_or c.columns.items at last
+    → s ≡ slope_between (extremes_of value first) (extremes_of value last) (at * c.width)
+    → DrawsCurve value c numbers
+    → IsSlope c.most numbers c.seen s
+slope-told value c numbers first last s at enough full few first_read last_read is h =
+    let columns = take c.begun (curve_columns value c) in
+    let w = width_of c.seen c.most in
+    let first_is = column-told value c 0 first (omega (arith, few)) first_read in
+    let last_is = column-told value c at last few last_read in
+    let number : at ≡ c.seen / w - 1 = omega (arith, full, ap (λ x. c.seen / x) c.width_is) in
+    let told : Option Slope = slope_between (column_at columns 0) (column_at columns (last_full c.seen c.most)) (last_full c.seen c.most * w) in
+    record {
+      columns = columns;
+      are = curve-drawn value c numbers h;
+      is = is
+          ∙ ap (λ e. slope_between e (extremes_of value last) (at * c.width)) first_is
+          ∙ ap (λ e. slope_between (column_at columns 0) e (at * c.width)) last_is
+          ∙ ap (λ x. slope_between (column_at columns 0) (column_at columns at) (at * x)) c.width_is
+          ∙ ap (λ k. slope_between (column_at columns 0) (column_at columns k) (k * w)) number
+          ∙ sym (ap (λ b. if b then None else told) (le-ltb c.seen c.most enough));
+    }
+
+-- of fewer none is told
+pub slope-none : {N : Type 0} (value : N → ℤ) (c : Curve N) (numbers : ℕ → ℤ) → c.seen < c.most → DrawsCurve value c numbers
+    → IsSlope c.most numbers c.seen None
+slope-none value c numbers few h =
+    let columns = take c.begun (curve_columns value c) in
+    let told : Option Slope =
+    slope_between (column_at columns 0) (column_at columns (last_full c.seen c.most)) (last_full c.seen c.most * width_of c.seen c.most) in
+    record {
+      columns = columns;
+      are = curve-drawn value c numbers h;
+      is = sym (ap (λ b. if b then None else told) (lt-ltb c.seen c.most few));
+    }

@@ -11,7 +11,6 @@ pub mod Existing
 pub mod Finished
 pub mod Epoch
 pub mod Eyed
-pub mod Filled
 pub mod Floors
 pub mod Fronts
 pub mod Gapped

@@ -1,6 +1,6 @@
 //! The drawing of the longest run of a flow.
 
-ghost use Rattle.std.specs.Prelude.{◌≡◌, None};
+ghost use Rattle.std.specs.Prelude.{◌≡◌, None, Some};
 
 use crate::{Curves, Region, ShownRun};
 use flow_measure::MeasuredRun;
@@ -55,6 +55,13 @@ impl LongestRun {
         ensures { result.drawn ≡ None }
     {
         LongestRun { drawn: None }
+    }
+
+    /// Puts the drawing of a run in the place of that before.
+    pub fn put(&mut self, drawn: DrawnRun)
+        ensures { self.new.drawn ≡ Some drawn }
+    {
+        self.drawn = Some(drawn);
     }
 
     /// Whether a run of so many packets is longer.

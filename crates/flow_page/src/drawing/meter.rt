@@ -1,6 +1,8 @@
 //! The drawing of the judged runs of a flow, made while they are judged.
 
-ghost use Rattle.std.specs.Prelude.{◌≡◌, true};
+ghost use Rattle.std.specs.Prelude.{◌≡◌, ◌≤◌, ℕ, IfOk, List, true};
+ghost use Rattle.timing_base.specs.Media.{IsMedia, Media as MediaValue};
+ghost use Rattle.timing_base.specs.declared.packet.FlowPacket.{FlowPacket as PacketValue};
 
 use crate::drawing::columns::RunColumns;
 use crate::drawing::longest::{DrawnRun, LongestRun};
@@ -84,19 +86,37 @@ impl RunMeter for DrawingMeter {
         judged: &Judged,
         out: &mut LongestRun,
     ) -> Result<(), OutOfMemory> {
-        let packets = self.committed.packets.seen;
-        if out.is_shorter(packets) {
-            out.drawn = Some(DrawnRun {
-                run: self.run,
-                packets,
-                first_at: self.committed.first_at,
-                last_at: self.committed.last_at,
-                curves: self.committed.curves(self.alloc)?,
-                regions: self.regions.finish(self.alloc, judged, packets)?,
-            });
+        if !out.is_shorter(self.committed.packets.seen) {
+            return Ok(());
         }
+        let drawn = self.drawn(judged)?;
+        out.put(drawn);
         Ok(())
     }
 
     ghost opens = { λ _ _ _ _ _ _ tells. tells };
+}
+
+impl DrawingMeter {
+    ghost use Rattle.run_meter.specs.Runs.{IsJudgedOf, RunOf, part_of};
+    ghost use Rattle.flow_page.specs.drawing.Told.{IsDrawn};
+    ghost use Rattle.flow_page.specs.drawing.Stands.{StandsFor};
+
+    /// What is drawn of the run, of which this is judged. `Err` is want of memory.
+    fn drawn(&self, judged: &Judged) -> Result<DrawnRun, OutOfMemory>
+        ensures { IfOk result (λ d. (m : MediaValue) (tai : ℕ) (r : RunOf) (fed committed : List PacketValue)
+            → IsMedia m → 1 ≤ r.n → IsJudgedOf m tai r committed judged.now
+            → StandsFor self.now m tai r fed committed
+            → IsDrawn m tai (part_of r judged.now committed) d) }
+    {
+        let packets = self.committed.packets.seen;
+        Ok(DrawnRun {
+            run: self.run,
+            packets,
+            first_at: self.committed.first_at,
+            last_at: self.committed.last_at,
+            curves: self.committed.curves(self.alloc)?,
+            regions: self.regions.finish(self.alloc, judged, packets)?,
+        })
+    }
 }

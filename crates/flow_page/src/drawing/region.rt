@@ -1,6 +1,6 @@
 //! The packets around the first one that breaks a sender type.
 
-ghost use Rattle.std.specs.Prelude.{◌≡◌, ◌≤◌, ◌<◌, ◌+◌, ◌-◌, ◌%◌, ◌^◌, ◌++◌, ◌∷◌, [], min, ℕ, ℤ, Option};
+ghost use Rattle.std.specs.Prelude.{◌≡◌, ◌≤◌, ◌<◌, ◌+◌, ◌-◌, ◌%◌, ◌^◌, ◌++◌, ◌∷◌, [], min, true, ℕ, ℤ, Option};
 ghost use Rattle.std.specs.Prelude.{IfOk, List, length, vec_len};
 ghost use Rattle.timing_base.specs.Media.{IsMedia, Media};
 ghost use Rattle.timing_base.specs.declared.media.Kind.{Kind as KindValue};
@@ -106,7 +106,8 @@ pub struct RegionMeter {
 impl RegionMeter {
     ghost use Rattle.run_meter.specs.Levels.{IsLevel};
     ghost use Rattle.run_meter.specs.Runs.{NamesFirst, is_broken};
-    ghost use Rattle.flow_page.specs.drawing.drawing.Regions.{DrawsRegion, ShowsFrom, is_open};
+    ghost use Rattle.flow_page.specs.drawing.drawing.Regions.{DrawsRegion, ShowsFrom};
+    ghost use Rattle.flow_page.specs.drawing.drawing.Taken.{is_open};
 
     /// Before the first packet of a run. `Err` is want of memory.
     pub fn new(alloc: Global, params: &Params, kind: Kind) -> Result<RegionMeter, OutOfMemory>
@@ -140,10 +141,21 @@ impl RegionMeter {
             → DrawsRegion m n kind self.old stamps → IsLevel m n (stamps ++ at ∷ []) (length stamps) level
             → DrawsRegion m n kind self.new (stamps ++ at ∷ []) }
     {
-        // No run has more packets; a meter counts as many.
-        if self.taken < MOST && self.is_open() {
+        if self.takes_next() {
             self.take(level);
         }
+    }
+
+    /// Whether the next packet is taken. No run has more packets than a meter counts.
+    #[inline(always)]
+    fn takes_next(&self) -> bool
+        ensures room { result ≡ true → self.now.taken < 2 ^ 41 }
+        ensures opens { self.now.taken < 2 ^ 41 → result ≡ is_open self.now.first self.now.taken }
+    {
+        if self.taken == MOST {
+            return false;
+        }
+        self.is_open()
     }
 
     /// Whether the next packet may be shown.
@@ -162,6 +174,7 @@ impl RegionMeter {
     fn take(&mut self, level: Level)
         requires { self.old.taken < 2 ^ 41 }
         ensures { (m : Media) (n : ℕ) (kind : KindValue) (stamps : List ℕ) (at : ℕ) → self.old.taken ≡ length stamps
+            → is_open self.old.first self.old.taken ≡ true
             → DrawsRegion m n kind self.old stamps → IsLevel m n (stamps ++ at ∷ []) (length stamps) level
             → DrawsRegion m n kind self.new (stamps ++ at ∷ []) }
     {
@@ -216,7 +229,7 @@ impl RegionMeter {
     }
 }
 
-ghost use Rattle.flow_page.specs.drawing.drawing.Regions.{first_with};
+ghost use Rattle.flow_page.specs.drawing.drawing.Taken.{first_with};
 
 /// The first packet that breaks a model, where the next one has this number.
 #[inline(always)]

@@ -1,7 +1,8 @@
 -- The row of a packet or of a group is put behind a text.
 use Rattle.std.proofs.Common.{◌≡◌, ◌≤◌, ◌<◌, ◌^◌, ◌++◌, ◌∷◌, [], ℕ, Bool, true, false, List, length, refl, sym, ap, ◌∙◌, subst, arith}
-use Rattle.std.proofs.Common.{append-assoc, append-nil, Option, Some, None}
+use Rattle.std.proofs.Common.{◌+◌, drop, get_or, append_assoc, append-nil, Option, Some, None}
 use Rattle.std.specs.Prelude.{IfOk, Result, Ok, Err, if◌then◌else◌, is_ok}
+use Rattle.std.proofs.lemmas.List.{at_drop_all, drop_more}
 use Rattle.timing_base.specs.Media.{Media}
 use Rattle.timing_base.specs.Verdicts.{Judged}
 use Rattle.timing_base.specs.declared.packet.FlowPacket.{FlowPacket}
@@ -26,7 +27,11 @@ kept-more m tai n before [] p [] one h is = (subst (λ b. IsKept m tai n b p one
 kept-more m tai n before [] p (first ∷ kept) one h is = absurd h
 kept-more m tai n before (q ∷ packets) p [] one h is = absurd h
 kept-more m tai n before (q ∷ packets) p (first ∷ kept) one h is =
-    (h.0, kept-more m tai n (before ++ q ∷ []) packets p kept one h.1 (subst (λ b. IsKept m tai n b p one) (sym (append-assoc before (q ∷ []) packets)) is))
+    (h.0, kept-more m tai n (before ++ q ∷ []) packets p kept one h.1 (subst (λ b. IsKept m tai n b p one) (sym (append_assoc before (q ∷ []) packets)) is))
+
+-- of no packet nothing is kept
+pub kept-none : (m : Media) (tai n : ℕ) (before : List FlowPacket) (kept : List Kept) → kept ≡ [] → AreKept m tai n before [] kept
+kept-none m tai n before kept none = subst (AreKept m tai n before []) (sym none) tt
 
 -- what was put behind a text, where there was room
 pub on-ok : {X E : Type 0} (r : Result X E) (new more old : List ℕ) (P : Type 0) → new ≡ (if is_ok r then more else old) → (new ≡ more → P)
@@ -118,7 +123,7 @@ pub puts-more : (frames : Bool) (m : Media) (n : ℕ) (old mid new : RowMaker) (
     → PutsRows frames m n old new (one ∷ kept) before after
 puts-more frames m n old mid new one kept before between after first rest = record {
   here = first.here ++ rest.here;
-  text_is = rest.text_is ∙ ap (λ t. t ++ rest.here) first.text_is ∙ append-assoc before first.here rest.here;
+  text_is = rest.text_is ∙ ap (λ t. t ++ rest.here) first.text_is ∙ append_assoc before first.here rest.here;
   are = λ tai run packets more. are-more tai run packets more;
   stands = λ tai run packets more. stands-more tai run packets more;
 }
@@ -133,34 +138,60 @@ puts-more frames m n old mid new one kept before between after first rest = reco
         → StandsFor m tai run n old packets → StandsFor m tai run n new (packets ++ more)
     stands-more tai run packets [] h stands = absurd h
     stands-more tai run packets (p ∷ more) h stands =
-        subst (StandsFor m tai run n new) (append-assoc packets (p ∷ []) more)
+        subst (StandsFor m tai run n new) (append_assoc packets (p ∷ []) more)
         (rest.stands tai run (packets ++ p ∷ []) more h.1 (first.stands tai run packets p h.0 stands))
+
+-- the next packet of a list before those behind it
+pub puts-next : (frames same : Bool) (m : Media) (n : ℕ) (old mid new : RowMaker) (kept : List Kept) (i : ℕ) (one : Kept) (before between after : List ℕ)
+    → same ≡ frames
+    → i < length kept
+    → get_or kept i one ≡ one
+    → PutsRow same m n old mid one before between
+    → PutsRows frames m n mid new (drop (i + 1) kept) between after
+    → PutsRows frames m n old new (drop i kept) before after
+puts-next frames same m n old mid new kept i one before between after e within at first rest =
+    subst (λ l. PutsRows frames m n old new l before after)
+    (sym (drop_more kept i one within ∙ ap (λ (x : Kept). x ∷ drop (i + 1) kept) at))
+    (puts-more frames m n old mid new one (drop (i + 1) kept) before between after (subst (λ f. PutsRow f m n old mid one before between) e first) rest)
+
+-- none is left
+pub puts-all : (frames : Bool) (m : Media) (n : ℕ) (x : RowMaker) (kept : List Kept) (i : ℕ) (text : List ℕ) → length kept ≤ i
+    → PutsRows frames m n x x (drop i kept) text text
+puts-all frames m n x kept i text all =
+    subst (λ l. PutsRows frames m n x x l text text) (sym (at_drop_all (λ (l : List Kept). l) kept i all)) (puts-none frames m n x text)
+
+-- the packets and the size of a group may be named otherwise
+pub puts-same : (frames : Bool) (m : Media) (n same : ℕ) (old new : RowMaker) (kept others : List Kept) (before after : List ℕ) → n ≡ same → kept ≡ others
+    → PutsRows frames m n old new kept before after
+    → PutsRows frames m same old new others before after
+puts-same frames m n same old new kept others before after e f h =
+    subst (λ k. PutsRows frames m k old new others before after) e (subst (λ l. PutsRows frames m n old new l before after) f h)
 
 -- rows behind others
 rows-append : (frames : Bool) (m : Media) (tai run n : ℕ) (before packets more : List FlowPacket) (text rest : List ℕ)
     → AreRows frames m tai run n before packets text
     → AreRows frames m tai run n (before ++ packets) more rest
     → AreRows frames m tai run n before (packets ++ more) (text ++ rest)
-rows-append frames m tai run n before [] more text rest h then =
-    subst (λ t. AreRows frames m tai run n before more (t ++ rest)) (sym h) (subst (λ b. AreRows frames m tai run n b more rest) (append-nil before) then)
-rows-append frames m tai run n before (p ∷ packets) more text rest h then =
+rows-append frames m tai run n before [] more text rest h next =
+    subst (λ t. AreRows frames m tai run n before more (t ++ rest)) (sym h) (subst (λ b. AreRows frames m tai run n b more rest) (append-nil before) next)
+rows-append frames m tai run n before (p ∷ packets) more text rest h next =
     let here = h.0 in
     let others = h.1 in
-    (here, others ++ rest, ap (λ t. t ++ rest) h.2 ∙ append-assoc here others rest, h.3,
+    (here, others ++ rest, ap (λ t. t ++ rest) h.2 ∙ append_assoc here others rest, h.3,
     rows-append frames m tai run n (before ++ p ∷ []) packets more others rest h.4
-    (subst (λ b. AreRows frames m tai run n b more rest) (sym (append-assoc before (p ∷ []) packets)) then))
+    (subst (λ b. AreRows frames m tai run n b more rest) (sym (append_assoc before (p ∷ []) packets)) next))
 
 -- of one run more
 parts-append : (frames : Bool) (m : Media) (tai : ℕ) (over : List JudgedPart) (part : JudgedPart) (text rest : List ℕ)
     → AreRowsOf frames m tai over text
     → AreRows frames m tai part.number part.values.n [] part.packets rest
     → AreRowsOf frames m tai (over ++ part ∷ []) (text ++ rest)
-parts-append frames m tai [] part text rest h then =
-    (rest, [], ap (λ t. t ++ rest) h ∙ sym (append-nil rest), then, refl)
-parts-append frames m tai (one ∷ over) part text rest h then =
+parts-append frames m tai [] part text rest h next =
+    (rest, [], ap (λ t. t ++ rest) h ∙ sym (append-nil rest), next, refl)
+parts-append frames m tai (one ∷ over) part text rest h next =
     let here = h.0 in
     let others = h.1 in
-    (here, others ++ rest, ap (λ t. t ++ rest) h.2 ∙ append-assoc here others rest, h.3, parts-append frames m tai over part others rest h.4 then)
+    (here, others ++ rest, ap (λ t. t ++ rest) h.2 ∙ append_assoc here others rest, h.3, parts-append frames m tai over part others rest h.4 next)
 
 -- the rows of some packets more were put
 pub told-more : (past : PastRows) (old new : Rows) (m : Media) (tai : ℕ) (r : RunOf) (over : List JudgedPart) (packets more : List FlowPacket)
@@ -172,14 +203,14 @@ told-more past old new m tai r over packets more here frames text are t =
     let a = t.are in
     let put = t.put ++ here in
     let so : AreRowsSoFar old.frames m tai over (Some (record { run = r; packets = packets ++ more })) put =
-    (a.0, a.1 ++ here, ap (λ x. x ++ here) a.2 ∙ append-assoc a.0 a.1 here, a.3,
+    (a.0, a.1 ++ here, ap (λ x. x ++ here) a.2 ∙ append_assoc a.0 a.1 here, a.3,
     rows-append old.frames m tai r.number r.n [] packets more a.1 here a.4 are) in
     record {
       frames_is = frames ∙ t.frames_is;
       put = put;
       are = subst (λ f. AreRowsSoFar f m tai over (Some (record { run = r; packets = packets ++ more })) put) (sym frames) so;
-      text_is = ap (λ x. past.gone ++ x) text ∙ sym (append-assoc past.gone old.text.items here) ∙ ap (λ x. x ++ here) t.text_is
-          ∙ append-assoc past.first t.put here;
+      text_is = ap (λ x. past.gone ++ x) text ∙ sym (append_assoc past.gone old.text.items here) ∙ ap (λ x. x ++ here) t.text_is
+          ∙ append_assoc past.first t.put here;
     }
 
 -- the run is over

@@ -1,7 +1,5 @@
 -- What a `RegionMeter` says of the packets that it was fed: their stamps, in nanoseconds of TAI.
-use Rattle.std.specs.Prelude.{◌≡◌, ◌<◌, ◌≤◌, ◌+◌, ◌-◌, ◌%◌, min, nat_le, cond, ℕ, ℤ, pos, Bool, true, false}
-use Rattle.std.specs.Prelude.{List, [], ◌∷◌, ◌++◌, length, Option, Some, None}
-use Rattle.std.specs.List.{slice_index_or}
+use Rattle.std.specs.Prelude.{◌≡◌, ◌<◌, ◌≤◌, ◌+◌, ℕ, ℤ, List, [], ◌∷◌, ◌++◌, length}
 use Rattle.timing_base.specs.Media.{Media}
 use Rattle.timing_base.specs.declared.fail.Broken.{Broken}
 use Rattle.timing_base.specs.declared.media.Kind.{Kind}
@@ -9,42 +7,15 @@ use Rattle.timing_base.specs.declared.media.Kind.TheVariants.{N, NL, W}
 use Rattle.timing_base.specs.declared.row.KindVerdict.{KindVerdict}
 use Rattle.timing_base.specs.declared.row.KindVerdict.TheVariants.{Pass, Fail}
 use Rattle.sender_params.specs.Limits.{c_max_of, vrx_full_of}
-use Rattle.vrx_buffer.specs.declared.held.Held.{Held}
 use Rattle.run_meter.specs.Levels.{IsLevel}
 use Rattle.run_meter.specs.Runs.{is_broken}
-use Rattle.run_meter.specs.declared.level.Level.{Level}
 use Rattle.flow_measure.specs.First.{IsFirst}
 use Rattle.flow_page.specs.declared.shown.Region.{Region}
 use Rattle.flow_page.specs.drawing.Drawn.{IsRegion}
 use Rattle.flow_page.specs.drawing.drawing.Held.{held_by}
+use Rattle.flow_page.specs.drawing.drawing.Taken.{level_at, taken_of}
 use Rattle.flow_page.specs.declared.drawing.region.RegionMeter.{RegionMeter}
 use Rattle.flow_page.specs.declared.drawing.regions.RegionMeters.{RegionMeters}
-
--- the first packet that breaks a model, with one packet more
-abbrev pub first_with : Option ℕ → (packet : ℕ) → (breaks : Bool) → Option ℕ
-first_with None packet breaks = cond breaks (Some packet) None
-first_with (Some first) packet breaks = Some first
-
--- up to fifty packets behind that one are taken
-abbrev pub is_open : Option ℕ → (taken : ℕ) → Bool
-is_open None taken = true
-is_open (Some first) taken = nat_le (taken - first) 50
-
--- so many of the packets
-abbrev pub taken_of : Option ℕ → (count : ℕ) → ℕ
-taken_of None count = count
-taken_of (Some first) count = min count (first + 51)
-
--- what is held after packet i, where it is one of the last 400 that were taken
-abbrev pub no_level : Level
-no_level = record {
-  bucket = 0;
-  gapped = record { occupancy = pos 0; late = false };
-  linear = record { occupancy = pos 0; late = false };
-}
-
-abbrev pub level_at : List Level → ℕ → Level
-level_at ring i = slice_index_or ring (i % 400) no_level
 
 -- the meter of this type was fed the packets with these stamps
 pub record DrawsRegion (m : Media) (n : ℕ) (kind : Kind) (r : RegionMeter) (stamps : List ℕ) : Type 0 where
