@@ -1,8 +1,11 @@
 mod Sources
 mod Meters
 mod Eaches
+mod Ends
+mod Taken
 mod Whole
 pub mod Answering
 pub mod Some
 pub mod Numbers
 pub mod Unique
+pub mod lemmas

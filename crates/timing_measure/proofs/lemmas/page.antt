@@ -1,0 +1,7 @@
+pub mod Answering
+pub mod Columns
+pub mod Drawings
+pub mod Once
+pub mod Places
+pub mod Some
+pub mod Unique

@@ -1,0 +1,64 @@
+-- The texts of `page` have one answer.
+use Rattle.std.proofs.Common.{◌≡◌, ◌^◌, ◌∷◌, ℕ, List, [], length, Option, Some, None, refl, ap, ◌∙◌, sym, subst, arith, length-append}
+use Rattle.timing_base.specs.Jobs.{CaptureJob}
+use Rattle.timing_base.specs.Media.{Media}
+use Rattle.timing_base.specs.declared.packet.FlowPacket.{FlowPacket}
+use Rattle.flow_page.specs.declared.shown.FlowPage.{FlowPage}
+use Rattle.flow_page.specs.declared.shown.ShownRun.{ShownRun}
+use Rattle.pcap_reader.specs.Header.{header}
+use Rattle.pcap_reader.proofs.Lists.{only_by}
+use Rattle.run_meter.specs.Runs.{JudgedPart, stamps_of}
+use Rattle.fail_interval.specs.Parts.{judged_parts}
+use Rattle.flow_measure.specs.Packets.{timestamps_of}
+use Rattle.flow_page.specs.drawing.Told.{IsLongest}
+use Rattle.timing_reach.specs.Scanned.{contents}
+use Rattle.timing_reach.specs.steps.Answers.{Answer}
+use Rattle.udp_rtp.specs.Flow.{flow}
+use Rattle.timing_measure.specs.page.Pages.{ArePages, HasPage, paged}
+use Rattle.timing_measure.specs.page.Shown.{IsFlowPage, IsShownRun, Shows}
+use Rattle.timing_measure.proofs.lemmas.page.Drawings.{curves-once, regions-once}
+use Rattle.timing_measure.proofs.Eaches.{each-once}
+use Rattle.timing_measure.proofs.Numbers.{flow-once, run-once}
+use Rattle.timing_measure.proofs.lemmas.page.Once.{longest-once}
+
+-- a run is shown in one way
+run-shown-once : (m : Media) (tai : ℕ) (part : JudgedPart) (s t : ShownRun) → IsShownRun m tai part s → IsShownRun m tai part t → s ≡ t
+run-shown-once m tai part s t h k =
+    let stamps = stamps_of tai part.packets in
+    let run = run-once m tai part s.run t.run h.run_is k.run_is in
+    let first = h.first_is ∙ sym k.first_is in
+    let last = h.last_is ∙ sym k.last_is in
+    let curves =
+    curves-once m part.values.n part.values.frames stamps (timestamps_of part.packets) s.curves t.curves h.curves k.curves in
+    let regions = regions-once m part.values.n stamps 0 part.values.kinds s.regions t.regions h.regions k.regions in
+    λ i. record { run = run i; first_at = first i; last_at = last i; curves = curves i; regions = regions i }
+
+-- of no run none is the longest
+none-longest : (part : JudgedPart) → IsLongest [] part → ⊥
+none-longest part h = absurd (omega (arith, ap length h.whole, length-append h.before (part ∷ h.after)))
+
+-- of a flow one run is shown, or none
+shows-once : (m : Media) (tai : ℕ) (parts : List JudgedPart) (s t : Option ShownRun) → Shows m tai parts s → Shows m tai parts t → s ≡ t
+shows-once m tai parts None None h k = refl
+shows-once m tai parts None (Some t) h k = absurd (none-longest k.0 (subst (λ l. IsLongest l k.0) h k.1))
+shows-once m tai parts (Some s) None h k = absurd (none-longest h.0 (subst (λ l. IsLongest l h.0) k h.1))
+shows-once m tai parts (Some s) (Some t) h k =
+    let same = longest-once parts h.0 k.0 h.1 k.1 in
+    ap (λ x. Some x) (run-shown-once m tai k.0 s t (subst (λ p. IsShownRun m tai p s) same h.2) k.2)
+
+-- what a page has of a flow
+page-once : (m : Media) (number tai : ℕ) (packets : List FlowPacket) (p q : FlowPage) → IsFlowPage m number tai packets p
+    → IsFlowPage m number tai packets q → p ≡ q
+page-once m number tai packets p q h k =
+    let flow_same = flow-once m number tai packets p.flow q.flow h.flow_is k.flow_is in
+    let shown = shows-once m tai (judged_parts m packets tai) p.shown q.shown h.shows k.shows in
+    λ i. record { flow = flow_same i; shown = shown i }
+
+-- texts have no two answers
+pub once-page : (job : CaptureJob) (media : List Media) (text : List ℕ) (a b : Answer) → HasPage job media text a → HasPage job media text b → a ≡ b
+once-page job media text a b h k =
+    let (items, note) = only_by (header text) (2 ^ 40) text h.items k.items h.note k.note h.records k.records in
+    let pages =
+    each-once (λ n m page. IsFlowPage m n job.tai (flow k.items m) page) (λ n m. page-once m n job.tai (flow k.items m)) 0 media h.pages k.pages
+    (subst (λ l. ArePages job.tai media l h.pages) items h.are) k.are in
+    h.answer_is ∙ (λ i. paged job.capture (note i) job.tai media (pages i) (contents (items i))) ∙ sym k.answer_is
