@@ -1,0 +1,191 @@
+-- Rows are written while records are taken.
+use Rattle.std.proofs.Common.{◌≡◌, ◌+◌, ◌++◌, ◌∷◌, [], ℕ, suc, List, length, take, Option, Some, None, Ok, Bor, inl, inr, refl, ap, ◌∙◌, sym, subst, arith}
+use Rattle.std.proofs.Common.{append-nil, append_assoc}
+use Rattle.std.specs.Io.KnownBytes.{Appends}
+use Rattle.std.proofs.KnownBytes.{Appends-trans}
+use Rattle.timing_base.specs.Captures.{Record}
+use Rattle.std.specs.Prelude.{Err, IfErr, Result}
+use Rattle.timing_base.specs.declared.capture.FileNote.{FileNote}
+use Rattle.timing_base.specs.declared.capture.PcapFault.{PcapFault}
+use Rattle.pcap_reader.specs.Readers.{Counts, Gives, GivesNote, Steps, WillGive, frame_count}
+use Rattle.pcap_reader.specs.declared.reader.PcapReader.{PcapReader}
+use Rattle.pcap_reader.specs.declared.reader.Step.{Step}
+use Rattle.pcap_reader.specs.declared.reader.Step.TheVariants as step
+use Rattle.timing_outside.specs.Written.{AppendsFront}
+use Rattle.timing_reach.specs.steps.Ran.{Output}
+use Rattle.timing_measure.specs.series.Copies.{Copied, Copies, IsCopying, Stopped}
+use Rattle.timing_measure.specs.series.Stands.{HoldsText, PoursOn, StandsFor, TakesOn, text_of}
+use Rattle.timing_measure.specs.declared.series.flow.SeriesFlow.{SeriesFlow}
+
+-- where nothing is written
+pub appends-same : (o : Option (List ℕ)) → Appends o o []
+appends-same None = tt
+appends-same (Some xs) = sym (append-nil xs)
+
+-- a run's output, with its bytes at another moment
+abbrev pub until : Output → (new : Option (List ℕ)) → (now : ℕ) → Output
+until o new now = record { old = o.old; new = new; before = o.before; now = now }
+
+-- before the first record
+pub copies-none : (o : Output) (f : SeriesFlow) → o.new ≡ o.old → Copies o f f []
+copies-none o f same = record {
+  written = [];
+  appended = subst (λ n. Appends o.old n []) (sym same) (appends-same o.old);
+  goes = λ frames m number tai gone before h.
+      subst (λ l. StandsFor frames m number tai l f (before ++ [])) (sym (append-nil gone))
+      (subst (StandsFor frames m number tai gone f) (sym (append-nil before)) h);
+}
+
+-- some records more were taken
+pub copies-more : (o : Output) (old mid new : SeriesFlow) (a b : List Record) → Copies o old mid a → TakesOn mid new b → Copies o old new (a ++ b)
+copies-more o old mid new a b c t = record {
+  written = c.written;
+  appended = c.appended;
+  goes = λ frames m number tai gone before h.
+      subst (StandsFor frames m number tai (gone ++ c.written) new) (append_assoc before a b)
+      (t frames m number tai (gone ++ c.written) (before ++ a) (c.goes frames m number tai gone before h));
+}
+
+-- what was made was written
+pub copies-poured : (o : Output) (new : Option (List ℕ)) (now : ℕ) (old f g : SeriesFlow) (items : List Record) (poured : List ℕ)
+    → Copies o old f items → Appends o.new new poured → PoursOn f g poured → Copies (until o new now) old g items
+copies-poured o new now old f g items poured c more pours = record {
+  written = c.written ++ poured;
+  appended = Appends-trans o.old o.new new c.written poured c.appended more;
+  goes = λ frames m number tai gone before h.
+      subst (λ l. StandsFor frames m number tai l g (before ++ items)) (append_assoc gone c.written poured)
+      (pours frames m number tai (gone ++ c.written) (before ++ items) (c.goes frames m number tai gone before h));
+}
+
+-- memory ran out: what was written stands
+pub stopped-here : (o : Output) (old f : SeriesFlow) (taken rest items : List Record) → items ≡ taken ++ rest → Copies o old f taken
+    → Stopped o old items
+stopped-here o old f taken rest items whole c = record {
+  taken = taken;
+  rest = rest;
+  whole = whole;
+  stood = f;
+  written = c.written;
+  goes = c.goes;
+  count = 0;
+  some = inl refl;
+  appended = subst (λ t. Appends o.old o.new t) (sym (append-nil c.written)) c.appended;
+}
+
+-- more than the first of two texts
+pub take-more : (a b : List ℕ) (k : ℕ) → take (length a + k) (a ++ b) ≡ a ++ take k b
+take-more [] b k =
+    let e : 0 + k ≡ k = omega arith in
+    ap (λ j. take j b) e
+take-more (x ∷ a) b k =
+    let e : length (x ∷ a) + k ≡ suc (length a + k) = omega arith in
+    ap (λ j. take j (x ∷ (a ++ b))) e ∙ ap (λ l. x ∷ l) (take-more a b k)
+
+-- a write failed: a front of what was made stands behind what was written
+pub stopped-broken : (o : Output) (new : Option (List ℕ)) (now : ℕ) (old f : SeriesFlow) (taken rest items : List Record)
+    → items ≡ taken ++ rest → Copies o old f taken → HoldsText f → AppendsFront o.new new (text_of f)
+    → Stopped (until o new now) old items
+stopped-broken o new now old f taken rest items whole c some front = record {
+  taken = taken;
+  rest = rest;
+  whole = whole;
+  stood = f;
+  written = c.written;
+  goes = c.goes;
+  count = front.0;
+  some = inr some;
+  appended = Appends-trans o.old o.new new c.written (take front.0 (text_of f)) c.appended front.2;
+}
+
+-- a frame is counted
+pub counted : (old new at : ℕ) (bytes : Bor (List ℕ)) (result : Result Step PcapFault) → result ≡ Ok (step.Frame at bytes) → Counts old new result
+    → new ≡ old + 1
+counted old new at bytes result is h = (subst (λ r. Counts old new r) is h).2
+
+-- a reader answered a frame, and its record was taken
+pub copying-more : {S : Type 0} (left : S → Option (List ℕ)) (name : S → List ℕ) (faults : S → ℕ) (o : Output) (first reader new : PcapReader S)
+    (old f g : SeriesFlow) (at : ℕ) (bytes : Bor (List ℕ)) (result : Result Step PcapFault)
+    → result ≡ Ok (step.Frame at bytes) → Steps left name faults reader new result
+    → TakesOn f g (record { number = frame_count new; stamp = at; bytes = bytes.now } ∷ [])
+    → IsCopying (WillGive left) o first reader old f
+    → IsCopying (WillGive left) o first new old g
+copying-more left name faults o first reader new old f g at bytes result is steps takes c = record {
+  taken = c.taken ++ record { number = frame_count new; stamp = at; bytes = bytes.now } ∷ [];
+  copies = copies-more o old f g c.taken _ c.copies takes;
+  told = λ items end gives.
+      let before = c.told items end gives in
+      let here = subst (λ r. Gives left new r before.0 end) is (steps.gives before.0 end before.2) in (
+        here.0,
+        before.1 ∙ ap (λ l. c.taken ++ l) here.1 ∙ sym (append_assoc c.taken (record { number = frame_count new; stamp = at; bytes = bytes.now } ∷ []) here.0),
+        here.2,
+      );
+}
+
+-- so of the record of the next number
+pub copying-taken : {S : Type 0} (left : S → Option (List ℕ)) (name : S → List ℕ) (faults : S → ℕ) (o : Output) (first reader new : PcapReader S)
+    (old f g : SeriesFlow) (number at : ℕ) (bytes : Bor (List ℕ)) (result : Result Step PcapFault)
+    → result ≡ Ok (step.Frame at bytes) → Steps left name faults reader new result → number ≡ frame_count reader
+    → TakesOn f g (record { number = number + 1; stamp = at; bytes = bytes.now } ∷ [])
+    → IsCopying (WillGive left) o first reader old f
+    → IsCopying (WillGive left) o first new old g
+copying-taken left name faults o first reader new old f g number at bytes result is steps count takes c =
+    let next : number + 1 ≡ frame_count new =
+    omega (arith, counted (frame_count reader) (frame_count new) at bytes result is steps.counts, count) in
+    copying-more left name faults o first reader new old f g at bytes result is steps
+    (subst (λ k. TakesOn f g (record { number = k; stamp = at; bytes = bytes.now } ∷ [])) next takes) c
+
+-- rows were written meanwhile
+pub copying-poured : {R : Type 0} (gives : R → List Record → FileNote → Type 0) (o : Output) (new : Option (List ℕ)) (now : ℕ) (first reader : R)
+    (old f g : SeriesFlow) (poured : List ℕ)
+    → IsCopying gives o first reader old f → Appends o.new new poured → PoursOn f g poured
+    → IsCopying gives (until o new now) first reader old g
+copying-poured gives o new now first reader old f g poured c more pours = record {
+  taken = c.taken;
+  copies = copies-poured o new now old f g c.taken poured c.copies more pours;
+  told = c.told;
+}
+
+-- the records ended
+pub copied-end : {S : Type 0} (left : S → Option (List ℕ)) (name : S → List ℕ) (faults : S → ℕ) (o : Output) (first reader new : PcapReader S)
+    (old f : SeriesFlow) (note : FileNote) (result : Result Step PcapFault)
+    → ((items : List Record) (end : FileNote) → Gives left new result items end → GivesNote note items end)
+    → Steps left name faults reader new result
+    → IsCopying (WillGive left) o first reader old f
+    → (items : List Record) (end : FileNote) → WillGive left first items end → Copied o old f note items end
+copied-end left name faults o first reader new old f note result ends steps c items end gives =
+    let before = c.told items end gives in
+    record {
+      taken = c.taken;
+      rest = before.0;
+      whole = before.1;
+      ends = ends before.0 end (steps.gives before.0 end before.2);
+      copies = c.copies;
+    }
+
+-- it stopped, for want of memory, or since a write failed
+pub copying-stopped : {R : Type 0} (gives : R → List Record → FileNote → Type 0) (o : Output) (first reader : R) (old f : SeriesFlow)
+    → IsCopying gives o first reader old f
+    → (items : List Record) (end : FileNote) → gives first items end → Stopped o old items
+copying-stopped gives o first reader old f c items end told =
+    let before = c.told items end told in stopped-here o old f c.taken before.0 items before.1 c.copies
+
+pub copying-broken : {R : Type 0} (gives : R → List Record → FileNote → Type 0) (o : Output) (new : Option (List ℕ)) (now : ℕ) (first reader : R)
+    (old f : SeriesFlow)
+    → IsCopying gives o first reader old f → HoldsText f → AppendsFront o.new new (text_of f)
+    → (items : List Record) (end : FileNote) → gives first items end → Stopped (until o new now) old items
+copying-broken gives o new now first reader old f c some front items end told =
+    let before = c.told items end told in stopped-broken o new now old f c.taken before.0 items before.1 c.copies some front
+
+-- before the first record
+pub copying-none : {R : Type 0} (gives : R → List Record → FileNote → Type 0) (o : Output) (first : R) (old : SeriesFlow) → o.new ≡ o.old
+    → IsCopying gives o first first old old
+copying-none gives o first old same = record {
+  taken = [];
+  copies = copies-none o old same;
+  told = λ items end told. (items, refl, told);
+}
+
+-- what holds whatever the failure is
+pub any-err : {T E : Type 0} (r : Result T E) (P : Type 0) → P → IfErr r (λ _. P)
+any-err (Ok x) P h = tt
+any-err (Err e) P h = h

@@ -1,0 +1,98 @@
+-- A flow whose rows were written is over: what is left of its answer.
+use Rattle.std.proofs.Common.{◌≡◌, ◌≤◌, ◌<◌, ◌+◌, ◌∙◌, ◌++◌, ◌∷◌, ℕ, Bool, true, false, List, [], length, Option, Some, None, inl, inr, refl, ap, sym, subst}
+use Rattle.std.proofs.Common.{arith, length-append}
+use Rattle.timing_base.specs.Captures.{Record}
+use Rattle.timing_base.specs.Flows.{FirstFault, first_fault}
+use Rattle.timing_base.specs.Judged.{judged}
+use Rattle.timing_base.specs.Media.{Media}
+use Rattle.timing_base.specs.declared.capture.FileNote.{FileNote}
+use Rattle.timing_base.specs.declared.packet.FlowPacket.{FlowPacket}
+use Rattle.timing_base.specs.declared.row.Verdict.{Verdict}
+use Rattle.udp_rtp.specs.Flow.{flow}
+use Rattle.fail_interval.specs.Measured.{TellsEnd}
+use Rattle.fail_interval.specs.Row.{verdict_of}
+use Rattle.flow_measure.specs.rows.Rows.{header_text}
+use Rattle.flow_measure.specs.rows.Told.{AreRowsSoFar, Tells}
+use Rattle.flow_measure.specs.declared.rows.rows.Rows.{Rows}
+use Rattle.timing_reach.specs.Asked.{not_judged}
+use Rattle.timing_reach.specs.steps.Answers.{Answer}
+use Rattle.timing_measure.specs.series.Ends.{IsRestOf}
+use Rattle.timing_measure.specs.series.Rows.{AreRowsOfFlow, AreRowsUpTo}
+use Rattle.timing_measure.specs.series.Series.{series_of}
+use Rattle.timing_measure.specs.series.Stands.{Waits, past_of}
+use Rattle.timing_measure.specs.series.Status.{series_status}
+
+-- these rows were put behind the header, and so much was written
+pub record HasPut (frames : Bool) (m : Media) (tai : ℕ) (packets : List FlowPacket) (gone text : List ℕ) : Type 0 where
+  pub put : List ℕ
+  pub are : AreRowsOfFlow frames m tai packets put
+  pub text_is : gone ++ text ≡ header_text frames ++ put
+
+put-up-to : (frames : Bool) (m : Media) (tai : ℕ) (packets : List FlowPacket) (gone : List ℕ) (rows : Rows) (o : Option FirstFault)
+    → TellsEnd Tells (past_of frames gone) m tai packets o rows
+    → (put : List ℕ) × AreRowsUpTo frames m tai packets o put × (gone ++ rows.text.items ≡ header_text frames ++ put)
+put-up-to frames m tai packets gone rows None h = (h.put, subst (λ f. AreRowsSoFar f m tai _ _ h.put) h.frames_is h.are, h.text_is)
+put-up-to frames m tai packets gone rows (Some first) h = (h.put, subst (λ f. AreRowsSoFar f m tai _ _ h.put) h.frames_is h.are, h.text_is)
+
+pub has-put : (frames : Bool) (m : Media) (tai : ℕ) (packets : List FlowPacket) (gone : List ℕ) (rows : Rows)
+    → TellsEnd Tells (past_of frames gone) m tai packets (first_fault packets m.pt) rows → HasPut frames m tai packets gone rows.text.items
+has-put frames m tai packets gone rows h =
+    let p = put-up-to frames m tai packets gone rows (first_fault packets m.pt) h in
+    record { put = p.0; are = p.1; text_is = p.2 }
+
+no-bytes : (xs : List ℕ) → length xs ≡ 0 → xs ≡ []
+no-bytes [] e = refl
+no-bytes (x ∷ xs) e = absurd (omega (arith, e))
+
+-- the header still waits, and there is no row
+pub rest-none : (frames : Bool) (m : Media) (tai : ℕ) (note : FileNote) (items : List Record) (gone text : List ℕ) (waiting : ℕ) (rest : Answer)
+    → Waits frames gone waiting → 0 < waiting → length text ≤ waiting → HasPut frames m tai (flow items m) gone text
+    → rest ≡ not_judged m (verdict_of m (judged (flow items m) m.pt tai))
+    → IsRestOf frames m tai note items gone rest
+rest-none frames m tai note items gone text waiting rest (inr w) some few h is = absurd (omega (arith, some, w.0))
+rest-none frames m tai note items gone text waiting rest (inl w) some few h is =
+    let v = verdict_of m (judged (flow items m) m.pt tai) in
+    let long : length text ≡ length (header_text frames) + length h.put =
+    ap length (ap (λ l. l ++ text) (sym w.0) ∙ h.text_is) ∙ length-append (header_text frames) h.put in
+    let none : h.put ≡ [] = no-bytes h.put (omega (arith, long, few, w.1)) in
+    record {
+      rows = [];
+      are = subst (AreRowsOfFlow frames m tai (flow items m)) none h.are;
+      whole = ap (λ l. record { text = l ++ rest.text; status = rest.status }) w.0 ∙ is;
+    }
+
+-- there are rows
+by-rows : (frames : Bool) (m : Media) (note : FileNote) (v : Verdict) (put gone : List ℕ) (rest : Answer) → 0 < length put
+    → gone ++ rest.text ≡ header_text frames ++ put → rest.status ≡ series_status note v
+    → record { text = gone ++ rest.text; status = rest.status } ≡ series_of frames m note v put
+by-rows frames m note v [] gone rest some text status = absurd (omega (arith, some))
+by-rows frames m note v (byte ∷ put) gone rest some text status = λ i. record { text = text i; status = status i }
+
+some-put : (header put gone text : List ℕ) → gone ++ text ≡ header ++ put → length header < length gone + length text → 0 < length put
+some-put header put gone text e more =
+    omega (arith, more, sym (length-append gone text) ∙ ap length e ∙ length-append header put)
+
+pub rest-rows : (frames : Bool) (m : Media) (tai : ℕ) (note : FileNote) (items : List Record) (gone : List ℕ) (waiting : ℕ) (rest : Answer)
+    → Waits frames gone waiting → (0 < waiting → waiting < length rest.text) → HasPut frames m tai (flow items m) gone rest.text
+    → 0 < length (header_text frames)
+    → rest.status ≡ series_status note (verdict_of m (judged (flow items m) m.pt tai))
+    → IsRestOf frames m tai note items gone rest
+rest-rows frames m tai note items gone waiting rest (inl w) more h head status =
+    let long : waiting < length rest.text = more (omega (arith, head, w.1)) in
+    record {
+      rows = h.put;
+      are = h.are;
+      whole = by-rows frames m note _ h.put gone rest
+          (some-put (header_text frames) h.put gone rest.text h.text_is (omega (arith, long, w.1))) h.text_is status;
+    }
+rest-rows frames m tai note items gone waiting rest (inr w) more h head status = record {
+  rows = h.put;
+  are = h.are;
+  whole = by-rows frames m note _ h.put gone rest
+      (some-put (header_text frames) h.put gone rest.text h.text_is (omega (arith, w.1))) h.text_is status;
+}
+
+-- a header has bytes
+pub header-some : (frames : Bool) → 0 < length (header_text frames)
+header-some true = omega arith
+header-some false = omega arith
