@@ -48,6 +48,7 @@ measured-alone Numbers m tai packets runs told = go (first_fault packets m.pt) r
   where
     Alone : FlowVerdict → Type 0
     Alone v = AreMeasured Numbers (parts_in m packets tai v) (judged_alone (verdict_of m v) runs)
+
     go : (o : Option FirstFault) → first_fault packets m.pt ≡ o → Alone (judged packets m.pt tai)
     go None is = verdict-alone Numbers m packets tai (judged packets m.pt tai) runs (told is)
     go (Some first) is =

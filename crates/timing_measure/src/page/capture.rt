@@ -49,12 +49,9 @@ pub fn read_pages<H: Shelf>(
     ensures stays { StaysAs H.text H.lacks H.faults shelf.old shelf.new }
 {
     let scan = Scan::new(alloc);
-    let taken = take_flows::<
-        H,
-        Pair<NumbersMeter, DrawingMeter>,
-        (MeasuredRuns, LongestRun),
-        Scan,
-    >(alloc, job, shelf, media, scan)?;
+    let taken = take_flows::<H, Pair<NumbersMeter, DrawingMeter>, (MeasuredRuns, LongestRun), Scan>(
+        alloc, job, shelf, media, scan,
+    )?;
     let flows = flow_pages(alloc, taken.flows)?;
     let found = taken.beside.finish(alloc)?;
     Ok(PageCapture {
