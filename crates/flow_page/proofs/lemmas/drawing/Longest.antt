@@ -60,11 +60,11 @@ pub longest-new : (m : Media) (tai : ℕ) (parts : List JudgedPart) (part : Judg
     → IsDrawn m tai part d
     → DrawsLongest m tai (parts ++ part ∷ []) (Some d)
 longest-new m tai parts part None d shorter h drawn =
-    (part, record { before = []; after = []; whole = ap (λ l. l ++ part ∷ []) h; fewer = all-none _; no_more = all-none _ }, drawn)
+    (part, record { before = []; after = []; whole = ap (λ l. l ++ part ∷ []) h; fewer = all-none (Fewer (length part.packets)); no_more = all-none (NoMore (length part.packets)) }, drawn)
 longest-new m tai parts part (Some o) d shorter h drawn =
     let less : o.packets < length part.packets = ltb-true o.packets (length part.packets) shorter in
     let longer = longer-all parts part h.0 h.1 (omega (arith, less, h.2.packets_are)) in
-    (part, record { before = parts; after = []; whole = refl; fewer = longer; no_more = all-none _ }, drawn)
+    (part, record { before = parts; after = []; whole = refl; fewer = longer; no_more = all-none (NoMore (length part.packets)) }, drawn)
 
 -- the one before stays
 pub longest-kept : (m : Media) (tai : ℕ) (parts : List JudgedPart) (part : JudgedPart) (old : Option DrawnRun)
