@@ -30,11 +30,12 @@ latency_at stamp timestamp k = timestamp_latency (stamp k) (timestamp k)
 abbrev pub step_after : (timestamp : ℕ → ℕ) → ℕ → ℤ
 step_after timestamp k = pos (timestamp_step (timestamp k) (timestamp (k + 1)))
 
--- these are the numbers of so many groups, of which there is one at least
-pub record AreGroupNumbers (m : Media) (n : ℕ) (anchor : ℤ) (groups : ℕ) (stamp timestamp : ℕ → ℕ) (x : GroupNumbers)
+-- these are the numbers of so many groups, of which there is one at least: of each there is when its first and its last
+-- packet came, and its timestamp
+pub record AreGroupNumbers (m : Media) (anchor : ℤ) (groups : ℕ) (first last timestamp : ℕ → ℕ) (x : GroupNumbers)
     : Type 0 where
-  pub first : IsSummary (since_at m anchor (firsts_of n stamp)) groups x.first
-  pub last : IsSummary (since_at m anchor (lasts_of n stamp)) groups x.last
-  pub offset : IsSummary (offset_at m anchor (firsts_of n timestamp)) groups x.offset
-  pub latency : IsSummary (latency_at (firsts_of n stamp) (firsts_of n timestamp)) groups x.latency
-  pub step : MatchOption x.step (groups - 1 ≡ 0) (IsSummary (step_after (firsts_of n timestamp)) (groups - 1))
+  pub first_is : IsSummary (since_at m anchor first) groups x.first
+  pub last_is : IsSummary (since_at m anchor last) groups x.last
+  pub offset : IsSummary (offset_at m anchor timestamp) groups x.offset
+  pub latency : IsSummary (latency_at first timestamp) groups x.latency
+  pub step : MatchOption x.step (groups - 1 ≡ 0) (IsSummary (step_after timestamp) (groups - 1))

@@ -36,6 +36,11 @@ abbrev pub place_below : (rec stamp : ℕ → ℕ) → (count : ℕ) → Option 
 place_below rec stamp count None = None
 place_below rec stamp count (Some i) = cond (nat_lt i count) (Some record { «record» = rec i; stamp = stamp i }) None
 
+-- where the first broken packet stands, where the next one stands at `place`
+abbrev pub place_with : Option Place → Place → (broken : Bool) → Option Place
+place_with None place broken = cond broken (Some place) None
+place_with (Some first) place broken = Some first
+
 -- the numbers of the type, where it has these limits and packet `named` is asked for
 pub record AreKindNumbers (n groups count c_max full : ℕ) (named : Option ℕ) (p : Packets) (k : KindNumbers)
     : Type 0 where

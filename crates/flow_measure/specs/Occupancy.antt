@@ -2,20 +2,13 @@
 -- each packet comes before its own read. m is the video, n the packets of one group, and the stamps are those of the
 -- judged packets, in nanoseconds of TAI, counted from 0; the schedule is gapped or linear. Both models are the
 -- standard's. This project's own is that at one instant a packet has come and a read is done.
-use Rattle.std.specs.Prelude.{◌≡◌, ◌+◌, ◌≤◌, ◌<◌, ℕ, ℤ, pos, ◌-ℤ◌, Bool, List, length, slice_index}
-use Rattle.fraction128.specs.Fractions.{Fraction, below, floor, minus, whole}
+use Rattle.std.specs.Prelude.{◌≡◌, ◌≤◌, ◌<◌, ℕ, ℤ, pos, Bool, List, length, slice_index}
+use Rattle.fraction128.specs.Fractions.{floor, minus, whole}
 use Rattle.timing_base.specs.Media.{Media}
-use Rattle.sender_params.specs.Reads.{AreDue, anchor_of, read_of}
 use Rattle.drain_bucket.specs.Word.{bucket_of}
+use Rattle.vrx_buffer.specs.Occupancy.{IsOccupancy, is_late, own_read}
 use Rattle.flow_measure.specs.Counts.{count_of}
 use Rattle.flow_measure.specs.Summary.{IsLeast}
-
--- just after packet i came the buffer holds so many packets: those up to i, less all reads that are due; below 0
--- where the reads are more
-pub record IsOccupancy (m : Media) (n : ℕ) (stamps : List ℕ) (gapped : Bool) (i : ℕ) (x : ℤ) : Type 0 where
-  pub reads : ℕ
-  pub due : AreDue m n (anchor_of m (slice_index stamps 0)) gapped (whole (slice_index stamps i)) reads
-  pub is : x ≡ pos (i + 1) -ℤ pos reads
 
 -- the occupancies of all packets
 abbrev pub AreOccupancies : Media → ℕ → List ℕ → Bool → (occupancy : ℕ → ℤ) → Type 0
@@ -29,14 +22,6 @@ buckets_of m n stamps i = pos (bucket_of m n stamps i)
 pub record IsPeak (values : ℕ → ℕ) (count p : ℕ) : Type 0 where
   pub most : (k : ℕ) → k < count → values k ≤ p
   pub reached : 0 < p → (k : ℕ) × (k < count) × (values k ≡ p)
-
--- packet i's own read
-abbrev pub own_read : Media → ℕ → List ℕ → Bool → ℕ → Fraction
-own_read m n stamps gapped i = read_of m n (anchor_of m (slice_index stamps 0)) gapped i
-
--- packet i comes after its own read
-abbrev pub is_late : Media → ℕ → List ℕ → Bool → ℕ → Bool
-is_late m n stamps gapped i = below (own_read m n stamps gapped i) (whole (slice_index stamps i))
 
 -- how many packets are late
 abbrev pub late_of : Media → ℕ → List ℕ → Bool → ℕ

@@ -1,5 +1,5 @@
 -- what is promised
-pub mod Packets
 pub mod Rows
--- these only serve proofs, and the crates above
+pub mod Told
+-- these only serve proofs
 pub mod making

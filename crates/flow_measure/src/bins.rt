@@ -59,6 +59,7 @@ impl Bins {
     }
 
     /// Counts the next number, which comes so many times.
+    #[inline(always)]
     pub fn feed(&mut self, number: i128, times: u64)
         requires few { self.old.seen + times ≤ 2 ^ 41 }
         ensures limit { self.new.limit ≡ self.old.limit }
@@ -101,6 +102,7 @@ impl Bins {
     }
 
     /// The bin of a number that isn't above the limit.
+    #[inline(always)]
     fn bin_of(&self, number: u64) -> usize
         requires { number ≤ self.now.limit }
         ensures value { result ≡ number / self.now.width }

@@ -101,10 +101,10 @@ fn start_of(params: &Params, n0: i128, k: u64) -> Start
 }
 
 /// `(up - down) / den`, rounded towards minus infinity.
-fn floor_difference(up: u128, down: u128, den: u128) -> i128
+pub(crate) fn floor_difference(up: u128, down: u128, den: u128) -> i128
     requires some { 1 ≤ den }
-    requires up_small { up < 2 ^ 100 }
-    requires down_small { down < 2 ^ 100 }
+    requires up_small { up < 2 ^ 124 }
+    requires down_small { down < 2 ^ 124 }
     ensures value { result ≡ floor_of_signed (pos up -ℤ pos down) den }
     ensures low { neg_ℤ (pos down) ≤ℤ result }
     ensures high { result ≤ℤ pos up }

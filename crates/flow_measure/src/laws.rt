@@ -3,11 +3,11 @@
 
 ghost use Rattle.std.specs.Prelude.{◌≡◌, ◌<◌, ◌≤◌, ◌+◌, ◌∷◌, [], ◌↔◌, ℕ, ℤ, pos, negsuc, ◌≤ℤ◌};
 ghost use Rattle.std.specs.Prelude.{Bool, List, Option, Some, None, nat_lt, length, slice_index, true, false, ◌==◌, ◌||◌};
-ghost use Rattle.std.specs.Prelude.{◌-◌, ◌*◌, ◌^◌};
+ghost use Rattle.std.specs.Prelude.{◌-◌, ◌*◌, ◌/◌, ◌^◌};
 ghost use Rattle.flow_measure.specs.Bins.{AreBins, above_limit, below_zero, bin_count, bin_width, in_bin};
 ghost use Rattle.flow_measure.specs.Classes.{AreClasses, in_class};
-ghost use Rattle.flow_measure.specs.Columns.{AreColumns, AreCurve, AreEye, column_at, greatest_at};
-ghost use Rattle.flow_measure.specs.Columns.{least_at, width_of};
+ghost use Rattle.flow_measure.specs.Columns.{AreColumns, AreCurve, AreEye, IsWidth, column_at, columns_of, greatest_at};
+ghost use Rattle.flow_measure.specs.Columns.{least_at, places_in, strip_of, width_of};
 ghost use Rattle.std.specs.Int.{int_max};
 ghost use Rattle.timing_base.specs.Media.{IsMedia, Media};
 ghost use Rattle.timing_base.specs.declared.media.Kind.{Kind};
@@ -18,12 +18,16 @@ ghost use Rattle.drain_bucket.specs.Word.{bucket_of};
 ghost use Rattle.sender_params.specs.Worked.{hd_50, hd_59_94, linear_two};
 ghost use Rattle.flow_measure.specs.Broken.{broken_groups};
 ghost use Rattle.flow_measure.specs.Frames.{after_start, timestamp_latency, timestamp_offset, timestamp_step};
-ghost use Rattle.flow_measure.specs.Occupancy.{AreOccupancies, IsOccupancy, IsPeak, buckets_of, late_of, margin_of};
-ghost use Rattle.flow_measure.specs.Stands.{Classifies, Counts, CountsBroken, Draws, Summarizes};
+ghost use Rattle.flow_measure.specs.Occupancy.{AreOccupancies, IsPeak, buckets_of, late_of, margin_of};
+ghost use Rattle.flow_measure.specs.Slope.{IsSlope, slope_between};
+ghost use Rattle.vrx_buffer.specs.Occupancy.{IsOccupancy};
+ghost use Rattle.flow_measure.specs.Stands.{Classifies, Counts, CountsBroken, DrawsCurve, DrawsEye, Summarizes};
 ghost use Rattle.flow_measure.specs.declared.bins.Bins.{Bins};
 ghost use Rattle.flow_measure.specs.declared.broken.BrokenGroups.{BrokenGroups};
 ghost use Rattle.flow_measure.specs.declared.classes.Classes.{Classes};
-ghost use Rattle.flow_measure.specs.declared.columns.Columns.{Columns};
+ghost use Rattle.flow_measure.specs.declared.columns.curve.Curve.{Curve};
+ghost use Rattle.flow_measure.specs.declared.columns.eye.Eye.{Eye};
+ghost use Rattle.flow_measure.specs.declared.columns.slope.Slope.{Slope};
 ghost use Rattle.flow_measure.specs.declared.summary.SummaryMeter.{SummaryMeter};
 ghost use Rattle.flow_measure.specs.Summary.{IsGreatest, IsLeast, IsSummary};
 ghost use Rattle.timing_base.specs.declared.media.Kind.TheVariants.{N, NL};
@@ -49,15 +53,61 @@ pub fn summaries_by_hand()
         (summary (negsuc 4) (negsuc 4) (negsuc 4) (negsuc 4) (negsuc 4)) }
 {}
 
-/// Five numbers in at most two columns: three numbers each, the last column with two. In groups of two
-/// numbers, with at most two columns: the eye has the numbers at even places, and those at odd ones.
+/// Forty numbers fit into 1,000 columns, one each. Of at most 7 columns of eight they take 5, and of at most 10
+/// all 10, of four. Forty-one take 6 of eight, of which the last has one number. No number takes no column, as
+/// many numbers as there are columns take one each, and one number more stands with its neighbour in one of two.
+/// The groups of an eye may have columns of six.
+#[tactic(auto, unfolding(crate::specs::Columns::width_of))]
+pub fn widths_by_hand()
+    ensures fit { (width_of 40 1000 ≡ 1) × (columns_of 40 1000 ≡ 40) }
+    ensures seven { (width_of 40 7 ≡ 8) × (columns_of 40 7 ≡ 5) }
+    ensures ten { (width_of 40 10 ≡ 4) × (columns_of 40 10 ≡ 10) }
+    ensures more { (width_of 41 10 ≡ 8) × (columns_of 41 10 ≡ 6) }
+    ensures last { (i : ℕ) → places_in (λ i. i / width_of 41 10) 41 5 i → i ≡ 40 }
+    ensures none { (width_of 0 7 ≡ 1) × (columns_of 0 7 ≡ 0) }
+    ensures one { (width_of 1 7 ≡ 1) × (columns_of 1 7 ≡ 1) }
+    ensures all { (width_of 7 7 ≡ 1) × (columns_of 7 7 ≡ 7) }
+    ensures above { (width_of 8 7 ≡ 2) × (columns_of 8 7 ≡ 4) }
+    ensures single { (width_of 5 1 ≡ 8) × (columns_of 5 1 ≡ 1) }
+    ensures strip { (strip_of 40 7 ≡ 6) × (strip_of 40 1000 ≡ 1) }
+{}
+
+/// The width of a curve is the least power of two that makes no more columns than there may be, and there is one
+/// such. It has as many columns as it takes to hold all numbers, and no more than there may be. One number more
+/// than full columns hold leaves half of them, rounded down, and one.
+pub fn widths_are_least()
+    ensures width { (count most : ℕ) → 1 ≤ most → IsWidth count most (width_of count most) }
+    ensures once { (count most w other : ℕ) → IsWidth count most w → IsWidth count most other → w ≡ other }
+    ensures columns { (most : ℕ) (numbers : ℕ → ℤ) (count : ℕ) (columns : List Extremes) → 1 ≤ most
+        → AreCurve most numbers count columns → length columns ≡ columns_of count most }
+    ensures most { (most : ℕ) (numbers : ℕ → ℤ) (count : ℕ) (columns : List Extremes) → 1 ≤ most
+        → AreCurve most numbers count columns → length columns ≤ most }
+    ensures full { (most k : ℕ) → 1 ≤ most → columns_of (most * 2 ^ k + 1) most ≡ most / 2 + 1 }
+{}
+
+/// Five numbers in at most two columns: four in the one, and the last alone. In groups of two numbers, with at
+/// most two columns: the eye has the numbers at even places, and those at odd ones.
 pub fn columns_by_hand()
-    ensures width { width_of 40 7 ≡ 6 }
-    ensures fits { width_of 40 1000 ≡ 1 }
     ensures curve { AreCurve 2 (listed (pos 3 ∷ negsuc 4 ∷ pos 4 ∷ pos 2 ∷ pos 0 ∷ [])) 5
-        (column (negsuc 4) (pos 4) ∷ column (pos 0) (pos 2) ∷ []) }
+        (column (negsuc 4) (pos 4) ∷ column (pos 0) (pos 0) ∷ []) }
     ensures eye { AreEye 2 2 (listed (pos 3 ∷ negsuc 4 ∷ pos 4 ∷ pos 2 ∷ [])) 4
         (column (pos 3) (pos 4) ∷ column (negsuc 4) (pos 2) ∷ []) }
+{}
+
+/// From 0 to 2 and then from 10 to 13, over seven numbers: they rise by 10, since they scatter by 3 at most. The
+/// other way they fall by 10. From 0 to 10 and then from 10 to 13 nothing stands out.
+pub fn slopes_by_hand()
+    ensures rises { slope_between (column (pos 0) (pos 2)) (column (pos 10) (pos 13)) 7
+        ≡ Some (record { falls = false; by = 10; over = 7 }) }
+    ensures falls { slope_between (column (pos 10) (pos 13)) (column (pos 0) (pos 2)) 7
+        ≡ Some (record { falls = true; by = 10; over = 7 }) }
+    ensures none { slope_between (column (pos 0) (pos 10)) (column (pos 10) (pos 13)) 7 ≡ None }
+{}
+
+/// Numbers have one slope.
+pub fn one_slope()
+    ensures { (most : ℕ) (numbers : ℕ → ℤ) (count : ℕ) (s other : Option Slope)
+        → IsSlope most numbers count s → IsSlope most numbers count other → s ≡ other }
 {}
 
 /// A limit of 4 has bins of width 1, a limit of 63 too, and one of 64 bins of width 2. A number at the
@@ -209,10 +259,12 @@ pub fn what_was_fed_decides()
         → ((i : ℕ) → i < b.seen → others i ≡ numbers i) → Counts b numbers → Counts b others }
     ensures classes { (c : Classes) (numbers others : ℕ → ℕ)
         → ((i : ℕ) → i < c.seen → others i ≡ numbers i) → Classifies c numbers → Classifies c others }
-    ensures columns { (c : Columns) (numbers others : ℕ → ℤ)
-        → ((i : ℕ) → i < c.seen → others i ≡ numbers i) → Draws c numbers → Draws c others }
-    ensures broken { (b : BrokenGroups) (broken others : ℕ → Bool)
-        → ((i : ℕ) → i < b.seen → others i ≡ broken i) → CountsBroken b broken → CountsBroken b others }
+    ensures curve { (c : Curve ℤ) (numbers others : ℕ → ℤ) → ((i : ℕ) → i < c.seen → others i ≡ numbers i)
+        → DrawsCurve (λ x. x) c numbers → DrawsCurve (λ x. x) c others }
+    ensures eye { (e : Eye ℤ) (numbers others : ℕ → ℤ) → ((i : ℕ) → i < e.seen → others i ≡ numbers i)
+        → DrawsEye (λ x. x) e numbers → DrawsEye (λ x. x) e others }
+    ensures broken { (n seen : ℕ) (b : BrokenGroups) (broken others : ℕ → Bool)
+        → ((i : ℕ) → i < seen → others i ≡ broken i) → CountsBroken n b broken seen → CountsBroken n b others seen }
 {}
 
 /// Five packets at once are one more than C_MAX of type N at 50 frames per second with 20 packets per frame.

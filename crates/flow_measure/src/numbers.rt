@@ -81,7 +81,7 @@ pub struct RunNumbers {
 #[derive(Clone, Copy)]
 pub struct MeasuredRun {
     /// Which of the flow's runs it is, judged or not, counted from 1.
-    pub run: u32,
+    pub run: u64,
     /// The record of its first packet, head included, counted from 1.
     pub record: u64,
     /// The number of that packet.

@@ -2,7 +2,6 @@
 -- with its limit. Packets count from 0. This project's own.
 use Rattle.std.specs.Prelude.{ℕ, pos, ◌-◌, ◌^◌, ◌==◌, min, if◌then◌else◌, false, List, [], ◌∷◌, ◌++◌, codes, Some}
 use Rattle.std.specs.Fmt.{decimal}
-use Rattle.std.specs.Int.{div_ceil}
 use Rattle.std.specs.List.{flat_map}
 use Rattle.timing_base.specs.declared.fail.Broken.{Broken}
 use Rattle.timing_base.specs.declared.fail.Broken.TheVariants.{Bucket, Over, Empty}
@@ -10,6 +9,7 @@ use Rattle.timing_base.specs.declared.fail.FailProof.{FailProof}
 use Rattle.timing_base.specs.declared.media.Kind.{Kind}
 use Rattle.timing_report.specs.Outcomes.{place_of}
 use Rattle.timing_report.specs.Words.{kind_name, model_name}
+use Rattle.flow_measure.specs.Columns.{width_of}
 use Rattle.flow_page.specs.chart.Charts.{curve_figure}
 use Rattle.flow_page.specs.declared.chart.chart.Scene.{Scene}
 use Rattle.flow_page.specs.declared.chart.grid.Unit.TheVariants.{Packets}
@@ -30,10 +30,21 @@ abbrev pub around_title : Kind → Broken → List ℕ
 around_title kind model =
     codes "Around the fail: " ++ (kind_name kind ++ (codes ", " ++ model_name model))
 
-abbrev pub around_detail : FailProof → List ℕ
-around_detail proof =
+abbrev pub around_count : FailProof → List ℕ
+around_count proof =
     codes "packets " ++ (decimal proof.from ++ (codes " to " ++ (decimal proof.to ++ (codes ": count "
     ++ (decimal proof.count ++ (codes ", limit " ++ decimal proof.limit))))))
+
+-- so where the first of them come before those that are shown
+abbrev pub around_ahead : FailProof → (ahead : ℕ) → List ℕ
+around_ahead proof ahead =
+    codes "packets " ++ (decimal proof.from ++ (codes " to " ++ (decimal proof.to ++ (codes ": count "
+    ++ (decimal proof.count ++ (codes ", limit " ++ (decimal proof.limit ++ (codes "; the first "
+    ++ (decimal ahead ++ codes " of them come before the picture")))))))))
+
+abbrev pub around_detail : Region → List ℕ
+around_detail r =
+    if r.start - r.proof.from == 0 then around_count r.proof else around_ahead r.proof (r.start - r.proof.from)
 
 -- the packets that are shown, with those that the verdict names shaded
 abbrev pub around_scene : Region → Scene
@@ -41,14 +52,14 @@ around_scene r = record {
   wide = false;
   unit = Packets;
   along = Packet;
-  across = record { start = r.start; count = min r.count (2 ^ 60); each = div_ceil r.count 400 };
+  across = record { start = r.start; count = min r.count (2 ^ 60); each = width_of r.count 400 };
   every = 0;
   shade = Some (record { from = r.proof.from - r.start; to = r.proof.to - r.start });
 }
 
 abbrev pub around_figure : TypeShown → Region → List ℕ
 around_figure t r =
-    curve_figure (around_title t.kind r.proof.model) (around_detail r.proof) (around_scene r)
+    curve_figure (around_title t.kind r.proof.model) (around_detail r) (around_scene r)
     (broken_line t r.proof.model ∷ []) r.columns
 
 -- where it is of this type

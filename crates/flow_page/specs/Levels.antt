@@ -3,12 +3,12 @@
 use Rattle.std.specs.Prelude.{ℕ, pos, ◌/◌, ◌^◌, min, nat_le, Bool, true, false, List, [], ◌∷◌, ◌++◌, codes}
 use Rattle.std.specs.Prelude.{Option, Some, None}
 use Rattle.std.specs.Fmt.{decimal, signed_decimal}
-use Rattle.std.specs.Int.{div_ceil}
 use Rattle.std.specs.List.{flat_map}
 use Rattle.timing_base.specs.Verdicts.{Judged}
 use Rattle.timing_base.specs.declared.media.Kind.{Kind}
 use Rattle.timing_base.specs.declared.media.Kind.TheVariants.{N, NL, W}
 use Rattle.timing_report.specs.Words.{kind_name}
+use Rattle.flow_measure.specs.Columns.{strip_of, width_of}
 use Rattle.flow_measure.specs.declared.columns.Extremes.{Extremes}
 use Rattle.flow_measure.specs.declared.numbers.RunNumbers.{RunNumbers}
 use Rattle.flow_measure.specs.declared.summary.Summary.{Summary}
@@ -148,9 +148,13 @@ level_words s each =
 abbrev pub level_detail : Level → Summary → (each : ℕ) → List TypeShown → List ℕ
 level_detail level s each types = level_words s each ++ flat_map (limit_words level) types
 
--- so many places, in at most so many marks
-abbrev pub across_of : (count most : ℕ) → Across
-across_of count most = record { start = 0; count = min count (2 ^ 60); each = div_ceil count most }
+-- so many packets or groups, in columns of a curve
+abbrev pub across_of : (count : ℕ) → Across
+across_of count = record { start = 0; count = min count (2 ^ 60); each = width_of count 1000 }
+
+-- the places of a group, in columns of an eye
+abbrev pub across_group : (n : ℕ) → Across
+across_group n = record { start = 0; count = n; each = strip_of n 500 }
 
 -- what stands side by side: the packets of the whole run with the ends of its groups, or the places of one group
 abbrev pub run_scene : Judged → Scene
@@ -158,7 +162,7 @@ run_scene judged = record {
   wide = true;
   unit = Packets;
   along = Packet;
-  across = across_of judged.packets 1000;
+  across = across_of judged.packets;
   every = judged.n;
   shade = None;
 }
@@ -168,7 +172,7 @@ eye_scene judged = record {
   wide = false;
   unit = Packets;
   along = Place;
-  across = across_of judged.n 500;
+  across = across_group judged.n;
   every = 0;
   shade = None;
 }

@@ -101,7 +101,7 @@ timing_scene judged timing = record {
   wide = false;
   unit = timing_unit timing;
   along = Frame;
-  across = across_of judged.frames 1000;
+  across = across_of judged.frames;
   every = 0;
   shade = None;
 }

@@ -1,5 +1,6 @@
 -- what is promised
 pub mod Drawn
+pub mod Told
 pub mod Stands
 -- what is worked by hand
 pub mod Worked

@@ -3,11 +3,13 @@
 ghost use Rattle.std.specs.Prelude.{◌≡◌, ◌≤◌, ◌^◌, ◌++◌, IfOk, string_bytes};
 ghost use Rattle.std.specs.List.{flat_map};
 ghost use Rattle.timing_report.specs.Outcomes.{place_of};
-ghost use Rattle.flow_page.specs.Around.{around_detail, around_figure, around_figures, around_if, around_scene, around_title, broken_line};
+ghost use Rattle.flow_page.specs.Around.{around_ahead, around_count, around_detail, around_figure, around_figures};
+ghost use Rattle.flow_page.specs.Around.{around_if, around_scene, around_title, broken_line};
 
 use crate::chart::{Across, Limit, LineName, Scene, Shade, Unit, UnitAcross, add_curve_figure};
 use crate::levels::{line_name, one_line};
 use crate::shown::{Region, TypeShown};
+use flow_measure::width_of;
 use std::alloc::{AllocError as OutOfMemory, Global};
 use timing_base::{Broken, FailProof, Kind};
 use timing_report::{kind_name, model_name};
@@ -40,14 +42,36 @@ fn around_title(alloc: Global, kind: Kind, model: Broken) -> Result<String, OutO
     format!(in alloc; "Around the fail: {kind}, {model}")
 }
 
-/// What is told beside it.
-fn around_detail(alloc: Global, proof: FailProof) -> Result<String, OutOfMemory>
-    ensures { IfOk result (λ s. string_bytes s ≡ around_detail proof) }
+/// The packets that the verdict names.
+fn around_count(alloc: Global, proof: FailProof) -> Result<String, OutOfMemory>
+    ensures { IfOk result (λ s. string_bytes s ≡ around_count proof) }
 {
     format!(in alloc;
         "packets {} to {}: count {}, limit {}",
         proof.from, proof.to, proof.count, proof.limit
     )
+}
+
+/// The same where so many of them come before those that are shown.
+fn around_ahead(alloc: Global, proof: FailProof, ahead: u64) -> Result<String, OutOfMemory>
+    ensures { IfOk result (λ s. string_bytes s ≡ around_ahead proof ahead) }
+{
+    format!(in alloc;
+        "packets {} to {}: count {}, limit {}; the first {} of them come before the picture",
+        proof.from, proof.to, proof.count, proof.limit, ahead
+    )
+}
+
+/// What is told beside it.
+fn around_detail(alloc: Global, region: &Region) -> Result<String, OutOfMemory>
+    ensures { IfOk result (λ s. string_bytes s ≡ around_detail region.now) }
+{
+    let ahead = region.start.saturating_sub(region.proof.from);
+    if ahead == 0 {
+        around_count(alloc, region.proof)
+    } else {
+        around_ahead(alloc, region.proof, ahead)
+    }
 }
 
 /// The packets that are shown, with those that the verdict names shaded.
@@ -58,7 +82,7 @@ fn around_scene(region: &Region) -> Scene
     let across = Across {
         start: region.start,
         count: region.count.min(1 << 60),
-        each: region.count.div_ceil(400),
+        each: width_of(region.count, 400),
     };
     let shade = Shade {
         from: region.proof.from.saturating_sub(region.start),
@@ -84,7 +108,7 @@ fn add_around(
     ensures { IfOk result (λ _. string_bytes text.new ≡ string_bytes text.old ++ around_figure shown.now region.now) }
 {
     let title = around_title(alloc, shown.kind, region.proof.model)?;
-    let detail = around_detail(alloc, region.proof)?;
+    let detail = around_detail(alloc, region)?;
     let lines = one_line(alloc, broken_line(shown, region.proof.model))?;
     let scene = around_scene(region);
     let columns = region.columns.as_slice();

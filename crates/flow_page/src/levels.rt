@@ -2,12 +2,12 @@
 
 ghost use Rattle.std.specs.Prelude.{◌≡◌, ◌≤◌, ◌^◌, ◌++◌, ◌∷◌, [], IfOk, string_bytes};
 ghost use Rattle.std.specs.List.{flat_map};
-ghost use Rattle.flow_page.specs.Levels.{across_of, base_lines, bucket_limit, buffer_limit, eye_columns, eye_scene, eye_title, is_near, level_columns, level_detail, level_figure, level_figures, level_lines, level_scene, level_summary, level_title, level_words, limit_on, limit_words, line_name, run_columns, run_scene, run_title, type_line};
+ghost use Rattle.flow_page.specs.Levels.{across_group, across_of, base_lines, bucket_limit, buffer_limit, eye_columns, eye_scene, eye_title, is_near, level_columns, level_detail, level_figure, level_figures, level_lines, level_scene, level_summary, level_title, level_words, limit_on, limit_words, line_name, run_columns, run_scene, run_title, type_line};
 
 use crate::chart::{Across, Limit, LineName, Scene, Unit, UnitAcross, add_curve_figure};
 use crate::shown::{Curves, ShownRun, TypeShown};
 use crate::words::Counted;
-use flow_measure::{Extremes, RunNumbers, Summary};
+use flow_measure::{Extremes, RunNumbers, Summary, width_of};
 use std::alloc::{AllocError as OutOfMemory, Global};
 use std::fmt;
 use timing_base::{Judged, Kind};
@@ -303,16 +303,27 @@ fn level_detail(
     Ok(text)
 }
 
-/// So many places, in at most so many marks.
-pub(crate) fn across_of(count: u64, most: u64) -> Across
-    requires { 1 ≤ most }
-    ensures value { result ≡ across_of count most }
+/// So many packets or groups, in columns of a curve.
+pub(crate) fn across_of(count: u64) -> Across
+    ensures value { result ≡ across_of count }
     ensures few { result.count ≤ 2 ^ 60 }
 {
     Across {
         start: 0,
         count: count.min(1 << 60),
-        each: count.div_ceil(most),
+        each: width_of(count, 1000),
+    }
+}
+
+/// The places of a group, in columns of an eye.
+fn across_group(n: u32) -> Across
+    ensures value { result ≡ across_group n }
+    ensures few { result.count ≤ 2 ^ 60 }
+{
+    Across {
+        start: 0,
+        count: u64::from(n),
+        each: u64::from(n).div_ceil(500),
     }
 }
 
@@ -325,7 +336,7 @@ fn run_scene(judged: &Judged) -> Scene
         wide: true,
         unit: Unit::Packets,
         along: UnitAcross::Packet,
-        across: across_of(judged.packets, 1000),
+        across: across_of(judged.packets),
         every: u64::from(judged.n),
         shade: None,
     }
@@ -340,7 +351,7 @@ fn eye_scene(judged: &Judged) -> Scene
         wide: false,
         unit: Unit::Packets,
         along: UnitAcross::Place,
-        across: across_of(u64::from(judged.n), 500),
+        across: across_group(judged.n),
         every: 0,
         shade: None,
     }

@@ -4,7 +4,7 @@
 //! and pictures show it; what a text holds of a name is escaped.
 //!
 //! - `chart`: pictures of numbers, as SVG.
-//! - `drawing`: what is drawn of a judged run, made while its packets go by.
+//! - `drawing`: what is drawn of the judged runs of a flow, made while they are judged.
 //! - `laws`: words and numbers worked by hand.
 #![tactic(auto)]
 

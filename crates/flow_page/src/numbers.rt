@@ -365,7 +365,7 @@ fn runs_open() -> &'static str
 }
 
 /// Adds which run a row is of.
-fn add_run_open(text: &mut String, run: u32, from: u64, number: u32) -> Result<(), OutOfMemory>
+fn add_run_open(text: &mut String, run: u64, from: u64, number: u32) -> Result<(), OutOfMemory>
     ensures { IfOk result (λ _. string_bytes text.new ≡ string_bytes text.old ++ run_open run from number) }
 {
     write!(text, "<tr><th>{run}</th><td>{from}</td><td>{number}</td>")

@@ -40,7 +40,7 @@ fn add_flow_heading(text: &mut String, number: u64, target: Target) -> Result<()
 /// Adds which run it is, and when its first and its last judged packet come.
 fn add_run_heading(
     text: &mut String,
-    run: u32,
+    run: u64,
     from: u64,
     first: u64,
     last: u64,

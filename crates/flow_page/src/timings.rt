@@ -257,7 +257,7 @@ fn timing_scene(judged: &Judged, timing: Timing) -> Scene
         wide: false,
         unit: timing_unit(timing),
         along: UnitAcross::Frame,
-        across: across_of(judged.frames, 1000),
+        across: across_of(judged.frames),
         every: 0,
         shade: None,
     }

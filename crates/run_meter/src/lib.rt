@@ -8,8 +8,10 @@
 pub mod laws;
 mod level;
 mod meter;
+mod pair;
 mod run;
 
 pub use level::Level;
 pub use meter::RunMeter;
+pub use pair::Pair;
 pub use run::{RunHead, RunPacket};

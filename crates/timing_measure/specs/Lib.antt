@@ -3,9 +3,7 @@ pub mod Each
 pub mod Measured
 pub mod Measures
 -- these only serve proofs
-pub mod metering
-pub mod Banks
-pub mod Readings
+pub mod flows
 -- what is promised of these commands
 pub mod series
 pub mod page

@@ -1,21 +1,13 @@
 -- What the texts of `measure` define: the numbers of every judged run of every media of a session, in one capture, as
 -- JSON (RFC 8259). The session description is read first, and then the capture. Stamps are nanoseconds of TAI, with the
 -- seconds of the job added; media count from 0, and records from 1. This project's profile.
-use Rattle.std.specs.Prelude.{◌≡◌, ◌^◌, ◌&&◌, if◌then◌else◌, ℕ, Bool, not, nat_lt, List, length, map, Option, Some}
-use Rattle.std.specs.Prelude.{None}
-use Rattle.std.specs.Prelude.{Result}
+use Rattle.std.specs.Prelude.{◌≡◌, ◌^◌, ◌&&◌, if◌then◌else◌, ℕ, Bool, not, nat_lt, List, length, map, Result}
 use Rattle.std.specs.List.{list_any}
 use Rattle.timing_base.specs.Captures.{Record}
-use Rattle.timing_base.specs.Flows.{read_or_zeros}
 use Rattle.timing_base.specs.Jobs.{CaptureJob}
 use Rattle.timing_base.specs.Media.{Media}
 use Rattle.timing_base.specs.declared.capture.FileNote.{FileNote}
-use Rattle.timing_base.specs.declared.packet.FlowPacket.{FlowPacket}
-use Rattle.timing_base.specs.declared.row.KindVerdict.{KindVerdict}
-use Rattle.timing_base.specs.declared.row.KindVerdict.TheVariants as kind_verdict
-use Rattle.flow_measure.specs.Run.{IsMeasured}
 use Rattle.flow_measure.specs.declared.numbers.MeasuredFlow.{MeasuredFlow}
-use Rattle.flow_measure.specs.declared.numbers.RunNumbers.{RunNumbers}
 use Rattle.flow_measure.specs.report.Json.{measure_json}
 use Rattle.flow_measure.specs.report.Told.{flow_told}
 use Rattle.pcap_reader.specs.Records.{Records}
@@ -30,30 +22,12 @@ use Rattle.timing_reach.specs.declared.steps.failure.Failure.{Failure}
 use Rattle.timing_reach.specs.Asked.{ReadsCapture}
 use Rattle.udp_rtp.specs.Flow.{flow}
 use Rattle.timing_measure.specs.Each.{EachOf}
-use Rattle.timing_measure.specs.Measured.{IsMeasuredFlow, JudgedPart, stamps_of}
-
--- the records of packets, and their RTP timestamps in ticks
-abbrev pub records_of : List FlowPacket → List ℕ
-records_of packets = map (λ (p : FlowPacket). p.rec) packets
-
-abbrev pub timestamps_of : List FlowPacket → List ℕ
-timestamps_of packets = map (λ (p : FlowPacket). (read_or_zeros p.rtp).timestamp) packets
-
--- the packet that a fail names: the last of its interval
-abbrev pub named_by : KindVerdict → Option ℕ
-named_by kind_verdict.Pass = None
-named_by (kind_verdict.Fail proof) = Some proof.to
-
--- the numbers of a judged run of a media: those of its judged packets
-abbrev pub HasNumbers : Media → (tai : ℕ) → JudgedPart → RunNumbers → Type 0
-HasNumbers m tai part numbers =
-    IsMeasured m part.values.n part.values.frames (stamps_of tai part.packets) (records_of part.packets)
-    (timestamps_of part.packets) (map named_by part.values.kinds) numbers
+use Rattle.timing_measure.specs.Measured.{IsMeasuredFlow}
 
 -- the flow of each media of a session in a capture of these records
 abbrev pub AreFlows : (tai : ℕ) → List Media → List Record → List MeasuredFlow → Type 0
 AreFlows tai media items flows =
-    EachOf (λ number m f. IsMeasuredFlow HasNumbers m number tai (flow items m) f) 0 media flows
+    EachOf (λ number m f. IsMeasuredFlow m number tai (flow items m) f) 0 media flows
 
 -- a run of the flow is judged
 abbrev pub has_run : MeasuredFlow → Bool

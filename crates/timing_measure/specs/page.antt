@@ -4,5 +4,5 @@ pub mod Shown
 -- what is worked by hand
 pub mod Worked
 -- these only serve proofs
-pub mod drawing
-pub mod Readings
+pub mod Captures
+pub mod Ends

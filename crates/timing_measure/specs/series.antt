@@ -1,8 +1,9 @@
 -- what is promised
 pub mod Rows
+pub mod Status
 pub mod Series
 pub mod Streams
 -- these only serve proofs
-pub mod Meters
-pub mod Reading
-pub mod Finding
+pub mod Stands
+pub mod Copies
+pub mod Ends

@@ -5,7 +5,7 @@ ghost use Rattle.std.specs.List.{list_any};
 ghost use Rattle.flow_measure.specs.report.Json.{AreOfMedia};
 ghost use Rattle.timing_measure.specs.Measures.{has_run, measure_ends, measure_status, measured};
 
-use crate::readings::Reading;
+use crate::measured::MeasuredCapture;
 use flow_measure::MeasuredFlow;
 use flow_measure::report::json_of;
 use std::alloc::{AllocError as OutOfMemory, Global};
@@ -41,21 +41,21 @@ fn status_of(note: FileNote, flows: &[MeasuredFlow]) -> Status
     Status::Pass
 }
 
-/// The answer on a capture of which a reading came to this.
+/// The answer on a capture with these flows.
 pub fn measured(
     alloc: Global,
     job: &CaptureJob,
     session: &Session,
-    reading: &Reading<MeasuredFlow>,
+    capture: &MeasuredCapture,
 ) -> Result<Answer, OutOfMemory>
-    requires { AreOfMedia session.now reading.now.flows.items }
+    requires { AreOfMedia session.now capture.now.flows.items }
     ensures { IfOk result (λ answer. answer
-        ≡ measured job.now.capture reading.now.note session.now reading.now.flows.items) }
+        ≡ measured job.now.capture capture.now.note session.now capture.now.flows.items) }
 {
-    let flows = reading.flows.as_slice();
-    let text = json_of(alloc, job.capture.as_str(), reading.note, session, flows)?;
+    let flows = capture.flows.as_slice();
+    let text = json_of(alloc, job.capture.as_str(), capture.note, session, flows)?;
     Ok(Answer {
         text: text.into_bytes(),
-        status: status_of(reading.note, flows),
+        status: status_of(capture.note, flows),
     })
 }

@@ -1,6 +1,5 @@
 //! What holds of the definitions themselves. Each function is a theorem: it does nothing, and its clauses are proved.
 
-pub mod edges;
 pub mod parts;
 
 ghost use Rattle.std.specs.Prelude.{◌≡◌, ◌<◌, ◌^◌, ℕ, All, List, length};

@@ -1,6 +1,6 @@
 //! Reads of a capture or a report that fail, for each command but `check`.
 
-use super::plain::{LISTED, MEASURED, PACKETS, WINDOW};
+use super::plain::{FRAMES, LISTED, MEASURED, PACKETS, WINDOW};
 use crate::call::{ONE_WAY, PASS, Reads, Row, Step, WHOLE, hold};
 use std::sync::Wait;
 use std::test::Fail;
@@ -22,10 +22,41 @@ fn measure_failing_reads(rt: HostRuntime) -> Result<(), Fail> {
     MEASURED.fails_by_reads(&rt, 30, 1000)
 }
 
-// A read of the first pass fails: nothing is printed.
+// A read fails before the first frame is there, which ends at byte 1,536: nothing is printed.
 #[test]
 fn series_failing_reads(rt: HostRuntime) -> Result<(), Fail> {
-    PACKETS.fails_by_reads(&rt, 30, 1000)
+    PACKETS.fails_by_reads(&rt, 16, 1000)
+}
+
+// A read fails behind it: its row stands there.
+const FAILS_BEHIND_FRAME: Row = Row {
+    reads: Reads {
+        piece: 100,
+        fail: 17,
+        fetch_fails: false,
+    },
+    status: Status::ReadFault(Input::Capture(0)),
+    out: &[
+        "run,group,record,stamp,first,last,timestamp,step,offset,latency,bucket,gapped_least,gapped,linear_least,linear\n1,0,2,1600000000000764000,764000,19004000,1800,,1663502088,-1663502020,1,1,1,1,1\n",
+    ],
+    err: "read fault: capture 1\n",
+    ..FRAMES
+};
+
+static SERIES_FAILS_LATER: [Row; 2] = [
+    FAILS_BEHIND_FRAME,
+    Row {
+        reads: Reads {
+            fail: 30,
+            ..FAILS_BEHIND_FRAME.reads
+        },
+        ..FAILS_BEHIND_FRAME
+    },
+];
+
+#[test]
+fn series_failing_reads_later(rt: HostRuntime) -> Result<(), Fail> {
+    hold(&rt, &SERIES_FAILS_LATER)
 }
 
 const SCANNED: Row = Row {

@@ -9,16 +9,17 @@ use Rattle.timing_base.specs.Judged.{stamp_of}
 use Rattle.timing_base.specs.Media.{Media}
 use Rattle.timing_base.specs.declared.packet.FlowPacket.{FlowPacket}
 use Rattle.drain_bucket.specs.Word.{bucket_of}
+use Rattle.vrx_buffer.specs.Occupancy.{IsOccupancy}
+use Rattle.run_meter.specs.Runs.{JudgedPart, stamps_of}
 use Rattle.flow_measure.specs.Frames.{timestamp_step}
 use Rattle.flow_measure.specs.Groups.{firsts_of, lasts_of, latency_at, offset_at, since_at}
-use Rattle.flow_measure.specs.Occupancy.{AreOccupancies, IsOccupancy, buckets_of}
+use Rattle.flow_measure.specs.Occupancy.{AreOccupancies, buckets_of}
+use Rattle.flow_measure.specs.Packets.{timestamps_of}
 use Rattle.flow_measure.specs.Run.{anchor_in}
 use Rattle.flow_measure.specs.Summary.{IsGreatest, IsLeast}
 use Rattle.flow_measure.specs.report.Rows.{group_header_text, group_row_text, packet_header_text, packet_row_text}
 use Rattle.flow_measure.specs.declared.report.rows.GroupRow.{GroupRow}
 use Rattle.flow_measure.specs.declared.report.rows.PacketRow.{PacketRow}
-use Rattle.flow_measure.specs.rows.Packets.{stamps_of}
-use Rattle.flow_measure.specs.rows.Packets.{timestamps_of}
 
 -- the line above the rows: of groups, or of packets
 abbrev pub header_text : (frames : Bool) → List ℕ
@@ -108,3 +109,11 @@ AreRows frames m tai number n before [] text = text ≡ []
 AreRows frames m tai number n before (p ∷ packets) text =
     (here : List ℕ) × (rest : List ℕ) × (text ≡ here ++ rest) × Adds frames m tai number n before p here
     × AreRows frames m tai number n (before ++ p ∷ []) packets rest
+
+-- the rows of judged runs, one after the other
+abbrev pub AreRowsOf : (frames : Bool) → Media → (tai : ℕ) → List JudgedPart → List ℕ → Type 0
+AreRowsOf frames m tai [] text = text ≡ []
+AreRowsOf frames m tai (part ∷ parts) text =
+    (here : List ℕ) × (rest : List ℕ) × (text ≡ here ++ rest)
+    × AreRows frames m tai part.number part.values.n [] part.packets here
+    × AreRowsOf frames m tai parts rest

@@ -10,7 +10,7 @@ use crate::report::line::Line;
 #[derive(Clone, Copy)]
 pub struct PacketRow {
     /// Which of the flow's runs it belongs to, judged or not, counted from 1.
-    pub run: u32,
+    pub run: u64,
     /// The judged packet of the run, counted from 0.
     pub packet: u64,
     /// Its record, counted from 1.
@@ -24,16 +24,16 @@ pub struct PacketRow {
     /// What the bucket holds just after it, in packets.
     pub bucket: u64,
     /// What the buffer holds just after it by gapped reads, in packets; below 0 where the reads are ahead.
-    pub gapped: i128,
+    pub gapped: i64,
     /// The same by linear reads.
-    pub linear: i128,
+    pub linear: i64,
 }
 
 /// A judged group.
 #[derive(Clone, Copy)]
 pub struct GroupRow {
     /// Which of the flow's runs it belongs to, judged or not, counted from 1.
-    pub run: u32,
+    pub run: u64,
     /// The judged group of the run, counted from 0.
     pub group: u64,
     /// The record of its first packet, counted from 1.
@@ -55,13 +55,13 @@ pub struct GroupRow {
     /// The most that the bucket holds just after one of its packets, in packets.
     pub bucket: u64,
     /// The least that the buffer holds just after one of its packets by gapped reads, in packets.
-    pub gapped_least: i128,
+    pub gapped_least: i64,
     /// The most.
-    pub gapped: i128,
+    pub gapped: i64,
     /// The least by linear reads.
-    pub linear_least: i128,
+    pub linear_least: i64,
     /// The most.
-    pub linear: i128,
+    pub linear: i64,
 }
 
 /// The line above the rows of packets, with its end.
@@ -154,8 +154,8 @@ fn begin_packet(line: &mut Line, row: &PacketRow)
 {
     line.clear();
     line.put_byte(b'\n');
-    line.put_signed(row.linear);
-    put_signed_field(line, row.gapped);
+    line.put_signed(i128::from(row.linear));
+    put_signed_field(line, i128::from(row.gapped));
     put_field(line, row.bucket);
 }
 
@@ -170,7 +170,7 @@ fn put_packet_place(line: &mut Line, row: &PacketRow)
     put_field(line, row.stamp);
     put_field(line, row.rec);
     put_field(line, row.packet);
-    put_field(line, u64::from(row.run));
+    put_field(line, row.run);
 }
 
 /// Begins the line of a group, at its end.
@@ -180,10 +180,10 @@ fn begin_group(line: &mut Line, row: &GroupRow)
 {
     line.clear();
     line.put_byte(b'\n');
-    line.put_signed(row.linear);
-    put_signed_field(line, row.linear_least);
-    put_signed_field(line, row.gapped);
-    put_signed_field(line, row.gapped_least);
+    line.put_signed(i128::from(row.linear));
+    put_signed_field(line, i128::from(row.linear_least));
+    put_signed_field(line, i128::from(row.gapped));
+    put_signed_field(line, i128::from(row.gapped_least));
     put_field(line, row.bucket);
 }
 
@@ -209,5 +209,5 @@ fn put_group_place(line: &mut Line, row: &GroupRow)
     put_field(line, row.stamp);
     put_field(line, row.rec);
     put_field(line, row.group);
-    put_field(line, u64::from(row.run));
+    put_field(line, row.run);
 }

@@ -12,8 +12,8 @@ use Rattle.timing_base.specs.declared.row.KindVerdict.{KindVerdict}
 use Rattle.timing_base.specs.declared.row.KindVerdict.TheVariants.{Pass, Fail}
 use Rattle.sender_params.specs.Limits.{gapped_of}
 use Rattle.flow_measure.specs.Columns.{AreCurve, AreEye}
-use Rattle.flow_measure.specs.Filled.{AreBuckets}
 use Rattle.flow_measure.specs.Groups.{firsts_of, lasts_of, latency_at, offset_at, since_at}
+use Rattle.flow_measure.specs.Metered.{AreBuckets}
 use Rattle.flow_measure.specs.Occupancy.{AreOccupancies, buckets_of}
 use Rattle.flow_measure.specs.Run.{anchor_in}
 use Rattle.flow_measure.specs.declared.columns.Extremes.{Extremes}
@@ -50,9 +50,9 @@ IsHeld m n stamps kind Bucket level = AreBuckets m n stamps level
 IsHeld m n stamps kind Over level = AreOccupancies m n stamps (gapped_of kind) level
 IsHeld m n stamps kind Empty level = AreOccupancies m n stamps (gapped_of kind) level
 
--- around a fail fifty packets are shown before it and fifty behind it, as far as there are any
+-- around a fail the 400 packets are shown that end fifty behind its last one, as far as there are any
 abbrev pub start_around : FailProof → ℕ
-start_around proof = proof.from - 50
+start_around proof = proof.to - 349
 
 abbrev pub count_around : FailProof → (packets : ℕ) → ℕ
 count_around proof packets = min (proof.to + 51) packets - start_around proof

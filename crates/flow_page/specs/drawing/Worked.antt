@@ -17,9 +17,9 @@ each_packet =
 abbrev pub laid_over : List Extremes
 laid_over = column (pos 1) (pos 1) ∷ column (pos 2) (pos 3) ∷ []
 
--- the second frame of a burst of five, and an interval in the middle of a run
+-- the second frame of a burst of five, and a long interval in the middle of a run
 abbrev pub burst_proof : FailProof
 burst_proof = record { model = Bucket; from = 20; to = 24; count = 5; limit = 4 }
 
 abbrev pub later_proof : FailProof
-later_proof = record { model = Bucket; from = 100; to = 120; count = 21; limit = 4 }
+later_proof = record { model = Bucket; from = 100; to = 1000; count = 201; limit = 4 }

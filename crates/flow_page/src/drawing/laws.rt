@@ -12,12 +12,12 @@ pub fn levels_by_hand()
     ensures { AreLevels 2 4 held each_packet laid_over }
 {}
 
-/// Around a fail at packets 20 to 24 of 40 all are shown, and around one at packets 100 to 120 of
-/// 1,000 those from 50 to 170; of 130 those from 50 on.
+/// Around a fail that ends with packet 24 all of 40 packets are shown, and around one that ends with packet 1,000 of 2,000
+/// the 400 from 651 to 1,050; of 1,010 those from 651 on.
 pub fn regions_by_hand()
     ensures start { start_around burst_proof ≡ 0 }
     ensures count { count_around burst_proof 40 ≡ 40 }
-    ensures later_start { start_around later_proof ≡ 50 }
-    ensures later_count { count_around later_proof 1000 ≡ 121 }
-    ensures at_the_end { count_around later_proof 130 ≡ 80 }
+    ensures later_start { start_around later_proof ≡ 651 }
+    ensures later_count { count_around later_proof 2000 ≡ 400 }
+    ensures at_the_end { count_around later_proof 1010 ≡ 359 }
 {}

@@ -1,11 +1,6 @@
-pub mod Rowing
-pub mod Metering
-pub mod Taking
-pub mod Copying
 pub mod Capturing
-pub mod Fronting
+pub mod Copying
 pub mod Ending
-pub mod Judging
+pub mod Pouring
 pub mod Resting
-pub mod Some
 pub mod Unique

@@ -1,22 +1,18 @@
 -- What a page shows of the judged runs of a flow: of one run the columns of its judged packets and groups, and those
 -- around its fails. Packets count from 0; stamps are nanoseconds of TAI, and `tai` is in seconds. Which run is shown is
 -- this project's own.
-use Rattle.std.specs.Prelude.{◌≡◌, ◌-◌, ◌≤◌, ◌<◌, ℕ, All, List, [], ◌∷◌, ◌++◌, length, slice_index, Option, Some, None}
+use Rattle.std.specs.Prelude.{◌≡◌, ◌-◌, ℕ, List, [], length, slice_index, Option, Some, None}
 use Rattle.timing_base.specs.Media.{Media}
 use Rattle.timing_base.specs.declared.packet.FlowPacket.{FlowPacket}
+use Rattle.run_meter.specs.Runs.{JudgedPart, stamps_of}
+use Rattle.fail_interval.specs.Parts.{judged_parts}
+use Rattle.flow_measure.specs.Measured.{HasNumbers, IsMeasuredRun}
+use Rattle.flow_measure.specs.Packets.{timestamps_of}
 use Rattle.flow_page.specs.drawing.Drawn.{AreCurves, AreRegions}
+use Rattle.flow_page.specs.drawing.Told.{IsLongest}
 use Rattle.flow_page.specs.declared.shown.FlowPage.{FlowPage}
 use Rattle.flow_page.specs.declared.shown.ShownRun.{ShownRun}
-use Rattle.timing_measure.specs.Measured.{IsMeasuredFlow, IsMeasuredRun, JudgedPart, judged_parts, stamps_of}
-use Rattle.timing_measure.specs.Measures.{HasNumbers, timestamps_of}
-
--- of these judged runs this one has the most judged packets, and is the first that has as many
-pub record IsLongest (parts : List JudgedPart) (part : JudgedPart) : Type 0 where
-  pub before : List JudgedPart
-  pub after : List JudgedPart
-  pub whole : parts ≡ before ++ part ∷ after
-  pub fewer : All (λ (other : JudgedPart). other.values.packets < part.values.packets) before
-  pub no_more : All (λ (other : JudgedPart). other.values.packets ≤ part.values.packets) after
+use Rattle.timing_measure.specs.Measured.{IsMeasuredFlow}
 
 -- a judged run of a media, and what is shown of it
 pub record IsShownRun (m : Media) (tai : ℕ) (part : JudgedPart) (s : ShownRun) : Type 0 where
@@ -34,5 +30,5 @@ Shows m tai parts (Some s) = (part : JudgedPart) × IsLongest parts part × IsSh
 
 -- what a page has of the flow of the media of this number, of these packets
 pub record IsFlowPage (m : Media) (number tai : ℕ) (packets : List FlowPacket) (page : FlowPage) : Type 0 where
-  pub flow_is : IsMeasuredFlow HasNumbers m number tai packets page.flow
+  pub flow_is : IsMeasuredFlow m number tai packets page.flow
   pub shows : Shows m tai (judged_parts m packets tai) page.shown

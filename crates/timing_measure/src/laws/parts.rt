@@ -3,7 +3,9 @@
 ghost use Rattle.std.specs.Prelude.{◌≡◌, ◌∷◌, [], Some, None, true, false, map};
 ghost use Rattle.timing_base.specs.Examples.{plain_media, sent, sent_by, two_groups, unread};
 ghost use Rattle.timing_base.specs.declared.packet.PacketFault.TheVariants.{Short};
-ghost use Rattle.timing_measure.specs.Measured.{JudgedPart, first_source, judged_parts};
+ghost use Rattle.run_meter.specs.Runs.{JudgedPart};
+ghost use Rattle.fail_interval.specs.Parts.{judged_parts};
+ghost use Rattle.timing_measure.specs.Measured.{first_source};
 
 /// A head of one packet, two groups of two, and a tail of one: the four packets between are judged, as run 1.
 pub fn one_part_by_hand()

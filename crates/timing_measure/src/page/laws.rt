@@ -6,10 +6,10 @@ ghost use Rattle.timing_base.specs.Jobs.{CaptureJob, IsCaptureJob};
 ghost use Rattle.timing_base.specs.Media.{IsMedia, Media};
 ghost use Rattle.timing_base.specs.declared.capture.FileNote.{FileNote};
 ghost use Rattle.pcap_reader.specs.Records.{Records};
-ghost use Rattle.timing_measure.specs.Measured.{JudgedPart};
+ghost use Rattle.run_meter.specs.Runs.{JudgedPart};
 ghost use Rattle.timing_reach.specs.steps.Answers.{Answer};
 ghost use Rattle.timing_measure.specs.page.Pages.{HasPage};
-ghost use Rattle.timing_measure.specs.page.Shown.{IsLongest};
+ghost use Rattle.flow_page.specs.drawing.Told.{IsLongest};
 ghost use Rattle.timing_measure.specs.page.Worked.{part_of};
 
 /// The texts of `page` have an answer, where the media are within the limits of a media and the records have stamps
@@ -28,7 +28,7 @@ pub fn one_page_answer()
 
 /// Of two judged runs that are the longest the first is shown.
 pub fn first_of_the_longest()
-    ensures one { (part : JudgedPart) → IsLongest (part_of 1 40 ∷ part_of 2 60 ∷ part_of 4 60 ∷ []) part
-        → part ≡ part_of 2 60 }
-    ensures there { IsLongest (part_of 1 40 ∷ part_of 2 60 ∷ part_of 4 60 ∷ []) (part_of 2 60) }
+    ensures one { (part : JudgedPart) → IsLongest (part_of 1 2 ∷ part_of 2 4 ∷ part_of 4 4 ∷ []) part
+        → part ≡ part_of 2 4 }
+    ensures there { IsLongest (part_of 1 2 ∷ part_of 2 4 ∷ part_of 4 4 ∷ []) (part_of 2 4) }
 {}

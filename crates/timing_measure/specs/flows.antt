@@ -1,0 +1,4 @@
+pub mod Ends
+pub mod Fed
+pub mod Meters
+pub mod Taken
