@@ -1,4 +1,4 @@
-//! Files, standard output and standard error: the edge of the program, which tells no bytes.
+//! Files, standard output and standard error. Contracts don't see their bytes.
 ghost use Rattle.std.specs.Prelude.{◌≡◌, ◌≤◌, ◌<◌, ◌^◌, ◌&&◌, ℕ, List, true, length, None, IfSome, IfOk, IsErrOf, is_err, nat_lt, string_bytes};
 ghost use Rattle.std.specs.Str.{bytes_eq};
 ghost use Rattle.std.specs.Io.{ReadsAtMost};
@@ -15,20 +15,21 @@ use std::rt::{Clock, Files};
 use std::time::Duration;
 use std::{fmt, fs, io, thread};
 
-/// How often a call that a signal interrupts is tried again before it counts as failed.
+/// The number of tries after which a call that signals interrupt counts as failed.
 const TRIES: u32 = 1000;
 
-/// Milliseconds after which a stream that had no room is written to again.
+/// The pause before another write to a stream that had no room, in milliseconds.
 const REST: u64 = 1;
 
-/// Why a file couldn't be opened or read.
+/// The reason why a file couldn't be opened or read.
 #[derive(Clone, Copy)]
 pub enum FileFault {
-    /// The error of the system.
+    /// The system returned this error.
     System(io::Error),
-    /// The name was fetched before and isn't that of a regular file, so that its contents are gone.
+    /// The name was fetched before and isn't that of a regular file, so its contents can't be read
+    /// again.
     ReadBefore,
-    /// A second reading found other contents.
+    /// A second reading gave other contents than the first.
     Changed,
 }
 
@@ -44,15 +45,15 @@ impl fmt::Display for FileFault {
     }
 }
 
-/// Why a file isn't open.
+/// The reason why a file wasn't opened.
 enum Unopened {
-    /// This fault, which is counted.
+    /// This fault, which has to be counted.
     Fault(FileFault),
     /// Memory ran out.
     OutOfMemory,
 }
 
-/// How often a name has failed, and its last fault.
+/// The count of faults of a name, and its last fault.
 #[derive(Drop)]
 pub(crate) struct NameCount {
     faults: u64,
@@ -62,7 +63,7 @@ pub(crate) struct NameCount {
 
 /// The files of the system.
 ///
-/// A name that was fetched has a count of faults of its own. The names that weren't share one.
+/// Each name that was fetched has a count of faults of its own. All other names share one count.
 #[derive(Drop)]
 pub struct FileShelf<R: Drop> {
     rt: R,
@@ -70,7 +71,7 @@ pub struct FileShelf<R: Drop> {
     others: u64,
 }
 
-/// An open file under its name. It counts each read that fails, and keeps the last cause.
+/// An open file with its name. It counts the reads that failed, and keeps the last error.
 #[derive(Drop)]
 pub struct FileSource<F: Drop> {
     name: String,
@@ -79,15 +80,18 @@ pub struct FileSource<F: Drop> {
     fault: Option<FileFault>,
 }
 
-/// One of the two streams that a program writes to.
+/// The output streams of a program.
 #[derive(Clone, Copy)]
 enum Stream {
+    /// Standard output.
     Out(Stdout),
+    /// Standard error.
     Err(Stderr),
 }
 
-/// Standard output or standard error. A write that fails, or that takes no byte of a piece that
-/// isn't empty, is counted as a fault. Where the stream doesn't wait and has no room, the sink waits.
+/// Standard output or standard error. A write that fails is counted as a fault. So is one that
+/// writes no byte although there is one. If the stream is non-blocking and has no room, a write
+/// waits.
 #[derive(Drop)]
 pub struct StdSink<C: Drop> {
     clock: C,
@@ -98,7 +102,7 @@ pub struct StdSink<C: Drop> {
 impl<R: Files + AllocGlobal + Drop> FileShelf<R> {
     ghost use Rattle.timing_outside.specs.Files.{count_of, count_after, fault_of, is_known, name_of, source_faults};
 
-    /// The files that this runtime reaches, of which none was fetched.
+    /// Returns the files that this runtime gives access to. No name was fetched yet.
     pub fn new(rt: R) -> FileShelf<R>
         ensures { (n : List ℕ) → count_of result n ≡ 0 }
     {
@@ -110,8 +114,8 @@ impl<R: Files + AllocGlobal + Drop> FileShelf<R> {
         }
     }
 
-    /// Gives this name a count of its own, where it has none. Answers whether it had one: it was
-    /// fetched before.
+    /// Gives this name a count of its own if it has none, and returns whether it had one, that is,
+    /// whether it was fetched before. Returns `Err` if memory runs out.
     #[tactic(auto, using(std::proofs::lemmas::Map::Text::text_keys))]
     fn admit(&mut self, name: &str) -> Result<bool, OutOfMemory>
         ensures again { IfOk result (λ again. again ≡ is_known self.old name.now) }
@@ -131,7 +135,7 @@ impl<R: Files + AllocGlobal + Drop> FileShelf<R> {
         Ok(false)
     }
 
-    /// How often this name has failed.
+    /// Returns the number of faults of this name.
     fn faults_of(&self, name: &str) -> u64
         ensures { result ≡ count_of self.now name.now }
     {
@@ -141,7 +145,7 @@ impl<R: Files + AllocGlobal + Drop> FileShelf<R> {
         }
     }
 
-    /// The last fault of this name, where it was fetched and has failed.
+    /// Returns the last fault of this name, if it was fetched and has failed.
     pub fn fault_of(&self, name: &str) -> Option<FileFault>
         ensures { result ≡ fault_of self.now name.now }
     {
@@ -151,7 +155,7 @@ impl<R: Files + AllocGlobal + Drop> FileShelf<R> {
         }
     }
 
-    /// Counts a fault of this name, and keeps it where the name was fetched.
+    /// Counts a fault of this name, and keeps the fault if the name was fetched.
     #[tactic(auto, using(std::proofs::lemmas::Map::Text::text_keys))]
     fn raise(&mut self, name: &str, fault: Option<FileFault>)
         ensures { (n : List ℕ) → count_of self.new n ≡ count_after true self.old name.now n }
@@ -165,7 +169,8 @@ impl<R: Files + AllocGlobal + Drop> FileShelf<R> {
         }
     }
 
-    /// Whether this name is that of a regular file, which may be read more than once. A pipe isn't.
+    /// Returns whether this name is that of a regular file, which can be read more than once. A
+    /// pipe isn't one.
     fn is_regular(&self, name: &str) -> bool {
         match fs::metadata(&self.rt, name) {
             Ok(metadata) => metadata.is_file(),
@@ -173,8 +178,8 @@ impl<R: Files + AllocGlobal + Drop> FileShelf<R> {
         }
     }
 
-    /// Opens the file of this name. Where it was fetched before, it is looked at first, and isn't
-    /// opened where it isn't a regular file.
+    /// Opens the file of this name. If the name was fetched before (`again`) and isn't that of a
+    /// regular file, nothing is opened.
     fn open(&self, name: String, again: bool) -> Result<FileSource<R::File>, Unopened>
         ensures named { IfOk result (λ s. name_of s ≡ string_bytes name) }
         ensures fresh { IfOk result (λ s. source_faults s ≡ 0) }
@@ -209,12 +214,12 @@ where
 
     ghost faults = { λ s n. count_of s n };
 
-    /// Opens the file of this name. Each error of the system is answered as `Failed`, which is counted, or as
-    /// `OutOfMemory` where the system says so. Where there is no memory to keep the name, nothing is
-    /// opened.
+    /// Opens the file of this name. An error of the system is counted and returned as `Failed`. An
+    /// error that means that memory ran out isn't counted and is returned as `OutOfMemory`. If
+    /// there is no memory to keep the name, nothing is opened.
     ///
-    /// A name that was fetched before is opened only where it is that of a regular file, and else
-    /// the answer is `Failed`: what another one gave is gone.
+    /// A name that was fetched before is opened only if it is that of a regular file. Otherwise the
+    /// result is `Failed`, because the contents can't be read again.
     fn fetch(&mut self, name: &str) -> Result<FileSource<R::File>, OpenFault>
         ensures named { IfOk result (λ s. name_of s ≡ name.now) }
         ensures fresh { IfOk result (λ s. source_faults s ≡ 0) }
@@ -222,7 +227,7 @@ where
         ensures failed { IsErrOf result OpenFault.Failed
             → Rose (count_of self.old name.now) (count_of self.new name.now) }
 
-        // No other name's count changes.
+        // The count of no other name changes.
         ensures counts { (n : List ℕ) → count_of self.new n
             ≡ raised_if (has_failed result && bytes_eq name.now n) (count_of self.old n) }
     {
@@ -238,7 +243,7 @@ where
         }
     }
 
-    /// Counts a fault of the source's name where a read of the source has failed.
+    /// Counts a fault of the source's name if a read of the source has failed.
     fn give_back(&mut self, source: FileSource<R::File>)
         ensures raised { 0 < source_faults source
             → Rose (count_of self.old (name_of source)) (count_of self.new (name_of source)) }
@@ -290,7 +295,7 @@ impl<F: Read + Send + Drop> Source for FileSource<F> {
     }
 }
 
-/// Reads some of the bytes, and tries again where a signal came first.
+/// Reads some of the bytes. A read that a signal interrupts is tried again.
 fn read_some<F: Read>(file: &mut F, buf: &mut [u8]) -> io::Result<usize>
     ensures { IfOk result (λ k. k ≤ length buf.new) }
 {
@@ -304,7 +309,7 @@ fn read_some<F: Read>(file: &mut F, buf: &mut [u8]) -> io::Result<usize>
 }
 
 impl Stream {
-    /// Writes some of the bytes, and tries again where a signal came first.
+    /// Writes some of the bytes. A write that a signal interrupts is tried again.
     fn write(&self, bytes: &[u8]) -> io::Result<usize>
         ensures { IfOk result (λ k. k ≤ length bytes.now) }
     {
@@ -321,7 +326,8 @@ impl Stream {
         Err(io::Error::from(ErrorKind::Interrupted))
     }
 
-    /// Writes some of the bytes, and waits where the stream has no room for any. `None` is an error.
+    /// Writes some of the bytes. If the stream has no room, waits and tries again. Returns `None`
+    /// if there was an error.
     fn write_some<C: Clock>(&self, clock: &C, bytes: &[u8]) -> Option<usize>
         ensures { IfSome result (λ k. k ≤ length bytes.now) }
     {
@@ -341,7 +347,7 @@ impl Stream {
 impl<C: Clock + Drop> StdSink<C> {
     ghost use Rattle.timing_outside.specs.Files.{sink_faults};
 
-    /// Standard output.
+    /// Returns the sink of standard output.
     pub fn out(clock: C, stdout: Stdout) -> StdSink<C>
         ensures { sink_faults result ≡ 0 }
     {
@@ -352,7 +358,7 @@ impl<C: Clock + Drop> StdSink<C> {
         }
     }
 
-    /// Standard error.
+    /// Returns the sink of standard error.
     pub fn err(clock: C, stderr: Stderr) -> StdSink<C>
         ensures { sink_faults result ≡ 0 }
     {
@@ -372,7 +378,7 @@ impl<C: Clock + Drop> Sink for StdSink<C> {
     ghost faults = { λ s. sink_faults s };
 
     /// Writes some of the bytes. A write that a signal interrupts is tried again, up to 1,000
-    /// tries; one for which the stream has no room is tried until it has.
+    /// tries. If the stream has no room, the write is tried again until it has.
     fn write(&mut self, bytes: &[u8]) -> Result<usize, Failed>
         ensures bound { IfOk result (λ k. k ≤ length bytes.now) }
         ensures some { IfOk result (λ k. 0 < length bytes.now → 0 < k) }
