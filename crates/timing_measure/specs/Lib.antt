@@ -1,9 +1,9 @@
--- what is promised
+-- the definitions that the public clauses cite
 pub mod Each
 pub mod Measured
 pub mod Measures
--- these only serve proofs
+-- these serve only the proofs
 pub mod flows
--- what is promised of these commands
+-- the definitions for `series` and `page`
 pub mod series
 pub mod page

@@ -1,5 +1,5 @@
--- What is measured of the flow of a media. Packets and media count from 0. A source is that of RTP (RFC 3550, section
--- 5.1). This project's profile.
+-- The numbers of the flow of a media. Packets and media count from 0. A source is an SSRC (RFC 3550, section 5.1). This
+-- project's profile.
 use Rattle.std.specs.Prelude.{◌≡◌, ℕ, List, [], ◌∷◌, length, Option, Some, None, Result, Ok, Err}
 use Rattle.timing_base.specs.Judged.{judged}
 use Rattle.timing_base.specs.Media.{Media}
@@ -11,17 +11,17 @@ use Rattle.fail_interval.specs.Row.{verdict_of}
 use Rattle.flow_measure.specs.Measured.{AreMeasured, HasNumbers}
 use Rattle.flow_measure.specs.declared.numbers.MeasuredFlow.{MeasuredFlow}
 
--- the source of what was read of a packet, or what comes later
+-- the SSRC of a packet that was read as RTP, else `later`
 abbrev pub source_or : Result Rtp PacketFault → Option ℕ → Option ℕ
 source_or (Ok rtp) later = Some rtp.ssrc
 source_or (Err fault) later = later
 
--- the source of the first packet that is read
+-- the SSRC of the first packet that was read as RTP
 abbrev pub first_source : List FlowPacket → Option ℕ
 first_source [] = None
 first_source (p ∷ packets) = source_or p.rtp (first_source packets)
 
--- the flow of the media of this number, of these packets, with the numbers of its judged runs; `tai` is in seconds
+-- the flow with these packets, of the media with this number, has these numbers; `tai` is in seconds
 pub record IsMeasuredFlow (m : Media) (number tai : ℕ) (packets : List FlowPacket) (flow : MeasuredFlow) : Type 0 where
   pub media : flow.media ≡ number
   pub count : flow.packets ≡ length packets

@@ -1,3 +1,4 @@
+-- these serve only the proofs
 pub mod Ends
 pub mod Fed
 pub mod Meters

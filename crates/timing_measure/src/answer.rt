@@ -1,4 +1,4 @@
-//! What `measure` prints, and its status.
+//! The output of `measure`, and its status.
 
 ghost use Rattle.std.specs.Prelude.{◌≡◌, IfOk, true};
 ghost use Rattle.std.specs.List.{list_any};
@@ -13,21 +13,21 @@ use timing_base::{CaptureJob, FileNote, Session};
 use timing_reach::steps::Answer;
 use timing_report::{Status, any_refused};
 
-/// Whether the flow has a judged run, which was measured.
+/// Returns whether the flow has a judged run.
 fn has_run(flow: &MeasuredFlow) -> bool
     ensures { result ≡ has_run flow.now }
 {
     flow.runs.len() > 0
 }
 
-/// Whether one of the flows has a judged run, which was measured.
+/// Returns whether one of the flows has a judged run.
 fn is_one_measured(flows: &[MeasuredFlow]) -> bool
     ensures { result ≡ list_any has_run flows.now }
 {
     flows.iter().any(has_run)
 }
 
-/// The status beside these flows of a capture that ends so.
+/// Returns the status for these flows of a capture that ends in this way.
 fn status_of(note: FileNote, flows: &[MeasuredFlow]) -> Status
     ensures status { result ≡ measure_status note flows.now }
     ensures ends { measure_ends result ≡ true }
@@ -41,7 +41,7 @@ fn status_of(note: FileNote, flows: &[MeasuredFlow]) -> Status
     Status::Pass
 }
 
-/// The answer on a capture with these flows.
+/// Returns the answer for a capture with these flows. Returns `Err` if memory runs out.
 pub fn measured(
     alloc: Global,
     job: &CaptureJob,

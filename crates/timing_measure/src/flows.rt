@@ -1,4 +1,4 @@
-//! The flows of all media of a session, each judged and measured while the capture is read.
+//! The flows of all media of a session, which are judged and measured while the capture is read.
 
 mod flow;
 mod output;

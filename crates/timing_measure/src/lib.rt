@@ -1,14 +1,14 @@
-//! The commands that say in numbers what is judged of a capture: `measure`, the numbers of every judged run of every
-//! media of a session as JSON; `series`, rows of one flow; `page`, the report as HTML.
+//! The commands that print numbers and pictures of the judged runs of a capture: `measure` the numbers of every judged
+//! run of every media as JSON, `series` the numbers of one flow as rows, and `page` the report as HTML.
 //!
-//! The capture is read once. While a flow is judged, the packets of its runs go to a meter.
+//! The capture is read once. While a flow is judged, meters are fed the packets of its runs.
 //!
-//! - `both`: two that take each record.
-//! - `flows`: the flows of all media of a session, each judged and measured.
-//! - `laws`: texts have one answer; judged runs worked by hand.
-//! - `page`, `series`: these commands.
+//! - `both`: two takers that are given the same packet records.
+//! - `flows`: the flows of all media of a session, judged and measured.
+//! - `laws`: contents have one answer; judged runs that are worked by hand.
+//! - `page`, `series`: the commands.
 //!
-//! Captures and media count from 0, runs and records from 1; stamps are nanoseconds.
+//! Captures and media count from 0, runs and packet records from 1; capture timestamps are nanoseconds.
 #![tactic(auto)]
 
 mod answer;

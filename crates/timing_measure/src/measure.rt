@@ -1,4 +1,4 @@
-//! `measure`: the numbers of every judged run of every media of a job.
+//! `measure`: prints the numbers of every judged run of every media of a job.
 
 ghost use Rattle.std.specs.Prelude.{◌≡◌, ◌≤◌, ℕ, List, Some, IfErr, IfOk, length};
 ghost use Rattle.flow_measure.specs.report.Json.{AreOfMedia};
@@ -24,7 +24,7 @@ use timing_outside::{Shelf, Sink};
 use timing_reach::steps::{Answer, Failure, conclude, fetch_session};
 use timing_report::{Input, Status};
 
-/// The flows of these media in the capture of a job.
+/// Returns the flows of these media in the capture of a job.
 fn read_flows<H: Shelf>(
     alloc: Global,
     job: &CaptureJob,
@@ -51,7 +51,7 @@ fn read_flows<H: Shelf>(
     })
 }
 
-/// The answer on a capture with these flows.
+/// Returns the answer for a capture with these flows.
 fn answer_capture(
     alloc: Global,
     job: &CaptureJob,
@@ -67,7 +67,7 @@ fn answer_capture(
     Ok(measured(alloc, job, session, capture)?)
 }
 
-/// The answer over a session.
+/// Returns the answer over a session.
 fn answer_over<H: Shelf>(
     alloc: Global,
     job: &CaptureJob,
@@ -84,7 +84,7 @@ fn answer_over<H: Shelf>(
     answer_capture(alloc, job, session, &capture)
 }
 
-/// The answer of a job, or why there is none. Where the description is refused, no capture is fetched.
+/// Returns the answer of a job, or the reason why there is none. If the SDP is invalid, no capture is opened.
 fn answer_measure<H: Shelf>(
     alloc: Global,
     job: &CaptureJob,
@@ -101,8 +101,8 @@ fn answer_measure<H: Shelf>(
     }
 }
 
-/// Prints on `out` the numbers of every judged run of every media of a job, as one JSON value. On `err` it tells why
-/// there is none.
+/// Runs `measure`: prints on `out` the numbers of every judged run of every media of a job, as one JSON value. Prints
+/// on `err` the reason if there is no output.
 pub fn measure_one<H: Shelf, K: Sink>(
     alloc: Global,
     job: &CaptureJob,

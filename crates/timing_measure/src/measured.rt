@@ -16,14 +16,15 @@ use timing_base::{FileNote, Items, Verdict};
 /// The flows of the media of a session in a capture, and how it ends.
 #[derive(Drop)]
 pub struct MeasuredCapture {
+    /// How the capture ends.
     pub note: FileNote,
-    /// One for each media, in order.
+    /// The flow of each media, in their order.
     pub flows: Vec<MeasuredFlow>,
 }
 
 ghost use Rattle.timing_measure.specs.flows.Ends.{judged_alone};
 
-/// The judged runs of a flow on which this is the verdict: of one with a fault none is judged.
+/// Returns the judged runs of a flow with this verdict; none if the flow isn't judged.
 fn judged_runs(alloc: Global, verdict: &Verdict, measured: MeasuredRuns) -> Items<MeasuredRun>
     ensures { result ≡ judged_alone verdict.now measured.runs.items }
 {
@@ -33,7 +34,7 @@ fn judged_runs(alloc: Global, verdict: &Verdict, measured: MeasuredRuns) -> Item
     }
 }
 
-/// The numbers of a flow that is over.
+/// Returns the numbers of a flow that has ended.
 pub fn measured_flow(alloc: Global, end: FlowEnd<MeasuredRuns>) -> MeasuredFlow
     ensures { (m : MediaValue) (number tai : ℕ) (packets : List PacketValue)
         → IsMeasuredEnd m number tai packets end → IsMeasuredFlow m number tai packets result }
@@ -55,7 +56,7 @@ pub fn measured_flow(alloc: Global, end: FlowEnd<MeasuredRuns>) -> MeasuredFlow
     }
 }
 
-/// The numbers of flows that are over. `Err` is want of memory.
+/// Returns the numbers of flows that have ended. Returns `Err` if memory runs out.
 pub fn measured_flows(
     alloc: Global,
     flows: Vec<MediaFlow<FlowMeter<NumbersMeter, MeasuredRuns>>>,

@@ -1,8 +1,8 @@
-//! `page`: the report of a capture as one page with pictures.
+//! `page`: prints the report of a capture as one page with pictures.
 //!
-//! While the flows are judged, all their judged runs are measured and drawn, and of each flow the drawing of the longest
-//! stays. The same records tell what else the capture holds. Captures, media, packets and groups count from 0, runs and
-//! records from 1; stamps are nanoseconds.
+//! While the flows are judged, all their judged runs are measured and drawn. Of each flow only the drawing of the
+//! longest run is kept. The same packet records are scanned for the streams of the capture. Captures, media, packets
+//! and frames or fields count from 0, runs and packet records from 1; capture timestamps are nanoseconds.
 
 mod answer;
 mod capture;

@@ -1,7 +1,9 @@
-//! `series`: the numbers of a flow as comma-separated values, a row for each judged packet or for each judged group.
+//! `series`: prints the numbers of a flow as comma-separated values, a row for each judged packet, or for each judged
+//! frame or field.
 //!
-//! The rows of a group are made when it is judged, which is at its last packet, and written then: memory doesn't grow
-//! with the capture. Captures, media, packets and groups count from 0, runs and records from 1; stamps are nanoseconds.
+//! The rows of a frame or field are made and written at its last packet, so that memory doesn't grow with the capture.
+//! Captures, media, packets and frames or fields count from 0, runs and packet records from 1; capture timestamps are
+//! nanoseconds.
 
 mod flow;
 pub mod laws;

@@ -1,4 +1,5 @@
-//! A capture that changes once it was fetched: each command reads it once, and answers on what it read.
+//! A capture that changes after it was fetched: each command reads it once, and its answer is that for the bytes that
+//! it read.
 
 ghost use Rattle.std.specs.Prelude.{◌≡◌, IfSome};
 ghost use Rattle.timing_outside.specs.MemorySources.{faults_of, name_of};
@@ -11,7 +12,7 @@ use std::test::Fail;
 use std::thread::Threads;
 use timing_outside::{MemoryShelf, MemorySource, NoGate, OpenFault, Shelf};
 
-// A source whose reads nobody watches.
+// A source without a watch on its reads.
 type Untold = UntoldSource<Unwatched>;
 
 #[derive(Drop)]
@@ -23,7 +24,7 @@ impl Watch for Unwatched {
     }
 }
 
-// A shelf that doesn't tell its texts: the capture reads as a later text from its second fetch on.
+// A shelf with contents that contracts don't know: from its second fetch on the capture has other contents.
 #[derive(Drop)]
 struct ChangingShelf {
     inner: MemoryShelf,
@@ -33,7 +34,7 @@ struct ChangingShelf {
 }
 
 impl ChangingShelf {
-    // The later text, where this is the capture and it was fetched before.
+    // The later contents, if this is the capture and it was fetched before.
     fn later_of(&mut self, name: &str) -> Option<MemorySource>
         ensures stays { self.new.inner ≡ self.old.inner }
         ensures named { IfSome result (λ s. name_of s ≡ name.now) }
@@ -83,18 +84,18 @@ impl Shelf for ChangingShelf {
     }
 }
 
-// A row whose capture has a later text once it was fetched.
+// A row with a capture that has other contents after it was fetched.
 #[derive(Clone, Copy)]
 struct Changing {
     row: Row,
     later: &'static [Step],
-    // How often it is fetched, and how often the change is noted.
+    // The expected numbers of its fetches, and of the changes that are noted.
     fetched: u32,
     noted: u32,
 }
 
 impl Changing {
-    // Runs the row, and compares how it ends and how often the capture is fetched and noted.
+    // Runs the row, and compares how it ends, the number of fetches, and the number of changes that are noted.
     fn ended<R: Abort + AllocGlobal + Wait + Threads + Sync>(
         &self,
         rt: &R,
@@ -115,7 +116,7 @@ impl Changing {
         Ok(found)
     }
 
-    // Compares what is printed, too.
+    // Compares the output, too.
     fn holds<R: Abort + AllocGlobal + Wait + Threads + Sync>(&self, rt: &R) -> Result<(), Fail> {
         let found = self.ended(rt)?;
         let wanted = self.row.wanted(rt.alloc())?;
@@ -123,7 +124,7 @@ impl Changing {
     }
 }
 
-// Each command reads the capture once: the later text isn't read, though nothing is there then, as from a pipe.
+// Each command reads the capture once: a second fetch would find nothing, as with a pipe.
 const MEASURED_ONCE: Changing = Changing {
     row: MEASURED,
     later: &[],

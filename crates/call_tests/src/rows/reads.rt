@@ -1,4 +1,4 @@
-//! Reads of a capture or a report that fail, for each command but `check`.
+//! Reads of a capture or a report that fail, for each command except `check`.
 
 use super::plain::{FRAMES, LISTED, MEASURED, PACKETS, WINDOW};
 use crate::call::{ONE_WAY, PASS, Reads, Row, Step, WHOLE, hold};
@@ -22,13 +22,13 @@ fn measure_failing_reads(rt: HostRuntime) -> Result<(), Fail> {
     MEASURED.fails_by_reads(&rt, 30, 1000)
 }
 
-// A read fails before the first frame is there, which ends at byte 1,536: nothing is printed.
+// A read fails before the end of the first frame, at byte 1,536: nothing is printed.
 #[test]
 fn series_failing_reads(rt: HostRuntime) -> Result<(), Fail> {
     PACKETS.fails_by_reads(&rt, 16, 1000)
 }
 
-// A read fails behind it: its row stands there.
+// A read fails behind the first frame: its row is printed.
 const FAILS_BEHIND_FRAME: Row = Row {
     reads: Reads {
         piece: 100,
@@ -85,7 +85,7 @@ const PAIR: Row = Row {
     ..PASS
 };
 
-// Each of the first 29 reads of the second capture fails, 100 bytes in each.
+// Runs the comparison for each of the first 29 reads of the second capture, which fails; a read has 100 bytes.
 fn second_reads_fail<R: AllocGlobal + Wait + Threads + Sync>(rt: &R) -> Result<(), Fail> {
     let mut row = Row {
         status: Status::ReadFault(Input::Capture(1)),
@@ -135,7 +135,7 @@ fn skew_failing_reads(rt: HostRuntime) -> Result<(), Fail> {
     SKEW_FAILING_READS_FIRST.fails_by_reads(&rt, 30, 1000)
 }
 
-// The capture with a burst in its second frame, split in two: the second part begins with a packet of its first frame.
+// The capture with a burst in its second frame, split in two; the second part begins within the first frame.
 static VERIFY_JOINED_FAILING_READ: Row = Row {
     line: "verify --joined --sdp p.sdp --media 1 --type N --model Bucket --from 20 --to 24 --count 5 --limit 4 a.pcap b.pcap",
     ways: ONE_WAY,
@@ -157,7 +157,7 @@ fn verify_joined_failing_read(rt: HostRuntime) -> Result<(), Fail> {
     VERIFY_JOINED_FAILING_READ.holds(&rt)
 }
 
-// The report of a linear sender, `b.pcap` by name: its second read fails, and then its fetch.
+// The report of a linear sender, in `b.pcap`: in one row its second read fails, in the other its fetch.
 const FAILING_REPORT_READ: Row = Row {
     line: "verify-report --sdp p.sdp --report b.pcap a.pcap",
     ways: ONE_WAY,

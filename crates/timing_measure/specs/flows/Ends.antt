@@ -1,4 +1,4 @@
--- What is told of a flow that is over. `tells` says what the output of the meters of its runs tells; `tai` is in
+-- The result of a flow that has ended. `tells` relates the output of the meters of its runs to the runs; `tai` is in
 -- seconds.
 use Rattle.std.specs.Prelude.{◌≡◌, ℕ, true, List, [], length, Option}
 use Rattle.timing_base.specs.Judged.{judged}
@@ -22,7 +22,7 @@ use Rattle.timing_measure.specs.flows.Meters.{StandsFor}
 use Rattle.timing_measure.specs.declared.flows.flow.FlowEnd.{FlowEnd}
 use Rattle.timing_measure.specs.declared.flows.flow.FlowMeter.{FlowMeter}
 
--- of the flow of the media of this number, of these packets
+-- the result of the flow with these packets, of the media with this number
 pub record IsEndOf {Past O : Type 0} (tells : Telling Past O) (past : Past) (m : Media) (number tai : ℕ)
     (packets : List FlowPacket) (end : FlowEnd O) : Type 0 where
   pub media : end.media ≡ number
@@ -31,21 +31,21 @@ pub record IsEndOf {Past O : Type 0} (tells : Telling Past O) (past : Past) (m :
   pub verdict_is : end.verdict ≡ verdict_of m (judged packets m.pt tai)
   pub told : TellsOfAll tells past m tai packets end.out
 
--- what the numbers of the judged runs tell
+-- the output has the numbers of the judged runs
 abbrev pub TellsNumbers : Unit {0} → MeasuredRuns → Media → (tai : ℕ) → List JudgedPart → Option OpenPart → Type 0
 TellsNumbers past out m tai over part = AreMeasured (HasNumbers m tai) over out.runs.items
 
--- of the flow whose meters put out these numbers
+-- the result of a flow with meters that write these numbers
 abbrev pub IsMeasuredEnd : Media → (number tai : ℕ) → List FlowPacket → FlowEnd MeasuredRuns → Type 0
 IsMeasuredEnd m number tai packets end = IsEndOf TellsNumbers tt m number tai packets end
 
--- the judged runs of a flow with this verdict, of which some are measured
+-- the measured runs; none if the flow isn't judged
 abbrev pub judged_alone : Verdict → List MeasuredRun → List MeasuredRun
 judged_alone (verdict.Unjudged why) runs = []
 judged_alone (verdict.Judged judged) runs = runs
 judged_alone (verdict.Runs found) runs = runs
 
--- what took a flow, and what was measured of it
+-- the numbers of a flow, from its taker at the end of the capture
 abbrev pub EndsMeasured : MediaFlow (FlowMeter NumbersMeter MeasuredRuns) → MeasuredFlow → Type 0
 EndsMeasured f measured = (m : Media) (number tai : ℕ) (packets : List FlowPacket)
     → StandsFor true NumbersStandsFor TellsNumbers tt m number tai f.taker packets

@@ -1,4 +1,4 @@
--- What a page has of a capture. `tai` is in seconds.
+-- The part of a page that comes from its capture. `tai` is in seconds.
 use Rattle.std.specs.Prelude.{◌^◌, ℕ, List}
 use Rattle.timing_base.specs.Captures.{Record}
 use Rattle.timing_base.specs.Media.{Media}
@@ -7,14 +7,14 @@ use Rattle.pcap_reader.specs.Records.{Records}
 use Rattle.timing_measure.specs.page.Pages.{ArePages}
 use Rattle.timing_measure.specs.declared.page.capture.PageCapture.{PageCapture}
 
--- of a capture of this text
+-- the part of a page for a capture with these contents
 pub record IsPageIn (tai : ℕ) (media : List Media) (text : List ℕ) (c : PageCapture) : Type 0 where
   pub items : List Record
   pub records : Records text (2 ^ 40) items c.note
   pub are : ArePages tai media items c.flows.items
   pub found_is : IsFound items c.found
 
--- or of some records, whatever the shelf tells
+-- the part of a page for some packet records, also if the contents of the capture aren't known
 pub record IsPageOf (tai : ℕ) (media : List Media) (c : PageCapture) : Type 0 where
   pub items : List Record
   pub are : ArePages tai media items c.flows.items

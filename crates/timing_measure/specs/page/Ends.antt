@@ -1,4 +1,4 @@
--- What a page has of a flow that is over. `tai` is in seconds; runs count from 1.
+-- The part of a page for a flow that has ended. `tai` is in seconds; runs count from 1.
 use Rattle.std.specs.Prelude.{◌≡◌, ℕ, ⊤, true, All, List, ◌∷◌, ◌++◌, Option, Some, None}
 use Rattle.timing_base.specs.Media.{Media}
 use Rattle.timing_base.specs.declared.packet.FlowPacket.{FlowPacket}
@@ -22,28 +22,29 @@ use Rattle.timing_measure.specs.page.Shown.{IsFlowPage}
 use Rattle.timing_measure.specs.declared.flows.flow.FlowEnd.{FlowEnd}
 use Rattle.timing_measure.specs.declared.flows.flow.FlowMeter.{FlowMeter}
 
--- what both meters of a run stand for, and what their outputs tell
+-- both meters of a run were fed these packets
 abbrev pub PairStandsFor : Pair NumbersMeter DrawingMeter → Media → (tai : ℕ) → RunOf → (fed committed : List FlowPacket)
     → Type 0
 PairStandsFor x m tai r fed committed =
     NumbersStandsFor x.first m tai r fed committed × DrawingStandsFor x.second m tai r fed committed
 
+-- the outputs of both meters have the results of the runs
 abbrev pub TellsPair : Unit {0} × Unit {0} → MeasuredRuns × LongestRun → Media → (tai : ℕ) → List JudgedPart
     → Option OpenPart → Type 0
 TellsPair past out m tai over part = TellsNumbers past.0 out.0 m tai over part × Tells m tai over out.1
 
--- of the flow whose meters put out numbers and drawings
+-- the result of a flow with meters that write numbers and drawings
 abbrev pub IsPageEnd : Media → (number tai : ℕ) → List FlowPacket → FlowEnd (MeasuredRuns × LongestRun) → Type 0
 IsPageEnd m number tai packets end = IsEndOf TellsPair (tt, tt) m number tai packets end
 
--- what took a flow, and what a page has of it
+-- the part of a page for a flow, from its taker at the end of the capture
 abbrev pub EndsPage : MediaFlow (FlowMeter (Pair NumbersMeter DrawingMeter) (MeasuredRuns × LongestRun)) → FlowPage
     → Type 0
 EndsPage f page = (m : Media) (number tai : ℕ) (packets : List FlowPacket)
     → StandsFor true PairStandsFor TellsPair (tt, tt) m number tai f.taker packets
     → IsFlowPage m number tai packets page
 
--- of some judged runs this one has this number, and is the first that has it
+-- this run is the first of these judged runs that has this number
 pub record IsRunOf (runs : List MeasuredRun) (number : ℕ) (run : MeasuredRun) : Type 0 where
   pub before : List MeasuredRun
   pub after : List MeasuredRun
@@ -51,7 +52,7 @@ pub record IsRunOf (runs : List MeasuredRun) (number : ℕ) (run : MeasuredRun) 
   pub others : All (λ (other : MeasuredRun). other.run ≡ number → ⊥) before
   pub number_is : run.run ≡ number
 
--- what is shown of the run that was drawn, which has these numbers
+-- the part of a page for the run that was drawn, which has these numbers
 pub record IsShownOf (d : DrawnRun) (run : MeasuredRun) (s : ShownRun) : Type 0 where
   pub run_is : s.run ≡ run
   pub first_is : s.first_at ≡ d.first_at
@@ -59,7 +60,7 @@ pub record IsShownOf (d : DrawnRun) (run : MeasuredRun) (s : ShownRun) : Type 0 
   pub curves_are : s.curves ≡ d.curves
   pub regions_are : s.regions ≡ d.regions
 
--- where one was drawn, and is among these
+-- the part of a page for the run that was drawn, if there is one and it is among these
 abbrev pub HasRunOf : Option DrawnRun → List MeasuredRun → Option ShownRun → Type 0
 HasRunOf None runs None = ⊤
 HasRunOf None runs (Some s) = ⊥

@@ -1,15 +1,15 @@
--- Judged runs that are worked by hand.
+-- Judged runs of the examples that are worked by hand.
 use Rattle.std.specs.Prelude.{ℕ, zero, suc, ◌/◌, true, false, List, [], ◌∷◌}
 use Rattle.timing_base.specs.Examples.{sent}
 use Rattle.timing_base.specs.declared.packet.FlowPacket.{FlowPacket}
 use Rattle.run_meter.specs.Runs.{JudgedPart}
 
--- so many packets; which they are doesn't count
+-- this many packets; which ones doesn't matter
 pub several : ℕ → List FlowPacket
 several zero = []
 several (suc count) = sent 2 20 7 101 false ∷ several count
 
--- run `number` of a flow, with so many judged packets; what else is judged of it doesn't count
+-- run `number` of a flow, with this many judged packets; its other numbers don't matter
 abbrev pub part_of : (number packets : ℕ) → JudgedPart
 part_of number packets = record {
   number = number;

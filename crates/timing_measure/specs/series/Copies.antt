@@ -1,4 +1,4 @@
--- What was written of a flow's rows while records were taken.
+-- The rows of a flow that were written while packet records were taken.
 use Rattle.std.specs.Prelude.{◌≡◌, ◌⊎◌, ◌^◌, ℕ, ⊤, Bool, List, [], ◌++◌, take}
 use Rattle.std.specs.Io.KnownBytes.{Appends}
 use Rattle.timing_base.specs.Captures.{Record}
@@ -13,30 +13,30 @@ use Rattle.timing_reach.specs.declared.steps.failure.Failure.TheVariants as fail
 use Rattle.timing_measure.specs.series.Stands.{HoldsText, StandsFor, text_of}
 use Rattle.timing_measure.specs.declared.series.flow.SeriesFlow.{SeriesFlow}
 
--- whatever records were taken and whatever was written, these records were taken and so much was written then
+-- these packet records were taken, and `written` was written, after all that was taken and written before
 abbrev pub GoesOn : (old new : SeriesFlow) → (written : List ℕ) → List Record → Type 0
 GoesOn old new written items =
     (frames : Bool) (m : Media) (number tai : ℕ) (gone : List ℕ) (before : List Record)
     → StandsFor frames m number tai gone old before
     → StandsFor frames m number tai (gone ++ written) new (before ++ items)
 
--- these records were taken, and what was written of the rows is what the output has more
+-- these packet records were taken, and the rows that were written are what the output has more
 pub record Copies (o : Output) (old new : SeriesFlow) (items : List Record) : Type 0 where
   pub written : List ℕ
   pub appended : Appends o.old o.new written
   pub goes : GoesOn old new written items
 
--- some records
+-- some packet records were taken, and their rows were written
 abbrev pub CopiesSome : Output → (old new : SeriesFlow) → Type 0
 CopiesSome o old new = (items : List Record) × Copies o old new items
 
--- all records of a capture of this text, which ends so
+-- all packet records of a capture with these contents were taken; the capture ends in this way
 pub record CopiesIn (o : Output) (old new : SeriesFlow) (text : List ℕ) (note : FileNote) : Type 0 where
   pub items : List Record
   pub records : Records text (2 ^ 40) items note
   pub copies : Copies o old new items
 
--- these records, up to an end with this note: all of them, unless a read failed
+-- these packet records were taken up to an end with this note: all of them, unless a read failed
 pub record Copied (o : Output) (old new : SeriesFlow) (note : FileNote) (items : List Record) (end : FileNote) : Type 0
   where
     pub taken : List Record
@@ -45,8 +45,8 @@ pub record Copied (o : Output) (old new : SeriesFlow) (note : FileNote) (items :
     pub ends : GivesNote note rest end
     pub copies : Copies o old new taken
 
--- the first of these records were taken; behind what was written of the rows stands a front of what wasn't written yet,
--- where a row is in that
+-- the first of these packet records were taken. The output has the rows that were written, and behind them a prefix of
+-- those that weren't; that prefix is empty unless a row is among them
 pub record Stopped (o : Output) (old : SeriesFlow) (items : List Record) : Type 0 where
   pub taken : List Record
   pub rest : List Record
@@ -58,14 +58,13 @@ pub record Stopped (o : Output) (old : SeriesFlow) (items : List Record) : Type 
   pub some : (count ≡ 0) ⊎ HoldsText stood
   pub appended : Appends o.old o.new (written ++ take count (text_of stood))
 
--- why the rows aren't written: memory ran out, or a write failed
+-- the reason why rows weren't written: memory ran out, or a write failed
 abbrev pub StopsAt : Output → Failure → Type 0
 StopsAt o (failure.ReadFault input) = ⊥
 StopsAt o failure.WriteFault = Rose o.before o.now
 StopsAt o failure.OutOfMemory = ⊤
 
--- as far as the records of a reader were taken: what `Copies` says of the first of them, and the others are still to be
--- given
+-- the packet records of a reader that were taken so far, with their rows; the reader still gives the others
 pub record IsCopying {R : Type 0} (gives : R → List Record → FileNote → Type 0) (o : Output) (first reader : R)
     (old flow : SeriesFlow) : Type 0 where
   pub taken : List Record

@@ -1,4 +1,4 @@
--- What is left of the answer on a flow that is over.
+-- The rest of the answer of `series` for a flow that has ended.
 use Rattle.std.specs.Prelude.{◌≡◌, ℕ, Bool, List, ◌++◌}
 use Rattle.timing_base.specs.Captures.{Record}
 use Rattle.timing_base.specs.Judged.{judged}
@@ -12,7 +12,7 @@ use Rattle.timing_measure.specs.series.Series.{series_of}
 use Rattle.timing_measure.specs.series.Stands.{StandsFor}
 use Rattle.timing_measure.specs.declared.series.flow.SeriesFlow.{SeriesFlow}
 
--- with what was written of it this rest is the answer on the flow of this media, in these records
+-- what was written and this rest are the answer for the flow of this media, in these packet records
 pub record IsRestOf (frames : Bool) (m : Media) (tai : ℕ) (note : FileNote) (items : List Record) (gone : List ℕ)
     (rest : Answer) : Type 0 where
   pub rows : List ℕ
@@ -20,7 +20,7 @@ pub record IsRestOf (frames : Bool) (m : Media) (tai : ℕ) (note : FileNote) (i
   pub whole : record { text = gone ++ rest.text; status = rest.status }
       ≡ series_of frames m note (verdict_of m (judged (flow items m) m.pt tai)) rows
 
--- whatever records were taken, and whatever was written
+-- `rest` is the rest of the answer, whatever was taken and written before
 abbrev pub EndsSeries : FileNote → SeriesFlow → (rest : Answer) → Type 0
 EndsSeries note x rest =
     (frames : Bool) (m : Media) (number tai : ℕ) (gone : List ℕ) (items : List Record)

@@ -1,6 +1,6 @@
--- The rows of a flow: those of its judged runs, one run after the other; where the flow has a fault, those of the whole
--- groups before the packet of the first one. m is the video, `tai` is in seconds. Which packets are listed is this
--- project's own.
+-- The rows of a flow: those of its judged runs, one run after the other. If the flow has a fault, those of the whole
+-- frames or fields before the packet with the first fault. `m` is the media, `tai` is in seconds. Which packets are
+-- listed is this project's own choice.
 use Rattle.std.specs.Prelude.{ℕ, Bool, List, Option, Some, None}
 use Rattle.timing_base.specs.Flows.{FirstFault, first_fault}
 use Rattle.timing_base.specs.Media.{Media}
@@ -8,7 +8,7 @@ use Rattle.timing_base.specs.declared.packet.FlowPacket.{FlowPacket}
 use Rattle.fail_interval.specs.Parts.{judged_parts, open_before, parts_before}
 use Rattle.flow_measure.specs.rows.Told.{AreRowsSoFar}
 
--- by the flow's first fault
+-- the rows up to the first fault of the flow, if it has one
 abbrev pub AreRowsUpTo : (frames : Bool) → Media → (tai : ℕ) → List FlowPacket → Option FirstFault → List ℕ → Type 0
 AreRowsUpTo frames m tai packets None rows = AreRowsSoFar frames m tai (judged_parts m packets tai) None rows
 AreRowsUpTo frames m tai packets (Some first) rows =

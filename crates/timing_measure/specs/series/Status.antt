@@ -1,4 +1,4 @@
--- The status beside the rows of a flow.
+-- The status of `series` for the rows of a flow.
 use Rattle.std.specs.Prelude.{◌||◌, if◌then◌else◌, Bool, true, false}
 use Rattle.timing_base.specs.declared.capture.FileNote.{FileNote}
 use Rattle.timing_base.specs.declared.row.Verdict.{Verdict}
@@ -13,6 +13,6 @@ is_unjudged (verdict.Unjudged why) = true
 is_unjudged (verdict.Judged judged) = false
 is_unjudged (verdict.Runs runs) = false
 
--- 4 where the capture was refused for its bytes or the flow for a fault; else 0
+-- 4 if the capture was refused as malformed, or the flow isn't judged; else 0
 abbrev pub series_status : FileNote → Verdict → Status
 series_status note found = if is_refused note || is_unjudged found then status.NotAllJudged else status.Pass

@@ -1,4 +1,4 @@
-//! The flow of one media, judged and measured.
+//! Judges and measures the flow of one media.
 
 ghost use Rattle.std.specs.Prelude.{◌≡◌, ◌≤◌, ◌+◌, ◌^◌, [], ℕ, List, IfOk, true};
 ghost use Rattle.timing_base.specs.Media.{Media as MediaValue};
@@ -11,25 +11,27 @@ use run_meter::RunMeter;
 use std::alloc::{AllocError as OutOfMemory, Global};
 use timing_base::{FlowKey, FlowPacket, Media, Rtp, Verdict};
 
-/// What is told of a flow that is over.
+/// The result of a flow that has ended.
 #[derive(Drop)]
 pub struct FlowEnd<O: Drop> {
-    /// The number of its media, counted from 0.
+    /// The number of the media, counted from 0.
     pub media: u32,
-    /// All its packets, judged or not.
+    /// The number of its packets, judged or not.
     pub packets: u64,
-    /// The source of the first packet that was read.
+    /// The SSRC of the first packet that was read as RTP.
     pub ssrc: Option<u32>,
+    /// The verdict on the flow.
     pub verdict: Verdict,
-    /// What the meters of its runs put out.
+    /// The output of the meters of its runs.
     pub out: O,
 }
 
-/// What takes the packets of a flow, one after the other: its judge with the meters of its runs.
+/// The taker of the packets of a flow: its judge with the meters of its runs.
 #[derive(Drop)]
 pub struct FlowMeter<M: Drop, O: Drop> {
+    /// The judge, and the meters of the runs.
     pub metered: Metered<M, O>,
-    /// The source of the first packet that was read.
+    /// The SSRC of the first packet that was read as RTP.
     pub source: Option<u32>,
 }
 
@@ -37,8 +39,8 @@ impl<M: RunMeter<Out = O>, O: Drop> FlowMeter<M, O> {
     ghost use Rattle.timing_measure.specs.flows.Meters.{HasRoom, StandsFor};
     ghost use Rattle.timing_measure.specs.flows.Ends.{IsEndOf};
 
-    /// Before the first packet of the flow of a media, and an output that tells of none yet. `tai` seconds are added
-    /// to the stamps.
+    /// Returns the taker of the flow of a media before the first packet, with an empty output. `tai` seconds are added
+    /// to every capture timestamp.
     pub fn new(alloc: Global, media: &Media, number: u32, tai: u64, out: O) -> FlowMeter<M, O>
         requires { tai ≤ 1000 }
         ensures room { HasRoom (2 ^ 41) result }
@@ -55,7 +57,7 @@ impl<M: RunMeter<Out = O>, O: Drop> FlowMeter<M, O> {
         }
     }
 
-    /// What is told of the flow, where it ends here. `Err` is want of memory.
+    /// Returns the result of the flow if it ends here. Returns `Err` if memory runs out.
     pub fn finish(self) -> Result<FlowEnd<O>, OutOfMemory>
         ensures { M.WANTS_LEVELS ≡ true → IfOk result (λ end. (past : M.Past) (m : MediaValue) (number tai : ℕ)
             (packets : List PacketValue) → StandsFor M.WANTS_LEVELS M.stands M.tells past m number tai self packets

@@ -1,4 +1,4 @@
-//! What the meters of a flow's runs put out, before the first run.
+//! The output of the meters of a flow's runs, before the first run.
 
 ghost use Rattle.std.specs.Prelude.{◌≡◌, [], IfOk, None};
 
@@ -6,12 +6,12 @@ use flow_measure::MeasuredRuns;
 use flow_page::drawing::LongestRun;
 use std::alloc::{AllocError as OutOfMemory, Global};
 
-/// What the meters of a flow's runs put out, one after the other.
+/// The output that the meters of a flow's runs write, one after the other.
 pub trait FlowOutput: Drop {
-    /// No meter has put out anything.
+    /// No meter has written anything.
     ghost empty: { Self → Type 0 };
 
-    /// Before the first run. `Err` is want of memory.
+    /// Returns the output before the first run. Returns `Err` if memory runs out.
     fn empty(alloc: Global) -> Result<Self, OutOfMemory>
         ensures { IfOk result empty };
 }

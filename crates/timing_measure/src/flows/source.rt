@@ -1,4 +1,4 @@
-//! The source of a flow.
+//! The SSRC of a flow.
 
 ghost use Rattle.std.specs.Prelude.{◌≡◌, ◌++◌, ◌∷◌, [], List};
 ghost use Rattle.timing_base.specs.declared.packet.FlowPacket.{FlowPacket as PacketValue};
@@ -6,7 +6,7 @@ ghost use Rattle.timing_measure.specs.Measured.{first_source};
 
 use timing_base::FlowPacket;
 
-/// The source so far, and where no packet was read yet that of this one.
+/// Returns the SSRC so far; if no packet was read as RTP yet, that of this packet.
 #[inline(always)]
 pub fn source_with(before: Option<u32>, packet: &FlowPacket) -> Option<u32>
     ensures { (packets : List PacketValue) → before ≡ first_source packets

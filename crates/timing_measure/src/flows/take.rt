@@ -1,4 +1,4 @@
-//! The flows of all media of a session, taken off the records of a capture.
+//! Takes the flows of all media of a session from the packet records of a capture.
 
 ghost use Rattle.std.specs.Prelude.{◌≡◌, ◌≤◌, ◌^◌, [], ℕ, All, List, Option, None, Some, IfErr, IfOk, length, true};
 ghost use Rattle.timing_base.specs.Media.{Media as MediaValue};
@@ -23,18 +23,18 @@ use timing_reach::judged::captures::take_capture;
 use timing_reach::steps::Failure;
 use timing_report::Input;
 
-/// What a capture came to.
+/// The flows of a capture at its end.
 #[derive(Drop)]
 pub struct TakenFlows<M: Drop, O: Drop, B: Drop> {
     /// How the capture ends.
     pub note: FileNote,
-    /// The flow of each media, in order.
+    /// The flow of each media, in their order.
     pub flows: Vec<MediaFlow<FlowMeter<M, O>>>,
-    /// What took the records beside them.
+    /// The taker that was given the same records.
     pub beside: B,
 }
 
-/// The flows of these media before the first record of a capture. `Err` is want of memory.
+/// Returns the flows of these media before the first packet record. Returns `Err` if memory runs out.
 fn begin_flows<M: RunMeter<Out = O>, O: FlowOutput>(
     alloc: Global,
     media: &[Media],
@@ -58,7 +58,8 @@ fn begin_flows<M: RunMeter<Out = O>, O: FlowOutput>(
     Ok(flows)
 }
 
-/// Takes the flows of these media off the records of the capture of a job, which go to `beside` too.
+/// Opens the capture of a job, takes the flows of these media from its packet records, and gives the records to
+/// `beside` too. The source goes back to the shelf.
 pub fn take_flows<
     H: Shelf,
     M: RunMeter<Out = O>,

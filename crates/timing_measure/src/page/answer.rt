@@ -1,4 +1,4 @@
-//! What `page` prints, and its status.
+//! The output of `page`, and its status.
 
 ghost use Rattle.std.specs.Prelude.{◌≡◌, IfOk, true};
 ghost use Rattle.std.specs.List.{list_any};
@@ -14,21 +14,21 @@ use timing_base::{CaptureJob, FileNote, Session};
 use timing_reach::steps::Answer;
 use timing_report::{Status, any_refused};
 
-/// Whether a run of the flow is judged.
+/// Returns whether the flow has a judged run.
 fn is_judged(page: &FlowPage) -> bool
     ensures { result ≡ is_judged page.now }
 {
     page.flow.runs.len() > 0
 }
 
-/// Whether a run of one of the flows is judged.
+/// Returns whether one of the flows has a judged run.
 fn is_one_judged(pages: &[FlowPage]) -> bool
     ensures { result ≡ list_any is_judged pages.now }
 {
     pages.iter().any(is_judged)
 }
 
-/// The status beside these flows of a capture that ends so.
+/// Returns the status for these flows of a capture that ends in this way.
 fn status_of(note: FileNote, pages: &[FlowPage]) -> Status
     ensures status { result ≡ page_status note pages.now }
     ensures ends { page_ends result ≡ true }
@@ -42,7 +42,7 @@ fn status_of(note: FileNote, pages: &[FlowPage]) -> Status
     Status::Pass
 }
 
-/// The answer on a capture of which a page has this.
+/// Returns the answer for a capture that was read. Returns `Err` if memory runs out.
 pub fn paged(
     alloc: Global,
     job: &CaptureJob,

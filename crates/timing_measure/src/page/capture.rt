@@ -1,4 +1,4 @@
-//! What a page has of a capture.
+//! Reads the capture of a page.
 
 ghost use Rattle.std.specs.Prelude.{◌≡◌, ◌≤◌, ℕ, List, Some, IfErr, IfOk, length};
 ghost use Rattle.timing_outside.specs.Causes.{Rose};
@@ -20,18 +20,18 @@ use timing_outside::Shelf;
 use timing_reach::steps::Failure;
 use timing_report::Input;
 
-/// What a page has of a capture.
+/// The capture of a page, after it was read.
 #[derive(Drop)]
 pub struct PageCapture {
     /// How the capture ends.
     pub note: FileNote,
-    /// One for each media, in order.
+    /// The flow of each media, in their order.
     pub flows: Vec<FlowPage>,
-    /// What the capture holds.
+    /// The result of a scan of the capture.
     pub found: Found,
 }
 
-/// Reads the capture of a job: the flows of these media, and what it holds.
+/// Opens and reads the capture of a job: the flows of these media, and a scan.
 pub fn read_pages<H: Shelf>(
     alloc: Global,
     job: &CaptureJob,

@@ -1,4 +1,4 @@
-//! `page`: the report of the capture of a job, as one page.
+//! `page`: prints the report of the capture of a job as one page.
 
 ghost use Rattle.std.specs.Prelude.{◌≡◌, IfErr, IfOk};
 ghost use Rattle.flow_page.specs.Media.{AreOfMedia};
@@ -18,7 +18,7 @@ use timing_outside::{Shelf, Sink};
 use timing_reach::steps::{Answer, Failure, conclude, fetch_session};
 use timing_report::Status;
 
-/// The answer on a capture of which a page has this.
+/// Returns the answer for a capture that was read.
 fn answer_capture(
     alloc: Global,
     job: &CaptureJob,
@@ -35,7 +35,7 @@ fn answer_capture(
     Ok(paged(alloc, job, session, capture)?)
 }
 
-/// The answer over a session.
+/// Returns the answer over a session.
 fn answer_over<H: Shelf>(
     alloc: Global,
     job: &CaptureJob,
@@ -52,7 +52,7 @@ fn answer_over<H: Shelf>(
     answer_capture(alloc, job, session, &capture)
 }
 
-/// The answer of a job, or why there is none. Where the description is refused, no capture is fetched.
+/// Returns the answer of a job, or the reason why there is none. If the SDP is invalid, no capture is opened.
 fn answer_page<H: Shelf>(alloc: Global, job: &CaptureJob, shelf: &mut H) -> Result<Answer, Failure>
     ensures follows { FollowsPage job.now (seen_of H.Shelf shelf.old shelf.new) result }
     ensures answers { IfOk result (HasStatus page_ends) }
@@ -65,8 +65,8 @@ fn answer_page<H: Shelf>(alloc: Global, job: &CaptureJob, shelf: &mut H) -> Resu
     }
 }
 
-/// Prints on `out` the report of the capture of a job as one page: HTML that needs nothing else. On `err` it tells why
-/// there is none.
+/// Runs `page`: prints on `out` the report of the capture of a job as one HTML page that needs no other file. Prints on
+/// `err` the reason if there is no output.
 pub fn page_one<H: Shelf, K: Sink>(
     alloc: Global,
     job: &CaptureJob,

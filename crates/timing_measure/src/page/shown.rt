@@ -1,4 +1,4 @@
-//! What a page has of the flows of a session.
+//! The parts of a page for the flows of a session.
 
 ghost use Rattle.std.specs.Prelude.{◌≡◌, All, ℕ, List, IfOk, IfSome, None};
 ghost use Rattle.timing_base.specs.Media.{Media as MediaValue};
@@ -16,7 +16,7 @@ use flow_page::{FlowPage, ShownRun};
 use run_meter::Pair;
 use std::alloc::{AllocError as OutOfMemory, Global};
 
-/// The judged run of this number, counted from 1.
+/// Returns the judged run with this number, counted from 1.
 fn run_of(runs: &[MeasuredRun], number: u64) -> Option<MeasuredRun>
     ensures some { IfSome result (IsRunOf runs.now number) }
     ensures none { result ≡ None → All (λ run. run.run ≡ number → ⊥) runs.now }
@@ -29,7 +29,7 @@ fn run_of(runs: &[MeasuredRun], number: u64) -> Option<MeasuredRun>
     None
 }
 
-/// What is shown of a flow with these judged runs, of which the longest was drawn.
+/// Returns the run that is shown of a flow with these judged runs: the longest one, which was drawn.
 fn shown_of(longest: LongestRun, runs: &[MeasuredRun]) -> Option<ShownRun>
     ensures { HasRunOf longest.drawn runs.now result }
 {
@@ -39,7 +39,7 @@ fn shown_of(longest: LongestRun, runs: &[MeasuredRun]) -> Option<ShownRun>
     Some(drawn.shown(run))
 }
 
-/// What a page has of a flow that is over.
+/// Returns the part of a page for a flow that has ended.
 fn flow_page(alloc: Global, end: FlowEnd<(MeasuredRuns, LongestRun)>) -> FlowPage
     ensures { (m : MediaValue) (number tai : ℕ) (packets : List PacketValue)
         → IsPageEnd m number tai packets end → IsFlowPage m number tai packets result }
@@ -64,7 +64,7 @@ fn flow_page(alloc: Global, end: FlowEnd<(MeasuredRuns, LongestRun)>) -> FlowPag
     FlowPage { flow, shown }
 }
 
-/// What a page has of flows that are over. `Err` is want of memory.
+/// Returns the parts of a page for flows that have ended. Returns `Err` if memory runs out.
 pub fn flow_pages(
     alloc: Global,
     flows: Vec<MediaFlow<FlowMeter<Pair<NumbersMeter, DrawingMeter>, (MeasuredRuns, LongestRun)>>>,

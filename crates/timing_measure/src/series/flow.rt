@@ -1,4 +1,4 @@
-//! The flow of a job, and the rows of its judged runs that aren't written yet.
+//! The flow of a job, with the rows of its judged runs that aren't written yet.
 
 ghost use Rattle.std.specs.Prelude.{◌≡◌, ◌≤◌, ◌+◌, ◌^◌, ◌∷◌, [], ℕ, List, IfErr, IfOk, length};
 ghost use Rattle.std.specs.Io.KnownBytes.{Appends};
@@ -18,9 +18,10 @@ use timing_reach::steps::{Answer, Failure};
 use timing_report::{Status, any_refused};
 use udp_rtp::datagram;
 
-/// The flow of a job, which is judged while it comes, and the rows of its judged runs that aren't written yet.
+/// The flow of a job, which is judged while it is read, with the rows of its judged runs that aren't written yet.
 #[derive(Drop)]
 pub struct SeriesFlow {
+    /// The flow, with its judge and its rows.
     pub flow: MediaFlow<Metered<RowsMeter, Rows>>,
     /// The bytes of the header while it waits for the first row; 0 once it is written.
     pub waiting: usize,
@@ -28,7 +29,7 @@ pub struct SeriesFlow {
 
 ghost use Rattle.timing_measure.specs.series.Status.{series_status};
 
-/// The status beside the rows of a flow on which this is the verdict, of a capture that ends so.
+/// Returns the status for the rows of a flow with this verdict, of a capture that ends in this way.
 fn status_of(note: FileNote, verdict: &Verdict) -> Status
     ensures { result ≡ series_status note verdict.now }
 {
@@ -44,8 +45,8 @@ fn status_of(note: FileNote, verdict: &Verdict) -> Status
 ghost use Rattle.flow_demux.specs.Awaits.{AwaitsExpected};
 ghost use Rattle.flow_demux.specs.Takings.{TakesFlow};
 
-/// Takes a record off for one flow: its number from 1, its timestamp in nanoseconds, and its frame. `Err` is want of
-/// memory.
+/// Takes a packet record for one flow: its number, counted from 1, its capture timestamp in nanoseconds, and its frame.
+/// Returns `Err` if memory runs out.
 #[inline(always)]
 fn take_record<F: FlowTaker>(
     flow: &mut MediaFlow<F>,
@@ -70,7 +71,7 @@ fn take_record<F: FlowTaker>(
     take_read(flow, number, at, frame)
 }
 
-/// Takes a record as [`take_record`] does, whatever its frame.
+/// Takes a packet record as [`take_record`] does, whatever its frame contains.
 #[cold]
 #[inline(never)]
 fn take_read<F: FlowTaker>(
@@ -101,8 +102,8 @@ impl SeriesFlow {
     ghost use Rattle.timing_measure.specs.series.Stands.{HasRoom, HoldsText, PoursOn, StandsFor, TakesOn, text_of};
     ghost use Rattle.timing_measure.specs.series.Ends.{EndsSeries};
 
-    /// Before the first record of a capture. Groups are listed, or packets; `tai` seconds are added to the stamps.
-    /// `Err` is want of memory.
+    /// Returns the flow before the first packet record of a capture. Rows are frames or fields if `frames` is true,
+    /// else packets; `tai` seconds are added to every capture timestamp. Returns `Err` if memory runs out.
     pub fn new(
         alloc: Global,
         media: &Media,
@@ -128,7 +129,7 @@ impl SeriesFlow {
         })
     }
 
-    /// Takes the next record of the capture. `Err` is want of memory.
+    /// Takes the next packet record of the capture. Returns `Err` if memory runs out.
     #[inline(always)]
     pub fn take(&mut self, number: u64, at: u64, frame: &[u8]) -> Result<(), OutOfMemory>
         requires stamp { IsStamp at }
@@ -141,8 +142,8 @@ impl SeriesFlow {
         take_record(&mut self.flow, number, at, frame)
     }
 
-    /// Writes the rows that were made, the first of them behind the header. `Err` is a write that failed: then a front
-    /// of them was written.
+    /// Writes the rows that were made since the last call, the first of them behind the header. Returns `Err` if a
+    /// write fails; then a prefix of them was written.
     #[inline(always)]
     pub fn pour<K: Sink>(&mut self, out: &mut K) -> Result<(), Failure>
         ensures room { (count : ℕ) → HasRoom count self.old → HasRoom count self.new }
@@ -159,7 +160,7 @@ impl SeriesFlow {
         self.pour_all(out)
     }
 
-    /// Writes all that isn't written yet.
+    /// Writes all text that isn't written yet.
     #[cold]
     #[inline(never)]
     fn pour_all<K: Sink>(&mut self, out: &mut K) -> Result<(), Failure>
@@ -183,7 +184,8 @@ impl SeriesFlow {
         }
     }
 
-    /// What is left of the answer of a capture that ends so, behind what was written. `Err` is want of memory.
+    /// Returns the rest of the answer for a capture that ends in this way, behind what was written. Returns `Err` if
+    /// memory runs out.
     pub fn finish(self, alloc: Global, note: FileNote) -> Result<Answer, OutOfMemory>
         ensures { IfOk result (EndsSeries note self) }
     {

@@ -1,4 +1,4 @@
-//! `series`: the rows of the judged runs of the flow of a job.
+//! `series`: prints the rows of the judged runs of the flow of a job.
 
 ghost use Rattle.std.specs.Prelude.{◌≡◌, ◌≤◌, ◌⊎◌, [], ℕ, List, Some, IfErr, IfOk};
 ghost use Rattle.std.specs.Prelude.{Err};
@@ -22,7 +22,7 @@ use timing_reach::judged::find_media;
 use timing_reach::steps::{Answer, Failure, conclude};
 use timing_report::{Input, Status};
 
-/// The rest of the answer on the flow of this media, behind what was written of it.
+/// Returns the rest of the answer for the flow of this media, behind what was written of it.
 fn answer_flow<H: Shelf, K: Sink>(
     alloc: Global,
     job: &SeriesJob,
@@ -48,7 +48,8 @@ fn answer_flow<H: Shelf, K: Sink>(
     Ok(flow.finish(alloc, note)?)
 }
 
-/// The answer of a job, or what of it isn't written yet, or why there is none, or not the whole.
+/// Returns the rest of the answer of a job that isn't written yet, or the reason why there is no answer, or not the
+/// whole.
 fn answer_series<H: Shelf, K: Sink>(
     alloc: Global,
     job: &SeriesJob,
@@ -72,8 +73,8 @@ fn answer_series<H: Shelf, K: Sink>(
     }
 }
 
-/// Prints on `out` the rows of the judged runs of the flow of a job, while they are made. On `err` it tells why there
-/// are none, or not all.
+/// Runs `series`: prints on `out` the rows of the judged runs of the flow of a job, while they are made. Prints on
+/// `err` the reason if there are no rows, or not all.
 pub fn series_one<H: Shelf, K: Sink>(
     alloc: Global,
     job: &SeriesJob,

@@ -1,4 +1,4 @@
-//! The records of a capture are read while rows are written.
+//! Reads the packet records of a capture while rows are written.
 
 ghost use Rattle.std.specs.Prelude.{◌≡◌, ◌≢◌, ◌≤◌, ◌+◌, ◌^◌, ℕ, List, None, Some, IfErr, IfOk};
 ghost use Rattle.timing_base.specs.Captures.{Record};
@@ -23,8 +23,8 @@ use timing_outside::{Shelf, Sink, Source};
 use timing_reach::steps::{Failure, fetch_classic, give_back};
 use timing_report::Input;
 
-/// Takes the records of a reader that has answered none, and writes the rows that are made of them. The records end, or
-/// a read of the source fails, which the note says; or memory runs out, or a write fails.
+/// Takes the packet records of a reader from its start, and writes their rows. Returns how the records end, also if a
+/// read failed. Returns `Err` if memory runs out or a write fails.
 fn copy_rows<S: Source, K: Sink>(
     reader: &mut PcapReader<S>,
     flow: &mut SeriesFlow,
@@ -66,7 +66,7 @@ fn copy_rows<S: Source, K: Sink>(
     }
 }
 
-/// How the records of a capture end, unless a read failed.
+/// Returns how the packet records of a capture end, or `ReadFault` if a read failed.
 fn whole_note(note: FileNote) -> Result<FileNote, Failure>
     ensures kept { IfOk result (λ kept. (kept ≡ note)
         × (note ≢ file_note.Refused fault.ReadFault)) }
@@ -79,7 +79,7 @@ fn whole_note(note: FileNote) -> Result<FileNote, Failure>
     }
 }
 
-/// Reads a capture and writes the rows that are made of it: it is fetched for that, and goes back to the shelf.
+/// Opens a capture, reads it, writes its rows, and gives its source back to the shelf. Returns how the capture ends.
 pub fn copy_capture<H: Shelf, K: Sink>(
     alloc: Global,
     shelf: &mut H,

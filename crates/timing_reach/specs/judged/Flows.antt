@@ -1,5 +1,5 @@
--- What takes the packets of a media's flow off the records of a capture. `takes` says of what took them that by the
--- flow in these records, and by nothing else, the first became the second.
+-- The packets of a media's flow, taken from the packet records of a capture. `takes` relates a taker before and after:
+-- it took the flow in these records, and nothing else.
 use Rattle.std.specs.Prelude.{◌≡◌, ◌^◌, ℕ, List, [], ◌++◌, Some}
 use Rattle.std.proofs.Common.{refl, subst, ◌∙◌}
 use Rattle.timing_base.specs.Captures.{Record}
@@ -16,22 +16,23 @@ pub record TakesFlow {F : Type 0} (takes : Media → F → F → List Record →
   pub media : new.media ≡ old.media
   pub fed : takes old.media old.taker new.taker items
 
--- the flow in a capture of this text was taken
+-- the flow in a capture with these contents was taken
 pub record TakesIn {F : Type 0} (takes : F → F → List Record → Type 0) (text : List ℕ) (old new : F) : Type 0 where
   pub items : List Record
   pub note : FileNote
   pub records : Records text (2 ^ 40) items note
   pub fed : takes old new items
 
--- a frame's datagram goes to the target of this media
+-- the datagram in a frame goes to the target of this media
 abbrev pub GoesTo : Media → (frame : List ℕ) → Type 0
 GoesTo m frame = (d : Datagram) × (datagram_of frame ≡ Some d) × (d.target ≡ target_of m)
 
--- no record, and some records and then others
+-- taking no record changes nothing
 pub flow_none : {F : Type 0} (takes : Media → F → F → List Record → Type 0)
     (none : (m : Media) (x : F) → takes m x x []) (x : FlowOf F) → TakesFlow takes x x []
 flow_none takes none x = record { media = refl; fed = none x.media x.taker }
 
+-- taking some records and then others is taking both
 pub flow_more : {F : Type 0} (takes : Media → F → F → List Record → Type 0)
     (more : (m : Media) (x y z : F) (a b : List Record) → takes m x y a → takes m y z b → takes m x z (a ++ b))
     (x y z : FlowOf F) (a b : List Record) → TakesFlow takes x y a → TakesFlow takes y z b

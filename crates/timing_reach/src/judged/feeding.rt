@@ -1,4 +1,4 @@
-//! The packet that a judge expects is compared once, and then only its stamp is fed.
+//! Feeds a judge the packets that it expects by their capture timestamps alone, once their headers were compared.
 
 ghost use Rattle.std.specs.Prelude.{◌<◌, ◌^◌, IfOk, IfSome, IsOkAnd, OnErr};
 ghost use Rattle.timing_base.specs.Captures.{IsStamp};
@@ -10,7 +10,7 @@ use fail_interval::FlowJudge;
 use std::alloc::AllocError as OutOfMemory;
 use timing_base::{FlowPacket, Rtp};
 
-/// The packet that a judge expects next, if the flow goes on as most do.
+/// Returns the packet that the judge expects next, if it can be foreseen.
 #[inline(always)]
 pub fn expected_of(judge: &FlowJudge<()>) -> Option<Rtp>
     ensures { IfSome result (λ p. IsExpected judge.now p) }
@@ -18,7 +18,8 @@ pub fn expected_of(judge: &FlowJudge<()>) -> Option<Rtp>
     judge.expected()
 }
 
-/// Feeds a judge the packet that it expects: in a judged run by the packet's stamp alone. `Err` is want of memory.
+/// Feeds a judge the packet that it expects; within a judged run only its capture timestamp is used. Returns `Err` if
+/// memory runs out.
 #[inline(always)]
 pub fn feed_expected(judge: &mut FlowJudge<()>, packet: &FlowPacket) -> Result<(), OutOfMemory>
     requires stamp { IsStamp packet.now.at }

@@ -1,4 +1,4 @@
-//! What takes the packets of a media's flow, one after the other, off the records of a capture: each frame is read
+//! Takes the packets of a media's flow from the packet records of a capture, in order. Each frame is parsed at most
 //! once.
 
 ghost use Rattle.std.specs.Prelude.{◌≡◌, ◌≤◌, ◌+◌, ◌++◌, ◌∷◌, ◌^◌, [], ℕ, List, None, Some, Ok, IfErr, IfOk, IfSome};
@@ -27,22 +27,23 @@ use timing_outside::Shelf;
 use timing_report::Input;
 use udp_rtp::{carries, packet_of};
 
-/// What takes the packets of a flow, one after the other.
+/// A taker of the packets of one flow, in order.
 pub trait FlowTaker {
-    /// By the flow of this media in these records, and by nothing else, the first became the second.
+    /// The taker took the flow of this media in these packet records, and nothing else.
     ghost takes: { MediaValue → Self → Self → List Record → Type 0 };
 
-    /// It has room for so many packets more.
+    /// The taker can take `count` more packets.
     ghost room: { (count : ℕ) → Self → Type 0 };
 
-    /// By what it took, the flow goes on with this packet in the frame or field of the last, if it goes on so.
+    /// After the packets it took, the taker expects this packet next.
     ghost expects: { RtpValue → Self → Type 0 };
 
-    /// The packet with which the flow goes on, where it goes on as most do. `None` where what takes it doesn't know.
+    /// Returns the packet that is expected next if the flow continues in its frame or field; `None` if the taker
+    /// doesn't know it.
     fn expected(&self) -> Option<Rtp>
         ensures { IfSome result (λ p. expects p self.now) };
 
-    /// Takes the next packet, and the frame that carried it. `Err` is want of memory.
+    /// Takes the next packet, with the frame that carried it. Returns `Err` if memory runs out.
     fn take(&mut self, packet: &FlowPacket, frame: &[u8]) -> Result<(), OutOfMemory>
         requires stamp { IsStamp packet.now.at }
         requires reading { IsReading packet.now.rtp }
@@ -53,7 +54,7 @@ pub trait FlowTaker {
             → flow_packet m r ≡ Some packet.now → r.bytes ≡ frame.now
             → takes m self.old self.new (r ∷ [])) };
 
-    /// Takes the next packet as `take` does, where it is the one that is expected.
+    /// Takes the next packet as `take` does, if it is the expected one.
     fn take_expected(&mut self, packet: &FlowPacket, frame: &[u8]) -> Result<(), OutOfMemory>
         requires stamp { IsStamp packet.now.at }
         requires reading { IsReading packet.now.rtp }
@@ -65,32 +66,34 @@ pub trait FlowTaker {
             → flow_packet m r ≡ Some packet.now → r.bytes ≡ frame.now
             → takes m self.old self.new (r ∷ [])) };
 
-    /// No record changes nothing.
+    /// Taking no record changes nothing.
     ghost none: { (m : MediaValue) (x : Self) → takes m x x [] };
 
-    /// Nor does one that is no packet of the flow.
+    /// A record that is no packet of the flow changes nothing.
     ghost other: { (m : MediaValue) (x : Self) (r : Record) → flow_packet m r ≡ None
         → takes m x x (r ∷ []) };
 
-    /// Some records, and then others.
+    /// Taking some records and then others is taking both.
     ghost more: { (m : MediaValue) (x y z : Self) (a b : List Record) → takes m x y a
         → takes m y z b → takes m x z (a ++ b) };
 
-    /// Room for many packets is room for few.
+    /// If many more packets can be taken, so can fewer.
     ghost less: { (few many : ℕ) (x : Self) → few ≤ many → room many x → room few x };
 }
 
-/// The flow of a media, and what takes it.
+/// The flow of a media, with its taker.
 #[derive(Drop)]
 pub struct FlowOf<F: Drop> {
+    /// The media of the flow.
     pub media: Media,
+    /// The taker.
     pub taker: F,
 }
 
 impl<F: FlowTaker + Drop> FlowOf<F> {
     ghost use Rattle.timing_reach.specs.judged.Flows.{GoesTo, TakesFlow};
 
-    /// Before the first record of a capture.
+    /// Returns the flow before the first packet record of a capture.
     pub fn new(media: &Media, taker: F) -> FlowOf<F>
         ensures media { result.media ≡ media.now }
         ensures taker { result.taker ≡ taker }
@@ -101,7 +104,7 @@ impl<F: FlowTaker + Drop> FlowOf<F> {
         }
     }
 
-    /// The packet that is expected, where the frame carries it: the frame is held against it before it is read, since
+    /// Returns the expected packet if the frame carries it. The frame is compared with it before it is parsed, since
     /// that is quicker.
     #[inline(always)]
     fn expected_in(&self, frame: &[u8]) -> Option<Rtp>
@@ -115,8 +118,8 @@ impl<F: FlowTaker + Drop> FlowOf<F> {
         Some(expected)
     }
 
-    /// Takes the next record where its frame carries the packet that is expected, and answers whether it does. Else
-    /// nothing changes.
+    /// Takes the next packet record if its frame carries the expected packet, and returns whether it did. Otherwise
+    /// nothing changes. Returns `Err` if memory runs out.
     #[inline(always)]
     pub fn take_next(&mut self, number: u64, at: u64, frame: &[u8]) -> Result<bool, OutOfMemory>
         requires stamp { IsStamp at }
@@ -141,7 +144,7 @@ impl<F: FlowTaker + Drop> FlowOf<F> {
         Ok(true)
     }
 
-    /// Takes the next packet of the flow, and the frame that carried it.
+    /// Takes the next packet of the flow, with the frame that carried it. Returns `Err` if memory runs out.
     #[inline(always)]
     pub fn take_packet(&mut self, packet: &FlowPacket, frame: &[u8]) -> Result<(), OutOfMemory>
         requires stamp { IsStamp packet.now.at }
@@ -156,7 +159,7 @@ impl<F: FlowTaker + Drop> FlowOf<F> {
         self.taker.take(packet, frame)
     }
 
-    /// Takes the next record, whatever its frame.
+    /// Takes the next packet record, whatever its frame contains. Returns `Err` if memory runs out.
     #[cold]
     #[inline(never)]
     fn take_read(&mut self, number: u64, at: u64, frame: &[u8]) -> Result<(), OutOfMemory>
@@ -179,7 +182,7 @@ impl<F: FlowTaker + Drop> Taker for FlowOf<F> {
     ghost use Rattle.pcap_reader.specs.Taken.{StopsAnyhow};
     ghost use Rattle.timing_reach.specs.judged.Flows.{TakesFlow, flow_more, flow_none};
 
-    /// Want of memory.
+    /// Memory ran out.
     type Stop = OutOfMemory;
 
     ghost takes = { λ old new items. TakesFlow F.takes old new items };
@@ -207,8 +210,7 @@ impl<F: FlowTaker + Drop> Taker for FlowOf<F> {
     }
 }
 
-/// Gives a taker the flow of a media in the one capture of a job, under this name: the capture is fetched for
-/// that, and goes back to the shelf.
+/// Opens the one capture of a job, gives the taker the flow of a media in it, and gives the source back to the shelf.
 pub fn take_flow<H: Shelf, F: FlowTaker + Drop>(
     alloc: Global,
     shelf: &mut H,

@@ -1,4 +1,4 @@
-//! The one reading of a flow: it is kept while it is judged.
+//! Reads a flow once: it is kept while it is judged.
 
 ghost use Rattle.std.specs.Prelude.{◌≡◌, ◌<◌, ◌≤◌, ◌^◌, [], ℕ, Bool, List, IfOk};
 ghost use Rattle.timing_base.specs.Captures.{Record};
@@ -12,14 +12,16 @@ use fail_interval::FlowJudge;
 use std::alloc::{AllocError as OutOfMemory, Global};
 use timing_base::{FlowKey, FlowPacket, Media, Rtp, Verdict};
 
-/// What a reading comes to: the verdict on the flow, and its packets.
+/// The result of reading a flow: the verdict on it, and its packets.
 #[derive(Drop)]
 pub struct KeptFlow {
+    /// The verdict on the flow.
     pub verdict: Verdict,
+    /// The packets of the flow.
     pub packets: Kept,
 }
 
-/// The judge of a flow, and its packets.
+/// The judge of a flow, and the packets that are kept.
 #[derive(Drop)]
 pub struct Reading {
     judge: FlowJudge<()>,
@@ -29,8 +31,8 @@ pub struct Reading {
 impl Reading {
     ghost use Rattle.timing_reach.specs.shape.Readings.{HasRoom, IsKeptFlow, IsReading, count_read};
 
-    /// Before the first record, of the flow of this media, for a list or for a capture. `tai` seconds are added to the
-    /// stamps.
+    /// Returns a reading of the flow of this media before the first packet record, for a list or for a capture. `tai`
+    /// seconds are added to every capture timestamp. Returns `Err` if memory runs out.
     pub fn new(
         alloc: Global,
         media: &Media,
@@ -53,7 +55,7 @@ impl Reading {
         })
     }
 
-    /// What comes of the flow, where it ends here. `Err` is want of memory.
+    /// Returns the result if the flow ends here. Returns `Err` if memory runs out.
     pub fn finish(self) -> Result<KeptFlow, OutOfMemory>
         requires { count_read self < 2 ^ 41 }
         ensures { IfOk result (λ kept. (m : MediaValue) (key : KeyValue) (tai : ℕ) (list : Bool) (items : List Record)

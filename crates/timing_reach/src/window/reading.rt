@@ -1,4 +1,4 @@
-//! The one reading of a flow: it is measured while it is judged.
+//! Reads a flow once: it is measured while it is judged.
 
 ghost use Rattle.std.specs.Prelude.{◌≡◌, ◌<◌, ◌≤◌, ◌^◌, [], ℕ, List, IfOk, Some};
 ghost use Rattle.timing_base.specs.Media.{Media as MediaValue};
@@ -13,11 +13,12 @@ use fail_interval::FlowJudge;
 use std::alloc::{AllocError as OutOfMemory, Global};
 use timing_base::{FlowKey, FlowPacket, Media, Rtp, Verdict};
 
-/// What a reading comes to: the verdict on the flow, and the windows of its judged packets, where it is judged in one
-/// run.
+/// The result of reading a flow: the verdict on it, and the windows of its judged packets if it is judged in one run.
 #[derive(Drop)]
 pub struct Measured {
+    /// The verdict on the flow.
     pub verdict: Verdict,
+    /// The windows of the judged packets, in microseconds; present if the flow is judged in one run.
     pub windows: Option<Windows>,
 }
 
@@ -31,7 +32,8 @@ pub struct Reading {
 impl Reading {
     ghost use Rattle.timing_reach.specs.window.Readings.{HasRoom, IsMeasured, IsReading};
 
-    /// Before the first record, of the flow of this media. `tai` seconds are added to the stamps.
+    /// Returns a reading of the flow of this media before the first packet record. `tai` seconds are added to every
+    /// capture timestamp.
     pub fn new(alloc: Global, media: &Media, number: u32, tai: u64) -> Reading
         requires { tai ≤ 1000 }
         ensures room { HasRoom (2 ^ 36) result }
@@ -47,7 +49,7 @@ impl Reading {
         }
     }
 
-    /// What comes of the flow, where it ends here. `Err` is want of memory.
+    /// Returns the result if the flow ends here. Returns `Err` if memory runs out.
     pub fn finish(self) -> Result<Measured, OutOfMemory>
         ensures { IfOk result (λ measured. (m : MediaValue) (key : KeyValue) (tai : ℕ) (packets : List PacketValue)
             → IsReading m key tai self packets → IsMeasured m tai packets measured) }
