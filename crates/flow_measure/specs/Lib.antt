@@ -1,4 +1,4 @@
--- what is promised
+-- the definitions that public clauses use
 pub mod Summary
 pub mod Columns
 pub mod Slope
@@ -17,17 +17,17 @@ pub mod Kinds
 pub mod Packets
 pub mod Run
 pub mod Measured
--- what the meters of a run say of its packets
+-- the state of the meters of a run
 pub mod Fed
 pub mod Margins
 pub mod Metered
 pub mod RunStands
--- numbers that are worked by hand
+-- examples worked by hand
 pub mod Worked
--- these only serve proofs
+-- definitions for proofs alone
 pub mod Places
 pub mod Extremes
 pub mod Parts
--- what is promised of these modules
+-- the definitions of the modules `report` and `rows`
 pub mod report
 pub mod rows

@@ -1,5 +1,5 @@
--- What is measured of the judged runs of a flow. Stamps are nanoseconds of TAI, with `tai` seconds added; runs and
--- records count from 1. This project's profile.
+-- The measurements of the judged runs of a flow. Capture timestamps are nanoseconds of TAI, with `tai` seconds added.
+-- Runs and packet records count from 1. This project's profile.
 use Rattle.std.specs.Prelude.{◌≡◌, ℕ, ⊤, List, [], ◌∷◌, map, Option, Some, None}
 use Rattle.timing_base.specs.Flows.{read_or_zeros}
 use Rattle.timing_base.specs.Media.{Media}
@@ -11,18 +11,18 @@ use Rattle.flow_measure.specs.Run.{IsMeasured}
 use Rattle.flow_measure.specs.declared.numbers.MeasuredRun.{MeasuredRun}
 use Rattle.flow_measure.specs.declared.numbers.RunNumbers.{RunNumbers}
 
--- the packet that a fail names: the last of its interval
+-- the packet that a violation names: the last of its interval
 abbrev pub named_by : KindVerdict → Option ℕ
 named_by kind_verdict.Pass = None
 named_by (kind_verdict.Fail proof) = Some proof.to
 
--- the numbers of a judged run of a media: those of its judged packets
+-- the measurements of a judged run of a media: those of its judged packets
 abbrev pub HasNumbers : Media → (tai : ℕ) → JudgedPart → RunNumbers → Type 0
 HasNumbers m tai part numbers =
     IsMeasured m part.values.n part.values.frames (stamps_of tai part.packets) (records_of part.packets)
     (timestamps_of part.packets) (map named_by part.values.kinds) numbers
 
--- a judged run with its numbers; which they are is for `Numbers` to say
+-- a judged run with its measurements, which satisfy `Numbers`
 pub record IsMeasuredRun (Numbers : JudgedPart → RunNumbers → Type 0) (part : JudgedPart) (run : MeasuredRun)
     : Type 0 where
   pub run_is : run.run ≡ part.number
@@ -31,7 +31,7 @@ pub record IsMeasuredRun (Numbers : JudgedPart → RunNumbers → Type 0) (part 
   pub judged_is : run.judged ≡ part.values
   pub numbers : Numbers part run.numbers
 
--- these judged runs, each with its numbers
+-- the measured runs are these judged runs, in order, each with its measurements
 abbrev pub AreMeasured : (Numbers : JudgedPart → RunNumbers → Type 0) → List JudgedPart → List MeasuredRun → Type 0
 AreMeasured Numbers [] [] = ⊤
 AreMeasured Numbers [] (run ∷ runs) = ⊥

@@ -1,5 +1,5 @@
--- What the meters of a run say of the packets that they were fed. Of each packet, counted from 0, there are the stamp
--- in nanoseconds of TAI, the record and the RTP timestamp.
+-- The state of the meters of a run after the packets that they were fed. Each packet, counted from 0, has a capture
+-- timestamp in nanoseconds of TAI, a packet record and an RTP timestamp.
 use Rattle.std.specs.Prelude.{◌≡◌, ◌<◌, ◌*◌, ℕ, ℤ, true, false, List, length, slice_index, Option, None}
 use Rattle.std.specs.List.{slice_index_or}
 use Rattle.timing_base.specs.Media.{Media}
@@ -21,15 +21,15 @@ use Rattle.flow_measure.specs.Run.{anchor_in}
 use Rattle.flow_measure.specs.declared.group_meter.Group.{Group}
 use Rattle.flow_measure.specs.declared.meters.RunMeters.{RunMeters}
 
--- what a list has at each of its places
+-- `numbers` gives the values of the list at each of its places
 abbrev pub AreListed : List ℕ → (ℕ → ℕ) → Type 0
 AreListed xs numbers = (i : ℕ) → i < length xs → numbers i ≡ slice_index xs i
 
--- these are what the bucket holds after each packet
+-- `numbers` gives the count of the bucket just after each packet
 abbrev pub AreBuckets : Media → ℕ → List ℕ → (numbers : ℕ → ℤ) → Type 0
 AreBuckets m n stamps numbers = (i : ℕ) → i < length stamps → numbers i ≡ buckets_of m n stamps i
 
--- this is so of each packet, for a sender type
+-- the values of each packet for a sender type
 pub record ArePackets (m : Media) (n : ℕ) (stamps records : List ℕ) (kind : Kind) (p : Packets) : Type 0 where
   pub bucket : AreBuckets m n stamps p.bucket
   pub occupancy : AreOccupancies m n stamps (gapped_of kind) p.occupancy
@@ -39,7 +39,8 @@ pub record ArePackets (m : Media) (n : ℕ) (stamps records : List ℕ) (kind : 
   pub rec : AreListed records p.rec
   pub stamp : AreListed stamps p.stamp
 
--- the next packet is this one, which may begin a group; the first group is that of the epoch that is nearest to it
+-- the state before and after `begin` for the next packet, which may be the first of a frame or field. The run's first
+-- packet belongs to the nearest one of the grid from the epoch
 pub record Begins (m : Media) (packet : RunPacket) (old new : RunMeters) : Type 0 where
   pub walk_is : new.walk ≡ old.walk
   pub first : old.walk.seen ≡ 0 → new.n0 ≡ anchor_of m packet.at
@@ -53,7 +54,7 @@ pub record Begins (m : Media) (packet : RunPacket) (old new : RunMeters) : Type 
   pub groups_are : new.groups ≡ old.groups
   pub gaps_are : new.gaps ≡ old.gaps
 
--- group k began so, of which a packet is kept
+-- `group` has the first packet of frame or field k
 pub record HasBegun (n k : ℕ) (stamps timestamps : List ℕ) (group : Group) : Type 0 where
   pub came : group.first ≡ firsts_of n (slice_index stamps) k
   pub ticks : group.timestamp ≡ firsts_of n (slice_index timestamps) k
@@ -74,7 +75,7 @@ pub record Measures (m : Media) (n : ℕ) (x : RunMeters) (stamps records timest
       → MeasuresGroups m x.n0 x.groups (firsts_of n stamp) (lasts_of n stamp) (firsts_of n timestamp)
   pub gaps_are : (stamp : ℕ → ℕ) → AreListed stamps stamp → MeasuresGaps x.gaps stamp
 
--- for N, NL and W, in this order, these are the first packets that break a model
+-- the first packets that break a limit, for N, NL and W in this order
 pub record AreFirst (m : Media) (n : ℕ) (stamps : List ℕ) (named : List (Option ℕ)) : Type 0 where
   pub narrow : IsFirst (is_broken m n stamps N) (length stamps) (slice_index_or named 0 None)
   pub narrow_linear : IsFirst (is_broken m n stamps NL) (length stamps) (slice_index_or named 1 None)

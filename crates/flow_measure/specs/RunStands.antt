@@ -1,4 +1,4 @@
--- What a `NumbersMeter` says of the packets of a run that it was fed, and of those that were committed.
+-- The state of a `NumbersMeter` after the packets of a run that it was fed, and after those that were committed.
 use Rattle.std.specs.Prelude.{ℕ, List}
 use Rattle.timing_base.specs.Media.{Media}
 use Rattle.timing_base.specs.declared.packet.FlowPacket.{FlowPacket}
@@ -7,7 +7,7 @@ use Rattle.flow_measure.specs.Metered.{Measures}
 use Rattle.flow_measure.specs.Packets.{records_of, timestamps_of}
 use Rattle.flow_measure.specs.declared.numbers_meter.NumbersMeter.{NumbersMeter}
 
--- of this run of the video it was fed these packets and no others, of which the latter were committed
+-- for this run of the video, the meter was fed exactly the packets `fed`, of which `committed` were committed
 pub record StandsFor (x : NumbersMeter) (m : Media) (tai : ℕ) (r : RunOf) (fed committed : List FlowPacket)
     : Type 0 where
   pub head_is : IsHeadOf r x.head

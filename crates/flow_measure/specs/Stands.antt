@@ -1,5 +1,5 @@
--- What the meters of plain numbers say of the numbers that they were fed: `numbers` gives the number at each place,
--- and the first `seen` of them were fed.
+-- The state of the meters of plain numbers after the numbers that they were fed. `numbers` gives the number at each
+-- place, and the first `seen` of them were fed.
 use Rattle.std.specs.Prelude.{◌≡◌, ◌<◌, ◌≤◌, ◌+◌, ◌-◌, ◌*◌, ◌/◌, ◌%◌, ℕ, ℤ, Bool, List, length, map, slice_index}
 use Rattle.flow_measure.specs.Bins.{above_limit, below_zero, in_bin}
 use Rattle.flow_measure.specs.Broken.{any_of, broken_groups}
@@ -31,7 +31,7 @@ pub record Classifies (c : Classes) (numbers : ℕ → ℕ) : Type 0 where
   pub rest : (class : ℕ) → c.length ≤ class → in_class class numbers c.seen ≡ 0
   pub ends : (last : ℕ) → c.length ≡ last + 1 → 0 < in_class last numbers c.seen
 
--- the columns of a curve, whose numbers have these values
+-- the columns of a curve of numbers with these values
 abbrev pub curve_columns : {N : Type 0} → (value : N → ℤ) → Curve N → List Extremes
 curve_columns value c = map (extremes_of value) c.columns.items
 
@@ -40,7 +40,7 @@ pub record DrawsCurve {N : Type 0} (value : N → ℤ) (c : Curve N) (numbers : 
   pub each : (k : ℕ) → k < c.begun
       → AreExtremes numbers (places_in (λ i. i / c.width) c.seen k) (column_at (curve_columns value c) k)
 
--- the same of an eye
+-- the columns of an eye of numbers with these values
 abbrev pub eye_columns : {N : Type 0} → (value : N → ℤ) → Eye N → List Extremes
 eye_columns value e = map (extremes_of value) e.columns.items
 
@@ -54,7 +54,7 @@ pub record DrawsEye {N : Type 0} (value : N → ℤ) (e : Eye N) (numbers : ℕ 
   pub each : (k : ℕ) → k < e.begun
       → AreExtremes numbers (places_in (eye_column_of e) e.seen k) (column_at (eye_columns value e) k)
 
--- the meter was fed so many packets, of groups of n, of which these are broken
+-- the counter was fed `seen` packets, in frames or fields of n packets, and `broken` is which of them are broken
 pub record CountsBroken (n : ℕ) (b : BrokenGroups) (broken : ℕ → Bool) (seen : ℕ) : Type 0 where
   pub over : b.broken ≡ broken_groups n broken b.whole
   pub here_is : b.here ≡ any_of (λ j. broken (b.whole * n + j)) (seen - b.whole * n)

@@ -1,5 +1,5 @@
--- what is promised
+-- the definitions that public clauses use
 pub mod Rows
 pub mod Told
--- these only serve proofs
+-- definitions for proofs alone
 pub mod making

@@ -1,15 +1,15 @@
-//! The groups that have a broken packet.
+//! The count of frames or fields that have a broken packet.
 
 ghost use Rattle.std.specs.Prelude.{◌≡◌, ◌<◌, ◌≤◌, ◌+◌, ◌*◌, ◌^◌, ◌||◌, ℕ, Bool};
 
-/// The groups so far that have a broken packet.
+/// A counter of the frames or fields so far that have a broken packet.
 #[derive(Clone, Copy)]
 pub struct BrokenGroups {
-    /// The groups that are over.
+    /// The count of frames or fields that are complete.
     pub whole: u64,
-    /// Those of them that have a broken packet.
+    /// The count of complete frames or fields that have a broken packet.
     broken: u64,
-    /// Whether the group that goes on has one so far.
+    /// Whether the current frame or field has a broken packet so far.
     here: bool,
     ghost broken_few: { broken ≤ whole },
 }
@@ -18,7 +18,7 @@ impl BrokenGroups {
     ghost use Rattle.flow_measure.specs.Broken.{broken_groups};
     ghost use Rattle.flow_measure.specs.Stands.{CountsBroken};
 
-    /// Before the first packet.
+    /// Returns the counter before the first packet.
     pub fn new() -> BrokenGroups
         ensures whole { result.whole ≡ 0 }
         ensures stands { (n : ℕ) (broken : ℕ → Bool) → CountsBroken n result broken 0 }
@@ -30,13 +30,14 @@ impl BrokenGroups {
         }
     }
 
-    /// Takes in so many packets of one group, of which each is broken or none is.
+    /// Takes the next `times` packets, which belong to one frame or field. `is_broken` is whether they are broken: all
+    /// of them or none.
     #[inline(always)]
     pub fn feed(&mut self, is_broken: bool, times: u64)
         requires { 1 ≤ times }
         ensures whole { self.new.whole ≡ self.old.whole }
 
-        // Whatever packets the meter was fed, it was now fed these, too.
+        // Whatever packets the counter was fed before, these packets now follow them.
         ensures stands { (n : ℕ) (broken : ℕ → Bool) (seen : ℕ) → CountsBroken n self.old broken seen
             → ((j : ℕ) → j < times → broken (seen + j) ≡ is_broken)
             → CountsBroken n self.new broken (seen + times) }
@@ -44,7 +45,7 @@ impl BrokenGroups {
         self.here = either(self.here, is_broken);
     }
 
-    /// The group is over.
+    /// Completes the current frame or field.
     #[inline(always)]
     pub fn end_group(&mut self)
         requires { self.old.whole < 2 ^ 63 }
@@ -57,7 +58,7 @@ impl BrokenGroups {
         self.here = false;
     }
 
-    /// How many of the groups that are over have a broken packet.
+    /// Returns how many of the complete frames or fields have a broken packet.
     pub fn count(&self) -> u64
         ensures { (n : ℕ) (broken : ℕ → Bool) (seen : ℕ) → CountsBroken n self.now broken seen
             → result ≡ broken_groups n broken self.now.whole }
@@ -66,7 +67,7 @@ impl BrokenGroups {
     }
 }
 
-/// Whether one of two tests passes.
+/// Returns whether at least one of two tests passes.
 #[inline(always)]
 pub fn either(first: bool, second: bool) -> bool
     ensures { result ≡ first || second }

@@ -1,4 +1,4 @@
-//! What the receiver buffer held, by the reads of one schedule.
+//! The occupancy of the receiver buffer by the reads of one schedule.
 
 ghost use Rattle.std.specs.Prelude.{◌≡◌, ◌<◌, ◌≤◌, ◌+◌, ◌^◌, ℕ, Bool, MatchOption};
 
@@ -7,12 +7,12 @@ use crate::numbers::Buffer;
 use crate::summary::SummaryMeter;
 use vrx_buffer::Held;
 
-/// What the receiver buffer held just after the packets so far, by the reads of one schedule.
+/// A meter of the receiver buffer just after each packet so far, by the reads of one schedule.
 #[derive(Clone, Copy)]
 pub struct BufferMeter {
-    /// In packets; below 0 where the reads are ahead.
+    /// The occupancy, in packets; below 0 if the reads are ahead.
     pub occupancy: SummaryMeter,
-    /// The packets that came after their own reads.
+    /// The count of packets that arrived after their own reads.
     late: u64,
     ghost late_few: { late ≤ occupancy.seen },
 }
@@ -24,7 +24,7 @@ impl BufferMeter {
     ghost use Rattle.flow_measure.specs.Summary.{IsSummary};
     ghost use Rattle.flow_measure.specs.Counts.{count_of};
 
-    /// Before the first packet.
+    /// Returns the meter before the first packet.
     pub fn new() -> BufferMeter
         ensures seen { result.occupancy.seen ≡ 0 }
         ensures occupancy { (numbers : ℕ → ℤ) → Summarizes result.occupancy numbers }
@@ -36,14 +36,14 @@ impl BufferMeter {
         }
     }
 
-    /// Takes in so many packets, just after each of which this is held.
+    /// Takes the next `times` packets. The buffer is at `held` just after each of them.
     #[inline(always)]
     pub fn feed(&mut self, held: Held, times: u64)
         requires some { 1 ≤ times }
         requires few { self.old.occupancy.seen + times ≤ 2 ^ 41 }
         ensures seen { self.new.occupancy.seen ≡ self.old.occupancy.seen + times }
 
-        // Whatever packets the meter was fed, it was now fed these, too.
+        // Whatever packets the meter was fed before, these packets now follow them.
         ensures occupancy { (numbers : ℕ → ℤ) → Summarizes self.old.occupancy numbers
             → ((j : ℕ) → j < times → numbers (self.old.occupancy.seen + j) ≡ held.occupancy)
             → Summarizes self.new.occupancy numbers }
@@ -57,7 +57,8 @@ impl BufferMeter {
         }
     }
 
-    /// What the buffer held, where there is a packet, and how many nanoseconds later all packets may come.
+    /// Returns the numbers of the buffer, or `None` if there is no packet. `slack` is the number of nanoseconds by
+    /// which all packets may be later.
     pub fn finish(&self, slack: i128) -> Option<Buffer>
         ensures { (numbers : ℕ → ℤ) (late : ℕ → Bool) → Summarizes self.now.occupancy numbers → CountsLate self.now late
             → MatchOption result (self.now.occupancy.seen ≡ 0) (λ b.

@@ -15,7 +15,7 @@ pub use slope::Slope;
 
 use std::alloc::{AllocError, Global};
 
-/// The least and the greatest of some numbers.
+/// The least and the greatest of some numbers, in their unit.
 #[derive(Clone, Copy)]
 pub struct Extremes {
     /// The least of them.
@@ -24,15 +24,15 @@ pub struct Extremes {
     pub greatest: i128,
 }
 
-/// A whole number of some size, of which columns are made.
+/// A signed integer of which columns are made.
 pub trait Integer: Copy + Drop {
-    /// 0.
+    /// Zero.
     const ZERO: Self;
 
-    /// The number.
+    /// The mathematical value of the number.
     ghost value: { Self → ℤ };
 
-    /// The number, in the widest size.
+    /// Returns the number as an `i128`.
     fn wide(self) -> i128
         ensures { result ≡ value self };
 }
@@ -59,7 +59,7 @@ impl Integer for i128 {
     }
 }
 
-/// The lesser of two numbers.
+/// Returns the lesser of two numbers.
 #[inline(always)]
 fn lesser<N: Integer>(a: N, b: N) -> N
     ensures { N.value result ≡ int_min (N.value a) (N.value b) }
@@ -67,7 +67,7 @@ fn lesser<N: Integer>(a: N, b: N) -> N
     if b.wide() < a.wide() { b } else { a }
 }
 
-/// The greater of two numbers.
+/// Returns the greater of two numbers.
 #[inline(always)]
 fn greater<N: Integer>(a: N, b: N) -> N
     ensures { N.value result ≡ int_max (N.value a) (N.value b) }
@@ -75,7 +75,7 @@ fn greater<N: Integer>(a: N, b: N) -> N
     if b.wide() < a.wide() { a } else { b }
 }
 
-/// The least and the greatest of the numbers of a column, in their own size.
+/// The least and the greatest number of a column, in the type of the numbers.
 #[derive(Clone, Copy)]
 struct Column<N> {
     least: N,
@@ -83,7 +83,7 @@ struct Column<N> {
 }
 
 impl<N: Integer> Column<N> {
-    /// The column of one number.
+    /// Returns the column of one number.
     #[inline(always)]
     fn of(number: N) -> Column<N>
         ensures { extremes_of N.value result ≡ only (N.value number) }
@@ -94,7 +94,7 @@ impl<N: Integer> Column<N> {
         }
     }
 
-    /// The column of the numbers of both.
+    /// Returns the column of the numbers of both columns.
     #[inline(always)]
     fn joined(self, other: Column<N>) -> Column<N>
         ensures { extremes_of N.value result ≡ joined (extremes_of N.value self) (extremes_of N.value other) }
@@ -105,7 +105,7 @@ impl<N: Integer> Column<N> {
         }
     }
 
-    /// Its least and its greatest number, in the widest size.
+    /// Returns the least and the greatest number as `i128`.
     fn extremes(&self) -> Extremes
         ensures { result ≡ extremes_of N.value self.now }
     {
@@ -116,14 +116,15 @@ impl<N: Integer> Column<N> {
     }
 }
 
-/// The extremes of these columns, in order. `Err` is want of memory.
+/// Returns the least and the greatest number of each column, in order. Returns `Err` if memory runs out.
 fn listed<N: Integer>(alloc: Global, columns: &[Column<N>]) -> Result<Vec<Extremes>, AllocError>
     ensures { IfOk result (λ list. list.items ≡ map (extremes_of N.value) columns.now) }
 {
     columns.iter().map(|c| c.extremes()).collect(alloc)
 }
 
-/// How many numbers each column of a curve of so many numbers takes, where there are at most so many columns.
+/// Returns how many numbers each column of a curve takes, if the curve has `count` numbers and at most `most` columns:
+/// the least power of two that suffices.
 pub fn width_of(count: u64, most: u32) -> u64
     requires some { 1 ≤ most }
     requires few { count ≤ most * 2 ^ 63 }

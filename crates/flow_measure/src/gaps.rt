@@ -6,18 +6,19 @@ use crate::classes::Classes;
 use crate::numbers::Gaps;
 use crate::summary::Summary;
 
-/// The times from each packet so far to the next, in nanoseconds. Their sum is that from the first packet to the last.
+/// A meter of the times from each packet so far to the next, in nanoseconds. Their sum is the time from the first
+/// packet to the last.
 #[derive(Clone, Copy)]
 pub struct GapMeter {
-    /// The packets fed.
+    /// The count of packets fed.
     pub seen: u64,
-    /// The stamps of the first and the last of them; 0 before the first.
+    /// The capture timestamps of the first and the last packet; 0 before the first packet.
     begin: u64,
     end: u64,
-    /// The first time, and the last one; 0 before it.
+    /// The first and the last time between packets; 0 before the second packet.
     first: u64,
     last: u64,
-    /// The least and the greatest; 0 before the first.
+    /// The least and the greatest time between packets; 0 before the second packet.
     least: u64,
     greatest: u64,
     classes: Classes,
@@ -28,7 +29,7 @@ impl GapMeter {
     ghost use Rattle.flow_measure.specs.Fed.{MeasuresGaps};
     ghost use Rattle.flow_measure.specs.Gaps.{AreGapsOf};
 
-    /// Before the first packet.
+    /// Returns the meter before the first packet.
     pub fn new() -> GapMeter
         ensures seen { result.seen ≡ 0 }
         ensures stands { (stamp : ℕ → ℕ) → MeasuresGaps result stamp }
@@ -45,15 +46,15 @@ impl GapMeter {
         }
     }
 
-    /// Takes in the packet that came at `at`, in nanoseconds. What the meter says is so where it is no earlier than the
-    /// one before it.
+    /// Takes the packet that arrived at `at`, in nanoseconds. The measured times are only guaranteed if no packet is
+    /// earlier than the one before it.
     #[inline(always)]
     pub fn feed(&mut self, at: u64)
         requires in_time { at < 2 ^ 62 }
         requires few { self.old.seen < 2 ^ 41 }
         ensures seen { self.new.seen ≡ self.old.seen + 1 }
 
-        // Whatever packets the meter was fed, it was now fed this one, too.
+        // Whatever packets the meter was fed before, this packet now follows them.
         ensures stands { (stamp : ℕ → ℕ) → MeasuresGaps self.old stamp → stamp self.old.seen ≡ at
             → ((i : ℕ) → i < self.old.seen → stamp i ≤ at) → MeasuresGaps self.new stamp }
     {
@@ -69,7 +70,7 @@ impl GapMeter {
         self.seen += 1;
     }
 
-    /// Takes in the first or the second packet.
+    /// Takes the first or the second packet.
     #[cold]
     #[inline(never)]
     fn begin_with(&mut self, at: u64)
@@ -95,7 +96,7 @@ impl GapMeter {
         self.classes.feed(gap);
     }
 
-    /// The times from each packet to the next, where there are two packets or more.
+    /// Returns the times from each packet to the next, or `None` if there are fewer than two packets.
     pub fn finish(&self) -> Option<Gaps>
         ensures { (stamp : ℕ → ℕ) → MeasuresGaps self.now stamp
             → MatchOption result (self.now.seen ≤ 1) (AreGapsOf stamp self.now.seen) }

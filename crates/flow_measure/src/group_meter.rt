@@ -1,4 +1,4 @@
-//! What the packets and RTP timestamps of groups say.
+//! Measurements of the frames or fields of a run: when their packets arrive, and their RTP timestamps.
 
 ghost use Rattle.std.specs.Prelude.{◌≡◌, ◌<◌, ◌≤◌, ◌+◌, ◌-◌, ◌^◌, ℕ, ℤ, pos, negsuc, ◌≤ℤ◌, MatchOption};
 ghost use Rattle.timing_base.specs.Media.{Media};
@@ -8,35 +8,40 @@ use crate::steps::StepMeter;
 use crate::summary::{Summary, SummaryMeter};
 use sender_params::Params;
 
-/// A group: when its packets came, in nanoseconds of TAI, and its RTP timestamp.
+/// A frame or field: the capture timestamps of its first and last packet, in nanoseconds of TAI, and its RTP timestamp.
 #[derive(Clone, Copy)]
 pub struct Group {
-    /// Its first packet.
+    /// The capture timestamp of the first packet.
     pub first: u64,
-    /// Its last one.
+    /// The capture timestamp of the last packet.
     pub last: u64,
-    /// In ticks of 90 kHz.
+    /// The RTP timestamp, in ticks of 90 kHz.
     pub timestamp: u32,
     ghost first_in_time: { first < 2 ^ 62 },
     ghost last_in_time: { last < 2 ^ 62 },
 }
 
-/// What the packets and RTP timestamps of groups say, as a run's numbers have it.
+/// The measurements of the frames or fields of a run, as [`RunNumbers`](crate::RunNumbers) has them.
 #[derive(Clone, Copy)]
 pub struct GroupNumbers {
+    /// Nanoseconds from the instant at which each frame or field begins to its first packet.
     pub first: Summary,
+    /// Nanoseconds from the instant at which each frame or field begins to its last packet.
     pub last: Summary,
+    /// Ticks by which each RTP timestamp exceeds the media clock at the instant at which its frame or field begins.
     pub offset: Summary,
+    /// Ticks from each RTP timestamp to the first packet of its frame or field.
     pub latency: Summary,
+    /// Ticks from each RTP timestamp to the next; `None` if there is only one frame or field.
     pub step: Option<Summary>,
 }
 
-/// What the packets and RTP timestamps of the groups so far say.
+/// A meter of the frames or fields so far.
 #[derive(Clone, Copy)]
 pub struct GroupMeter {
-    /// By how many nanoseconds the first packet of each group comes after the group begins.
+    /// Nanoseconds from the instant at which each frame or field begins to its first packet.
     pub first: SummaryMeter,
-    /// The same of the last packet.
+    /// Nanoseconds from the instant at which each frame or field begins to its last packet.
     last: SummaryMeter,
     offset: SummaryMeter,
     latency: SummaryMeter,
@@ -51,7 +56,7 @@ impl GroupMeter {
     ghost use Rattle.flow_measure.specs.Fed.{MeasuresGroups};
     ghost use Rattle.flow_measure.specs.Groups.{AreGroupNumbers};
 
-    /// Before the first group.
+    /// Returns the meter before the first frame or field.
     pub fn new() -> GroupMeter
         ensures seen { result.first.seen ≡ 0 }
         ensures stands { (m : Media) (anchor : ℤ) (first last timestamp : ℕ → ℕ)
@@ -66,7 +71,8 @@ impl GroupMeter {
         }
     }
 
-    /// Takes in the next group, of a run whose first group has the number `n0` in the epoch.
+    /// Takes the next frame or field of a run. `n0` is the number of the run's first frame or field, counted from the
+    /// epoch.
     #[cold]
     #[inline(never)]
     pub fn feed(&mut self, params: &Params, n0: i128, group: Group)
@@ -75,7 +81,7 @@ impl GroupMeter {
         requires few { self.old.first.seen < 2 ^ 41 }
         ensures seen { self.new.first.seen ≡ self.old.first.seen + 1 }
 
-        // Whatever groups the meter was fed, it was now fed this one, too.
+        // Whatever frames or fields the meter was fed before, this one now follows them.
         ensures stands { (first last timestamp : ℕ → ℕ)
             → MeasuresGroups params.now.media n0 self.old first last timestamp
             → first self.old.first.seen ≡ group.first → last self.old.first.seen ≡ group.last
@@ -93,7 +99,7 @@ impl GroupMeter {
         self.step.feed(group.timestamp);
     }
 
-    /// The numbers of the groups, if there is one.
+    /// Returns the measurements, or `None` if there is no frame or field.
     pub fn finish(&self) -> Option<GroupNumbers>
         ensures { (m : Media) (anchor : ℤ) (first last timestamp : ℕ → ℕ)
             → MeasuresGroups m anchor self.now first last timestamp

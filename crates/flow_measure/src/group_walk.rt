@@ -1,19 +1,19 @@
-//! How far the packets of a run have come among its groups.
+//! The position of the packets of a run in its frames or fields.
 
 ghost use Rattle.std.specs.Prelude.{◌≡◌, ◌<◌, ◌≤◌, ◌+◌, ◌/◌, ◌%◌, ◌^◌, true, false};
 
 use sender_params::Params;
 
-/// How far the packets of a run have come among its groups, which have one size.
+/// The position of the next packet of a run in its frames or fields, which all have the same number of packets.
 #[derive(Clone, Copy)]
 pub struct GroupWalk {
-    /// The packets of a group.
+    /// The packets per frame or field.
     pub n: u32,
-    /// The place of the next packet in its group.
+    /// The place of the next packet in its frame or field, from 0.
     pub place: u32,
-    /// The packets so far.
+    /// The count of packets so far.
     pub seen: u64,
-    /// The groups of which all packets came: the number of the next packet's group.
+    /// The number of the next packet's frame or field, from 0: the count of those that are complete.
     pub group: u64,
     ghost few: { seen ≤ 2 ^ 41 },
     ghost place_is: { place ≡ seen % n },
@@ -23,7 +23,7 @@ pub struct GroupWalk {
 }
 
 impl GroupWalk {
-    /// Before the first packet.
+    /// Returns the position of the first packet.
     pub fn new(params: &Params) -> GroupWalk
         ensures n { result.n ≡ params.now.n }
         ensures seen { result.seen ≡ 0 }
@@ -38,7 +38,7 @@ impl GroupWalk {
         }
     }
 
-    /// Passes the next packet, and tells whether it is the last of its group.
+    /// Passes the next packet, and returns whether it is the last of its frame or field.
     #[inline(always)]
     pub fn pass(&mut self) -> bool
         requires few { self.old.seen < 2 ^ 41 }

@@ -1,4 +1,4 @@
-//! How near packets come to the limits of one sender type.
+//! Measurements of packets against the limits of one sender type.
 
 ghost use Rattle.std.specs.Prelude.{◌≡◌, ◌<◌, ◌≤◌, ◌+◌, ◌*◌, ◌^◌, ℕ, Option};
 
@@ -10,16 +10,18 @@ use sender_params::Params;
 use timing_base::Kind;
 use vrx_buffer::Held;
 
-/// How near the packets so far of one run come to the limits of one sender type, and how often they break them.
+/// A meter of the packets so far of one run against the limits of one sender type.
 #[derive(Clone, Copy)]
 pub struct KindMeter {
+    /// The histogram of the bucket, in packets, up to C_MAX.
     pub bucket: Bins,
     buffer: Bins,
+    /// The count of frames or fields that have a packet that breaks a limit.
     pub broken: BrokenGroups,
     first_bucket: Option<u64>,
     first_over: Option<u64>,
     first_empty: Option<u64>,
-    /// Where the first packet stands that breaks a model.
+    /// The place in the capture of the first packet that breaks a limit.
     named: Option<Place>,
     ghost buffer_is: { buffer.seen ≡ bucket.seen },
 }
@@ -30,7 +32,7 @@ impl KindMeter {
     ghost use Rattle.flow_measure.specs.First.{IsFirst};
     ghost use Rattle.flow_measure.specs.Kinds.{AreKindNumbers, Packets, breaks};
 
-    /// The meter of this sender type before the first packet.
+    /// Returns the meter of a sender type before the first packet.
     pub fn new(params: &Params, kind: Kind) -> KindMeter
         ensures seen { result.bucket.seen ≡ 0 }
         ensures whole { result.broken.whole ≡ 0 }
@@ -48,15 +50,16 @@ impl KindMeter {
         }
     }
 
-    /// Takes in so many packets of one group, with what the bucket holds just after each, and what the buffer says
-    /// of each by the reads of the type. The first of them stands at `place`.
+    /// Takes the next `times` packets, which belong to one frame or field. `bucket` is the count of the bucket just
+    /// after each packet, and `held` the buffer just after each packet by the reads of the type. The first of them
+    /// stands at `place` in the capture.
     pub fn feed(&mut self, bucket: u64, held: Held, times: u64, place: Place)
         requires few { self.old.bucket.seen + times ≤ 2 ^ 41 }
         requires some { 1 ≤ times }
         ensures whole { self.new.broken.whole ≡ self.old.broken.whole }
         ensures seen { self.new.bucket.seen ≡ self.old.bucket.seen + times }
 
-        // Whatever packets the meter was fed, it was now fed these, too.
+        // Whatever packets the meter was fed before, these packets now follow them.
         ensures stands { (n c_max full : ℕ) (packets : Packets) → MeasuresKind n c_max full self.old packets
             → AreLike c_max full packets self.old.bucket.seen (self.old.bucket.seen + times) bucket held
             → StandsAt packets self.old.bucket.seen place → MeasuresKind n c_max full self.new packets }
@@ -76,7 +79,7 @@ impl KindMeter {
         self.broken.feed(broken, times);
     }
 
-    /// The last packet ended its group.
+    /// Completes the frame or field of the last packet.
     #[inline(always)]
     pub fn end_group(&mut self)
         requires { self.old.broken.whole < 2 ^ 63 }
@@ -88,7 +91,7 @@ impl KindMeter {
         self.broken.end_group();
     }
 
-    /// The numbers of the type, of whole groups.
+    /// Returns the measurements of the type. Its `groups_broken` counts complete frames or fields only.
     pub fn finish(&self) -> KindNumbers
         ensures { (n c_max full : ℕ) (named : Option ℕ) (packets : Packets) → MeasuresKind n c_max full self.now packets
             → IsFirst (breaks packets) self.now.bucket.seen named
@@ -108,7 +111,7 @@ impl KindMeter {
 
 ghost use Rattle.flow_measure.specs.Kinds.{place_with};
 
-/// Where the first broken packet stands, where the next one stands at `place`.
+/// Returns the place of the first broken packet, including a packet at `place` that may be broken.
 #[inline(always)]
 fn named_with(named: Option<Place>, place: Place, broken: bool) -> Option<Place>
     ensures { result ≡ place_with named place broken }

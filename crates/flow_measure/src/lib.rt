@@ -1,13 +1,14 @@
-//! The numbers of one flow, packet by packet and group by group, what a picture of them has, and both in writing.
+//! Measurements of one flow, per packet and per frame or field, the columns of its pictures, and the reports of them.
 //!
-//! A [`NumbersMeter`] has all numbers of a judged run, made while it is judged. Of its parts a [`SummaryMeter`], [`Bins`] and
-//! [`Classes`] are fed whole numbers, in order, and [`BrokenGroups`] whether each packet is broken; a [`Curve`] and an [`Eye`]
-//! are those of a picture. None keeps a history: their size doesn't grow with what they are fed. Stamps are nanoseconds of
-//! TAI; numbers, packets and groups are counted from 0.
+//! A [`NumbersMeter`] collects all measurements of a judged run while the run is judged. It is made of a
+//! [`SummaryMeter`], [`Bins`] and [`Classes`], which are fed whole numbers in order, and of [`BrokenGroups`], which is
+//! fed whether each packet is broken. A [`Curve`] and an [`Eye`] hold the columns of a picture. No meter keeps a
+//! history: its size doesn't grow with the count of numbers fed. Capture timestamps are nanoseconds of TAI. Numbers,
+//! packets and groups are counted from 0. In identifiers, a group is a frame, or a field of interlaced video.
 //!
-//! - `laws`: what follows of the definitions, and numbers worked by hand.
-//! - `report`: the numbers of a capture's flows as JSON, and the line of a packet or a group.
-//! - `rows`: these lines of a judged run, made while it is judged.
+//! - `laws`: theorems about the definitions, and numbers worked by hand.
+//! - `report`: the measurements of all flows of a capture as JSON, and the line of a packet or a frame.
+//! - `rows`: these lines of a judged run, written while the run is judged.
 #![tactic(auto)]
 
 mod bins;

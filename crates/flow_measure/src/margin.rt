@@ -1,4 +1,4 @@
-//! By how much packets come before their own reads.
+//! The margin by which packets arrive before their own reads.
 
 ghost use Rattle.std.specs.Prelude.{◌≡◌, ◌<◌, ◌≤◌, ◌+◌, ◌*◌, ◌^◌, ◌++◌, ◌∷◌, [], max, ℕ, Bool, List, length};
 ghost use Rattle.std.specs.Prelude.{negsuc, pos, ◌≤ℤ◌};
@@ -7,27 +7,27 @@ use crate::frames::floor_difference;
 use crate::groups::{GROUPS_BEFORE, lifted};
 use sender_params::{Params, sizes_of};
 
-/// How much later packets may come, and how many are late.
+/// The common margin of all packets, and the count of late packets.
 #[derive(Clone, Copy, Debug, PartialEq, Eq)]
 pub struct Margins {
-    /// How many nanoseconds later all of them may come before one is late, rounded down; below 0 where one
-    /// is.
+    /// The nanoseconds by which all packets may be later before one is late, rounded down; below 0 if one is late.
     pub slack: i128,
-    /// How many come after their own reads.
+    /// The count of packets that arrive after their own reads.
     pub late: u64,
 }
 
-/// By how much the packets so far of one run come before their own reads, of one schedule. Its times are in parts of
-/// a nanosecond, from 0 of TAI on.
+/// A meter of the margin of the packets so far of one run, by the reads of one schedule. Its times are in fractions of
+/// a nanosecond, 1 / `den`, from 0 of TAI on.
 #[derive(Clone, Copy)]
 pub struct MarginMeter {
-    /// The parts of a nanosecond.
+    /// The count of these fractions in a nanosecond.
     pub den: u64,
-    /// From one read of a group to the next.
+    /// The time from one read of a frame or field to the next.
     pub step: u64,
-    /// What is left of the time of a group behind one step for each of its reads.
+    /// The time that remains of a frame or field after one step for each of its reads.
     pub turn: u128,
-    /// The latest instant at which the next packet has no less margin than the packets so far; 0 before the first.
+    /// The latest instant at which the next packet has no less margin than the packets so far; 0 before the first
+    /// packet.
     pub latest: u128,
     ghost den_small: { den < 2 ^ 48 },
     ghost step_small: { step < 2 ^ 51 },
@@ -41,7 +41,7 @@ impl MarginMeter {
     ghost use Rattle.flow_measure.specs.Margins.{Times, read_in};
     ghost use Rattle.flow_measure.specs.Occupancy.{IsSlack};
 
-    /// Before the first packet: of the gapped reads or of the linear ones.
+    /// Returns the meter before the first packet: of the gapped reads if `gapped`, else of the linear ones.
     pub fn new(params: &Params, gapped: bool) -> MarginMeter
         ensures latest { result.latest ≡ 0 }
         ensures stands { Times params.now.media params.now.n gapped result [] 0 }
@@ -55,8 +55,8 @@ impl MarginMeter {
         }
     }
 
-    /// Takes in the packet that came at `at`, in nanoseconds of TAI. Behind the last one of a group `end_group` is
-    /// next.
+    /// Takes the packet that arrived at `at`, in nanoseconds of TAI. After the last packet of a frame or field, the
+    /// caller calls `end_group` next.
     #[inline(always)]
     pub fn feed(&mut self, at: u64)
         requires in_time { at < 2 ^ 62 }
@@ -65,7 +65,7 @@ impl MarginMeter {
         ensures step { self.new.step ≡ self.old.step }
         ensures turn { self.new.turn ≡ self.old.turn }
 
-        // Whatever packets the meter was fed, it was now fed this one, too.
+        // Whatever packets the meter was fed before, this packet now follows them.
         ensures stands { (m : Media) (n : ℕ) (gapped : Bool) (stamps : List ℕ) (passed : ℕ)
             → Times m n gapped self.old stamps passed → passed ≡ read_in n self.old (length stamps)
             → Times m n gapped self.new (stamps ++ at ∷ []) (passed + self.old.step) }
@@ -74,7 +74,7 @@ impl MarginMeter {
         self.latest = self.latest.max(reached) + u128::from(self.step);
     }
 
-    /// The last packet ended its group.
+    /// Completes the frame or field of the last packet.
     #[inline(always)]
     pub fn end_group(&mut self)
         requires { self.old.latest < 2 ^ 121 }
@@ -88,8 +88,8 @@ impl MarginMeter {
         self.latest += self.turn;
     }
 
-    /// How many nanoseconds later all packets may come before one is late, of so many whole groups, where the first
-    /// packet is of group `n0`.
+    /// Returns by how many nanoseconds all packets may be later before one is late, rounded down, after `groups`
+    /// complete frames or fields. `n0` is the number of the first packet's frame or field, counted from the epoch.
     pub fn slack(&self, params: &Params, gapped: bool, n0: i128, groups: u64) -> i128
         requires low { negsuc 479 ≤ℤ n0 }
         requires high { n0 ≤ℤ pos (2 ^ 42) }

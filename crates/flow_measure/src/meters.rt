@@ -13,15 +13,16 @@ use crate::target::target_of;
 use run_meter::{Level, RunPacket};
 use sender_params::Params;
 
-/// The numbers of the packets so far of one run.
+/// A meter of all measurements of one run.
 ///
-/// It keeps no history: its size, some four thousand bytes, doesn't grow with what it is fed.
+/// It keeps no history: its size, about four thousand bytes, doesn't grow with the count of packets.
 #[derive(Clone, Copy)]
 pub struct RunMeters {
+    /// The position of the next packet in its frame or field.
     pub walk: GroupWalk,
-    /// The number in the epoch of the group to which the first packet belongs; 0 before that packet.
+    /// The number of the first packet's frame or field, counted from the epoch; 0 before that packet.
     n0: i128,
-    /// The last group that began, up to its first packet; all 0 before it.
+    /// The current or last frame or field, as of its first packet; all 0 before it.
     group: Group,
     models: ModelMeters,
     gapped: MarginMeter,
@@ -46,7 +47,7 @@ impl RunMeters {
     ghost use Rattle.flow_measure.specs.Metered.{AreFirst, Begins, Measures};
     ghost use Rattle.flow_measure.specs.Run.{IsMeasured};
 
-    /// Before the first packet.
+    /// Returns the meter before the first packet.
     #[cold]
     #[inline(never)]
     pub fn new(params: &Params) -> RunMeters
@@ -69,15 +70,15 @@ impl RunMeters {
         }
     }
 
-    /// Takes in the next packet, just after which the models hold this. What is said of the packets is so where no stamp
-    /// is below the one before.
+    /// Takes the next packet, and the levels of both models just after it. The measurements are only guaranteed if no
+    /// capture timestamp is below the one before.
     #[inline(always)]
     pub fn feed(&mut self, params: &Params, packet: RunPacket, level: Level)
         requires in_time { packet.at < 2 ^ 62 }
         requires few { self.old.walk.seen < 2 ^ 41 }
         ensures seen { self.new.walk.seen ≡ self.old.walk.seen + 1 }
 
-        // Whatever packets the meters were fed, they were now fed this one, too.
+        // Whatever packets the meters were fed before, this packet now follows them.
         ensures stands { let m = params.now.media in let n = params.now.n in (stamps records timestamps : List ℕ)
             → Measures m n self.old stamps records timestamps → NeverFall (stamps ++ packet.at ∷ [])
             → IsLevel m n (stamps ++ packet.at ∷ []) (length stamps) level
@@ -106,7 +107,7 @@ impl RunMeters {
         }
     }
 
-    /// Begins a group where the next packet, which is this one, does.
+    /// Begins a frame or field if this packet, the next one, is its first.
     #[inline(always)]
     fn begin(&mut self, params: &Params, packet: RunPacket)
         requires { packet.at < 2 ^ 62 }
@@ -117,7 +118,8 @@ impl RunMeters {
         }
     }
 
-    /// Begins a group with its first packet. The first group is that of the epoch that is nearest to it.
+    /// Begins a frame or field with its first packet. The run's first packet belongs to the nearest frame or field of
+    /// the grid from the epoch.
     #[cold]
     #[inline(never)]
     fn begin_group(&mut self, params: &Params, packet: RunPacket)
@@ -133,7 +135,8 @@ impl RunMeters {
         };
     }
 
-    /// The number in the epoch of the group to which the first packet belongs, where the next packet comes at `at`.
+    /// Returns the number of the first packet's frame or field, counted from the epoch. `at` is the capture timestamp
+    /// of the next packet, in nanoseconds of TAI.
     fn n0_at(&self, params: &Params, at: u64) -> i128
         requires { at < 2 ^ 62 }
         ensures first { self.now.walk.seen ≡ 0 → result ≡ anchor_of params.now.media at }
@@ -148,8 +151,9 @@ impl RunMeters {
         }
     }
 
-    /// The numbers of the run, of whole groups, if there is one. For the types N, NL and W `named` is the first packet
-    /// that breaks a model.
+    /// Returns the measurements of the run, or `None` if no frame or field is complete. They are only guaranteed if the
+    /// last frame or field is complete. In the clause, `named` is the first packet that breaks a limit, for each of N,
+    /// NL and W.
     pub fn finish(&self, params: &Params) -> Option<RunNumbers>
         ensures { let m = params.now.media in let n = params.now.n in (groups : ℕ) (named : List (Option ℕ))
             (stamps records timestamps : List ℕ) → Measures m n self.now stamps records timestamps

@@ -1,4 +1,4 @@
-//! What the two models say of packets, and how near packets come to the limits of the three sender types.
+//! The levels of the two models at each packet, and the packets against the limits of the three sender types.
 
 ghost use Rattle.std.specs.Prelude.{◌≡◌, ◌<◌, ◌≤◌, ◌+◌, ◌*◌, ◌^◌, ℕ};
 
@@ -11,24 +11,29 @@ use sender_params::Params;
 use timing_base::Kind;
 use vrx_buffer::Held;
 
-/// What the two models say of the packets so far of one run, and how near these come to the limits of the types N, NL
-/// and W.
+/// A meter of the packets so far of one run: the levels of the two models, and the packets against the limits of the
+/// types N, NL and W.
 ///
-/// The last packets of a group that find the same wait, and are fed to the meters at once.
+/// The last packets of a frame or field that have equal levels are kept waiting, and are fed to the meters together.
 #[derive(Clone, Copy)]
 pub struct ModelMeters {
-    /// What the bucket held just after each packet.
+    /// The count of the bucket just after each packet, in packets.
     pub bucket: SummaryMeter,
+    /// The buffer by gapped reads.
     pub gapped: BufferMeter,
+    /// The buffer by linear reads.
     pub linear: BufferMeter,
+    /// The measurements against type N.
     pub narrow: KindMeter,
+    /// The measurements against type NL.
     pub narrow_linear: KindMeter,
+    /// The measurements against type W.
     pub wide: KindMeter,
-    /// What the packets that wait find.
+    /// The level of each waiting packet.
     level: Level,
-    /// Where the first of them stands.
+    /// The place in the capture of the first waiting packet.
     place: Place,
-    /// How many they are.
+    /// The count of waiting packets.
     pub waits: u64,
     ghost few: { bucket.seen + waits ≤ 2 ^ 41 },
     ghost gapped_is: { gapped.occupancy.seen ≡ bucket.seen },
@@ -46,7 +51,7 @@ impl ModelMeters {
     ghost use Rattle.flow_measure.specs.Fed.{Finds, MeasuresType};
     ghost use Rattle.flow_measure.specs.Kinds.{Packets};
 
-    /// Before the first packet.
+    /// Returns the meter before the first packet.
     pub fn new(params: &Params) -> ModelMeters
         ensures seen { result.bucket.seen ≡ 0 }
         ensures none { result.waits ≡ 0 }
@@ -78,14 +83,14 @@ impl ModelMeters {
         }
     }
 
-    /// Takes in the next packet, which finds this, and stands at `place`.
+    /// Takes the next packet, its levels, and its place in the capture.
     #[inline(always)]
     pub fn feed(&mut self, level: Level, place: Place)
         requires few { self.old.bucket.seen + self.old.waits < 2 ^ 41 }
         ensures seen { self.new.bucket.seen + self.new.waits ≡ self.old.bucket.seen + self.old.waits + 1 }
         ensures whole { self.new.narrow.broken.whole ≡ self.old.narrow.broken.whole }
 
-        // Whatever packets the meters were fed, they were now fed this one, too.
+        // Whatever packets the meters were fed before, this packet now follows them.
         ensures stands { (kind : KindValue) (n c_max full : ℕ) (packets : Packets)
             → MeasuresType kind n c_max full self.old packets
             → Finds kind c_max full packets (self.old.bucket.seen + self.old.waits) level place
@@ -98,7 +103,7 @@ impl ModelMeters {
         self.turn_to(level, place);
     }
 
-    /// Feeds the packets that wait, and then one waits, which finds this, and stands at `place`.
+    /// Feeds the waiting packets to the meters, and lets the next packet, with its levels and its place, wait.
     #[inline(never)]
     fn turn_to(&mut self, level: Level, place: Place)
         requires few { self.old.bucket.seen + self.old.waits < 2 ^ 41 }
@@ -115,7 +120,7 @@ impl ModelMeters {
         self.waits = 1;
     }
 
-    /// Feeds the packets that wait.
+    /// Feeds the waiting packets to the meters.
     #[inline(always)]
     fn settle(&mut self)
         ensures seen { self.new.bucket.seen ≡ self.old.bucket.seen + self.old.waits }
@@ -142,7 +147,7 @@ impl ModelMeters {
         self.waits = 0;
     }
 
-    /// The last packet ended its group: none waits.
+    /// Completes the frame or field of the last packet. After it no packet waits.
     #[cold]
     #[inline(never)]
     pub fn end_group(&mut self)

@@ -1,4 +1,4 @@
-//! The numbers of the judged runs of a flow, made while they are judged.
+//! The measurements of the judged runs of a flow, made while the runs are judged.
 
 ghost use Rattle.std.specs.Prelude.{◌≡◌, [], true};
 
@@ -9,18 +9,18 @@ use sender_params::Params;
 use std::alloc::{AllocError as OutOfMemory, Global};
 use timing_base::Judged;
 
-/// The most packets of a run.
+/// The greatest number of packets of a run.
 const MOST: u64 = 1 << 41;
 
-/// The judged runs of a flow that are over, each with its numbers.
+/// The judged runs of a flow that are complete, each with its measurements.
 #[derive(Drop)]
 pub struct MeasuredRuns {
-    /// In order.
+    /// The runs, in order.
     pub runs: Vec<MeasuredRun>,
 }
 
 impl MeasuredRuns {
-    /// Before the first run.
+    /// Returns an empty list of runs.
     pub fn new(alloc: Global) -> MeasuredRuns
         ensures { result.runs.items ≡ [] }
     {
@@ -30,13 +30,13 @@ impl MeasuredRuns {
     }
 }
 
-/// The numbers of one judged run, which it puts behind those of the runs before when the run is over.
+/// A meter of one judged run. When the run is complete, the meter appends its measurements to those of earlier runs.
 #[derive(Clone, Copy)]
 pub struct NumbersMeter {
     head: RunHead,
-    /// Of all packets so far.
+    /// The measurements of all packets so far.
     all: RunMeters,
-    /// Of those that were committed.
+    /// The measurements of the committed packets.
     committed: RunMeters,
 }
 
@@ -75,7 +75,7 @@ impl RunMeter for NumbersMeter {
         packet: RunPacket,
         level: Level,
     ) -> Result<(), OutOfMemory> {
-        // No run has more packets; a meter counts as many.
+        // No run has more packets, and a meter can count no more.
         if self.all.walk.seen < MOST {
             self.all.feed(params, packet, level);
         }

@@ -1,4 +1,4 @@
-//! Pictures around fails.
+//! Pictures around violations.
 
 ghost use Rattle.std.specs.Prelude.{◌≡◌, ◌≤◌, ◌^◌, ◌++◌, IfOk, string_bytes};
 ghost use Rattle.std.specs.List.{flat_map};
@@ -14,7 +14,7 @@ use std::alloc::{AllocError as OutOfMemory, Global};
 use timing_base::{Broken, FailProof, Kind};
 use timing_report::{kind_name, model_name};
 
-/// The line that is broken: the type's own limit, and of an empty buffer the line of nothing.
+/// Returns the line that is broken: the limit of the type, or the line at 0 if the buffer underflows.
 fn broken_line(shown: &TypeShown, model: Broken) -> Limit
     ensures { result ≡ broken_line shown.now model }
 {
@@ -34,7 +34,7 @@ fn broken_line(shown: &TypeShown, model: Broken) -> Limit
     }
 }
 
-/// The title of a picture.
+/// Returns the title of a picture.
 fn around_title(alloc: Global, kind: Kind, model: Broken) -> Result<String, OutOfMemory>
     ensures { IfOk result (λ s. string_bytes s ≡ around_title kind model) }
 {
@@ -42,7 +42,7 @@ fn around_title(alloc: Global, kind: Kind, model: Broken) -> Result<String, OutO
     format!(in alloc; "Around the fail: {kind}, {model}")
 }
 
-/// The packets that the verdict names.
+/// Returns the text on the packets of the violation, with count and limit.
 fn around_count(alloc: Global, proof: FailProof) -> Result<String, OutOfMemory>
     ensures { IfOk result (λ s. string_bytes s ≡ around_count proof) }
 {
@@ -52,7 +52,7 @@ fn around_count(alloc: Global, proof: FailProof) -> Result<String, OutOfMemory>
     )
 }
 
-/// The same where so many of them come before those that are shown.
+/// Returns the text on the packets of the violation, if the first `ahead` of them come before the picture.
 fn around_ahead(alloc: Global, proof: FailProof, ahead: u64) -> Result<String, OutOfMemory>
     ensures { IfOk result (λ s. string_bytes s ≡ around_ahead proof ahead) }
 {
@@ -62,7 +62,7 @@ fn around_ahead(alloc: Global, proof: FailProof, ahead: u64) -> Result<String, O
     )
 }
 
-/// What is told beside it.
+/// Returns the text beside the picture.
 fn around_detail(alloc: Global, region: &Region) -> Result<String, OutOfMemory>
     ensures { IfOk result (λ s. string_bytes s ≡ around_detail region.now) }
 {
@@ -74,7 +74,7 @@ fn around_detail(alloc: Global, region: &Region) -> Result<String, OutOfMemory>
     }
 }
 
-/// The packets that are shown, with those that the verdict names shaded.
+/// Returns the scene of the packets in the picture, with those of the violation shaded.
 fn around_scene(region: &Region) -> Scene
     ensures value { result ≡ around_scene region.now }
     ensures few { result.across.count ≤ 2 ^ 60 }
@@ -98,7 +98,7 @@ fn around_scene(region: &Region) -> Scene
     }
 }
 
-/// Adds the picture around a fail of this type.
+/// Adds the picture around a violation of this type.
 fn add_around(
     text: &mut String,
     alloc: Global,
@@ -123,7 +123,7 @@ fn add_around(
     )
 }
 
-/// The place of a type in the order N, NL, W.
+/// Returns the place of a type in the order N, NL, W, from 0.
 fn place_of(kind: Kind) -> u32
     ensures { result ≡ place_of kind }
 {
@@ -134,7 +134,7 @@ fn place_of(kind: Kind) -> u32
     }
 }
 
-/// Adds a picture where it is of this type.
+/// Adds a picture if it belongs to this type.
 #[tactic(auto, unfolding(crate::specs::Around::around_if))]
 fn add_around_if(
     text: &mut String,
@@ -151,7 +151,7 @@ fn add_around_if(
     }
 }
 
-/// Adds the pictures around fails of this type.
+/// Adds the pictures around violations of this type.
 fn add_around_type(
     text: &mut String,
     alloc: Global,
@@ -167,7 +167,7 @@ fn add_around_type(
     Ok(())
 }
 
-/// Adds those of all types.
+/// Adds the pictures around violations of all types.
 pub(crate) fn add_around_figures(
     text: &mut String,
     alloc: Global,

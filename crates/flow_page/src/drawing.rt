@@ -1,9 +1,10 @@
-//! What is drawn of the judged runs of a flow, made while they are judged.
+//! The data for the pictures of the judged runs of a flow, collected while the runs are judged.
 //!
-//! A `DrawingMeter` is fed the packets of one run in order, and has the columns of all of them, of their groups laid over
-//! each other, of when the groups come, and of the packets around the first one that breaks each sender type. Its size
-//! doesn't grow with what it is fed, and how many packets come needn't be known before. Of the runs of a flow the longest
-//! stays. Packets, groups and places count from 0; stamps are nanoseconds of TAI, RTP timestamps ticks of 90 kHz.
+//! A `DrawingMeter` is fed the packets of one run in order. It collects the columns of all packets, of all frames or
+//! fields overlaid, of the times of the frames or fields, and of the packets around the first one that breaks each
+//! sender type. Its size doesn't grow with the count of packets, which need not be known in advance. Of the runs of a
+//! flow, the drawing of the longest is kept. Packets, frames, fields and places count from 0. Capture timestamps are
+//! nanoseconds of TAI, RTP timestamps ticks of 90 kHz.
 
 mod columns;
 mod groups;

@@ -1,4 +1,4 @@
--- What `Rows` hold of the judged runs of a flow. m is the video, `tai` is in seconds.
+-- The text of `Rows` for the judged runs of a flow. m is the video, `tai` is in seconds.
 use Rattle.std.specs.Prelude.{◌≡◌, ℕ, Bool, List, [], ◌++◌, Option, Some, None}
 use Rattle.std.proofs.Common.{append-nil, refl, sym}
 use Rattle.timing_base.specs.Media.{Media}
@@ -6,21 +6,21 @@ use Rattle.run_meter.specs.Runs.{JudgedPart, OpenPart, RunOf}
 use Rattle.flow_measure.specs.rows.Rows.{AreRows, AreRowsOf}
 use Rattle.flow_measure.specs.declared.rows.rows.Rows.{Rows}
 
--- the rows of the runs that are over, and of the whole groups of the one that isn't
+-- the rows of the complete runs, and of the complete frames or fields of the current run
 abbrev pub AreRowsSoFar : (frames : Bool) → Media → (tai : ℕ) → List JudgedPart → Option OpenPart → List ℕ → Type 0
 AreRowsSoFar frames m tai over None text = AreRowsOf frames m tai over text
 AreRowsSoFar frames m tai over (Some part) text =
     (past : List ℕ) × (here : List ℕ) × (text ≡ past ++ here) × AreRowsOf frames m tai over past
     × AreRows frames m tai part.run.number part.run.n [] part.packets here
 
--- what a text held before: what stood there before the first row, and what was taken from its front; whether groups are
--- listed, in place of packets
+-- the past of a `Rows`: whether frames are listed instead of packets, the text before the first row, and the text that
+-- was removed from its front
 pub record PastRows : Type 0 where
   pub frames : Bool
   pub first : List ℕ
   pub gone : List ℕ
 
--- behind what stood there at first these rows were put, and so much was taken from the front
+-- these rows were appended to the first text, and this text was removed from the front
 pub record Tells (past : PastRows) (rows : Rows) (m : Media) (tai : ℕ) (over : List JudgedPart)
     (part : Option OpenPart) : Type 0 where
   pub frames_is : rows.frames ≡ past.frames

@@ -1,4 +1,4 @@
-//! The columns of numbers, whose width doubles while the numbers come.
+//! Columns of consecutive numbers. The width of a column doubles while numbers arrive.
 
 ghost use Rattle.std.specs.Prelude.{◌≡◌, ◌<◌, ◌≤◌, ◌+◌, ◌*◌, ◌-◌, ◌/◌, ◌^◌, ℕ, ℤ, IfOk, length, vec_len};
 ghost use Rattle.flow_measure.specs.Columns.{width_of};
@@ -8,21 +8,22 @@ use super::{Column, Extremes, Integer, Slope, listed};
 use std::alloc::{AllocError, Global};
 use timing_base::Items;
 
-/// The curve of the numbers so far: columns of one width, of which only the last may take fewer. Where there is none left for
-/// the next number, neighbours are joined two by two and the width doubles, so the count of numbers needn't be known before.
+/// The curve of the numbers so far: columns of one width, of which only the last may hold fewer numbers. If no column
+/// is left for the next number, neighbours are joined in pairs and the width doubles, so the count of numbers need not
+/// be known in advance.
 #[derive(Drop)]
 pub struct Curve<N> {
-    /// The most columns that there may be.
+    /// The greatest number of columns.
     pub most: u32,
-    /// The numbers fed.
+    /// The count of numbers fed.
     pub seen: u64,
     /// The numbers that each column takes.
     width: u64,
-    /// The numbers that the last column still takes.
+    /// The numbers for which the last column still has room.
     room: u64,
-    /// The columns that have a number.
+    /// The count of columns that have a number.
     begun: usize,
-    /// The columns; those that have no number yet are 0.
+    /// The columns; those without a number are 0.
     columns: Vec<Column<N>>,
     ghost few: { seen ≤ 2 ^ 41 },
     ghost most_some: { 1 ≤ most },
@@ -40,7 +41,7 @@ impl<N: Integer> Curve<N> {
     ghost use Rattle.flow_measure.specs.Slope.{IsSlope};
     ghost use Rattle.flow_measure.specs.Stands.{DrawsCurve, curve_columns};
 
-    /// A curve of at most so many columns, before the first number. `Err` is want of memory.
+    /// Returns an empty curve of at most `most` columns. Returns `Err` if memory runs out.
     pub fn new(alloc: Global, most: u32) -> Result<Curve<N>, AllocError>
         requires { 1 ≤ most }
         ensures most { IfOk result (λ c. c.most ≡ most) }
@@ -57,21 +58,21 @@ impl<N: Integer> Curve<N> {
         })
     }
 
-    /// How many numbers each column takes, so far.
+    /// Returns how many numbers each column takes at present.
     pub fn width(&self) -> u64
         ensures { result ≡ width_of self.now.seen self.now.most }
     {
         self.width
     }
 
-    /// Takes the next number in. It takes no memory.
+    /// Takes the next number. It allocates no memory.
     #[inline(always)]
     pub fn feed(&mut self, number: N)
         requires few { self.old.seen < 2 ^ 41 }
         ensures most { self.new.most ≡ self.old.most }
         ensures seen { self.new.seen ≡ self.old.seen + 1 }
 
-        // Whatever numbers the curve was fed, it was now fed this one, too.
+        // Whatever numbers the curve was fed before, this number now follows them.
         ensures draws { (numbers : ℕ → ℤ) → DrawsCurve N.value self.old numbers
             → numbers self.old.seen ≡ N.value number → DrawsCurve N.value self.new numbers }
     {
@@ -82,7 +83,7 @@ impl<N: Integer> Curve<N> {
         }
     }
 
-    /// Takes the next number into the last column.
+    /// Adds the next number to the last column.
     #[inline(always)]
     fn widen(&mut self, number: N)
         requires few { self.old.seen < 2 ^ 41 }
@@ -98,7 +99,7 @@ impl<N: Integer> Curve<N> {
         self.seen += 1;
     }
 
-    /// Takes the next number in where all columns so far are full.
+    /// Takes the next number if all columns that have begun are full.
     #[cold]
     #[inline(never)]
     fn open(&mut self, number: N)
@@ -116,7 +117,7 @@ impl<N: Integer> Curve<N> {
         }
     }
 
-    /// Takes the next number into a column of its own.
+    /// Begins a column with the next number.
     fn begin(&mut self, number: N)
         requires few { self.old.seen < 2 ^ 41 }
         requires full { self.old.room ≡ 0 }
@@ -132,7 +133,7 @@ impl<N: Integer> Curve<N> {
         self.seen += 1;
     }
 
-    /// Doubles the width, and takes the next number in, where there is no column left for it.
+    /// Doubles the width and takes the next number, if no column is left for it.
     fn double(&mut self, number: N)
         requires few { self.old.seen < 2 ^ 41 }
         requires full { self.old.room ≡ 0 }
@@ -151,7 +152,7 @@ impl<N: Integer> Curve<N> {
         self.room = self.begun as u64 * self.width - self.seen;
     }
 
-    /// Joins neighbours two by two. A last column that has none stays where it is.
+    /// Joins neighbours in pairs. A last column without a neighbour stays as it is.
     fn join(&mut self)
         ensures most { self.new.most ≡ self.old.most }
         ensures seen { self.new.seen ≡ self.old.seen }
@@ -169,7 +170,7 @@ impl<N: Integer> Curve<N> {
         }
     }
 
-    /// The column behind the pairs: a last one that has no neighbour, and the next number.
+    /// Returns the column that follows the pairs: the next number, with the last column if that one has no neighbour.
     fn behind(&self, number: N) -> Column<N>
         ensures odd { 2 * (self.now.most / 2) + 1 ≡ self.now.most → extremes_of N.value result
             ≡ joined (column_at (curve_columns N.value self.now) (2 * (self.now.most / 2))) (only (N.value number)) }
@@ -182,8 +183,8 @@ impl<N: Integer> Curve<N> {
         }
     }
 
-    /// Takes over what another curve has, which was fed the same numbers and then maybe more. It takes no memory, and copies only
-    /// the columns that changed since.
+    /// Copies the state of another curve, which was fed the same numbers and then possibly more. It allocates no
+    /// memory, and copies only the columns that changed since.
     pub fn keep(&mut self, other: &Curve<N>)
         requires { self.old.most ≡ other.now.most }
         ensures most { self.new.most ≡ self.old.most }
@@ -201,7 +202,8 @@ impl<N: Integer> Curve<N> {
         self.begun = other.begun;
     }
 
-    /// How many columns are full here and as wide in another curve: of the same numbers it has the same ones.
+    /// Returns how many of the first columns are unchanged in another curve, which was fed the same numbers and then
+    /// possibly more: all but the last if the widths are equal, else none.
     fn unchanged_in(&self, other: &Curve<N>) -> usize
         ensures same { self.now.width ≡ other.now.width → result ≡ self.now.begun - 1 }
         ensures doubled { ¬ (self.now.width ≡ other.now.width) → result ≡ 0 }
@@ -213,8 +215,8 @@ impl<N: Integer> Curve<N> {
         }
     }
 
-    /// How the numbers rise or fall from the first column to the last full one, where that stands out of their scatter. Of
-    /// fewer numbers than there may be columns nothing is told.
+    /// Returns the slope of the numbers from the first column to the last full one. Returns `None` if the slope doesn't
+    /// exceed the scatter within these columns, or if there are fewer numbers than columns.
     pub fn slope(&self) -> Option<Slope>
         requires { 2 ≤ self.now.most }
         ensures { (numbers : ℕ → ℤ) → DrawsCurve N.value self.now numbers
@@ -231,7 +233,7 @@ impl<N: Integer> Curve<N> {
         )
     }
 
-    /// How many columns are full.
+    /// Returns how many columns are full.
     fn full(&self) -> usize
         ensures value { result ≡ self.now.seen / self.now.width }
         ensures most { result ≤ self.now.begun }
@@ -243,7 +245,7 @@ impl<N: Integer> Curve<N> {
         }
     }
 
-    /// The columns of the numbers that were fed, in order: their curve. `Err` is want of memory.
+    /// Returns the columns of the numbers fed, in order. Returns `Err` if memory runs out.
     pub fn finish(&self, alloc: Global) -> Result<Items<Extremes>, AllocError>
         ensures curve { IfOk result (λ list. (numbers : ℕ → ℤ) → DrawsCurve N.value self.now numbers
             → AreCurve self.now.most numbers self.now.seen list) }

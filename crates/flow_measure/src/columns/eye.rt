@@ -1,4 +1,4 @@
-//! The columns of groups of numbers, laid over each other.
+//! Columns of groups of numbers that are overlaid.
 
 ghost use Rattle.std.specs.Prelude.{◌≡◌, ◌<◌, ◌≤◌, ◌+◌, ◌*◌, ◌-◌, ◌%◌, ◌^◌, ℕ, ℤ, IfOk, length, min, vec_len};
 ghost use Rattle.std.specs.Int.{div_ceil};
@@ -9,26 +9,27 @@ use super::{Column, Extremes, Integer, listed};
 use std::alloc::{AllocError, Global};
 use timing_base::Items;
 
-/// The eye of the numbers so far, which come in groups of one size: the columns of all groups, laid over each other.
+/// The eye of the numbers so far, which arrive in groups of one size: the columns of all groups overlaid, as in an eye
+/// diagram.
 #[derive(Drop)]
 pub struct Eye<N> {
-    /// The numbers of a group.
+    /// The numbers per group.
     pub group: u64,
-    /// The most columns that there may be.
+    /// The greatest number of columns.
     pub most: u32,
-    /// The numbers fed.
+    /// The count of numbers fed.
     pub seen: u64,
-    /// The numbers of a group that each column takes; the last may take fewer.
+    /// The numbers of a group that each column takes; the last column may take fewer.
     width: u64,
-    /// The numbers of all groups but the last that has begun.
+    /// The count of numbers before the current group.
     before: u64,
-    /// The columns that have a number of that group.
+    /// The count of columns that have a number of the current group.
     opened: usize,
-    /// The numbers of that group that the last of them still takes.
+    /// The numbers of the current group for which the last of these columns still has room.
     room: u64,
-    /// The columns that have a number.
+    /// The count of columns that have a number.
     begun: usize,
-    /// The columns; those that have no number yet are 0.
+    /// The columns; those without a number are 0.
     columns: Vec<Column<N>>,
     ghost few: { seen ≤ 2 ^ 41 },
     ghost group_some: { 1 ≤ group },
@@ -48,7 +49,8 @@ impl<N: Integer> Eye<N> {
     ghost use Rattle.flow_measure.specs.Columns.{AreEye, column_at};
     ghost use Rattle.flow_measure.specs.Stands.{DrawsEye, eye_columns};
 
-    /// An eye of groups of that many numbers, of at most so many columns, before the first number. `Err` is want of memory.
+    /// Returns an empty eye for groups of `group` numbers, with at most `most` columns. Returns `Err` if memory runs
+    /// out.
     pub fn new(alloc: Global, group: u64, most: u32) -> Result<Eye<N>, AllocError>
         requires some { 1 ≤ group }
         requires small { group < 2 ^ 41 }
@@ -73,7 +75,7 @@ impl<N: Integer> Eye<N> {
         })
     }
 
-    /// Takes the next number in. It takes no memory.
+    /// Takes the next number. It allocates no memory.
     #[inline(always)]
     pub fn feed(&mut self, number: N)
         requires few { self.old.seen < 2 ^ 41 }
@@ -81,7 +83,7 @@ impl<N: Integer> Eye<N> {
         ensures most { self.new.most ≡ self.old.most }
         ensures seen { self.new.seen ≡ self.old.seen + 1 }
 
-        // Whatever numbers the eye was fed, it was now fed this one, too.
+        // Whatever numbers the eye was fed before, this number now follows them.
         ensures draws { (numbers : ℕ → ℤ) → DrawsEye N.value self.old numbers
             → numbers self.old.seen ≡ N.value number → DrawsEye N.value self.new numbers }
     {
@@ -92,7 +94,7 @@ impl<N: Integer> Eye<N> {
         }
     }
 
-    /// Takes the next number into the column of the one before.
+    /// Adds the next number to the current column.
     #[inline(always)]
     fn widen(&mut self, number: N)
         requires few { self.old.seen < 2 ^ 41 }
@@ -109,7 +111,7 @@ impl<N: Integer> Eye<N> {
         self.seen += 1;
     }
 
-    /// Takes the next number in where the column of the one before is full.
+    /// Takes the next number if the current column is full.
     #[inline(never)]
     fn open(&mut self, number: N)
         requires few { self.old.seen < 2 ^ 41 }
@@ -124,7 +126,7 @@ impl<N: Integer> Eye<N> {
         self.begin(number);
     }
 
-    /// Goes on to the next group where this one is whole.
+    /// Begins the next group if the current one is complete.
     fn turn(&mut self)
         requires full { self.old.room ≡ 0 }
         ensures group { self.new.group ≡ self.old.group }
@@ -140,7 +142,7 @@ impl<N: Integer> Eye<N> {
         }
     }
 
-    /// Takes the next number into the next column.
+    /// Adds the next number to the next column.
     fn begin(&mut self, number: N)
         requires few { self.old.seen < 2 ^ 41 }
         requires full { self.old.room ≡ 0 }
@@ -158,7 +160,7 @@ impl<N: Integer> Eye<N> {
         self.seen += 1;
     }
 
-    /// The next column, with the next number.
+    /// Returns the next column with the next number added.
     fn widened(&self, number: N) -> Column<N>
         requires { self.now.opened < vec_len self.now.columns }
         ensures fresh { self.now.begun ≤ self.now.opened → extremes_of N.value result ≡ only (N.value number) }
@@ -173,7 +175,8 @@ impl<N: Integer> Eye<N> {
         }
     }
 
-    /// Takes over what another eye has, of groups of as many numbers in at most as many columns. It takes no memory.
+    /// Copies the state of another eye with groups of the same size and the same greatest number of columns. It
+    /// allocates no memory.
     pub fn keep(&mut self, other: &Eye<N>)
         requires group { self.old.group ≡ other.now.group }
         requires most { self.old.most ≡ other.now.most }
@@ -190,7 +193,7 @@ impl<N: Integer> Eye<N> {
         self.begun = other.begun;
     }
 
-    /// The columns of the numbers that were fed, in order: their eye. `Err` is want of memory.
+    /// Returns the columns of the numbers fed, in order. Returns `Err` if memory runs out.
     pub fn finish(&self, alloc: Global) -> Result<Items<Extremes>, AllocError>
         ensures eye { IfOk result (λ list. (numbers : ℕ → ℤ) → DrawsEye N.value self.now numbers
             → AreEye self.now.group self.now.most numbers self.now.seen list) }

@@ -1,24 +1,24 @@
-//! A drift of numbers that stands out of their scatter.
+//! A drift of numbers that exceeds their scatter.
 
 ghost use Rattle.std.specs.Prelude.{◌≡◌};
 ghost use Rattle.flow_measure.specs.Slope.{scatter_of, slope_between};
 
 use super::Extremes;
 
-/// How numbers rise or fall.
+/// A rise or fall of numbers.
 #[derive(Clone, Copy)]
 pub struct Slope {
-    /// Whether they fall.
+    /// Whether the numbers fall.
     pub falls: bool,
-    /// By how much, in their unit.
+    /// The amount of the rise or fall, in the unit of the numbers.
     pub by: u128,
-    /// Over how many numbers.
+    /// The count of numbers over which they rise or fall by that amount.
     pub over: u64,
 }
 
 impl Slope {
-    /// From one column to another one, so many numbers behind it, where their least numbers are further apart than the numbers
-    /// of each of them.
+    /// Returns the slope from the first column to a column `over` numbers later. Returns `None` unless the least
+    /// numbers of the two columns differ by more than the numbers within either column do.
     pub fn between(first: Extremes, last: Extremes, over: u64) -> Option<Slope>
         ensures { result ≡ slope_between first last over }
     {
@@ -35,7 +35,7 @@ impl Slope {
     }
 }
 
-/// How far the numbers of a column are apart.
+/// Returns the difference of the greatest and the least number of a column.
 fn scatter_of(column: Extremes) -> u128
     ensures { result ≡ scatter_of column }
 {

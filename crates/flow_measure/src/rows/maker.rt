@@ -1,4 +1,4 @@
-//! The rows of the packets of a run and of its groups.
+//! The rows of the packets of a run and of its frames or fields.
 
 ghost use Rattle.std.specs.Prelude.{◌≡◌, ◌≤◌, ◌<◌, ◌+◌, ◌^◌, ◌++◌, ◌∷◌, [], ℕ, List, IfSome, length};
 ghost use Rattle.std.specs.Prelude.{pos, negsuc, ◌≤ℤ◌, None, Some, is_some};
@@ -13,15 +13,17 @@ use crate::{latency_of, offset_of, since_start, step_of};
 use run_meter::{Level, RunPacket};
 use sender_params::Params;
 
-/// A packet, and what the models hold just after it.
+/// A packet, and the levels of both models just after it.
 #[derive(Clone, Copy)]
 pub struct Kept {
+    /// The packet.
     pub packet: RunPacket,
+    /// The levels of the bucket and of the receiver buffer, in packets.
     pub level: Level,
     ghost in_time: { packet.at < 2 ^ 62 },
 }
 
-/// The ticks from the RTP timestamp of the group before, where there is one.
+/// Returns the ticks from the RTP timestamp before, or `None` if there is none.
 fn step_with(before: Option<u32>, timestamp: u32) -> Option<u32>
     ensures { result ≡ step_from before timestamp }
 {
@@ -31,16 +33,17 @@ fn step_with(before: Option<u32>, timestamp: u32) -> Option<u32>
     }
 }
 
-/// Makes a row of each packet of a run, and at the last packet of each group the group's row.
+/// Makes a row for each packet of a run, and at the last packet of each frame or field its row.
 #[derive(Clone, Copy)]
 pub struct RowMaker {
+    /// The position of the next packet in its frame or field.
     pub walk: GroupWalk,
-    /// The number in the epoch of the group to which the first packet belongs; 0 before that packet.
+    /// The number of the first packet's frame or field, counted from the epoch; 0 before that packet.
     n0: i128,
-    /// The group of the next packet, as far as its packets came; all but the run and the number of the group are unknown
-    /// before the first of them.
+    /// The row of the current frame or field, from its packets so far. Before its first packet, only `run` and `group`
+    /// are meaningful.
     row: GroupRow,
-    /// The RTP timestamp of the group before, in ticks.
+    /// The RTP timestamp of the last frame or field that began, in ticks of 90 kHz.
     before: Option<u32>,
     ghost n0_low: { negsuc 479 ≤ℤ n0 },
     ghost n0_high: { n0 ≤ℤ pos (2 ^ 42) },
@@ -51,7 +54,7 @@ impl RowMaker {
     ghost use Rattle.flow_measure.specs.rows.making.Groups.{Begins, EndsRow, KeepsRest, Widens};
     ghost use Rattle.flow_measure.specs.rows.making.Stands.{IsKept, StandsFor};
 
-    /// Before the first packet of the run of this number.
+    /// Returns the maker before the first packet of run `run`.
     pub fn new(params: &Params, run: u64) -> RowMaker
         ensures { (tai : ℕ) → StandsFor params.now.media tai run params.now.n result [] }
     {
@@ -79,7 +82,7 @@ impl RowMaker {
         }
     }
 
-    /// The row of the next packet.
+    /// Returns the row of the next packet.
     #[inline(always)]
     pub fn packet_row(&self, kept: Kept) -> PacketRow
         ensures { (m : MediaValue) (tai run n : ℕ) (before : List PacketValue) (p : PacketValue)
@@ -99,7 +102,7 @@ impl RowMaker {
         }
     }
 
-    /// Takes the next packet. Where it is the last of its group, the answer is the group's row.
+    /// Takes the next packet, and returns the row of its frame or field if the packet is the last one.
     #[inline(always)]
     pub fn feed(&mut self, params: &Params, kept: Kept) -> Option<GroupRow>
         requires { self.old.walk.seen < 2 ^ 41 }
@@ -125,7 +128,7 @@ impl RowMaker {
         Some(row)
     }
 
-    /// Takes the next packet into the row of its group.
+    /// Adds the next packet to the row of its frame or field.
     #[inline(always)]
     fn take(&mut self, params: &Params, kept: Kept)
         requires { self.old.walk.seen < 2 ^ 41 }
@@ -141,8 +144,8 @@ impl RowMaker {
         }
     }
 
-    /// The number in the epoch of the group to which the first packet belongs, where the next packet, which begins a group,
-    /// comes at `at`.
+    /// Returns the number of the first packet's frame or field, counted from the epoch. `at` is the capture timestamp
+    /// of the next packet, which begins a frame or field, in nanoseconds of TAI.
     fn anchor_at(&self, params: &Params, at: u64) -> i128
         requires { at < 2 ^ 62 }
         ensures first { self.now.before ≡ None → result ≡ anchor_of params.now.media at }
@@ -156,7 +159,7 @@ impl RowMaker {
         }
     }
 
-    /// Begins a group with its first packet.
+    /// Begins a frame or field with its first packet.
     #[cold]
     #[inline(never)]
     fn begin(&mut self, params: &Params, kept: Kept)
@@ -189,7 +192,7 @@ impl RowMaker {
         self.before = Some(packet.timestamp);
     }
 
-    /// Takes what is held at another packet of the group.
+    /// Adds the levels at another packet to the row of the current frame or field.
     #[inline(always)]
     fn widen(&mut self, level: Level)
         ensures walk { self.new.walk ≡ self.old.walk }

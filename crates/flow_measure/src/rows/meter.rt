@@ -1,4 +1,4 @@
-//! The rows of a judged run, made while it is judged.
+//! The rows of a judged run, written while the run is judged.
 
 ghost use Rattle.std.specs.Prelude.{◌≡◌, IfOk, true};
 
@@ -9,16 +9,15 @@ use sender_params::Params;
 use std::alloc::{AllocError as OutOfMemory, Global};
 use timing_base::Judged;
 
-/// The most packets of a run.
+/// The greatest number of packets of a run.
 const MOST: u64 = 1 << 41;
 
-/// The rows of one judged run, which it puts behind those of the runs before: the rows of a group when the group is
-/// judged.
+/// A meter of one judged run. It appends the run's rows to those of earlier runs, whenever a frame or field is judged.
 #[derive(Drop)]
 pub struct RowsMeter {
-    /// Of the packets that were committed.
+    /// The maker, as of the committed packets.
     pub maker: RowMaker,
-    /// The packets behind these.
+    /// The packets that are fed and not yet committed.
     pub kept: Vec<Kept>,
 }
 
@@ -81,7 +80,7 @@ impl RunMeter for RowsMeter {
 
 ghost use Rattle.flow_measure.specs.rows.making.Meters.{PutsRow, PutsRows};
 
-/// Puts the rows of these packets behind those of `to`.
+/// Appends the rows of these packets to `to`. Returns `Err` if memory runs out.
 fn put_rows(
     maker: &mut RowMaker,
     params: &Params,
@@ -98,8 +97,8 @@ fn put_rows(
     Ok(())
 }
 
-/// Puts the row of the next packet behind those of `to`, or where groups are listed that of its group, if it is the last
-/// of it.
+/// Appends the row of the next packet to `to`. If `to` has a row per frame or field, appends that row instead, at its
+/// last packet. Returns `Err` if memory runs out.
 #[inline(always)]
 fn put_row(
     maker: &mut RowMaker,

@@ -5,7 +5,7 @@ ghost use Rattle.flow_measure.specs.rows.Rows.{header_text};
 
 use crate::report::{RowText, group_header, packet_header};
 
-/// The line above the rows, of packets or of groups.
+/// Returns the header line: that of frame rows if `frames`, else that of packet rows.
 pub fn header(frames: bool) -> &'static str
     ensures { result.now ≡ header_text frames }
 {
@@ -16,19 +16,20 @@ pub fn header(frames: bool) -> &'static str
     }
 }
 
-/// The rows of the judged runs of a flow, as lines. Whoever has them may take lines out of the text while the runs go on.
+/// The rows of the judged runs of a flow, as lines. The caller may remove lines from the text between calls.
 #[derive(Drop)]
 pub struct Rows {
-    /// The lines.
+    /// The lines, after the text that was there before the first row.
     pub text: Vec<u8>,
-    /// Whether groups are listed, in place of packets.
+    /// Whether there is a row per frame or field, instead of one per packet.
     pub frames: bool,
-    /// In its memory the next row is written.
+    /// The memory into which the next row is written.
     pub(crate) row: RowText,
 }
 
 impl Rows {
-    /// No row yet, behind this text. Groups are listed, or packets.
+    /// Returns an empty list of rows, which will be appended to `text`: one per frame or field if `frames`, else one
+    /// per packet.
     pub fn new(text: Vec<u8>, frames: bool) -> Rows
         ensures text { result.text ≡ text }
         ensures frames { result.frames ≡ frames }

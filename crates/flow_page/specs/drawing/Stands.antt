@@ -1,4 +1,4 @@
--- What a `DrawingMeter` says of the packets of a run that it was fed, and of those that were committed.
+-- The state of a `DrawingMeter` after the packets of a run that it was fed, and after those that were committed.
 use Rattle.std.specs.Prelude.{◌≡◌, ℕ, List, ◌++◌}
 use Rattle.timing_base.specs.Media.{Media}
 use Rattle.timing_base.specs.declared.packet.FlowPacket.{FlowPacket}
@@ -8,7 +8,7 @@ use Rattle.flow_page.specs.drawing.drawing.Columns.{Draws}
 use Rattle.flow_page.specs.drawing.drawing.Regions.{DrawsRegions}
 use Rattle.flow_page.specs.declared.drawing.meter.DrawingMeter.{DrawingMeter}
 
--- of this run of the video it was fed these packets and no others, of which the latter were committed
+-- for this run of the video, the meter was fed exactly the packets `fed`, of which `committed` were committed
 pub record StandsFor (x : DrawingMeter) (m : Media) (tai : ℕ) (r : RunOf) (fed committed : List FlowPacket)
     : Type 0 where
   pub run_is : x.run ≡ r.number

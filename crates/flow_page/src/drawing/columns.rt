@@ -13,13 +13,16 @@ use run_meter::Level;
 use sender_params::Params;
 use std::alloc::{AllocError as OutOfMemory, Global};
 
-/// The columns of the packets of one run, as far as they were fed. Its size doesn't grow with what it is fed.
+/// The columns of the packets of one run so far. Their size doesn't grow with the count of packets.
 #[derive(Drop)]
 pub struct RunColumns {
+    /// The columns of the levels at each packet.
     pub packets: PacketColumns,
+    /// The columns of the times and RTP timestamps of frames or fields.
     pub groups: GroupColumns,
-    /// The stamps of the first and the last packet so far, in nanoseconds of TAI.
+    /// The capture timestamp of the first packet, in nanoseconds of TAI; 0 before it.
     pub first_at: u64,
+    /// The capture timestamp of the last packet so far, in nanoseconds of TAI; 0 before the first.
     pub last_at: u64,
     ghost seen_is: { packets.seen ≡ groups.walk.seen },
 }
@@ -28,7 +31,7 @@ impl RunColumns {
     ghost use Rattle.flow_page.specs.drawing.Drawn.{AreCurves};
     ghost use Rattle.flow_page.specs.drawing.drawing.Columns.{Draws};
 
-    /// Before the first packet of a run. `Err` is want of memory.
+    /// Returns the columns before the first packet of a run. Returns `Err` if memory runs out.
     pub fn new(alloc: Global, params: &Params) -> Result<RunColumns, OutOfMemory>
         ensures n { IfOk result (λ x. x.packets.n ≡ params.now.n) }
         ensures seen { IfOk result (λ x. x.packets.seen ≡ 0) }
@@ -42,7 +45,8 @@ impl RunColumns {
         })
     }
 
-    /// Takes the next packet: when it came in nanoseconds of TAI, its RTP timestamp, and what the models hold just after it.
+    /// Takes the next packet: its capture timestamp in nanoseconds of TAI, its RTP timestamp, and the levels just after
+    /// it.
     #[inline(always)]
     pub fn feed(&mut self, params: &Params, at: u64, timestamp: u32, level: Level)
         requires in_time { at < 2 ^ 62 }
@@ -50,7 +54,7 @@ impl RunColumns {
         ensures n { self.new.packets.n ≡ self.old.packets.n }
         ensures seen { self.new.packets.seen ≡ self.old.packets.seen + 1 }
 
-        // Whatever packets were drawn, this one is drawn now, too.
+        // Whatever packets were drawn before, this packet now follows them.
         ensures draws { let m = params.now.media in let n = params.now.n in (stamps timestamps : List ℕ)
             → IsLevel m n (stamps ++ at ∷ []) (length stamps) level → Draws m n self.old stamps timestamps
             → Draws m n self.new (stamps ++ at ∷ []) (timestamps ++ timestamp ∷ []) }
@@ -61,7 +65,7 @@ impl RunColumns {
         self.groups.feed(params, at, timestamp);
     }
 
-    /// The stamp of the first packet, where the next packet comes at `at`, in nanoseconds of TAI.
+    /// Returns the capture timestamp of the first packet. `at` is that of the next packet, in nanoseconds of TAI.
     #[inline(always)]
     fn first_with(&self, at: u64) -> u64
         ensures first { self.now.packets.seen ≡ 0 → result ≡ at }
@@ -74,7 +78,8 @@ impl RunColumns {
         }
     }
 
-    /// Takes over what other columns have, which were fed the same packets and then maybe more. It takes no memory.
+    /// Copies the state of other columns, which were fed the same packets and then possibly more. It allocates no
+    /// memory.
     pub fn keep(&mut self, other: &RunColumns)
         requires { self.old.packets.n ≡ other.now.packets.n }
         ensures n { self.new.packets.n ≡ self.old.packets.n }
@@ -89,7 +94,8 @@ impl RunColumns {
         self.last_at = other.last_at;
     }
 
-    /// The columns, where whole groups were fed. `Err` is want of memory.
+    /// Returns the columns. They are only guaranteed if the last frame or field is complete. Returns `Err` if memory
+    /// runs out.
     pub fn curves(&self, alloc: Global) -> Result<Curves, OutOfMemory>
         ensures { IfOk result (λ c. (m : MediaValue) (n groups : ℕ) (stamps timestamps : List ℕ)
             → IsMedia m → 1 ≤ n → Draws m n self.now stamps timestamps → length stamps ≡ n * groups

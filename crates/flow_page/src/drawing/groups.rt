@@ -1,4 +1,4 @@
-//! The columns of when the groups of a run come, and of their RTP timestamps.
+//! The columns of the times of the frames or fields of a run, and of their RTP timestamps.
 
 ghost use Rattle.std.specs.Prelude.{◌≡◌, ◌<◌, ◌≤◌, ◌+◌, ◌^◌, ◌++◌, ◌∷◌, [], ℕ, ℤ, pos, negsuc, ◌≤ℤ◌, List, IfOk};
 ghost use Rattle.timing_base.specs.Media.{Media as MediaValue};
@@ -9,27 +9,28 @@ use flow_measure::{Curve, GroupWalk, latency_of, offset_of, since_start};
 use sender_params::Params;
 use std::alloc::{AllocError as OutOfMemory, Global};
 
-/// A group: when its first packet came, in nanoseconds of TAI, and its RTP timestamp.
+/// A frame or field: the capture timestamp of its first packet, and its RTP timestamp.
 #[derive(Clone, Copy)]
 pub struct Group {
+    /// The capture timestamp of its first packet, in nanoseconds of TAI.
     pub first: u64,
-    /// In ticks of 90 kHz.
+    /// The RTP timestamp, in ticks of 90 kHz.
     pub timestamp: u32,
     ghost in_time: { first < 2 ^ 62 },
 }
 
-/// The columns of the groups of a run that are over.
+/// The columns of the complete frames or fields of a run.
 #[derive(Drop)]
 pub struct GroupCurves {
-    /// The groups fed.
+    /// The count of frames or fields fed.
     pub seen: u64,
-    /// By how many nanoseconds the first packet of each group comes after the group begins.
+    /// Nanoseconds from the instant at which each frame or field begins to its first packet.
     pub first: Curve<i128>,
-    /// The same of the last packet.
+    /// Nanoseconds from the instant at which each frame or field begins to its last packet.
     pub last: Curve<i128>,
-    /// By how many ticks each group's timestamp is after that of the instant with which the group begins.
+    /// Ticks by which each RTP timestamp exceeds the media clock at the instant at which its frame or field begins.
     pub offset: Curve<i128>,
-    /// The ticks from the timestamp to the first packet.
+    /// Ticks from each RTP timestamp to the first packet of its frame or field.
     pub latency: Curve<i128>,
     ghost first_is: { first.seen ≡ seen },
     ghost last_is: { last.seen ≡ seen },
@@ -44,7 +45,7 @@ pub struct GroupCurves {
 impl GroupCurves {
     ghost use Rattle.flow_page.specs.drawing.drawing.Columns.{DrawsCurves};
 
-    /// Before the first group. `Err` is want of memory.
+    /// Returns the columns before the first frame or field. Returns `Err` if memory runs out.
     fn new(alloc: Global) -> Result<GroupCurves, OutOfMemory>
         ensures seen { IfOk result (λ c. c.seen ≡ 0) }
         ensures draws { IfOk result (λ c. (m : MediaValue) (anchor : ℤ) (first last timestamp : ℕ → ℕ)
@@ -59,7 +60,8 @@ impl GroupCurves {
         })
     }
 
-    /// Takes in the next group, whose last packet came at `at`, of a run whose first group has the number `n0` in the epoch.
+    /// Takes the next frame or field, with the last packet at `at`, in nanoseconds of TAI. `n0` is the number of the
+    /// run's first frame or field, counted from the epoch.
     #[cold]
     #[inline(never)]
     fn feed(&mut self, params: &Params, n0: i128, group: Group, at: u64)
@@ -85,7 +87,8 @@ impl GroupCurves {
         self.seen += 1;
     }
 
-    /// Takes over what other columns have, which were fed the same groups and then maybe more. It takes no memory.
+    /// Copies the state of other columns, which were fed the same frames or fields and then possibly more. It allocates
+    /// no memory.
     fn keep(&mut self, other: &GroupCurves)
         ensures seen { self.new.seen ≡ other.now.seen }
         ensures draws { (m : MediaValue) (anchor : ℤ) (first last timestamp : ℕ → ℕ)
@@ -101,15 +104,16 @@ impl GroupCurves {
     }
 }
 
-/// The columns of the groups of a run, as far as their packets came.
+/// The columns of the frames or fields of a run, from the packets so far.
 #[derive(Drop)]
 pub struct GroupColumns {
-    /// The packets fed.
+    /// The position of the next packet in its frame or field.
     pub walk: GroupWalk,
-    /// The number in the epoch of the group to which the first packet belongs; 0 before that packet.
+    /// The number of the first packet's frame or field, counted from the epoch; 0 before that packet.
     n0: i128,
-    /// The last group that began; all 0 before it.
+    /// The last frame or field that began; all 0 before the first.
     group: Group,
+    /// The columns of the complete frames or fields.
     pub curves: GroupCurves,
     ghost n0_low: { negsuc 479 ≤ℤ n0 },
     ghost n0_high: { n0 ≤ℤ pos (2 ^ 42) },
@@ -119,7 +123,7 @@ pub struct GroupColumns {
 impl GroupColumns {
     ghost use Rattle.flow_page.specs.drawing.drawing.Columns.{Begins, DrawsGroups};
 
-    /// Before the first packet. `Err` is want of memory.
+    /// Returns the columns before the first packet. Returns `Err` if memory runs out.
     pub fn new(alloc: Global, params: &Params) -> Result<GroupColumns, OutOfMemory>
         ensures seen { IfOk result (λ c. c.walk.seen ≡ 0) }
         ensures draws { IfOk result (λ c. DrawsGroups params.now.media params.now.n c [] []) }
@@ -135,14 +139,14 @@ impl GroupColumns {
         })
     }
 
-    /// Takes in the next packet: when it came, in nanoseconds of TAI, and its RTP timestamp.
+    /// Takes the next packet: its capture timestamp in nanoseconds of TAI, and its RTP timestamp.
     #[inline(always)]
     pub fn feed(&mut self, params: &Params, at: u64, timestamp: u32)
         requires few { self.old.walk.seen < 2 ^ 41 }
         requires in_time { at < 2 ^ 62 }
         ensures seen { self.new.walk.seen ≡ self.old.walk.seen + 1 }
 
-        // Whatever packets the columns were fed, they were now fed this one, too.
+        // Whatever packets the columns were fed before, this packet now follows them.
         ensures draws { (stamps timestamps : List ℕ)
             → DrawsGroups params.now.media params.now.n self.old stamps timestamps
             → DrawsGroups params.now.media params.now.n self.new (stamps ++ at ∷ [])
@@ -154,7 +158,7 @@ impl GroupColumns {
         }
     }
 
-    /// Begins a group where the next packet, which is this one, does.
+    /// Begins a frame or field if this packet, the next one, is its first.
     #[inline(always)]
     fn begin(&mut self, params: &Params, at: u64, timestamp: u32)
         requires { at < 2 ^ 62 }
@@ -165,7 +169,8 @@ impl GroupColumns {
         }
     }
 
-    /// Begins a group with its first packet. The first group is that of the epoch that is nearest to it.
+    /// Begins a frame or field with its first packet. The run's first packet belongs to the nearest frame or field of
+    /// the grid from the epoch.
     #[cold]
     #[inline(never)]
     fn begin_group(&mut self, params: &Params, at: u64, timestamp: u32)
@@ -180,7 +185,8 @@ impl GroupColumns {
         };
     }
 
-    /// The number in the epoch of the group to which the first packet belongs, where the next packet comes at `at`.
+    /// Returns the number of the first packet's frame or field, counted from the epoch. `at` is the capture timestamp
+    /// of the next packet, in nanoseconds of TAI.
     fn n0_at(&self, params: &Params, at: u64) -> i128
         requires { at < 2 ^ 62 }
         ensures first { self.now.walk.seen ≡ 0 → result ≡ anchor_of params.now.media at }
@@ -195,7 +201,8 @@ impl GroupColumns {
         }
     }
 
-    /// Takes over what other columns have, which were fed the same packets and then maybe more. It takes no memory.
+    /// Copies the state of other columns, which were fed the same packets and then possibly more. It allocates no
+    /// memory.
     pub fn keep(&mut self, other: &GroupColumns)
         ensures walk { self.new.walk ≡ other.now.walk }
         ensures draws { (m : MediaValue) (n : ℕ) (stamps more timestamps ticks : List ℕ)

@@ -6,23 +6,25 @@ use crate::{Curves, Region, ShownRun};
 use flow_measure::MeasuredRun;
 use timing_base::Items;
 
-/// What is drawn of a judged run.
+/// The drawing of a judged run.
 #[derive(Drop)]
 pub struct DrawnRun {
-    /// Which of the flow's runs it is, judged or not, counted from 1.
+    /// The number of the run among all runs of the flow, judged or not, from 1.
     pub run: u64,
-    /// Its judged packets.
+    /// The count of its judged packets.
     pub packets: u64,
-    /// The stamps of the first and the last of them, in nanoseconds of TAI.
+    /// The capture timestamp of its first judged packet, in nanoseconds of TAI.
     pub first_at: u64,
+    /// The capture timestamp of its last judged packet, in nanoseconds of TAI.
     pub last_at: u64,
+    /// The columns over the run.
     pub curves: Curves,
-    /// One for each type that fails.
+    /// The packets around the violation of each type that fails.
     pub regions: Items<Region>,
 }
 
 impl DrawnRun {
-    /// The run with these numbers, and what is drawn of it.
+    /// Returns the run with these measurements and this drawing.
     pub fn shown(self, run: MeasuredRun) -> ShownRun
         ensures run { result.run ≡ run }
         ensures first { result.first_at ≡ self.first_at }
@@ -40,31 +42,31 @@ impl DrawnRun {
     }
 }
 
-/// Of the runs of a flow that are over, what is drawn of the one with the most judged packets, the first of these.
+/// The drawing of the complete run with the most judged packets; of equal ones the first.
 #[derive(Drop)]
 pub struct LongestRun {
-    /// None before the first run.
+    /// The drawing; `None` before the first run.
     pub drawn: Option<DrawnRun>,
 }
 
 impl LongestRun {
     ghost use Rattle.flow_page.specs.drawing.drawing.Longest.{is_shorter};
 
-    /// Before the first run.
+    /// Returns no drawing, before the first run.
     pub fn new() -> LongestRun
         ensures { result.drawn ≡ None }
     {
         LongestRun { drawn: None }
     }
 
-    /// Puts the drawing of a run in the place of that before.
+    /// Replaces the drawing by that of another run.
     pub fn put(&mut self, drawn: DrawnRun)
         ensures { self.new.drawn ≡ Some drawn }
     {
         self.drawn = Some(drawn);
     }
 
-    /// Whether a run of so many packets is longer.
+    /// Returns whether no run is drawn yet, or a run of `packets` packets is longer than the one drawn.
     pub fn is_shorter(&self, packets: u64) -> bool
         ensures { result ≡ is_shorter self.now.drawn packets }
     {

@@ -1,4 +1,4 @@
-//! The drawing of the judged runs of a flow, made while they are judged.
+//! The drawing of the judged runs of a flow, made while the runs are judged.
 
 ghost use Rattle.std.specs.Prelude.{◌≡◌, ◌≤◌, ℕ, IfOk, List, true};
 ghost use Rattle.timing_base.specs.Media.{IsMedia, Media as MediaValue};
@@ -12,20 +12,20 @@ use sender_params::Params;
 use std::alloc::{AllocError as OutOfMemory, Global};
 use timing_base::Judged;
 
-/// The most packets of a run.
+/// The greatest number of packets of a run.
 const MOST: u64 = 1 << 41;
 
-/// The drawing of one judged run, which it puts in the place of a shorter one when the run is over.
+/// A meter of one judged run. When the run is complete, its drawing replaces that of a shorter run.
 #[derive(Drop)]
 pub struct DrawingMeter {
     alloc: Global,
-    /// Which of the flow's runs it is.
+    /// The number of the run among all runs of the flow.
     run: u64,
-    /// Of all packets so far.
+    /// The columns of all packets so far.
     all: RunColumns,
-    /// Of those that were committed.
+    /// The columns of the committed packets.
     committed: RunColumns,
-    /// Of all packets so far; those that weren't committed are left out at the end.
+    /// The regions of all packets so far. Packets that weren't committed are left out in `close`.
     regions: RegionMeters,
     ghost same_n: { committed.packets.n ≡ all.packets.n },
 }
@@ -66,7 +66,7 @@ impl RunMeter for DrawingMeter {
         packet: RunPacket,
         level: Level,
     ) -> Result<(), OutOfMemory> {
-        // No run has more packets; a meter counts as many.
+        // No run has more packets, and a meter can count no more.
         if self.all.packets.seen < MOST {
             self.all
                 .feed(params, packet.at, packet.timestamp, level);
@@ -102,7 +102,7 @@ impl DrawingMeter {
     ghost use Rattle.flow_page.specs.drawing.Told.{IsDrawn};
     ghost use Rattle.flow_page.specs.drawing.Stands.{StandsFor};
 
-    /// What is drawn of the run, of which this is judged. `Err` is want of memory.
+    /// Returns the drawing of the run, with its verdicts in `judged`. Returns `Err` if memory runs out.
     fn drawn(&self, judged: &Judged) -> Result<DrawnRun, OutOfMemory>
         ensures { IfOk result (λ d. (m : MediaValue) (tai : ℕ) (r : RunOf) (fed committed : List PacketValue)
             → IsMedia m → 1 ≤ r.n → IsJudgedOf m tai r committed judged.now

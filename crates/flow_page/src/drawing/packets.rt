@@ -1,4 +1,4 @@
-//! The columns of what is held at the packets of a run.
+//! The columns of the levels at the packets of a run.
 
 ghost use Rattle.std.specs.Prelude.{◌≡◌, ◌≤◌, ◌<◌, ◌+◌, ◌^◌, ◌++◌, ◌∷◌, [], ℕ, ℤ, IfOk, List};
 ghost use Rattle.std.specs.Prelude.{length};
@@ -10,18 +10,18 @@ use run_meter::Level;
 use std::alloc::{AllocError as OutOfMemory, Global};
 use timing_base::Items;
 
-/// The most columns over all packets, or over all groups.
+/// The greatest number of columns over all packets, or over all frames or fields.
 pub const CURVE: u32 = 1000;
 
-/// The most columns of groups that are laid over each other.
+/// The greatest number of columns with all frames or fields overlaid.
 const EYE: u32 = 500;
 
-/// The columns of what is held after each packet: over all packets, and of all groups laid over each other.
+/// The columns of one level just after each packet: over all packets, and with all frames or fields overlaid.
 #[derive(Drop)]
 pub struct LevelColumns {
-    /// The packets of a group.
+    /// The packets per frame or field.
     pub n: u64,
-    /// The packets fed.
+    /// The count of packets fed.
     pub seen: u64,
     curve: Curve<i128>,
     eye: Eye<i128>,
@@ -35,7 +35,8 @@ pub struct LevelColumns {
 impl LevelColumns {
     ghost use Rattle.flow_page.specs.drawing.drawing.Columns.{DrawsLevel};
 
-    /// Before the first packet; they come in groups of n. `Err` is want of memory.
+    /// Returns the columns before the first packet, for frames or fields of `n` packets. Returns `Err` if memory runs
+    /// out.
     fn new(alloc: Global, n: u64) -> Result<LevelColumns, OutOfMemory>
         requires some { 1 ≤ n }
         requires few { n < 2 ^ 41 }
@@ -51,7 +52,7 @@ impl LevelColumns {
         })
     }
 
-    /// Takes in what is held after the next packet.
+    /// Takes the level just after the next packet.
     #[inline(always)]
     fn feed(&mut self, number: i128)
         requires few { self.old.seen < 2 ^ 41 }
@@ -65,7 +66,8 @@ impl LevelColumns {
         self.seen += 1;
     }
 
-    /// Takes over what other columns have, which were fed the same packets and then maybe more. It takes no memory.
+    /// Copies the state of other columns, which were fed the same packets and then possibly more. It allocates no
+    /// memory.
     fn keep(&mut self, other: &LevelColumns)
         requires { self.old.n ≡ other.now.n }
         ensures n { self.new.n ≡ self.old.n }
@@ -78,7 +80,7 @@ impl LevelColumns {
         self.seen = other.seen;
     }
 
-    /// The columns over all packets. `Err` is want of memory.
+    /// Returns the columns over all packets. Returns `Err` if memory runs out.
     pub fn curve(&self, alloc: Global) -> Result<Items<Extremes>, OutOfMemory>
         ensures { IfOk result (λ list. (level : ℕ → ℤ) → DrawsLevel self.now level
             → AreCurve 1000 level self.now.seen list) }
@@ -86,7 +88,7 @@ impl LevelColumns {
         self.curve.finish(alloc)
     }
 
-    /// Those of the groups, laid over each other. `Err` is want of memory.
+    /// Returns the columns with all frames or fields overlaid. Returns `Err` if memory runs out.
     pub fn eye(&self, alloc: Global) -> Result<Items<Extremes>, OutOfMemory>
         ensures { IfOk result (λ list. (level : ℕ → ℤ) → DrawsLevel self.now level
             → AreEye self.now.n 500 level self.now.seen list) }
@@ -95,15 +97,18 @@ impl LevelColumns {
     }
 }
 
-/// The columns of what bucket and buffer hold at the packets of a run.
+/// The columns of the levels of bucket and buffer just after each packet of a run.
 #[derive(Drop)]
 pub struct PacketColumns {
-    /// The packets of a group.
+    /// The packets per frame or field.
     pub n: u64,
-    /// The packets fed.
+    /// The count of packets fed.
     pub seen: u64,
+    /// The count of the bucket, in packets.
     pub bucket: LevelColumns,
+    /// The occupancy of the buffer by gapped reads, in packets.
     pub gapped: LevelColumns,
+    /// The occupancy of the buffer by linear reads, in packets.
     pub linear: LevelColumns,
     ghost bucket_n: { bucket.n ≡ n },
     ghost bucket_is: { bucket.seen ≡ seen },
@@ -117,7 +122,8 @@ impl PacketColumns {
     ghost use Rattle.run_meter.specs.Levels.{IsLevel};
     ghost use Rattle.flow_page.specs.drawing.drawing.Columns.{DrawsPackets};
 
-    /// Before the first packet; they come in groups of n. `Err` is want of memory.
+    /// Returns the columns before the first packet, for frames or fields of `n` packets. Returns `Err` if memory runs
+    /// out.
     pub fn new(alloc: Global, n: u64) -> Result<PacketColumns, OutOfMemory>
         requires some { 1 ≤ n }
         requires few { n < 2 ^ 41 }
@@ -134,7 +140,7 @@ impl PacketColumns {
         })
     }
 
-    /// Takes in what is held after the next packet.
+    /// Takes the levels just after the next packet.
     #[inline(always)]
     pub fn feed(&mut self, level: Level)
         requires few { self.old.seen < 2 ^ 41 }
@@ -152,7 +158,8 @@ impl PacketColumns {
         self.seen += 1;
     }
 
-    /// Takes over what other columns have, which were fed the same packets and then maybe more. It takes no memory.
+    /// Copies the state of other columns, which were fed the same packets and then possibly more. It allocates no
+    /// memory.
     pub fn keep(&mut self, other: &PacketColumns)
         requires { self.old.n ≡ other.now.n }
         ensures n { self.new.n ≡ self.old.n }

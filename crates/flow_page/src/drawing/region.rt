@@ -17,23 +17,23 @@ use std::alloc::{AllocError as OutOfMemory, Global};
 use timing_base::{Broken, FailProof, Items, Kind};
 use vrx_buffer::Held;
 
-/// The packets that are shown around a fail.
+/// The greatest number of packets in the picture around a violation.
 const SHOWN: u64 = 400;
 
-/// Those of them behind it.
+/// The number of these packets after the violation.
 const BEHIND: u64 = 50;
 
-/// The most packets of a run.
+/// The greatest number of packets of a run.
 const MOST: u64 = 1 << 41;
 
-/// The first packet that is shown around a fail.
+/// Returns the first packet in the picture around a violation, from 0.
 fn start_around(proof: FailProof) -> u64
     ensures { result ≡ start_around proof }
 {
     proof.to.saturating_sub(SHOWN - BEHIND - 1)
 }
 
-/// The packet behind those that are shown, of so many judged ones.
+/// Returns the packet after the last one in the picture, from 0, if `packets` packets are judged.
 fn end_around(proof: FailProof, packets: u64) -> u64
     requires { packets ≤ 2 ^ 41 }
     ensures value { result ≡ min (proof.to + 51) packets }
@@ -45,7 +45,7 @@ fn end_around(proof: FailProof, packets: u64) -> u64
         .min(packets)
 }
 
-/// What the model that breaks is about, for a sender type.
+/// Returns the level that a model limits for a sender type, in packets.
 #[inline(always)]
 fn held_by(kind: Kind, model: Broken, level: Level) -> i128
     ensures { result ≡ held_by kind model level }
@@ -57,7 +57,7 @@ fn held_by(kind: Kind, model: Broken, level: Level) -> i128
     }
 }
 
-/// What the buffer holds by the reads of a sender type.
+/// Returns the buffer by the reads of a sender type.
 #[inline(always)]
 fn buffer_of(kind: Kind, level: Level) -> Held
     ensures { result ≡ buffer_of kind level }
@@ -78,7 +78,7 @@ struct Bounds {
 }
 
 impl Bounds {
-    /// Whether a packet after which the models hold this breaks one of them.
+    /// Returns whether a packet with these levels just after it breaks a limit, or is late.
     #[inline(always)]
     fn breaks(self, level: Level) -> bool
         ensures { result ≡ breaks_at self.kind self.c_max self.vrx_full level }
@@ -89,15 +89,15 @@ impl Bounds {
     }
 }
 
-/// The last packets of a run, up to fifty behind the first one that breaks a sender type.
+/// A meter of the last packets of a run, up to fifty after the first one that breaks a sender type.
 #[derive(Drop)]
 pub struct RegionMeter {
     bounds: Bounds,
-    /// The first packet that breaks a model.
+    /// The first packet that breaks a limit or is late, from 0.
     first: Option<u64>,
-    /// The packets taken: all so far, or those up to fifty behind that one.
+    /// The count of packets taken: all so far, or those up to fifty after the first one that breaks the type.
     taken: u64,
-    /// What is held just after the last packets taken, each at its number modulo the length.
+    /// The levels just after the last packets taken. Packet i is at index i modulo the length.
     ring: Vec<Level>,
     ghost ring_is: { vec_len ring ≡ 400 },
     ghost few: { taken ≤ 2 ^ 41 },
@@ -109,7 +109,7 @@ impl RegionMeter {
     ghost use Rattle.flow_page.specs.drawing.drawing.Regions.{DrawsRegion, ShowsFrom};
     ghost use Rattle.flow_page.specs.drawing.drawing.Taken.{is_open};
 
-    /// Before the first packet of a run. `Err` is want of memory.
+    /// Returns the meter before the first packet of a run. Returns `Err` if memory runs out.
     pub fn new(alloc: Global, params: &Params, kind: Kind) -> Result<RegionMeter, OutOfMemory>
         ensures { IfOk result (λ r. DrawsRegion params.now.media params.now.n kind r []) }
     {
@@ -134,7 +134,7 @@ impl RegionMeter {
         })
     }
 
-    /// Takes in what is held after the next packet, where it may be shown.
+    /// Takes the levels just after the next packet, if it may be in the picture.
     #[inline(always)]
     pub fn feed(&mut self, level: Level)
         ensures { (m : Media) (n : ℕ) (kind : KindValue) (stamps : List ℕ) (at : ℕ) → length stamps < 2 ^ 41
@@ -146,7 +146,7 @@ impl RegionMeter {
         }
     }
 
-    /// Whether the next packet is taken. No run has more packets than a meter counts.
+    /// Returns whether the next packet is taken. No run has more packets than a meter counts.
     #[inline(always)]
     fn takes_next(&self) -> bool
         ensures room { result ≡ true → self.now.taken < 2 ^ 41 }
@@ -158,7 +158,7 @@ impl RegionMeter {
         self.is_open()
     }
 
-    /// Whether the next packet may be shown.
+    /// Returns whether the next packet may be in the picture.
     #[inline(always)]
     fn is_open(&self) -> bool
         ensures { result ≡ is_open self.now.first self.now.taken }
@@ -169,7 +169,7 @@ impl RegionMeter {
         }
     }
 
-    /// Takes in what is held after the next packet.
+    /// Takes the levels just after the next packet.
     #[inline(always)]
     fn take(&mut self, level: Level)
         requires { self.old.taken < 2 ^ 41 }
@@ -184,7 +184,8 @@ impl RegionMeter {
         self.taken += 1;
     }
 
-    /// The columns of the packets from one place on and before another, of a model. `Err` is want of memory.
+    /// Returns the columns of a model's level for the packets from `start` to `end` - 1. Returns `Err` if memory runs
+    /// out.
     fn columns(
         &self,
         alloc: Global,
@@ -204,7 +205,8 @@ impl RegionMeter {
         columns.finish(alloc)
     }
 
-    /// The region around a fail of the first so many packets, the first that there is. `Err` is want of memory.
+    /// Returns the region around the first violation among the first `packets` packets. Returns `Err` if memory runs
+    /// out.
     pub fn finish(
         &self,
         alloc: Global,
@@ -231,7 +233,7 @@ impl RegionMeter {
 
 ghost use Rattle.flow_page.specs.drawing.drawing.Taken.{first_with};
 
-/// The first packet that breaks a model, where the next one has this number.
+/// Returns the first packet that breaks a limit, including the next packet, `packet`.
 #[inline(always)]
 fn first_with(first: Option<u64>, packet: u64, breaks: bool) -> Option<u64>
     ensures { result ≡ first_with first packet breaks }

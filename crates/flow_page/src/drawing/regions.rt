@@ -1,4 +1,4 @@
-//! The regions around the fails of the sender types.
+//! The regions around the violations of the sender types.
 
 ghost use Rattle.std.specs.Prelude.{◌≡◌, ◌≤◌, ◌<◌, ◌*◌, ◌^◌, ◌++◌, ◌∷◌, [], ℕ, IfOk, List, length};
 ghost use Rattle.timing_base.specs.Media.{IsMedia, Media};
@@ -14,7 +14,7 @@ use sender_params::Params;
 use std::alloc::{AllocError as OutOfMemory, Global};
 use timing_base::{Items, Judged, Kind, KindVerdict};
 
-/// The packets of a run around the first one that breaks the types N, NL and W.
+/// The meters of the packets around the first one that breaks each of N, NL and W.
 #[derive(Drop)]
 pub struct RegionMeters {
     narrow: RegionMeter,
@@ -26,7 +26,7 @@ impl RegionMeters {
     ghost use Rattle.flow_page.specs.drawing.Drawn.{AreRegions};
     ghost use Rattle.flow_page.specs.drawing.drawing.Regions.{DrawsRegions};
 
-    /// Before the first packet. `Err` is want of memory.
+    /// Returns the meters before the first packet. Returns `Err` if memory runs out.
     pub fn new(alloc: Global, params: &Params) -> Result<RegionMeters, OutOfMemory>
         ensures { IfOk result (λ x. DrawsRegions params.now.media params.now.n x []) }
     {
@@ -37,7 +37,7 @@ impl RegionMeters {
         })
     }
 
-    /// Takes in what is held after the next packet.
+    /// Takes the levels just after the next packet.
     #[inline(always)]
     pub fn feed(&mut self, level: Level)
         ensures { (m : Media) (n : ℕ) (stamps : List ℕ) (at : ℕ) → length stamps < 2 ^ 41
@@ -49,7 +49,8 @@ impl RegionMeters {
         self.wide.feed(level);
     }
 
-    /// The regions around the fails of the first so many packets, of which this is judged. `Err` is want of memory.
+    /// Returns the regions around the violations in `judged`, the verdicts on the first `packets` packets. Returns
+    /// `Err` if memory runs out.
     pub fn finish(
         &self,
         alloc: Global,
@@ -73,8 +74,8 @@ impl RegionMeters {
 
 ghost use Rattle.flow_page.specs.drawing.drawing.Regions.{DrawsRegion, PutsKind};
 
-/// Puts the region of a sender type with this verdict, where it fails, behind those of the types before. `Err` is want of
-/// memory.
+/// Appends the region of a sender type to those of the types before, if the type fails. Returns `Err` if memory runs
+/// out.
 fn put_region(
     alloc: Global,
     meter: &RegionMeter,

@@ -1,4 +1,5 @@
--- What becomes of the row of a group with each of its packets. n0 is the number of the first group in the epoch.
+-- The changes of the row of a frame or field at each of its packets. n0 is the number of the run's first frame or
+-- field, counted from the epoch.
 use Rattle.std.specs.Prelude.{◌≡◌, ℕ, ℤ, max, Option, Some, None}
 use Rattle.std.specs.Int.{int_max, int_min}
 use Rattle.sender_params.specs.Reads.{anchor_of}
@@ -10,7 +11,7 @@ use Rattle.flow_measure.specs.rows.Rows.{step_from}
 use Rattle.flow_measure.specs.declared.rows.maker.Kept.{Kept}
 use Rattle.flow_measure.specs.declared.rows.maker.RowMaker.{RowMaker}
 
--- it begins with this packet
+-- the row begins with this packet
 pub record BeginsRow (m : Media) (n0 : ℤ) (before : Option ℕ) (kept : Kept) (old new : GroupRow) : Type 0 where
   pub run : new.run ≡ old.run
   pub group : new.group ≡ old.group
@@ -27,7 +28,7 @@ pub record BeginsRow (m : Media) (n0 : ℤ) (before : Option ℕ) (kept : Kept) 
   pub linear_least : new.linear_least ≡ kept.level.linear.occupancy
   pub linear : new.linear ≡ kept.level.linear.occupancy
 
--- all but what is held is as it was
+-- everything except the levels is unchanged
 pub record KeepsPlace (old new : GroupRow) : Type 0 where
   pub run : new.run ≡ old.run
   pub group : new.group ≡ old.group
@@ -39,7 +40,7 @@ pub record KeepsPlace (old new : GroupRow) : Type 0 where
   pub offset : new.offset ≡ old.offset
   pub latency : new.latency ≡ old.latency
 
--- so much is held at another packet
+-- the levels at another packet are added
 pub record Widens (level : Level) (old new : GroupRow) : Type 0 where
   pub place : KeepsPlace old new
   pub bucket : new.bucket ≡ max old.bucket level.bucket
@@ -48,7 +49,7 @@ pub record Widens (level : Level) (old new : GroupRow) : Type 0 where
   pub linear_least : new.linear_least ≡ int_min old.linear_least level.linear.occupancy
   pub linear : new.linear ≡ int_max old.linear level.linear.occupancy
 
--- it ends with a packet of this stamp
+-- the row ends with a packet of this capture timestamp
 pub record EndsRow (m : Media) (n0 : ℤ) (at : ℕ) (old new : GroupRow) : Type 0 where
   pub place : KeepsPlace old new
   pub last : new.last ≡ after_start m n0 old.group at
@@ -58,12 +59,13 @@ pub record EndsRow (m : Media) (n0 : ℤ) (at : ℕ) (old new : GroupRow) : Type
   pub linear_least : new.linear_least ≡ old.linear_least
   pub linear : new.linear ≡ old.linear
 
--- all but the row is as it was
+-- everything except the row is unchanged
 pub record KeepsRest (old new : RowMaker) : Type 0 where
   pub n0_is : new.n0 ≡ old.n0
   pub before_is : new.before ≡ old.before
 
--- a group begins with this packet; the first one is that of the epoch that is nearest to it
+-- a frame or field begins with this packet; the run's first packet belongs to the nearest one of the grid from the
+-- epoch
 pub record Begins (m : Media) (kept : Kept) (old new : RowMaker) : Type 0 where
   pub first : old.before ≡ None → new.n0 ≡ anchor_of m kept.packet.at
   pub later : (before : ℕ) → old.before ≡ Some before → new.n0 ≡ old.n0

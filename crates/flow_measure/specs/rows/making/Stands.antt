@@ -1,5 +1,5 @@
--- What a `RowMaker` says of the judged packets of a run that it was fed. m is the video, n the packets of one group,
--- `run` the number of the run, and `tai` is in seconds.
+-- The state of a `RowMaker` after the judged packets of a run that it was fed. m is the video, n the packets per frame
+-- or field, `run` the number of the run, and `tai` is in seconds.
 use Rattle.std.specs.Prelude.{◌≡◌, ◌<◌, ◌≤◌, ◌*◌, ◌^◌, ℕ, zero, suc, ℤ, pos, true, false, List, [], ◌∷◌, ◌++◌}
 use Rattle.std.specs.Prelude.{length, slice_index, Option, Some, None}
 use Rattle.sender_params.specs.Ticks.{NeverFall}
@@ -18,19 +18,20 @@ use Rattle.flow_measure.specs.rows.Rows.{step_before}
 use Rattle.flow_measure.specs.declared.rows.maker.Kept.{Kept}
 use Rattle.flow_measure.specs.declared.rows.maker.RowMaker.{RowMaker}
 
--- this is told of the packet behind these
+-- the kept values of the packet after these
 pub record IsKept (m : Media) (tai n : ℕ) (before : List FlowPacket) (p : FlowPacket) (kept : Kept) : Type 0 where
   pub packet_is : kept.packet ≡ told_of tai p
   pub few : length before < 2 ^ 41
   pub rising : NeverFall (stamps_of tai (before ++ p ∷ []))
   pub level_is : IsLevel m n (stamps_of tai (before ++ p ∷ [])) (length before) kept.level
 
--- the packets of group k that came before packet `to`
+-- the packets of frame or field k before packet `to`
 abbrev pub OfFront : (n k to : ℕ) → ℕ → Type 0
 OfFront n k to i = (k * n ≤ i) × (i < to)
 
--- group k has begun, and this row has all of it that came: of `count` packets `stamp`, `records` and `timestamp` have
--- when they came, their records and RTP timestamps, and `bucket`, `gapped` and `linear` what is held just after them
+-- frame or field k has begun, and this row has all of its packets among the first `count`. For each packet, `stamp`
+-- gives the capture timestamp, `records` the packet record, `timestamp` the RTP timestamp, and `bucket`, `gapped` and
+-- `linear` the levels just after it
 pub record IsBegun (m : Media) (n k count : ℕ) (anchor : ℤ) (stamp records timestamp : ℕ → ℕ)
     (bucket gapped linear : ℕ → ℤ) (r : GroupRow) : Type 0 where
   pub rec : r.rec ≡ firsts_of n records k
@@ -46,28 +47,29 @@ pub record IsBegun (m : Media) (n k count : ℕ) (anchor : ℤ) (stamp records t
   pub linear_least : IsLeast linear (OfFront n k count) r.linear_least
   pub linear_is : IsGreatest linear (OfFront n k count) r.linear
 
--- the timestamp of the last of so many groups
+-- the RTP timestamp of the last of `groups` frames or fields
 abbrev pub last_of : (timestamp : ℕ → ℕ) → (groups : ℕ) → Option ℕ
 last_of timestamp zero = None
 last_of timestamp (suc k) = Some (timestamp k)
 
--- the RTP timestamps of packets, and their records
+-- the RTP timestamps of packets, by their places from 0
 abbrev pub ticks_in : List FlowPacket → ℕ → ℕ
 ticks_in packets = slice_index (timestamps_of packets)
 
+-- the packet records of packets, by their places from 0
 abbrev pub records_in : List FlowPacket → ℕ → ℕ
 records_in packets i = (packet packets i).rec
 
--- these packets were fed, and no others
+-- the maker was fed exactly these packets
 pub record StandsFor (m : Media) (tai run n : ℕ) (x : RowMaker) (packets : List FlowPacket) : Type 0 where
   pub run_is : x.row.run ≡ run
   pub n_is : x.walk.n ≡ n
   pub seen : x.walk.seen ≡ length packets
   pub anchor_is : 0 < length packets → x.n0 ≡ anchor_in m (stamps_of tai packets)
-  -- the timestamp of the last group that is over, and that of the group that isn't
+  -- the RTP timestamp of the last complete frame or field, and that of the current one
   pub over : x.walk.place ≡ 0 → x.before ≡ last_of (firsts_of n (ticks_in packets)) x.walk.group
   pub goes_on : 0 < x.walk.place → x.before ≡ Some (firsts_of n (ticks_in packets) x.walk.group)
-  -- what the buffer holds just after each packet
+  -- the occupancy of the buffer just after each packet
   pub gapped : ℕ → ℤ
   pub linear : ℕ → ℤ
   pub gapped_are : AreOccupancies m n (stamps_of tai packets) true gapped

@@ -1,5 +1,5 @@
--- What the columns of a run say of the packets that they were fed: their stamps, in nanoseconds of TAI, and their RTP
--- timestamps, in ticks of 90 kHz. n is the number of packets in a group.
+-- The state of the columns of a run after the packets that they were fed, with their capture timestamps in nanoseconds
+-- of TAI, and their RTP timestamps in ticks of 90 kHz. n is the number of packets per frame or field.
 use Rattle.std.specs.Prelude.{◌≡◌, ◌<◌, ◌-◌, ℕ, ℤ, true, false, List, length, slice_index}
 use Rattle.timing_base.specs.Media.{Media}
 use Rattle.sender_params.specs.Reads.{anchor_of}
@@ -15,12 +15,12 @@ use Rattle.flow_page.specs.declared.drawing.groups.GroupCurves.{GroupCurves}
 use Rattle.flow_page.specs.declared.drawing.packets.LevelColumns.{LevelColumns}
 use Rattle.flow_page.specs.declared.drawing.packets.PacketColumns.{PacketColumns}
 
--- the columns of what is held after each packet were fed the first of these numbers
+-- the columns of one level were fed the first of these numbers
 pub record DrawsLevel (c : LevelColumns) (level : ℕ → ℤ) : Type 0 where
   pub curve_draws : DrawsCurve (λ x. x) c.curve level
   pub eye_draws : DrawsEye (λ x. x) c.eye level
 
--- the columns of packets were fed those with these stamps
+-- the columns of packets were fed the packets with these capture timestamps
 pub record DrawsPackets (m : Media) (n : ℕ) (c : PacketColumns) (stamps : List ℕ) : Type 0 where
   pub n_is : c.n ≡ n
   pub seen_is : c.seen ≡ length stamps
@@ -28,19 +28,21 @@ pub record DrawsPackets (m : Media) (n : ℕ) (c : PacketColumns) (stamps : List
   pub gapped_draws : (level : ℕ → ℤ) → AreOccupancies m n stamps true level → DrawsLevel c.gapped level
   pub linear_draws : (level : ℕ → ℤ) → AreOccupancies m n stamps false level → DrawsLevel c.linear level
 
--- the columns of groups were fed groups whose first and last packets have these stamps, and which have these timestamps
+-- the columns of frames or fields were fed those with these capture timestamps of the first and last packets, and these
+-- RTP timestamps
 pub record DrawsCurves (m : Media) (anchor : ℤ) (c : GroupCurves) (first last timestamp : ℕ → ℕ) : Type 0 where
   pub first_draws : DrawsCurve (λ x. x) c.first (since_at m anchor first)
   pub last_draws : DrawsCurve (λ x. x) c.last (since_at m anchor last)
   pub offset_draws : DrawsCurve (λ x. x) c.offset (offset_at m anchor timestamp)
   pub latency_draws : DrawsCurve (λ x. x) c.latency (latency_at first timestamp)
 
--- group k began so, of which a packet is kept
+-- `group` has the first packet of frame or field k
 pub record HasBegun (n k : ℕ) (stamps timestamps : List ℕ) (group : Group) : Type 0 where
   pub came : group.first ≡ firsts_of n (slice_index stamps) k
   pub ticks : group.timestamp ≡ firsts_of n (slice_index timestamps) k
 
--- the next packet is this one, which may begin a group; the first group is that of the epoch that is nearest to it
+-- the state before and after `begin` for the next packet, which may be the first of a frame or field. The run's first
+-- packet belongs to the nearest one of the grid from the epoch
 pub record Begins (m : Media) (at ticks : ℕ) (old new : GroupColumns) : Type 0 where
   pub walk_is : new.walk ≡ old.walk
   pub first : old.walk.seen ≡ 0 → new.n0 ≡ anchor_of m at
@@ -50,7 +52,7 @@ pub record Begins (m : Media) (at ticks : ℕ) (old new : GroupColumns) : Type 0
   pub goes_on : 0 < old.walk.place → new.group ≡ old.group
   pub curves_are : new.curves ≡ old.curves
 
--- the columns of groups were fed the packets with these stamps and timestamps
+-- the columns of frames or fields were fed the packets with these capture timestamps and RTP timestamps
 pub record DrawsGroups (m : Media) (n : ℕ) (c : GroupColumns) (stamps timestamps : List ℕ) : Type 0 where
   pub n_is : c.walk.n ≡ n
   pub seen_is : c.walk.seen ≡ length stamps
@@ -60,7 +62,7 @@ pub record DrawsGroups (m : Media) (n : ℕ) (c : GroupColumns) (stamps timestam
   pub curves_draw : (stamp timestamp : ℕ → ℕ) → AreListed stamps stamp → AreListed timestamps timestamp
       → DrawsCurves m c.n0 c.curves (firsts_of n stamp) (lasts_of n stamp) (firsts_of n timestamp)
 
--- the packets with these stamps and timestamps were fed, and no others
+-- the columns were fed exactly the packets with these capture timestamps and RTP timestamps
 pub record Draws (m : Media) (n : ℕ) (x : RunColumns) (stamps timestamps : List ℕ) : Type 0 where
   pub packets_draw : DrawsPackets m n x.packets stamps
   pub groups_draw : DrawsGroups m n x.groups stamps timestamps

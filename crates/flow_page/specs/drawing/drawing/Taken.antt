@@ -1,25 +1,26 @@
--- Which packets of a run are taken for the region around the first one that breaks a sender type. Packets count from 0.
+-- The packets of a run that are taken for the region around the first one that breaks a sender type. Packets count from
+-- 0.
 use Rattle.std.specs.Prelude.{◌+◌, ◌-◌, ◌%◌, min, nat_le, cond, ℕ, pos, Bool, true, false, List, Option, Some, None}
 use Rattle.std.specs.List.{slice_index_or}
 use Rattle.vrx_buffer.specs.declared.held.Held.{Held}
 use Rattle.run_meter.specs.declared.level.Level.{Level}
 
--- the first packet that breaks a model, with one packet more
+-- the first packet that breaks a limit, including the next packet
 abbrev pub first_with : Option ℕ → (packet : ℕ) → (breaks : Bool) → Option ℕ
 first_with None packet breaks = cond breaks (Some packet) None
 first_with (Some first) packet breaks = Some first
 
--- up to fifty packets behind that one are taken
+-- the next packet is taken: it is at most fifty packets after the first one that breaks a limit, if there is one
 abbrev pub is_open : Option ℕ → (taken : ℕ) → Bool
 is_open None taken = true
 is_open (Some first) taken = nat_le (taken - first) 50
 
--- so many of the packets
+-- the count of packets taken, of the first `count`
 abbrev pub taken_of : Option ℕ → (count : ℕ) → ℕ
 taken_of None count = count
 taken_of (Some first) count = min count (first + 51)
 
--- what is held after packet i, where it is one of the last 400 that were taken
+-- a level of 0, where no packet was taken
 abbrev pub no_level : Level
 no_level = record {
   bucket = 0;
@@ -27,5 +28,6 @@ no_level = record {
   linear = record { occupancy = pos 0; late = false };
 }
 
+-- the level just after packet i, if it is one of the last 400 taken
 abbrev pub level_at : List Level → ℕ → Level
 level_at ring i = slice_index_or ring (i % 400) no_level
