@@ -1,5 +1,5 @@
 -- The number of packets that a `Demux` has room for. `expects` is the packet that a taker expects next by its state,
--- and `room` holds if a taker has room for count more packets.
+-- and `room` holds if a taker has room for `count` more packets.
 use Rattle.std.specs.Prelude.{◌≤◌, ℕ, All, List, Option}
 use Rattle.std.specs.Option.{ForSome}
 use Rattle.std.proofs.lemmas.List.Elements.{All-weaker}
@@ -18,7 +18,7 @@ pub record IsReady {F : Type 0} (expects : F → Option Rtp) (demux : Demux F) :
   pub awaits : All (AwaitsExpected expects) (flows_of demux)
   pub ordered : ForSome demux.order (λ order. IsOrderOf order (flows_of demux))
 
--- the demux is ready, and each taker has room for count more packets
+-- the demux is ready, and each taker has room for `count` more packets
 pub record HasRoom {F : Type 0} (room : (count : ℕ) → F → Type 0) (expects : F → Option Rtp) (count : ℕ)
     (demux : Demux F) : Type 0 where
   pub ready : IsReady expects demux

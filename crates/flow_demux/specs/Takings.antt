@@ -1,5 +1,5 @@
 -- The flows of media, taken from the packet records of a capture. `takes m old new items` holds if a taker changed from
--- old to new by the packets of media m in the records items, and by nothing else.
+-- `old` to `new` by the packets of media m in the records `items`, and by nothing else.
 use Rattle.std.specs.Prelude.{◌≡◌, ℕ, List, [], ◌∷◌, ◌++◌, map, Some}
 use Rattle.std.specs.List.{AllZip}
 use Rattle.std.proofs.Common.{refl, subst, ◌∙◌}

@@ -45,7 +45,7 @@ pub record JudgedPart : Type 0 where
   -- judged packets
   pub packets : List FlowPacket
 
--- the capture timestamps of packets, with tai seconds added, in nanoseconds
+-- the capture timestamps of packets, with `tai` seconds added, in nanoseconds
 abbrev pub stamps_of : (tai : ℕ) → List FlowPacket → List ℕ
 stamps_of tai packets = map (stamp_of tai) packets
 
@@ -57,7 +57,7 @@ told_of tai p = record {
   timestamp = (read_or_zeros p.rtp).timestamp;
 }
 
--- head is what a meter gets before the packets of run r
+-- `head` is what a meter gets before the packets of run r
 pub record IsHeadOf (r : RunOf) (head : RunHead) : Type 0 where
   pub run : head.run ≡ r.number
   pub rec : head.rec ≡ r.first.rec
@@ -75,7 +75,7 @@ abbrev pub is_broken : Media → ℕ → List ℕ → Kind → ℕ → Bool
 is_broken m n stamps kind i =
     (nat_lt (c_max_of m n kind) (bucket_of m n stamps i) || is_over m n stamps kind i) || is_empty m n stamps kind i
 
--- the verdict names the first of count packets that violates a model, or is a pass if none does
+-- the verdict names the first of `count` packets that violates a model, or is a pass if none does
 abbrev pub NamesFirst : (broken : ℕ → Bool) → (count : ℕ) → KindVerdict → Type 0
 NamesFirst broken count Pass = (i : ℕ) → i < count → broken i ≡ false
 NamesFirst broken count (Fail proof) =
@@ -89,7 +89,7 @@ NameFirst m n stamps (narrow ∷ narrow_linear ∷ wide ∷ []) =
     × NamesFirst (is_broken m n stamps W) (length stamps) wide
 NameFirst m n stamps _ = ⊥
 
--- values are a result of run r with these judged packets
+-- `values` is a result of run r with these judged packets
 pub record IsJudgedOf (m : Media) (tai : ℕ) (r : RunOf) (packets : List FlowPacket) (values : Judged) : Type 0 where
   pub n_is : values.n ≡ r.n
   pub some : 1 ≤ values.frames
