@@ -18,7 +18,7 @@ use Rattle.drain_bucket.specs.Word.{bucket_of}
 use Rattle.run_meter.specs.declared.run.RunHead.{RunHead}
 use Rattle.run_meter.specs.declared.run.RunPacket.{RunPacket}
 
--- a run that has at least one whole frame or field
+-- a run that has at least one complete frame or field
 pub record RunOf : Type 0 where
   -- position among all runs of the flow, judged or not, counted from 1
   pub number : ℕ
@@ -27,7 +27,7 @@ pub record RunOf : Type 0 where
   -- packets per frame or field
   pub n : ℕ
 
--- a run that hasn't ended: the packets of its whole frames or fields so far
+-- a run that hasn't ended: the packets of its complete frames or fields so far
 pub record OpenPart : Type 0 where
   -- the run itself
   pub run : RunOf
@@ -63,7 +63,7 @@ pub record IsHeadOf (r : RunOf) (head : RunHead) : Type 0 where
   pub rec : head.rec ≡ r.first.rec
   pub number : head.number ≡ (read_or_zeros r.first.rtp).number
 
--- the packets are whole frames or fields of n packets each, at least one
+-- the packets are complete frames or fields of n packets each, at least one
 pub record AreWhole (n : ℕ) (packets : List FlowPacket) : Type 0 where
   pub groups : ℕ
   pub some : 1 ≤ groups

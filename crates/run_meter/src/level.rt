@@ -7,8 +7,8 @@ use vrx_buffer::Held;
 pub struct Level {
     /// Packets in the leaky bucket of the network compatibility model.
     pub bucket: u64,
-    /// Occupancy of the virtual receiver buffer, in packets, with the gapped reads (N).
+    /// State of the virtual receiver buffer with the gapped reads (N).
     pub gapped: Held,
-    /// Occupancy of the virtual receiver buffer, in packets, with the linear reads (NL and W).
+    /// State of the virtual receiver buffer with the linear reads (NL and W).
     pub linear: Held,
 }

@@ -32,15 +32,15 @@ pub trait RunMeter: Drop {
     /// committed part of them. `tai` is in seconds, and is added to each capture timestamp.
     ghost stands: { Self → (m : MediaValue) → (tai : ℕ) → RunOf → (fed committed : List PacketValue) → Type 0 };
 
-    /// State of the output that `tells` compares with, since the owner may take results out of it while the runs go on.
+    /// What the output held before, since its owner may take results out of it while the runs go on.
     ghost Past: { Type 0 } = { Unit {0} };
 
     /// The output contains the results of exactly these runs: the judged runs `over`, which have ended, and the open
-    /// run if it has a whole frame or field.
+    /// run if it has a complete frame or field.
     ghost tells: { Past → Self.Out → (m : MediaValue) → (tai : ℕ) → List JudgedPart → Option OpenPart → Type 0 };
 
-    /// Returns a meter that has got no packet of the run. The packets that are fed next begin with a whole frame or
-    /// field. Returns `Err` if memory runs out.
+    /// Returns the meter of a run, before the run's first packet. The packets of the first frame or field, which is
+    /// complete, are fed next. Returns `Err` if memory runs out.
     fn begin(
         alloc: Global,
         params: &Params,
