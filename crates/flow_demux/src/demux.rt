@@ -145,8 +145,8 @@ impl<F: FlowTaker> Demux<F> {
         Some(order.ahead())
     }
 
-    /// Takes a packet record as [`Demux::take`] does, whatever its frame. An expected packet isn't parsed again, even
-    /// if the flow's taker didn't accept it by [`FlowTaker::take_next`].
+    /// Takes a packet record as [`Demux::take`] does, whatever its frame. The expected packet isn't parsed, even if the
+    /// flow's taker didn't accept it by [`FlowTaker::take_next`].
     #[cold]
     #[inline(never)]
     fn take_expected(&mut self, number: u64, at: u64, frame: &[u8]) -> Result<(), OutOfMemory>

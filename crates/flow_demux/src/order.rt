@@ -19,8 +19,8 @@ pub struct Order {
 impl Order {
     ghost use Rattle.flow_demux.specs.Orders.{count};
 
-    /// Returns the order of `media` media before the first packet: each is expected to follow itself. Returns `Err` if
-    /// memory runs out.
+    /// Returns the order for this number of media, before the first packet: each media is expected to follow itself.
+    /// Returns `Err` if memory runs out.
     pub fn new(alloc: Global, media: usize) -> Result<Order, OutOfMemory>
         requires { 1 ≤ media }
         ensures { IfOk result (λ order. count order ≡ media) }
