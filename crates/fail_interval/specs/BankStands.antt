@@ -65,6 +65,6 @@ HasRoom number count bank = records bank + count ≤ 2 ^ 41
 pub room_less : (number few many : ℕ) (bank : Bank) → few ≤ many → HasRoom number many bank → HasRoom number few bank
 room_less number few many bank less room = omega (arith, less, room)
 
--- the bank was fed some records
+-- `new` is `old` after some more records
 abbrev pub IsFed : (old new : Bank) → Type 0
 IsFed old new = (more : List Record) × Feeds old new more

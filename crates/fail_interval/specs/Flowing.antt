@@ -51,7 +51,7 @@ IsClosed m done (Some open_run) new = (so_far : SoFar) → RunStandsFor m open_r
 abbrev pub HasRoom : {M : Type 0} → Flow M → Type 0
 HasRoom flow = 1 ≤ vec_len flow.done → vec_len flow.done < vec_capacity flow.done
 
--- the flow was fed exactly these packets, as far as later calls show, whatever packets follow
+-- the flow was fed exactly these packets, as far as later calls depend on it, whatever packets follow
 pub record StandsFor {M : Type 0} (flow : Flow M) (packets : List FlowPacket) : Type 0 where
   pub seconds : flow.tai ≤ 1000
   pub grouper : GrouperStandsFor flow.media.pt flow.grouper packets

@@ -24,7 +24,7 @@ abbrev pub IsSpent : {M : Type 0} → FlowJudge M → Type 0
 IsSpent judge = judge.state ≡ Spent
 
 -- the judge of the flow with this key and this media, with `tai` seconds added to the capture timestamps, was fed
--- exactly these packets, as far as later calls show
+-- exactly these packets, as far as later calls depend on it
 pub record StandsFor {M : Type 0} (m : Media) (key : FlowKey) (tai : ℕ) (judge : FlowJudge M)
     (packets : List FlowPacket) : Type 0 where
   pub key_is : judge.key ≡ key
