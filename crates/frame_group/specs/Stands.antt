@@ -32,7 +32,7 @@ pub record StandsBefore (packets : List FlowPacket) (pt i : ℕ) (g : Grouper) :
   pub fault : g.fault ≡ what (first_fault_below packets pt i)
   pub kept : g.fault ≡ None → Keeps packets i g
 
--- the grouper was fed exactly these packets of a flow with this payload type, as far as later calls show
+-- the grouper was fed exactly these packets of a flow with this payload type, as far as later calls depend on it
 pub record StandsFor (format : ℕ) (g : Grouper) (packets : List FlowPacket) : Type 0 where
   pub pt : g.pt ≡ format
   pub fed : count_fed g ≡ length packets
