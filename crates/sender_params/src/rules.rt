@@ -55,7 +55,7 @@ impl Ratio {
     }
 }
 
-/// Returns the number of fields per frame: 2 if interlaced, else 1.
+/// Returns the number of groups per frame: 2 fields if interlaced, else 1 frame.
 pub fn groups(media: &Media) -> u32
     ensures value { result ≡ groups_of media.now }
     ensures some { 1 ≤ result }
