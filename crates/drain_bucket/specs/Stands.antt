@@ -19,7 +19,7 @@ pub record IsFresh (params : Params) (b : Bucket) : Type 0 where
 pub record IsAfter (params : Params) (b : Bucket) (stamps : List ℕ) (i : ℕ) : Type 0 where
   pub origin : slice_index stamps 0 ≡ b.origin
   pub count : b.count ≡ bucket_of params.media params.n stamps i
-  -- `begin` is the latest start of an interval whose load is the count
+  -- `begin` is the latest start of an interval with the count as its load
   pub begins : b.begin ≤ i
   pub begin_load : load_of params.media params.n stamps b.begin i ≡ b.count
   pub latest : (j : ℕ) → j ≤ i → load_of params.media params.n stamps j i ≡ b.count → j ≤ b.begin
@@ -30,7 +30,7 @@ pub record IsAfter (params : Params) (b : Bucket) (stamps : List ℕ) (i : ℕ) 
   pub last : b.last ≡ slice_index stamps i
   pub next : (stood : ℕ) × (stood ≤ b.last) × StandsAt params.drain b.next b.origin stood
 
--- the bucket was fed exactly packets with these capture timestamps, as far as later calls show
+-- the bucket was fed exactly packets with these capture timestamps, as far as later calls depend on it
 pub record StandsFor (params : Params) (b : Bucket) (stamps : List ℕ) : Type 0 where
   pub ordered : NeverFall stamps
   pub seen : b.seen ≡ length stamps
