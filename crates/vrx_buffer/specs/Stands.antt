@@ -9,7 +9,7 @@ use Rattle.sender_params.specs.declared.params.Params.{Params}
 use Rattle.vrx_buffer.specs.Faults.{IsFirstFault}
 use Rattle.vrx_buffer.specs.declared.vrx.Vrx.{Vrx}
 
--- the buffer was fed exactly packets with these capture timestamps, as far as later calls show
+-- the buffer was fed exactly packets with these capture timestamps, as far as later calls depend on it
 pub record StandsFor (params : Params) (v : Vrx) (stamps : List ℕ) : Type 0 where
   -- `peak` is the greatest occupancy, and 0 before the first packet
   pub peak_most : (k : ℕ) → k < length stamps → held_at params.media params.n stamps (gapped_of v.kind) k ≤ v.peak

@@ -59,7 +59,7 @@ pub fn over_by_hand()
 {}
 
 /// A linear sender of two packets: packet 1 comes 1,000,000 ns after packet 0, after gapped read 1 and before linear
-/// read 1. At gapped read 1 the buffer is empty.
+/// read 1. With the gapped reads the buffer is empty just after packet 1, which came too late for its own read.
 pub fn schedules_by_hand()
     ensures gapped { fault_at hd_50 20 linear_two N 1 ≡ Some (Empty 1) }
     ensures gapped_held { held_at hd_50 20 linear_two true 1 ≡ 0 }
