@@ -62,7 +62,7 @@ abbrev pub IsFound : List Entry → Type 0
 IsFound entries = (place : ℕ) (entry : Entry) → slice_get entries place ≡ Some entry
     → (steps : ℕ) × IsWay entries entry.page steps place
 
--- an entry below another comes after it
+-- the entry below another, if there is one, comes after it
 abbrev pub IsBehind : (place count below : ℕ) → Type 0
 IsBehind place count below = below ≢ 0 → (place < below) × (below < count)
 

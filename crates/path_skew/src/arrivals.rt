@@ -13,9 +13,11 @@ pub const PLACES: u32 = 32;
 /// Packets in the order of their positions, with a bit for each position that has one.
 #[derive(Drop)]
 enum Slots {
+    /// No packet.
     Empty,
     /// One packet, which takes no memory of its own. The bits come first.
     One(u32, Arrival),
+    /// Packets in a vector of their own, or none with room for some. The bits come first.
     Many(u32, Vec<Arrival>),
 }
 
