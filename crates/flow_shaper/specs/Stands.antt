@@ -46,7 +46,8 @@ pub record IsAfter (params : Params) (kind : Kind) (n0 : ℤ) (origin : ℕ) (me
       → (c_max_of params.media params.n kind ≤ meters.count)
       ⊎ (meters.read.number + vrx_full_of params.media params.n kind ≤ i + 1)
 
--- the shaper was fed exactly packets with these arrivals, and they left at these departures, as far as later calls show
+-- the shaper was fed exactly packets with these arrivals, and they left at these departures, as far as later calls
+-- depend on it
 pub record StandsFor (params : Params) (s : Shaper) (arrivals departures : List ℕ) : Type 0 where
   pub ordered : NeverFall arrivals
   pub shaped : Shaped params.media params.n s.kind arrivals departures
@@ -64,7 +65,7 @@ pub record CanFollow (s : Shaper) (arrivals : List ℕ) (at : ℕ) : Type 0 wher
   pub first : length arrivals ≡ 0 → at ≡ s.origin
   pub later : (i : ℕ) → length arrivals ≡ i + 1 → slice_index arrivals i ≤ at
 
--- in no plan packet i leaves before `end`
+-- no plan lets packet i leave before `end`
 abbrev pub NoneInTime : Params → Shaper → (arrivals : List ℕ) → (i : ℕ) → Type 0
 NoneInTime params s arrivals i = (departures : List ℕ)
     → Plan params.media params.n s.kind arrivals departures → s.end ≤ slice_index departures i

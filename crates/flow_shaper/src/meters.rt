@@ -23,7 +23,8 @@ pub struct Meters {
     tick: Clock,
     /// Schedule of the reads.
     schedule: Schedule,
-    /// Next read after the packet left, or after an earlier packet left if no packet has had to wait for one since.
+    /// Next read after the packet left, or after an earlier packet left as long as no packet may have to wait for a
+    /// read.
     read: NextRead,
 }
 
