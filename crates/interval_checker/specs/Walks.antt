@@ -44,7 +44,7 @@ pub record Keeps (pt tai : ℕ) (packets : List FlowPacket) (i : ℕ) (places : 
   pub count : length done ≡ length places
   pub ended : AreEnded w.asked tai 0 (map (λ r. r.outcome) done)
 
--- the walk was fed exactly these packets, as far as later calls show, whatever packets follow
+-- the walk was fed exactly these packets, as far as later calls depend on it, whatever packets follow
 pub record StandsFor (pt tai : ℕ) (w : Walk) (packets : List FlowPacket) : Type 0 where
   pub ahead : (rest : List FlowPacket) → Keeps pt tai (packets ++ rest) (length packets)
       (cuts (packets ++ rest) (length packets)) w

@@ -20,7 +20,7 @@ pub struct Stamp {
 /// 0, and packets from 0 after the first marker of their run.
 #[derive(Drop)]
 pub struct Asked {
-    /// Capture timestamp of each packet asked for, by its run and its number in the run; 0 before it comes.
+    /// Capture timestamp of each packet asked for, by its run and its position in the run; 0 before it comes.
     stamps: HashMap<(u64, u64), Stamp>,
     /// End of each run asked for; `NoWholeFrame` until the run has ended.
     endings: HashMap<u64, Ending>,

@@ -11,7 +11,7 @@ use timing_base::PacketFault;
 /// Maximum number of packets in a frame or field.
 const MOST_IN_GROUP: u64 = 262_144;
 
-/// Markers of a run that has at least one, by packet numbers in the flow, counted from 0.
+/// Markers of a run that has at least one, by the positions of their packets in the flow, counted from 0.
 #[derive(Clone, Copy, Debug, PartialEq, Eq)]
 pub struct Marks {
     /// Packet with the first marker.
