@@ -87,7 +87,7 @@ impl Lane {
 
     /// Appends a message, and wakes the worker. Returns `Err` with the message if memory runs out.
     ///
-    /// The call may wait for a step of another thread. What it promises holds if it returns.
+    /// The call may wait for a step of another thread. Its contract holds if it returns.
     pub fn send<R: Wait>(
         &self,
         rt: &R,
@@ -225,7 +225,7 @@ impl Lane {
     /// Takes the first message. Returns `None` if the lane was empty at one step of this call; the caller then learns
     /// what its lesson states of an empty lane. `None` doesn't mean that no message will come.
     ///
-    /// The call may wait for a step of another thread. What it promises holds if it returns. It allocates no memory.
+    /// The call may wait for a step of another thread. Its contract holds if it returns. It allocates no memory.
     pub fn take<L: Lesson<Entry, View>, R: Wait>(
         &self,
         rt: &R,

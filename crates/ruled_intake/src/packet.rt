@@ -10,7 +10,9 @@ use timing_base::{FlowPacket, PacketFault, Rtp};
 /// Reason why a packet couldn't be parsed.
 #[derive(Clone, Copy, Debug, PartialEq, Eq)]
 enum Unread {
+    /// The payload ends before the extended sequence number does.
     Short,
+    /// The RTP version isn't 2.
     Version,
 }
 

@@ -12,7 +12,9 @@ const MOST: u64 = 137_438_953_472;
 /// Pass of one sender. In contracts it has its lane, the sender's number, and what was sent with it.
 #[derive(Drop)]
 pub struct SendPass {
+    /// Number of the sender, counted from 0.
     pub(crate) from: u32,
+    /// Pass of the queue.
     pub(crate) pass: LanePass,
     /// Number of messages that it has sent.
     pub(crate) sent: u64,
@@ -54,6 +56,7 @@ impl SendPass {
 /// Pass of the taker. In contracts it has its lane, the number of its senders, and what was taken with it.
 #[derive(Drop)]
 pub struct TakePass {
+    /// Pass of the queue.
     pub(crate) pass: LanePass,
     /// Number of messages taken.
     pub(crate) taken: u64,
