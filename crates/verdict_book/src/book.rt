@@ -31,7 +31,7 @@ impl Book {
 
     /// Posts a result. Returns `Err` with the result if memory runs out.
     ///
-    /// The call may wait for a post of another thread. What it promises holds if it returns.
+    /// The call may wait for a post of another thread. Its contract holds if it returns.
     pub fn post<R: Wait>(&self, rt: &R, row: Row) -> Result<Receipt, Row>
         ensures book { IfOk result (λ receipt. IsOf self.now receipt) }
         ensures row { IfOk result (λ receipt. row_of receipt ≡ row) }
