@@ -210,7 +210,7 @@ fn take_file<'h, R: Wait, S: Source>(
 /// the files are joined, an intake that is far ahead of its turn sleeps while the file before is being read. The caller
 /// begins and ends the turn of the intake's own file.
 ///
-/// The passes are those of the lanes, in order. The call may wait; what it promises holds if it returns.
+/// The passes are those of the lanes, in order. The call may wait; its contract holds if it returns.
 pub fn intake<'h, R: Wait, S: Source, G: Gate>(
     rt: &'h R,
     alloc: Global,

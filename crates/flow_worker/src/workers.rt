@@ -35,8 +35,8 @@ pub struct WorkDone {
 /// raised by the number of those of the files before.
 ///
 /// A message of a file that doesn't exist, of a flow that isn't the worker's own, or after its file's first end is
-/// ignored. If a take found nothing and the halt is raised, the worker stops without receipts. The call may wait; what
-/// it promises holds if it returns.
+/// ignored. If a take found nothing and the halt is raised, the worker stops without receipts. The call may wait; its
+/// contract holds if it returns.
 pub fn work<R: Wait, G: Gate>(
     rt: &R,
     alloc: Global,

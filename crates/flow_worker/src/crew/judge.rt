@@ -217,7 +217,7 @@ fn found_whole(
 ///
 /// After a failed read the other files are read to their ends. If memory runs out in an intake, or after the intakes,
 /// the sources come back without results. Returns `Err` if memory runs out before; the sources are then gone. The call
-/// may wait; what it promises holds if it returns.
+/// may wait; its contract holds if it returns.
 pub fn judge_files<R: Threads + Wait + Sync, S: Source, G: Gate>(
     rt: &R,
     alloc: Global,
