@@ -1,4 +1,4 @@
-//! The flow of one media, and what takes it.
+//! The flow of one media, and its taker.
 
 ghost use Rattle.std.specs.Prelude.{◌≡◌, ◌≤◌, ◌+◌, ◌∷◌, [], ℕ, Some, Ok, IfOk, IfSome, IsOkAnd, length, true, false};
 ghost use Rattle.timing_base.specs.Captures.{IsStamp, Record};
@@ -12,12 +12,14 @@ use std::alloc::AllocError as OutOfMemory;
 use timing_base::{FlowPacket, Media};
 use udp_rtp::{Awaited, Datagram, read_rtp};
 
-/// The flow of a media, and what takes it.
+/// The flow of a media, and its taker.
 #[derive(Drop)]
 pub struct MediaFlow<F: Drop> {
+    /// Media of the flow: its packets have the target of this media.
     pub media: Media,
+    /// Taker of the flow's packets.
     pub taker: F,
-    /// The packet that is expected next, as the numbers of a frame that carries it; or nothing.
+    /// The packet that is expected next, in a form that is compared with the bytes of a frame; or nothing.
     awaited: Awaited,
 }
 
@@ -25,7 +27,7 @@ impl<F: FlowTaker> MediaFlow<F> {
     ghost use Rattle.flow_demux.specs.Awaits.{AwaitsExpected};
     ghost use Rattle.flow_demux.specs.Takings.{GoesTo, TakesFlow};
 
-    /// Before the first record.
+    /// Returns the flow before the first packet record.
     pub fn new(media: &Media, taker: F) -> MediaFlow<F>
         ensures media { result.media ≡ media.now }
         ensures taker { result.taker ≡ taker }
@@ -38,7 +40,8 @@ impl<F: FlowTaker> MediaFlow<F> {
         }
     }
 
-    /// The packet of a record whose frame carries the one that is expected.
+    /// Returns the packet of a record if its frame carries the expected packet, else `None`. `number` counts from 1,
+    /// `at` is in nanoseconds.
     #[inline(always)]
     pub fn packet_in(&self, number: u64, at: u64, frame: &[u8]) -> Option<FlowPacket>
         requires awaits { AwaitsExpected F.expects self.now }
@@ -57,8 +60,9 @@ impl<F: FlowTaker> MediaFlow<F> {
         })
     }
 
-    /// Takes a record whose frame carries the packet that is expected, where the flow's taker takes that by
-    /// [`FlowTaker::take_next`], and returns whether it did. Else nothing changes. `Err` is want of memory.
+    /// Takes a packet record if its frame carries the expected packet, and the flow's taker accepts it by
+    /// [`FlowTaker::take_next`]. Returns whether it was taken; if not, nothing changes. Returns `Err` if memory runs
+    /// out.
     #[inline(always)]
     pub fn take_next(&mut self, number: u64, at: u64, frame: &[u8]) -> Result<bool, OutOfMemory>
         requires stamp { IsStamp at }
@@ -90,7 +94,7 @@ impl<F: FlowTaker> MediaFlow<F> {
         }
     }
 
-    /// Takes the next packet of the flow, and the frame that carried it. `Err` is want of memory.
+    /// Takes the next packet of the flow, and the Ethernet frame that carried it. Returns `Err` if memory runs out.
     #[inline(always)]
     pub fn take_packet(&mut self, packet: &FlowPacket, frame: &[u8]) -> Result<(), OutOfMemory>
         requires stamp { IsStamp packet.now.at }
@@ -109,8 +113,8 @@ impl<F: FlowTaker> MediaFlow<F> {
         taken
     }
 
-    /// Takes the datagram of a record, where it goes to this media, and returns whether it does. `Err` is want of
-    /// memory.
+    /// Takes the datagram of a packet record if it goes to this media, and returns whether it does. Returns `Err` if
+    /// memory runs out.
     #[inline(always)]
     pub fn take_datagram(
         &mut self,

@@ -1,4 +1,4 @@
-//! The judges of a worker for one file, or for files that are joined.
+//! The judges of a worker for one file, or for joined files.
 
 ghost use Rattle.std.specs.Prelude.{◌≡◌, ◌≤◌, ◌<◌, ◌+◌, ◌^◌, ◌++◌, ◌∷◌, [], ℕ, Bool, List, All, IfOk, IfNone, IfSome, IsTrue, OnOk, filter, length, map, true};
 ghost use Rattle.timing_base.specs.declared.key.FlowKey.{FlowKey as KeyValue};
@@ -23,8 +23,7 @@ use std::sync::Wait;
 use timing_base::{FlowKey, FlowPacket, Media, PacketFault, Row, Rtp, route};
 use verdict_book::{Book, Receipt};
 
-/// A place for each media of the session, in order. It has a judge where the flow of the media is
-/// the worker's own.
+/// Judges by media of the session, in order. A media has a judge if its flow is the worker's own.
 #[derive(Drop)]
 pub struct Judges {
     places: Vec<Option<FlowJudge<()>>>,
@@ -33,8 +32,8 @@ pub struct Judges {
 impl Judges {
     ghost use Rattle.flow_worker.specs.Judging.{AreFed, Feeds, HaveRoom, IsDealt, batched, is_own};
 
-    /// The judges of a file, or of the first of files that are joined, for this worker. `Err` is
-    /// want of memory.
+    /// Returns the judges of this worker for a file, or for file 0 if files are joined. Returns `Err` if memory runs
+    /// out.
     pub fn new(
         alloc: Global,
         run: &RunSetting<'_>,
@@ -60,9 +59,9 @@ impl Judges {
         Ok(Judges { places })
     }
 
-    /// Feeds the packets of a file to the judges of their media, with their record numbers raised.
-    /// Those of a media without a judge are passed over. `Err` is want of memory; what the judges
-    /// were fed isn't known from then on.
+    /// Feeds the packets of a file to the judges of their media, with `before` added to their packet records. Packets
+    /// of a media without a judge are ignored. Returns `Err` if memory runs out; what the judges were fed is then
+    /// unspecified.
     pub fn take(&mut self, packets: &[Packet], before: u64) -> Result<(), OutOfMemory>
         requires before { before ≤ 2 ^ 41 }
         requires room { HaveRoom (length packets.now) self.old }
@@ -107,8 +106,8 @@ impl Judges {
         }
     }
 
-    /// Posts the rows of the flows that have a judge, by rising media, and puts the receipts at the
-    /// end of a list. `Err` is want of memory.
+    /// Posts the results of the flows that have a judge, by media, and appends the receipts to a list. Returns `Err` if
+    /// memory runs out.
     pub fn post<R: Wait>(
         self,
         rt: &R,
@@ -134,7 +133,7 @@ impl Judges {
     }
 }
 
-/// The judge of a flow that is the worker's own.
+/// Returns the judge of a flow if it is the worker's own.
 fn own_judge(
     alloc: Global,
     media: &Media,
@@ -153,7 +152,7 @@ fn own_judge(
     }
 }
 
-/// Whether this is the packet that goes on in the judge's flow as most do.
+/// Returns whether this is the packet that the judge expects next.
 #[inline(always)]
 fn is_expected(judge: &FlowJudge<()>, rtp: Result<Rtp, PacketFault>) -> bool
     ensures { result ≡ true → Expects judge.now rtp }
@@ -167,8 +166,8 @@ fn is_expected(judge: &FlowJudge<()>, rtp: Result<Rtp, PacketFault>) -> bool
     }
 }
 
-/// Feeds a judge the next packet of its flow. In a judged run most go on as is expected: these are compared once, and
-/// then only their stamps are fed. `Err` is want of memory.
+/// Feeds a judge the next packet of its flow. In a judged run most packets are the expected ones: these are compared
+/// once, and then only their packet records and capture timestamps are fed. Returns `Err` if memory runs out.
 #[inline(always)]
 fn feed_next(
     judge: &mut FlowJudge<()>,
@@ -190,7 +189,7 @@ fn feed_next(
     judge.feed(rec, at, rtp, &mut ())
 }
 
-/// Posts a row, and puts its receipt at the end of a list.
+/// Posts a result, and appends its receipt to a list. Returns `Err` if memory runs out.
 fn post_row<R: Wait>(
     rt: &R,
     book: &Book,

@@ -1,4 +1,4 @@
-//! Two meters of a run, side by side.
+//! Two meters of the same run.
 
 ghost use Rattle.std.specs.Prelude.{◌||◌};
 
@@ -9,15 +9,17 @@ use sender_params::Params;
 use std::alloc::{AllocError as OutOfMemory, Global};
 use timing_base::Judged;
 
-/// Two meters of one run, each with an output of its own.
+/// Two meters of one run, each with its own output.
 #[derive(Drop)]
 pub struct Pair<A: Drop, B: Drop> {
+    /// Meter that is called first; its output is `out.0`.
     pub first: A,
+    /// Meter that is called second, and not at all if a call of the first returns `Err`; its output is `out.1`.
     pub second: B,
 }
 
 impl<A: RunMeter, B: RunMeter> RunMeter for Pair<A, B> {
-    /// What both put out.
+    /// Outputs of both meters.
     type Out = (A::Out, B::Out);
 
     const WANTS_LEVELS: bool = A::WANTS_LEVELS || B::WANTS_LEVELS;
