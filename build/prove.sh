@@ -3,9 +3,9 @@
 #
 #   build/prove.sh
 #
-# It runs `rt ci` over a copy without the crates of tests and the must-fail edits. What passes is kept on this machine, for the gate too: a
-# later run proves only the crates that changed and those above them. On standard error it names each crate that is done. Exit status 1:
-# something isn't proved, and the end of what `rt ci` prints is shown.
+# It runs `rt ci` over a copy without the crates of tests and the must-fail edits. A kit that keeps what passes (13f) then proves less in later
+# runs, the gate too. On standard error it names each crate that is done. Exit status 1: something isn't proved, and the end of what `rt ci`
+# prints is shown.
 set -u
 top=$(cd "$(dirname "$(readlink -f "$0")")/.." && pwd) || exit 1
 copy=$top/out/prove

@@ -62,6 +62,25 @@ fn cause_of<R: Files + AllocGlobal + Drop>(
     }
 }
 
+/// Returns how a run ended, with the name of the input that its status is about, and the cause that was kept for it.
+fn ending_of<'a>(
+    words: &'a [String],
+    are_text: bool,
+    status: Status,
+    name: &'a Option<String>,
+    cause: &'a Option<String>,
+) -> Ending<'a> {
+    let input = name.as_ref().map(|name| name.as_str());
+    let cause = cause.as_ref().map(|cause| cause.as_str());
+    Ending {
+        words,
+        are_text,
+        status,
+        input,
+        cause,
+    }
+}
+
 /// Returns the text that is printed after the first line of a status.
 fn explanation<R: Files + AllocGlobal + Drop>(
     alloc: Global,
@@ -73,13 +92,7 @@ fn explanation<R: Files + AllocGlobal + Drop>(
     let name = input_name(alloc, words, status)?;
     let input = name.as_ref().map(|name| name.as_str());
     let cause = cause_of(alloc, shelf, input)?;
-    let ending = Ending {
-        words,
-        are_text,
-        status,
-        input,
-        cause: cause.as_ref().map(|cause| cause.as_str()),
-    };
+    let ending = ending_of(words, are_text, status, &name, &cause);
     hint(alloc, ending)
 }
 
