@@ -2,7 +2,8 @@
 -- section 6), from one packet with the marker to the next: a frame, or a field where there are two in a frame.
 -- Ticks are of 90 kHz; the ticks of a frame are whole eighths of a tick at each rate that is known.
 -- This project's profile: which rates are known, and when one of them is told; how near to one the mean step has to be.
-use Rattle.std.specs.Prelude.{ℕ, zero, suc, ◌+◌, ◌*◌, ◌/◌, ◌%◌, ◌==◌, ◌&&◌, nat_le, Bool, true, false, if◌then◌else◌, List}
+use Rattle.std.specs.Prelude.{ℕ, zero, suc, ◌+◌, ◌*◌, ◌/◌, ◌%◌, ◌==◌, ◌&&◌, nat_le, Bool, true, false, if◌then◌else◌}
+use Rattle.std.specs.Prelude.{List}
 use Rattle.std.specs.Prelude.{[], ◌∷◌, ◌++◌, Option, Some, None, codes}
 use Rattle.std.specs.Fmt.{decimal}
 use Rattle.capture_scan.specs.declared.stream.Range.{Range}
