@@ -33,10 +33,18 @@ count_after failed shelf m n = raised_if (failed && share_count shelf m n) (coun
 abbrev pub name_of : {F : Type 0} → FileSource F → List ℕ
 name_of s = string_bytes s.name
 
+-- the file of a source
+abbrev pub file_of : {F : Type 0} → FileSource F → F
+file_of s = s.file
+
 -- the number of reads of an open file that failed
 abbrev pub source_faults : {F : Type 0} → FileSource F → ℕ
 source_faults s = s.faults
 
+-- the stream of a sink
+abbrev pub stream_of : {C W : Type 0} → StdSink C W → W
+stream_of s = s.stream
+
 -- the number of writes to a stream that failed
-abbrev pub sink_faults : {C : Type 0} → StdSink C → ℕ
+abbrev pub sink_faults : {C W : Type 0} → StdSink C W → ℕ
 sink_faults s = s.faults

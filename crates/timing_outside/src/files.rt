@@ -1,7 +1,9 @@
-//! Files, standard output and standard error. Contracts don't see their bytes.
-ghost use Rattle.std.specs.Prelude.{◌≡◌, ◌≤◌, ◌<◌, ◌^◌, ◌&&◌, ℕ, List, true, length, None, IfSome, IfOk, IsErrOf, is_err, nat_lt, string_bytes};
+//! Files, standard output and standard error. Whatever bytes the system's files and streams have, a source hands out those
+//! of its file, and a sink passes on those that it takes.
+ghost use Rattle.std.specs.Prelude.{◌≡◌, ◌≤◌, ◌<◌, ◌^◌, ◌&&◌, ℕ, List, true, length, None, IfOk, IsErrOf, is_err, nat_lt, string_bytes};
 ghost use Rattle.std.specs.Str.{bytes_eq};
 ghost use Rattle.std.specs.Io.{ReadsAtMost};
+ghost use Rattle.std.specs.Io.KnownBytes.{Keeps, ReadConsumes, WriteAppends};
 ghost use Rattle.timing_outside.specs.Causes.{Rose};
 ghost use Rattle.timing_outside.specs.Counts.{has_failed, raised_if};
 
@@ -10,7 +12,7 @@ use crate::sink::Sink;
 use crate::source::{Failed, Source};
 use std::alloc::AllocError as OutOfMemory;
 use std::collections::BTreeMap;
-use std::io::{ErrorKind, Print, Read, Stderr, Stdout, Write};
+use std::io::{ErrorKind, Read, Write};
 use std::rt::{Clock, Files};
 use std::time::Duration;
 use std::{fmt, fs, io, thread};
@@ -29,8 +31,6 @@ pub enum FileFault {
     /// The name was fetched before and isn't that of a regular file, so its contents can't be read
     /// again.
     ReadBefore,
-    /// A second reading gave other contents than the first.
-    Changed,
 }
 
 impl fmt::Display for FileFault {
@@ -38,9 +38,8 @@ impl fmt::Display for FileFault {
         match self {
             FileFault::System(error) => write!(f, "{error}"),
             FileFault::ReadBefore => f.write_str(
-                "what isn't a regular file can be read only once, and this run needs it twice",
+                "what isn't a regular file can be read only once, and it is named twice",
             ),
-            FileFault::Changed => f.write_str("the file changed while it was read"),
         }
     }
 }
@@ -80,22 +79,13 @@ pub struct FileSource<F: Drop> {
     fault: Option<FileFault>,
 }
 
-/// The output streams of a program.
-#[derive(Clone, Copy)]
-enum Stream {
-    /// Standard output.
-    Out(Stdout),
-    /// Standard error.
-    Err(Stderr),
-}
-
-/// Standard output or standard error. A write that fails is counted as a fault. So is one that
-/// writes no byte although there is one. If the stream is non-blocking and has no room, a write
-/// waits.
+/// A sink over a stream, as standard output or standard error. A write that fails is counted as a
+/// fault. So is one that writes no byte although there is one. If the stream is non-blocking and has
+/// no room, a write waits.
 #[derive(Drop)]
-pub struct StdSink<C: Drop> {
+pub struct StdSink<C: Drop, W: Drop> {
     clock: C,
-    stream: Stream,
+    stream: W,
     faults: u64,
 }
 
@@ -256,20 +246,10 @@ where
             self.raise(source.name.as_str(), source.fault);
         }
     }
-
-    /// Counts a fault of this name.
-    fn note_change(&mut self, name: &str)
-        ensures raised { Rose (count_of self.old name.now) (count_of self.new name.now) }
-        ensures later { (n : List ℕ) → count_of self.old n ≤ count_of self.new n }
-
-        ensures counts { (n : List ℕ) → count_of self.new n ≡ count_after true self.old name.now n }
-    {
-        self.raise(name, Some(FileFault::Changed));
-    }
 }
 
 impl<F: Read + Send + Drop> Source for FileSource<F> {
-    ghost use Rattle.timing_outside.specs.Files.{source_faults, name_of};
+    ghost use Rattle.timing_outside.specs.Files.{file_of, source_faults, name_of};
 
     ghost name = { λ s. name_of s };
 
@@ -283,6 +263,11 @@ impl<F: Read + Send + Drop> Source for FileSource<F> {
         ensures bound { ReadsAtMost result buf.new }
         ensures counts { source_faults self.new
             ≡ raised_if (is_err result) (source_faults self.old) }
+
+        // The bytes come off the front of what the file has left: none is skipped, none comes twice,
+        // and `Ok(0)` comes only at the end.
+        ensures file { ReadConsumes (F.remaining (file_of self.old)) (F.remaining (file_of self.new))
+            result buf.new }
     {
         match read_some(&mut self.file, buf) {
             Ok(count) => Ok(count),
@@ -297,7 +282,8 @@ impl<F: Read + Send + Drop> Source for FileSource<F> {
 
 /// Reads some of the bytes. A read that a signal interrupts is tried again.
 fn read_some<F: Read>(file: &mut F, buf: &mut [u8]) -> io::Result<usize>
-    ensures { IfOk result (λ k. k ≤ length buf.new) }
+    ensures bound { ReadsAtMost result buf.new }
+    ensures bytes { ReadConsumes (F.remaining file.old) (F.remaining file.new) result buf.new }
 {
     for _ in 0..TRIES {
         match file.read(buf) {
@@ -308,72 +294,56 @@ fn read_some<F: Read>(file: &mut F, buf: &mut [u8]) -> io::Result<usize>
     Err(io::Error::from(ErrorKind::Interrupted))
 }
 
-impl Stream {
-    /// Writes some of the bytes. A write that a signal interrupts is tried again.
-    fn write(&self, bytes: &[u8]) -> io::Result<usize>
-        ensures { IfOk result (λ k. k ≤ length bytes.now) }
-    {
-        for _ in 0..TRIES {
-            let written = match self {
-                Stream::Out(stdout) => stdout.write_some(bytes),
-                Stream::Err(stderr) => stderr.write_some(bytes),
-            };
-            match written {
-                Err(error) if error.kind() == ErrorKind::Interrupted => {}
-                written => return written,
-            }
+/// Writes some of the bytes. A write that a signal interrupts is tried again.
+fn write_some<W: Write>(stream: &mut W, bytes: &[u8]) -> io::Result<usize>
+    ensures bound { IfOk result (λ k. k ≤ length bytes.now) }
+    ensures bytes { WriteAppends (W.contents stream.old) (W.contents stream.new) result bytes.now }
+{
+    for _ in 0..TRIES {
+        match stream.write(bytes) {
+            Err(error) if error.kind() == ErrorKind::Interrupted => {}
+            answer => return answer,
         }
-        Err(io::Error::from(ErrorKind::Interrupted))
     }
-
-    /// Writes some of the bytes. If the stream has no room, waits and tries again. Returns `None`
-    /// if there was an error.
-    fn write_some<C: Clock>(&self, clock: &C, bytes: &[u8]) -> Option<usize>
-        ensures { IfSome result (λ k. k ≤ length bytes.now) }
-    {
-        for _ in 0..u64::MAX {
-            match self.write(bytes) {
-                Ok(count) => return Some(count),
-                Err(error) if error.kind() == ErrorKind::WouldBlock => {
-                    thread::sleep(clock, Duration::from_millis(REST));
-                }
-                Err(_) => break,
-            }
-        }
-        None
-    }
+    Err(io::Error::from(ErrorKind::Interrupted))
 }
 
-impl<C: Clock + Drop> StdSink<C> {
-    ghost use Rattle.timing_outside.specs.Files.{sink_faults};
-
-    /// Returns the sink of standard output.
-    pub fn out(clock: C, stdout: Stdout) -> StdSink<C>
-        ensures { sink_faults result ≡ 0 }
-    {
-        StdSink {
-            clock,
-            stream: Stream::Out(stdout),
-            faults: 0,
+/// Writes some of the bytes. If the stream has no room, waits and tries again.
+fn write_waiting<C: Clock, W: Write>(clock: &C, stream: &mut W, bytes: &[u8]) -> io::Result<usize>
+    ensures bound { IfOk result (λ k. k ≤ length bytes.now) }
+    ensures bytes { WriteAppends (W.contents stream.old) (W.contents stream.new) result bytes.now }
+{
+    for _ in 0..u64::MAX {
+        match write_some(stream, bytes) {
+            Err(error) if error.kind() == ErrorKind::WouldBlock => {
+                thread::sleep(clock, Duration::from_millis(REST));
+            }
+            answer => return answer,
         }
     }
+    Err(io::Error::from(ErrorKind::WouldBlock))
+}
 
-    /// Returns the sink of standard error.
-    pub fn err(clock: C, stderr: Stderr) -> StdSink<C>
-        ensures { sink_faults result ≡ 0 }
+impl<C: Clock + Drop, W: Write + Drop> StdSink<C, W> {
+    ghost use Rattle.timing_outside.specs.Files.{sink_faults, stream_of};
+
+    /// Returns the sink of this stream.
+    pub fn new(clock: C, stream: W) -> StdSink<C, W>
+        ensures faults { sink_faults result ≡ 0 }
+        ensures stream { stream_of result ≡ stream }
     {
         StdSink {
             clock,
-            stream: Stream::Err(stderr),
+            stream,
             faults: 0,
         }
     }
 }
 
-impl<C: Clock + Drop> Sink for StdSink<C> {
-    ghost use Rattle.timing_outside.specs.Files.{sink_faults};
+impl<C: Clock + Drop, W: Write + Drop> Sink for StdSink<C, W> {
+    ghost use Rattle.timing_outside.specs.Files.{sink_faults, stream_of};
 
-    ghost written = { λ _. None };
+    ghost written = { λ s. W.contents (stream_of s) };
 
     ghost faults = { λ s. sink_faults s };
 
@@ -382,10 +352,12 @@ impl<C: Clock + Drop> Sink for StdSink<C> {
     fn write(&mut self, bytes: &[u8]) -> Result<usize, Failed>
         ensures bound { IfOk result (λ k. k ≤ length bytes.now) }
         ensures some { IfOk result (λ k. 0 < length bytes.now → 0 < k) }
+        ensures bytes { WriteAppends (W.contents (stream_of self.old)) (W.contents (stream_of self.new))
+            result bytes.now }
         ensures counts { sink_faults self.new ≡ raised_if (is_err result) (sink_faults self.old) }
     {
-        match self.stream.write_some(&self.clock, bytes) {
-            Some(count) if count > 0 || bytes.is_empty() => Ok(count),
+        match write_waiting(&self.clock, &mut self.stream, bytes) {
+            Ok(count) if count > 0 || bytes.is_empty() => Ok(count),
             _ => {
                 self.faults = self.faults.saturating_add(1);
                 Err(Failed)

@@ -161,17 +161,4 @@ impl Shelf for MemoryShelf {
             self.raise(source.name());
         }
     }
-
-    /// Counts a fault of this name.
-    fn note_change(&mut self, name: &str)
-        ensures raised { Rose (count_of self.old name.now) (count_of self.new name.now) }
-        ensures lacks { (n : List ℕ) → plan_of self.old n ≡ None → plan_of self.new n ≡ None }
-        ensures texts { (n : List ℕ) → bytes_of self.new n ≡ bytes_of self.old n }
-        ensures later { (n : List ℕ) → count_of self.old n ≤ count_of self.new n }
-
-        ensures plans { (n : List ℕ) → plan_of self.new n ≡ plan_of self.old n }
-        ensures counts { (n : List ℕ) → count_of self.new n ≡ count_after true self.old name.now n }
-    {
-        self.raise(name);
-    }
 }

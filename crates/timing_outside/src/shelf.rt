@@ -62,11 +62,4 @@ pub trait Shelf {
             → Rose (faults self.old (Self.Source.name source))
             (faults self.new (Self.Source.name source)) }
         ensures stays { StaysAs text lacks faults self.old self.new };
-
-    /// Notes that a second reading of this name gave other contents than the first. If the contents
-    /// aren't known, the count of the name rises. The contents are unchanged.
-    fn note_change(&mut self, name: &str)
-        ensures raised { text self.old name.now ≡ None
-            → Rose (faults self.old name.now) (faults self.new name.now) }
-        ensures stays { StaysAs text lacks faults self.old self.new };
 }

@@ -90,11 +90,6 @@ impl Shelf for SteadyShelf {
     fn give_back(&mut self, _source: SteadySource)
         ensures { (n : List ℕ) → bytes_of self.new n ≡ bytes_of self.old n }
     {}
-
-    /// Does nothing, because each fetch of a name gives equal contents.
-    fn note_change(&mut self, _name: &str)
-        ensures { (n : List ℕ) → bytes_of self.new n ≡ bytes_of self.old n }
-    {}
 }
 
 impl Source for SteadySource {

@@ -9,7 +9,7 @@ use crate::sdp::expected;
 use crate::usage::{not_text_lines, usage_hint};
 use sdp_reader::SdpFault;
 use std::alloc::{AllocError as OutOfMemory, Global};
-use timing_base::FileName;
+use timing_base::{FileName, ScanForm};
 use timing_report::{Input, Status};
 use timing_words::{Request, WordFault, read_words};
 
@@ -118,15 +118,22 @@ fn without_number(cause: &str) -> &str {
     }
 }
 
-/// Returns the line of an input that couldn't be read. A capture `-` is a file of that name and not
-/// standard input.
-fn read_line(alloc: Global, name: &str, cause: &str) -> Result<String, OutOfMemory> {
-    let (shown, cause) = (shown(alloc, name)?, without_number(cause));
+/// Returns what a name of an input may be meant as. `-` is a file of that name and not standard input.
+/// An editor may have replaced two hyphens by a dash.
+fn advice(name: &str) -> &'static str {
     if name == "-" {
-        format!(in alloc; "{shown}: {cause}; for standard input write /dev/stdin\n")
+        "; for standard input write /dev/stdin"
+    } else if name.starts_with("\u{2013}") || name.starts_with("\u{2014}") {
+        "; an option begins with two hyphens, --"
     } else {
-        format!(in alloc; "{shown}: {cause}\n")
+        ""
     }
+}
+
+/// Returns the line of an input that couldn't be read.
+fn read_line(alloc: Global, name: &str, cause: &str) -> Result<String, OutOfMemory> {
+    let (shown, cause, advice) = (shown(alloc, name)?, without_number(cause), advice(name));
+    format!(in alloc; "{shown}: {cause}{advice}\n")
 }
 
 /// Returns the line of an invalid session description.
@@ -157,11 +164,32 @@ fn input_lines(alloc: Global, ending: Ending<'_>, name: &str) -> Result<String, 
     }
 }
 
+/// Returns the line about a draft without a video.
+fn draft_line(alloc: Global, name: &str) -> Result<String, OutOfMemory> {
+    let shown = shown(alloc, name)?;
+    format!(in alloc;
+        "{shown}: no raw video, or a malformed capture; what it holds: st2110_timing scan {shown}\n"
+    )
+}
+
+/// Returns the line about the end of a `scan --draft` without a video or over a malformed capture,
+/// or an empty text for another command, whose output gives the reason.
+fn unjudged_lines(alloc: Global, words: &[String]) -> Result<String, OutOfMemory> {
+    match read_words(alloc, words) {
+        Ok(Request::Scan(job)) if job.form == ScanForm::Draft => {
+            draft_line(alloc, job.capture.as_str())
+        }
+        Ok(_) | Err(WordFault::Usage) => Ok(String::new(alloc)),
+        Err(WordFault::OutOfMemory) => Err(OutOfMemory),
+    }
+}
+
 /// Returns the lines about the end of a run.
 fn lines(alloc: Global, ending: Ending<'_>) -> Result<String, OutOfMemory> {
     match (ending.status, ending.input) {
         (Status::Usage, _) if ending.are_text => usage_hint(alloc, ending.words),
         (Status::Usage, _) => not_text_lines(alloc),
+        (Status::NotAllJudged, _) => unjudged_lines(alloc, ending.words),
         (_, Some(name)) => input_lines(alloc, ending, name),
         _ => Ok(String::new(alloc)),
     }

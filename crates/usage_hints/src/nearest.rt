@@ -21,6 +21,12 @@ struct Nearest {
     edits: usize,
 }
 
+/// Returns the greatest number of edits between an argument and a name that it is similar to: one for
+/// every three bytes of the name, but at most two.
+fn most_edits(name: &str) -> usize {
+    (name.len() / 3).min(MOST_EDITS)
+}
+
 impl Nearest {
     /// Returns the state without a name.
     fn none() -> Nearest
@@ -32,13 +38,12 @@ impl Nearest {
         }
     }
 
-    /// Returns the better of this and another name. A name has to be at most two edits away from
-    /// the argument, and its length in bytes has to be above the number of edits.
+    /// Returns the better of this and another name, if the argument is similar to that.
     fn or(self, alloc: Global, word: &str, name: &'static str) -> Result<Nearest, OutOfMemory>
         ensures { IfOk result (λ n. (n.name ≡ self.name) ⊎ (n.name ≡ Some name.entry)) }
     {
         let edits = osa_distance(alloc, word, name)?;
-        if edits < self.edits && edits < name.len() {
+        if edits < self.edits && edits <= most_edits(name) {
             Ok(Nearest {
                 name: Some(name),
                 edits,
@@ -79,9 +84,9 @@ fn nearest_in(
     Ok(nearest.name)
 }
 
-/// Returns the command that is most similar to the argument, at most two edits away. An edit adds,
-/// removes or changes a character, or swaps two neighbouring ones. Returns `Err` if memory runs
-/// out.
+/// Returns the command that is most similar to the argument: at most two edits away, and at most one
+/// if its name has fewer than six characters. An edit adds, removes or changes a character, or swaps
+/// two neighbouring ones. Returns `Err` if memory runs out.
 pub fn nearest_command(alloc: Global, word: &str) -> Result<Option<&'static str>, OutOfMemory>
     ensures { IfOk result (λ o. IfSome o (λ n. IsCommandName n.now)) }
 {

@@ -48,6 +48,14 @@ fn is_dashed(word: &str) -> bool {
     word.len() > 1 && word.starts_with("-")
 }
 
+/// Returns whether an argument is meant as a negative number: a dash and then a digit.
+fn is_negative(word: &str) -> bool {
+    match word.as_bytes() {
+        [b'-', digit, ..] => digit.is_ascii_digit(),
+        _ => false,
+    }
+}
+
 /// Returns the name and the value of an argument `--name` or `--name=value`.
 fn name_and_value(word: &str) -> (&str, Option<&str>) {
     match word.split_once("=") {
@@ -99,6 +107,9 @@ impl<'a> Parts<'a> {
 
     /// Takes an argument as the value of an option.
     fn take_value(&mut self, name: &'static str, word: &'a str) -> Result<Next, Stop<'a>> {
+        if is_negative(word) {
+            return Err(Stop::Mistake(Mistake::BadValue(name, word)));
+        }
         if is_dashed(word) {
             return Err(Stop::Mistake(Mistake::NoValue(name)));
         }

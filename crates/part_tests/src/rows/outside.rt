@@ -185,6 +185,6 @@ fn takes_line<S: Sink>(rt: &impl Abort, sink: &mut S) {
 
 #[test]
 fn standard_streams(rt: HostRuntime) {
-    takes_line(&rt, &mut StdSink::out(&rt, rt.stdout()));
-    takes_line(&rt, &mut StdSink::err(&rt, rt.stderr()));
+    takes_line(&rt, &mut StdSink::new(&rt, rt.stdout()));
+    takes_line(&rt, &mut StdSink::new(&rt, rt.stderr()));
 }
