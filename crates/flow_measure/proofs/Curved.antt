@@ -122,7 +122,7 @@ pub curve-doubled : {N : Type 0} (value : N → ℤ) (b mid c : Curve N) (number
     → c.begun ≡ b.most / 2 + 1
     → c.columns.items ≡ set mid.columns.items (b.most / 2) e
     → ((k : ℕ) → 2 * k + 1 < b.most → column_at (curve_columns value mid) k
-        ≡ joined (column_at (curve_columns value b) (2 * k)) (column_at (curve_columns value b) (2 * k + 1)))
+    ≡ joined (column_at (curve_columns value b) (2 * k)) (column_at (curve_columns value b) (2 * k + 1)))
     → (2 * (b.most / 2) + 1 ≡ b.most → extremes_of value e ≡ joined (column_at (curve_columns value b) (2 * (b.most / 2))) (only (numbers b.seen)))
     → (2 * (b.most / 2) ≡ b.most → extremes_of value e ≡ only (numbers b.seen))
     → DrawsCurve value b numbers

@@ -12,7 +12,6 @@ mod slope;
 pub use curve::Curve;
 pub use eye::Eye;
 pub use slope::Slope;
-
 use std::alloc::{AllocError, Global};
 
 /// The least and the greatest of some numbers, in their unit.

@@ -89,13 +89,10 @@ impl GroupMeter {
             → MeasuresGroups params.now.media n0 self.new first last timestamp }
     {
         let k = self.first.seen;
-        self.first
-            .feed(since_start(params, n0, k, group.first));
+        self.first.feed(since_start(params, n0, k, group.first));
         self.last.feed(since_start(params, n0, k, group.last));
-        self.offset
-            .feed(offset_of(params, n0, k, group.timestamp));
-        self.latency
-            .feed(latency_of(group.first, group.timestamp));
+        self.offset.feed(offset_of(params, n0, k, group.timestamp));
+        self.latency.feed(latency_of(group.first, group.timestamp));
         self.step.feed(group.timestamp);
     }
 

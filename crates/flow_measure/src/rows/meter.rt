@@ -66,12 +66,7 @@ impl RunMeter for RowsMeter {
         Ok(())
     }
 
-    fn close(
-        self,
-        _params: &Params,
-        _judged: &Judged,
-        _out: &mut Rows,
-    ) -> Result<(), OutOfMemory> {
+    fn close(self, _params: &Params, _judged: &Judged, _out: &mut Rows) -> Result<(), OutOfMemory> {
         Ok(())
     }
 

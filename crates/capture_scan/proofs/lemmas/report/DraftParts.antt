@@ -263,8 +263,10 @@ stays-ratio r few = by-test (r.q == 1)
   where
     by-test : (b : Bool) → Stays (if b then decimal r.p else decimal r.p ++ (codes "/" ++ decimal r.q))
     by-test true = stays-decimal r.p (omega (arith, few.most, few.seconds))
-    by-test false = stays-after (decimal r.p) (codes "/" ++ decimal r.q) (stays-after (codes "/") (decimal r.q) (stays-decimal r.q (omega (arith,
-        few.seconds))))
+    by-test false = stays-after (decimal r.p) (codes "/" ++ decimal r.q) (stays-after (codes "/") (decimal r.q) (stays-decimal r.q (omega (
+      arith,
+      few.seconds,
+    ))))
 
 rate-item : (line : ℕ) (r : Ratio) → IsLimited r → item_at line (codes " exactframerate=" ++ ratio_text r)
     ≡ Some (item_with line ExactFrameRate (ratio_text r))

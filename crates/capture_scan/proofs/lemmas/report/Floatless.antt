@@ -28,7 +28,7 @@ lines-floatless : (lines : Option Lines) → any_float (lines_members lines) ≡
 lines-floatless None = refl
 lines-floatless (Some lines) =
     elim lines.fits as (λ b. any_float (if b then (codes "line", count lines.greatest) ∷ (codes "second_field", boolean lines.second_field) ∷ [] else []) ≡
-        false)
+    false)
     [ true ↦ refl | false ↦ refl ]
 
 stream-floatless : (s : Stream) → has_float (stream_data s) ≡ false

@@ -111,6 +111,7 @@ puts-none frames m n x text = record {
         → StandsFor m tai run n x packets → AreRows frames m tai run n packets more []
     rows-none frames m tai run n packets [] x h stands = refl
     rows-none frames m tai run n packets (p ∷ more) x h stands = absurd h
+
     stands-none : (m : Media) (tai run n : ℕ) (packets more : List FlowPacket) (x : RowMaker) → AreKept m tai n packets more []
         → StandsFor m tai run n x packets → StandsFor m tai run n x (packets ++ more)
     stands-none m tai run n packets [] x h stands = subst (StandsFor m tai run n x) (sym (append-nil packets)) stands
@@ -131,9 +132,14 @@ puts-more frames m n old mid new one kept before between after first rest = reco
     are-more : (tai run : ℕ) (packets more : List FlowPacket) → AreKept m tai n packets more (one ∷ kept)
         → StandsFor m tai run n old packets → AreRows frames m tai run n packets more (first.here ++ rest.here)
     are-more tai run packets [] h stands = absurd h
-    are-more tai run packets (p ∷ more) h stands =
-        (first.here, rest.here, refl, first.adds tai run packets p h.0 stands,
-        rest.are tai run (packets ++ p ∷ []) more h.1 (first.stands tai run packets p h.0 stands))
+    are-more tai run packets (p ∷ more) h stands = (
+      first.here,
+      rest.here,
+      refl,
+      first.adds tai run packets p h.0 stands,
+      rest.are tai run (packets ++ p ∷ []) more h.1 (first.stands tai run packets p h.0 stands),
+    )
+
     stands-more : (tai run : ℕ) (packets more : List FlowPacket) → AreKept m tai n packets more (one ∷ kept)
         → StandsFor m tai run n old packets → StandsFor m tai run n new (packets ++ more)
     stands-more tai run packets [] h stands = absurd h
@@ -176,10 +182,14 @@ rows-append frames m tai run n before [] more text rest h next =
     subst (λ t. AreRows frames m tai run n before more (t ++ rest)) (sym h) (subst (λ b. AreRows frames m tai run n b more rest) (append-nil before) next)
 rows-append frames m tai run n before (p ∷ packets) more text rest h next =
     let here = h.0 in
-    let others = h.1 in
-    (here, others ++ rest, ap (λ t. t ++ rest) h.2 ∙ append_assoc here others rest, h.3,
-    rows-append frames m tai run n (before ++ p ∷ []) packets more others rest h.4
-    (subst (λ b. AreRows frames m tai run n b more rest) (sym (append_assoc before (p ∷ []) packets)) next))
+    let others = h.1 in (
+      here,
+      others ++ rest,
+      ap (λ t. t ++ rest) h.2 ∙ append_assoc here others rest,
+      h.3,
+      rows-append frames m tai run n (before ++ p ∷ []) packets more others rest h.4
+          (subst (λ b. AreRows frames m tai run n b more rest) (sym (append_assoc before (p ∷ []) packets)) next),
+    )
 
 -- of one run more
 parts-append : (frames : Bool) (m : Media) (tai : ℕ) (over : List JudgedPart) (part : JudgedPart) (text rest : List ℕ)
@@ -202,9 +212,13 @@ pub told-more : (past : PastRows) (old new : Rows) (m : Media) (tai : ℕ) (r : 
 told-more past old new m tai r over packets more here frames text are t =
     let a = t.are in
     let put = t.put ++ here in
-    let so : AreRowsSoFar old.frames m tai over (Some (record { run = r; packets = packets ++ more })) put =
-    (a.0, a.1 ++ here, ap (λ x. x ++ here) a.2 ∙ append_assoc a.0 a.1 here, a.3,
-    rows-append old.frames m tai r.number r.n [] packets more a.1 here a.4 are) in
+    let so : AreRowsSoFar old.frames m tai over (Some (record { run = r; packets = packets ++ more })) put = (
+      a.0,
+      a.1 ++ here,
+      ap (λ x. x ++ here) a.2 ∙ append_assoc a.0 a.1 here,
+      a.3,
+      rows-append old.frames m tai r.number r.n [] packets more a.1 here a.4 are,
+    ) in
     record {
       frames_is = frames ∙ t.frames_is;
       put = put;

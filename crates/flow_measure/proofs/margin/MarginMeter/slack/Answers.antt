@@ -17,8 +17,11 @@ next-small lifted groups group offset n low few wide most slow =
 pub overflow_add-next-2 : goal.overflow_add-next-2
 overflow_add-next-2 c =
     let s = c.sizes_of-sizes in
-    omega (arith, next-small c.lifted.result c.from.result s.result.group s.result.offset c.args.params.now.n c.lifted.ensures.small
-    (omega (arith, c.from.ensures, c.requires.few)) s.ensures.group_small c.args.params.now.n_most s.ensures.offset_small)
+    omega (
+      arith,
+      next-small c.lifted.result c.from.result s.result.group s.result.offset c.args.params.now.n c.lifted.ensures.small
+          (omega (arith, c.from.ensures, c.requires.few)) s.ensures.group_small c.args.params.now.n_most s.ensures.offset_small,
+    )
 
 pub floor_difference-requires-clause-up_small : goal.floor_difference-requires-clause-up_small
 floor_difference-requires-clause-up_small c =
