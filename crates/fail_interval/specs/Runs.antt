@@ -20,9 +20,10 @@ has_groups (First head group) = false
 has_groups (Groups judge) = true
 
 -- the state is that of this run, and a packet at this instant may be the next one
-pub record CanGoOn {M : Type 0} (m : Media) (judge : RunJudge M) (so_far : SoFar) (at : ℕ) (marker : Bool) : Type 0 where
-  pub stands : StandsFor m judge so_far
-  pub fits : Fits (so_far_next so_far at marker)
+pub record CanGoOn {M : Type 0} (m : Media) (judge : RunJudge M) (so_far : SoFar) (at : ℕ) (marker : Bool) : Type 0
+  where
+    pub stands : StandsFor m judge so_far
+    pub fits : Fits (so_far_next so_far at marker)
 
 -- a packet at this instant may be the next one, after some packets
 abbrev pub IsOpenTo : {M : Type 0} → Media → RunJudge M → (at : ℕ) → (marker : Bool) → Type 0

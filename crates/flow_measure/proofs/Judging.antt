@@ -1,5 +1,6 @@
 -- The numbers of a run that is judged, packet by packet, and of one that is over.
-use Rattle.std.proofs.Common.{◌≡◌, ◌<◌, ◌≤◌, ◌+◌, ◌*◌, ◌^◌, ◌++◌, ◌∷◌, [], ℕ, Bool, List, length, map, Option, Some, None, MatchOption, refl, ap, ◌∙◌, sym, subst, arith}
+use Rattle.std.proofs.Common.{◌≡◌, ◌<◌, ◌≤◌, ◌+◌, ◌*◌, ◌^◌, ◌++◌, ◌∷◌, [], ℕ, Bool, List, length, map, Option, Some, None, MatchOption, refl, ap, ◌∙◌, sym}
+use Rattle.std.proofs.Common.{subst, arith}
 use Rattle.std.proofs.lemmas.List.{length-map, map-append}
 use Rattle.sender_params.specs.Ticks.{NeverFall}
 use Rattle.timing_base.specs.Flows.{read_or_zeros}

@@ -39,7 +39,8 @@ buffer-same NL b c gapped linear = linear
 buffer-same W b c gapped linear = linear
 
 -- what holds of each type's meters holds of them
-pub each-kind : (kind : Kind) (x : ModelMeters) (Is : Kind → KindMeter → Type 0) → Is N x.narrow → Is NL x.narrow_linear → Is W x.wide → Is kind (kind_in kind x)
+pub each-kind : (kind : Kind) (x : ModelMeters) (Is : Kind → KindMeter → Type 0) → Is N x.narrow → Is NL x.narrow_linear → Is W x.wide
+    → Is kind (kind_in kind x)
 each-kind N x Is narrow narrow_linear wide = narrow
 each-kind NL x Is narrow narrow_linear wide = narrow_linear
 each-kind W x Is narrow narrow_linear wide = wide
@@ -136,7 +137,8 @@ kind-taken W b c narrow narrow_linear wide = wide
 -- those that wait are fed
 pub settled : (kind : Kind) (n c_max full : ℕ) (b c : ModelMeters) (p : Packets)
     → 0 < b.waits → c.waits ≡ 0
-    → ((numbers : ℕ → ℤ) → Summarizes b.bucket numbers → ((j : ℕ) → j < b.waits → numbers (b.bucket.seen + j) ≡ pos b.level.bucket) → Summarizes c.bucket numbers)
+    → ((numbers : ℕ → ℤ) → Summarizes b.bucket numbers → ((j : ℕ) → j < b.waits → numbers (b.bucket.seen + j) ≡ pos b.level.bucket)
+    → Summarizes c.bucket numbers)
     → TakesHeld (buffer_in kind b) (buffer_in kind c) b.waits (held_in kind b.level)
     → TakesKind (kind_in kind b) (kind_in kind c) b.waits b.level.bucket (held_in kind b.level) b.place
     → MeasuresType kind n c_max full b p

@@ -34,7 +34,8 @@ returns-clause-room g c = λ count _ has.
     let r : Record = record { number = c.args.number; stamp = c.args.at; bytes = c.args.frame.now } in
     let flows = c.args.self.now.flows.items in
     let took : c.take_next.result ≡ Ok true = search rules in
-    room-of g.F.FlowTaker.takes g.F.FlowTaker.room g.F.FlowTaker.expects r count c.args.self.now _ (set flows c.in-Some.ahead c.take_next.new.self) c.pass.ensures.flows
+    room-of g.F.FlowTaker.takes g.F.FlowTaker.room g.F.FlowTaker.expects r count c.args.self.now _ (set flows c.in-Some.ahead c.take_next.new.self)
+    c.pass.ensures.flows
     (one-steps g.F.FlowTaker.takes g.F.FlowTaker.room g.F.FlowTaker.expects g.met.F.FlowTaker.other g.met.F.FlowTaker.less r flows c.in-Some.ahead
     c.index_mut.result.now c.take_next.new.self c.in-Some.ensures.own c.in-Some.ensures.within (sym c.index_mut.ensures.value)
     (c.take_next.ensures.goes took)

@@ -50,7 +50,8 @@ returns-in_err-groups c = λ groups named stamps records timestamps h size first
     let w = whole p.media p.n groups s stamps records timestamps p.media_is p.n_some h size in
     let fed = h.groups_are (slice_index stamps) (slice_index timestamps) (λ i few. refl) (λ i few. refl) in
     let none : groups ≡ 0 = sym w.groups_are ∙ sym s.groups_are
-    ∙ c.in_err-groups.ensures p.media s.n0 (firsts_of p.n (slice_index stamps)) (lasts_of p.n (slice_index stamps)) (firsts_of p.n (slice_index timestamps)) fed in
+    ∙ c.in_err-groups.ensures p.media s.n0 (firsts_of p.n (slice_index stamps)) (lasts_of p.n (slice_index stamps)) (firsts_of p.n (slice_index timestamps))
+    fed in
     let empty : length stamps ≡ 0 = (let e = ap (λ g. p.n * g) none in omega (arith, size, e)) in
     none-measured p.media p.n groups named stamps records timestamps _ p.n_some c.from_residual-in_err-groups.ensures size empty
 
