@@ -20,8 +20,8 @@ pub fn words_by_hand()
         ≡ codes "<li><span class=\"pass\">&#10003; pass</span> <b>N</b>: bucket 1 of 4, buffer 1 of 8; each packet "
         ++ codes "may come 444 ns later.</li>\n" }
     ensures fail { type_words late (codes "frame") 0
-        ≡ codes "<li><span class=\"fail\">&#10007; fail</span> <b>N</b>: bucket 1 of 4, buffer 1 of 8; broken by 2 of 2 "
-        ++ (codes "frames; 38 packets too late for the reads, first packet 1, at worst 759556 ns late. Packet 1, "
+        ≡ codes "<li><span class=\"fail\">&#10007; fail</span> <b>N</b>: bucket 1 of 4, buffer 1 of 8; broken by 2 "
+        ++ (codes "of 2 frames; 38 packets too late for the reads, first packet 1, at worst 759556 ns late. Packet 1, "
         ++ codes "with which the verdict's fail ends, is record 3 at 12:26:40.001764000 UTC.</li>\n") }
 {}
 

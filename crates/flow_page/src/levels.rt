@@ -2,7 +2,11 @@
 
 ghost use Rattle.std.specs.Prelude.{◌≡◌, ◌≤◌, ◌^◌, ◌++◌, ◌∷◌, [], IfOk, string_bytes};
 ghost use Rattle.std.specs.List.{flat_map};
-ghost use Rattle.flow_page.specs.Levels.{across_group, across_of, base_lines, bucket_limit, buffer_limit, eye_columns, eye_scene, eye_title, is_near, level_columns, level_detail, level_figure, level_figures, level_lines, level_scene, level_summary, level_title, level_words, limit_on, limit_words, line_name, run_columns, run_scene, run_title, type_line};
+ghost use Rattle.flow_page.specs.Levels.{across_group, across_of, base_lines, bucket_limit, buffer_limit, eye_columns};
+ghost use Rattle.flow_page.specs.Levels.{eye_scene, eye_title, is_near, level_columns, level_detail, level_figure};
+ghost use Rattle.flow_page.specs.Levels.{level_figures, level_lines, level_scene, level_summary, level_title};
+ghost use Rattle.flow_page.specs.Levels.{level_words, limit_on, limit_words, line_name, run_columns, run_scene};
+ghost use Rattle.flow_page.specs.Levels.{run_title, type_line};
 
 use crate::chart::{Across, Limit, LineName, Scene, Unit, UnitAcross, add_curve_figure};
 use crate::shown::{Curves, ShownRun, TypeShown};

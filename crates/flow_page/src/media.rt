@@ -4,7 +4,8 @@ ghost use Rattle.std.specs.Prelude.{◌≡◌, ◌<◌, ◌++◌, IfOk, codes, l
 ghost use Rattle.std.specs.List.{flat_map};
 ghost use Rattle.flow_page.specs.Shown.{types_shown};
 ghost use Rattle.flow_page.specs.chart.Figures.{told};
-ghost use Rattle.flow_page.specs.Media.{AreOfMedia, flow_media, media_open, media_row, media_table, row_open, run_cells, shown_cells, table_close, type_cells, verdict_open, verdict_told};
+ghost use Rattle.flow_page.specs.Media.{AreOfMedia, flow_media, media_open, media_row, media_table, row_open};
+ghost use Rattle.flow_page.specs.Media.{run_cells, shown_cells, table_close, type_cells, verdict_open, verdict_told};
 
 use crate::chart::add_told;
 use crate::shown::{FlowPage, ShownRun, TypeShown, types_shown};

@@ -2,7 +2,9 @@
 
 ghost use Rattle.std.specs.Prelude.{◌≡◌, ◌++◌, IfOk, string_bytes};
 ghost use Rattle.std.specs.List.{flat_map};
-ghost use Rattle.flow_page.specs.Numbers.{level_rows, number_rows, numbers_open, numbers_table, run_open, run_packets, run_peaks, run_row, runs_open, runs_table, time_rows, type_row, types_open, types_table};
+ghost use Rattle.flow_page.specs.Numbers.{level_rows, number_rows, numbers_open, numbers_table, run_open, run_packets};
+ghost use Rattle.flow_page.specs.Numbers.{run_peaks, run_row, runs_open, runs_table, time_rows, type_row, types_open};
+ghost use Rattle.flow_page.specs.Numbers.{types_table};
 
 use crate::media::add_table_close;
 use crate::shown::TypeShown;

@@ -2,7 +2,9 @@
 
 ghost use Rattle.std.specs.Prelude.{◌≡◌, ◌++◌, IfOk, string_bytes};
 ghost use Rattle.flow_page.specs.Shown.{kind_at};
-ghost use Rattle.flow_page.specs.Often.{below_bars, bins_bars, class_bars, gap_detail, gap_figure, gaps_figure, next_class, often_detail, often_figure, often_from, often_kind, often_title, width_bars};
+ghost use Rattle.flow_page.specs.Often.{below_bars, bins_bars, class_bars, gap_detail, gap_figure, gaps_figure};
+ghost use Rattle.flow_page.specs.Often.{next_class, often_detail, often_figure, often_from, often_kind, often_title};
+ghost use Rattle.flow_page.specs.Often.{width_bars};
 
 use crate::chart::{Bar, BarName, UnitAcross, add_bars_figure};
 use crate::shown::kind_at;

@@ -5,7 +5,8 @@ ghost use Rattle.std.specs.List.{flat_map};
 ghost use Rattle.timing_base.specs.Targets.{target_of};
 ghost use Rattle.timing_report.specs.Words.{group_name};
 ghost use Rattle.flow_page.specs.Media.{AreOfMedia};
-ghost use Rattle.flow_page.specs.Page.{contents_part, contents_told, flow_heading, flow_part, flow_parts, page_of, part_if, run_grid, run_heading, run_tables, words_list};
+ghost use Rattle.flow_page.specs.Page.{contents_part, contents_told, flow_heading, flow_part, flow_parts, page_of};
+ghost use Rattle.flow_page.specs.Page.{part_if, run_grid, run_heading, run_tables, words_list};
 ghost use Rattle.flow_page.specs.Words.{utc};
 
 use crate::around::add_around_figures;
@@ -118,7 +119,8 @@ fn add_flow_title(text: &mut String, media: &Media, flow: &MeasuredFlow) -> Resu
 /// Adds the line that names the run that is shown, with the times of its packets.
 fn add_run_title(text: &mut String, tai: u32, shown: &ShownRun) -> Result<(), OutOfMemory>
     ensures { IfOk result (λ _. string_bytes text.new ≡ string_bytes text.old
-        ++ run_heading shown.now.run.run shown.now.run.«record» (utc tai shown.now.first_at) (utc tai shown.now.last_at)) }
+        ++ run_heading shown.now.run.run shown.now.run.«record»
+        (utc tai shown.now.first_at) (utc tai shown.now.last_at)) }
 {
     let first = utc(tai, shown.first_at);
     let last = utc(tai, shown.last_at);

@@ -2,7 +2,10 @@
 
 ghost use Rattle.std.specs.Prelude.{◌≡◌, ◌<◌, ◌≤◌, ◌^◌, ◌++◌, IfOk, string_bytes};
 ghost use Rattle.sender_params.specs.Times.{groups_of};
-ghost use Rattle.flow_page.specs.Timings.{drift_of, least_step, misfits, most_step, period_of, span_of, steps_line, steps_seen, steps_wanted, steps_words, timing_columns, timing_detail, timing_figure, timing_figures, timing_lines, timing_scene, timing_summary, timing_title, timing_unit, wanted_text};
+ghost use Rattle.flow_page.specs.Timings.{drift_of, least_step, misfits, most_step, period_of, span_of, steps_line};
+ghost use Rattle.flow_page.specs.Timings.{steps_seen, steps_wanted, steps_words, timing_columns, timing_detail};
+ghost use Rattle.flow_page.specs.Timings.{timing_figure, timing_figures, timing_lines, timing_scene, timing_summary};
+ghost use Rattle.flow_page.specs.Timings.{timing_title, timing_unit, wanted_text};
 
 use crate::chart::{Limit, LineName, Scene, Tenths, Unit, UnitAcross, add_curve_figure};
 use crate::levels::{across_of, one_line};

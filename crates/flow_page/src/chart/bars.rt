@@ -1,7 +1,9 @@
 //! Bars of bins and classes.
 
 ghost use Rattle.std.specs.Prelude.{◌≡◌, ◌≤◌, ◌+◌, ◌-◌, ◌++◌, IfOk, length, string_bytes};
-ghost use Rattle.flow_page.specs.chart.Bars.{bar_label, bar_name, bar_piece, bar_shape, bar_style, bar_text, bar_x, bars_picture, bars_text, has_name, label_step, limit_before, limit_line, limit_number, plot_of_bars, share_of, some_label, some_share, told_text};
+ghost use Rattle.flow_page.specs.chart.Bars.{bar_label, bar_name, bar_piece, bar_shape, bar_style, bar_text, bar_x};
+ghost use Rattle.flow_page.specs.chart.Bars.{bars_picture, bars_text, has_name, label_step, limit_before, limit_line};
+ghost use Rattle.flow_page.specs.chart.Bars.{limit_number, plot_of_bars, share_of, some_label, some_share, told_text};
 ghost use Rattle.flow_page.specs.chart.Marks.{tenths};
 
 use crate::chart::axis::Axis;

@@ -4,7 +4,9 @@ ghost use Rattle.std.specs.Prelude.{◌≡◌, ◌≤◌, ◌++◌, ◌*◌, ◌
 ghost use Rattle.std.specs.Fmt.{signed_decimal};
 ghost use Rattle.flow_measure.specs.Columns.{column_at};
 ghost use Rattle.flow_page.specs.chart.Bars.{bars_picture, plot_of_bars};
-ghost use Rattle.flow_page.specs.chart.Charts.{axis_over, bars_axis, bars_figure, bars_panel, bounded, curve_axis, curve_figure, curve_text, most_of, number_room, over_columns, over_lines, panel_of, plot_of, room_of, wider};
+ghost use Rattle.flow_page.specs.chart.Charts.{axis_over, bars_axis, bars_figure, bars_panel, bounded, curve_axis};
+ghost use Rattle.flow_page.specs.chart.Charts.{curve_figure, curve_text, most_of, number_room, over_columns};
+ghost use Rattle.flow_page.specs.chart.Charts.{over_lines, panel_of, plot_of, room_of, wider};
 
 use crate::chart::axis::Axis;
 use crate::chart::bars::{Bar, add_bars};

@@ -1,7 +1,10 @@
 //! The lines behind the numbers, with ticks and units.
 
 ghost use Rattle.std.specs.Prelude.{◌≡◌, ◌≤◌, ◌+◌, ◌++◌, ◌^◌, IfOk, pos, string_bytes};
-ghost use Rattle.flow_page.specs.chart.Grid.{across_name, frame_rule, frame_rules, grid_line, grid_text, mark_across, mark_piece, marks_across, number_piece, rule_piece, scale_of, scale_of_ns, shown, some_mark_across, step_across, tick_across, unit_name, units_piece, units_text};
+ghost use Rattle.flow_page.specs.chart.Grid.{across_name, frame_rule, frame_rules, grid_line, grid_text, mark_across};
+ghost use Rattle.flow_page.specs.chart.Grid.{mark_piece, marks_across, number_piece, rule_piece, scale_of, scale_of_ns};
+ghost use Rattle.flow_page.specs.chart.Grid.{shown, some_mark_across, step_across, tick_across, unit_name, units_piece};
+ghost use Rattle.flow_page.specs.chart.Grid.{units_text};
 
 use crate::chart::axis::{Axis, round_up};
 use crate::chart::plot::{Across, Plot, Tenths};

@@ -1,7 +1,8 @@
 //! Pictures worked by hand, and theorems about all pictures. Each function does nothing: its clauses are what is
 //! proved.
 
-ghost use Rattle.std.specs.Prelude.{◌≡◌, ◌<◌, ◌≤◌, ◌≤ℤ◌, ◌<ℤ◌, ◌++◌, ◌∷◌, ℕ, ℤ, false, List, [], codes, length, neg_ℤ, pos};
+ghost use Rattle.std.specs.Prelude.{◌≡◌, ◌<◌, ◌≤◌, ◌≤ℤ◌, ◌<ℤ◌, ◌++◌, ◌∷◌, ℕ, ℤ, false, List, [], codes, length, neg_ℤ};
+ghost use Rattle.std.specs.Prelude.{pos};
 ghost use Rattle.std.specs.Prelude.{Some, None, true};
 ghost use Rattle.std.specs.List.{list_any};
 ghost use Rattle.flow_measure.specs.Columns.{AreColumns, column_at, greatest_at, least_at, places_in};
@@ -19,7 +20,8 @@ ghost use Rattle.flow_page.specs.declared.chart.axis.Axis.{Axis};
 ghost use Rattle.flow_page.specs.declared.chart.bars.BarName.TheVariants.{From};
 ghost use Rattle.flow_page.specs.declared.chart.grid.Unit.TheVariants.{Packets};
 ghost use Rattle.flow_page.specs.declared.chart.plot.Plot.{Plot};
-ghost use Rattle.flow_page.specs.chart.Worked.{bar, bars_plot, burst_bars, burst_columns, burst_plot, eight_plot, limit_of_4, nothing, wide_plot};
+ghost use Rattle.flow_page.specs.chart.Worked.{bar, bars_plot, burst_bars, burst_columns, burst_plot, eight_plot};
+ghost use Rattle.flow_page.specs.chart.Worked.{limit_of_4, nothing, wide_plot};
 
 /// Axes with a tick at each number, below 0 in steps of 5, of a single number, and far from 0.
 #[tactic(auto, unfolding(crate::proofs::lemmas::chart::Numerals::numerals, crate::proofs::lemmas::chart::Numerals::places))]

@@ -1,7 +1,8 @@
 //! The places of numbers in a picture.
 
 ghost use Rattle.std.specs.Prelude.{◌≡◌, ◌+◌};
-ghost use Rattle.flow_page.specs.chart.Marks.{above, base_of, below, beside, bottom_of, edge, mark, name_x, place, right_of, rise, span, tenths, x_of, y_of};
+ghost use Rattle.flow_page.specs.chart.Marks.{above, base_of, below, beside, bottom_of, edge, mark, name_x, place};
+ghost use Rattle.flow_page.specs.chart.Marks.{right_of, rise, span, tenths, x_of, y_of};
 
 use crate::chart::axis::Axis;
 use std::fmt;

@@ -2,7 +2,8 @@
 
 ghost use Rattle.std.specs.Prelude.{◌≡◌, ◌-◌, ◌++◌, IfOk, max, string_bytes};
 ghost use Rattle.flow_page.specs.chart.Marks.{tenths};
-ghost use Rattle.flow_page.specs.chart.Shades.{behind_unit, shade_left, shade_name, shade_named, shade_piece, shade_right, shade_text};
+ghost use Rattle.flow_page.specs.chart.Shades.{behind_unit, shade_left, shade_name, shade_named, shade_piece};
+ghost use Rattle.flow_page.specs.chart.Shades.{shade_right, shade_text};
 
 use crate::chart::grid::Unit;
 use crate::chart::plot::{Panel, Plot, Tenths};

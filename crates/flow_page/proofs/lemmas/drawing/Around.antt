@@ -85,7 +85,8 @@ first-next old new count None false h same last = λ i few. elim (cases_eq i cou
 ]
 
 -- so many packets are taken, with one more
-taken-next : (found : Option ℕ) (count taken : ℕ) (breaks : Bool) → taken ≡ count → is_open found taken ≡ true → taken + 1 ≡ taken_of (first_with found taken breaks) (count + 1)
+taken-next : (found : Option ℕ) (count taken : ℕ) (breaks : Bool) → taken ≡ count → is_open found taken ≡ true
+    → taken + 1 ≡ taken_of (first_with found taken breaks) (count + 1)
 taken-next None count taken true same goes = omega (arith, same)
 taken-next None count taken false same goes = omega (arith, same)
 taken-next (Some first) count taken breaks same goes =
@@ -161,6 +162,7 @@ none-taken (Some first) count taken is goes =
     let high : 50 < taken - first = leb-false (taken - first) 50 goes in
     omega (arith, is, high)
 
+-- the first packet that breaks a model stays the first, with one packet more
 some-first : (old new : ℕ → Bool) (count : ℕ) (found : Option ℕ) (taken : ℕ) → is_open found taken ≡ false → IsFirst old count found
     → ((i : ℕ) → i < count → new i ≡ old i)
     → IsFirst new (count + 1) found
@@ -173,6 +175,7 @@ pub most-taken : (found : Option ℕ) (count taken : ℕ) → taken ≡ taken_of
 most-taken None count taken is = omega (arith, is)
 most-taken (Some first) count taken is = omega (arith, is)
 
+-- a packet that isn't taken leaves the meter as it is
 pub region-same : (m : Media) (n : ℕ) (kind : Kind) (r : RegionMeter) (stamps : List ℕ) (at : ℕ) → is_open r.first r.taken ≡ false
     → DrawsRegion m n kind r stamps
     → DrawsRegion m n kind r (stamps ++ at ∷ [])
@@ -333,6 +336,7 @@ three m n stamps (Fail x) (Fail y) (Fail z) a b c p q r =
     let is : c ≡ p.0 ∷ q.0 ∷ r.0 ∷ [] = r.1 ∙ ap (λ l. l ++ r.0 ∷ []) (q.1 ∙ ap (λ l. l ++ q.0 ∷ []) p.1) in
     subst (AreRegions m n stamps 0 (Fail x ∷ Fail y ∷ Fail z ∷ [])) (sym is) (p.2, (q.2, (r.2, tt)))
 
+-- the regions of N, NL and W, from none
 pub regions-are : (m : Media) (n : ℕ) (stamps : List ℕ) (kinds : List KindVerdict) (a b c : List Region)
     → length kinds ≡ 3
     → PutsKind m n stamps N (slice_index_or kinds 0 Pass) [] a

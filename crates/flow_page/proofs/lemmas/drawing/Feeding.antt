@@ -1,5 +1,6 @@
 -- The columns of packets and groups, with one packet more.
-use Rattle.std.proofs.Common.{◌≡◌, ◌<◌, ◌≤◌, ◌+◌, ◌-◌, ◌*◌, ◌/◌, ◌%◌, ◌++◌, ◌∷◌, [], ℕ, zero, suc, ℤ, pos, Bool, true, false, List, length, slice_index, refl, ap, ◌∙◌, sym, subst, arith}
+use Rattle.std.proofs.Common.{◌≡◌, ◌<◌, ◌≤◌, ◌+◌, ◌-◌, ◌*◌, ◌/◌, ◌%◌, ◌++◌, ◌∷◌, [], ℕ, zero, suc, ℤ, pos, Bool, true, false, List, length, slice_index, refl}
+use Rattle.std.proofs.Common.{ap, ◌∙◌, sym, subst, arith}
 use Rattle.std.proofs.Common.{inl, inr, length-append}
 use Rattle.std.proofs.lemmas.Bool.{cases_eq}
 use Rattle.std.proofs.lemmas.Nat.{div-add-mod'}
@@ -29,6 +30,7 @@ pub bucket-last : (m : Media) (n : ℕ) (stamps : List ℕ) (at : ℕ) (l : Leve
     → level (length stamps) ≡ pos l.bucket
 bucket-last m n stamps at l level are is = are (length stamps) (ends stamps at) ∙ ap (λ k. pos k) (sym is.bucket)
 
+-- the occupancy of the buffer just after the last packet
 pub occupancy-last : (m : Media) (n : ℕ) (stamps : List ℕ) (at : ℕ) (gapped : Bool) (held : Held) (level : ℕ → ℤ)
     → AreOccupancies m n (stamps ++ at ∷ []) gapped level
     → IsHeld m n (stamps ++ at ∷ []) gapped (length stamps) held

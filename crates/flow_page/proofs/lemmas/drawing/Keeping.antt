@@ -33,10 +33,12 @@ pub before-all : (P : List ℕ → Type 0) → ((xs : List ℕ) (x : ℕ) → P 
 before-all P step xs [] h = subst P (append-nil xs) h
 before-all P step xs (x ∷ more) h = step xs x (before-all P step (xs ++ x ∷ []) more (subst P (sym (append_assoc xs (x ∷ []) more)) h))
 
+-- the counts of the bucket with more packets are those of the packets before them
 pub buckets-before : (m : Media) (n : ℕ) (stamps more : List ℕ) (level : ℕ → ℤ) → AreBuckets m n (stamps ++ more) level → AreBuckets m n stamps level
 buckets-before m n stamps more level are =
     before-all (λ xs. AreBuckets m n xs level) (λ xs x h. buckets-front m n xs x level h) stamps more are
 
+-- so are the occupancies of the buffer
 pub occupancies-before : (m : Media) (n : ℕ) (gapped : Bool) (stamps more : List ℕ) (level : ℕ → ℤ)
     → AreOccupancies m n (stamps ++ more) gapped level
     → AreOccupancies m n stamps gapped level
@@ -47,6 +49,7 @@ occupancies-before m n gapped stamps more level are =
 pub front-of : (xs more : List ℕ) (i : ℕ) → i < length xs → slice_index (xs ++ more) i ≡ slice_index xs i
 front-of xs more i few = get_or_append_left xs more 0 i few
 
+-- numbers that list the longer list list the shorter one
 pub listed-before : (xs more : List ℕ) (numbers : ℕ → ℕ) → AreListed (xs ++ more) numbers → AreListed xs numbers
 listed-before xs more numbers are = λ i few.
     let long : length (xs ++ more) ≡ length xs + length more = length-append xs more in
@@ -62,6 +65,7 @@ bucket-after m n stamps more i few =
     let here : slice_index new j ≡ slice_index stamps j = front-of stamps more j (omega (arith, low, few)) in
     ap (λ a. ticks_of m n a (slice_index new j)) start ∙ ap (ticks_of m n (slice_index stamps 0)) here)
 
+-- the occupancy at a packet stays as it is with more packets
 pub occupancy-after : (m : Media) (n : ℕ) (stamps more : List ℕ) (gapped : Bool) (i : ℕ) (x : ℤ) → i < length stamps
     → IsOccupancy m n stamps gapped i x → IsOccupancy m n (stamps ++ more) gapped i x
 occupancy-after m n stamps more gapped i x few o =
@@ -89,6 +93,7 @@ held-after m n stamps more gapped i few =
     ap (λ a. (i + 1) - due_among m n (anchor_of m a) gapped (i + 1) (whole (slice_index new i))) (front-of stamps more 0 (omega (arith, few)))
     ∙ ap (λ t. (i + 1) - due_among m n (anchor_of m (slice_index stamps 0)) gapped (i + 1) (whole t)) (front-of stamps more i few)
 
+-- whether a packet breaks a model stays as it is with more packets
 pub broken-after : (m : Media) (n : ℕ) (stamps more : List ℕ) (kind : Kind) (i : ℕ) → i < length stamps
     → is_broken m n (stamps ++ more) kind i ≡ is_broken m n stamps kind i
 broken-after m n stamps more kind i few =

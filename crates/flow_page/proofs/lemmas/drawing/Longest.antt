@@ -60,7 +60,13 @@ pub longest-new : (m : Media) (tai : ℕ) (parts : List JudgedPart) (part : Judg
     → IsDrawn m tai part d
     → DrawsLongest m tai (parts ++ part ∷ []) (Some d)
 longest-new m tai parts part None d shorter h drawn =
-    (part, record { before = []; after = []; whole = ap (λ l. l ++ part ∷ []) h; fewer = all-none (Fewer (length part.packets)); no_more = all-none (NoMore (length part.packets)) }, drawn)
+    (part, record {
+      before = [];
+      after = [];
+      whole = ap (λ l. l ++ part ∷ []) h;
+      fewer = all-none (Fewer (length part.packets));
+      no_more = all-none (NoMore (length part.packets));
+    }, drawn)
 longest-new m tai parts part (Some o) d shorter h drawn =
     let less : o.packets < length part.packets = ltb-true o.packets (length part.packets) shorter in
     let longer = longer-all parts part h.0 h.1 (omega (arith, less, h.2.packets_are)) in
@@ -114,6 +120,7 @@ drawn-packet m n tai old new packet level before p takes told is h =
     subst (λ l. Draws m n new l (timestamps_of (before ++ p ∷ []))) (sym (stamps-more tai before p))
     (subst (Draws m n new (stamps ++ stamp_of tai p ∷ [])) (sym (timestamps-more before p)) said)
 
+-- the same of the regions
 pub regions-packet : (m : Media) (n tai : ℕ) (new : RegionMeters) (packet : RunPacket) (before : List FlowPacket) (p : FlowPacket)
     → packet ≡ told_of tai p
     → DrawsRegions m n new (stamps_of tai before ++ packet.at ∷ [])
@@ -123,9 +130,11 @@ regions-packet m n tai new packet before p told h =
     (subst (λ (q : RunPacket). DrawsRegions m n new (stamps_of tai before ++ q.at ∷ [])) told h)
 
 -- the stamps and timestamps of packets, and of those behind them
-pub stamps-parts : (tai : ℕ) (fed committed rest : List FlowPacket) → fed ≡ committed ++ rest → stamps_of tai fed ≡ stamps_of tai committed ++ stamps_of tai rest
+pub stamps-parts : (tai : ℕ) (fed committed rest : List FlowPacket) → fed ≡ committed ++ rest
+    → stamps_of tai fed ≡ stamps_of tai committed ++ stamps_of tai rest
 stamps-parts tai fed committed rest whole = ap (stamps_of tai) whole ∙ map-append (stamp_of tai) committed rest
 
+-- the RTP timestamps of packets, and of those after them
 pub timestamps-parts : (fed committed rest : List FlowPacket) → fed ≡ committed ++ rest → timestamps_of fed ≡ timestamps_of committed ++ timestamps_of rest
 timestamps-parts fed committed rest whole =
     ap timestamps_of whole ∙ map-append (λ (q : FlowPacket). (read_or_zeros q.rtp).timestamp) committed rest

@@ -24,5 +24,5 @@ returns c = λ past tai r over fed committed size judged h tells.
     let count : length committed ≡ c.args.self.committed.packets.seen = sym (h.committed_are.packets_draw.seen_is ∙ stamps-long tai committed) in
     let some : 1 ≤ r.n = subst (λ n. 1 ≤ n) (sym size) params.n_some in
     subst (Draws m tai (over ++ part ∷ [])) (sym c.put.ensures)
-    (longest-new m tai over part out.drawn c.in_ok-drawn.field-0 (ap (is_shorter out.drawn) count ∙ sym c.is_shorter.ensures ∙ c.if-not-is_shorter.false) tells
+    (longest-new m tai over part out.drawn c.in_ok-drawn.drawn (ap (is_shorter out.drawn) count ∙ sym c.is_shorter.ensures ∙ c.if-not-is_shorter.false) tells
     (c.in_ok-drawn.ensures m tai r fed committed params.media_is some judged h))

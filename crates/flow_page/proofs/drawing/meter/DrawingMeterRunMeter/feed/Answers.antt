@@ -21,3 +21,7 @@ returns-then-self-lt-MOST c = λ tai r fed committed p size told few rising leve
       regions_are = regions-packet m r.n tai c.feed-then-self-lt-MOST.new.self packet fed p told
           (c.feed-then-self-lt-MOST.ensures m r.n (stamps_of tai fed) packet.at short h.regions_are next);
     }
+
+pub returns-else-self-lt-MOST : goal.returns-else-self-lt-MOST
+returns-else-self-lt-MOST c = λ tai r fed committed p size told few rising level h.
+    absurd (omega (arith, few, c.if-self-lt-MOST.false, h.all_are.packets_draw.seen_is, stamps-long tai fed))

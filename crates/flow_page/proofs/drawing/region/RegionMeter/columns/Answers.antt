@@ -24,8 +24,8 @@ loop-place-preserved c =
       past = omega (arith, h.past);
       within = omega (arith, c.loop-place-test.true);
       seen = omega (arith, c.feed.ensures.seen, h.seen, h.past);
-      draws = shown-more c.args.self.now c.args.model c.args.start c.loop-place.place c.loop-place.columns c.feed.new.self c.index.result.now x
-          h.past h.seen c.index.ensures c.held_by.ensures h.draws
+      draws = shown-more c.args.self.now c.args.model c.args.start c.loop-place.place c.loop-place.columns c.feed.new.self c.index-level.result.now x
+          h.past h.seen c.index-level.ensures c.held_by.ensures h.draws
           (λ numbers drawn is. c.feed.ensures.draws numbers drawn (is ∙ sym (to_z-of_z w128 x fits)));
     }
 
