@@ -12,7 +12,7 @@ use Rattle.udp_rtp.specs.Flow.{flow}
 use Rattle.fail_interval.specs.Measured.{TellsEnd}
 use Rattle.fail_interval.specs.Row.{verdict_of}
 use Rattle.flow_measure.specs.rows.Rows.{header_text}
-use Rattle.flow_measure.specs.rows.Told.{AreRowsSoFar, Tells}
+use Rattle.flow_measure.specs.rows.Told.{Tells}
 use Rattle.flow_measure.specs.declared.rows.rows.Rows.{Rows}
 use Rattle.timing_reach.specs.Asked.{not_judged}
 use Rattle.timing_reach.specs.steps.Answers.{Answer}
@@ -31,8 +31,8 @@ pub record HasPut (frames : Bool) (m : Media) (tai : ℕ) (packets : List FlowPa
 put-up-to : (frames : Bool) (m : Media) (tai : ℕ) (packets : List FlowPacket) (gone : List ℕ) (rows : Rows) (o : Option FirstFault)
     → TellsEnd Tells (past_of frames gone) m tai packets o rows
     → (put : List ℕ) × AreRowsUpTo frames m tai packets o put × (gone ++ rows.text.items ≡ header_text frames ++ put)
-put-up-to frames m tai packets gone rows None h = (h.put, subst (λ f. AreRowsSoFar f m tai _ _ h.put) h.frames_is h.are, h.text_is)
-put-up-to frames m tai packets gone rows (Some first) h = (h.put, subst (λ f. AreRowsSoFar f m tai _ _ h.put) h.frames_is h.are, h.text_is)
+put-up-to frames m tai packets gone rows None h = (h.put, subst (λ f. AreRowsUpTo f m tai packets None h.put) h.frames_is h.are, h.text_is)
+put-up-to frames m tai packets gone rows (Some first) h = (h.put, subst (λ f. AreRowsUpTo f m tai packets (Some first) h.put) h.frames_is h.are, h.text_is)
 
 pub has-put : (frames : Bool) (m : Media) (tai : ℕ) (packets : List FlowPacket) (gone : List ℕ) (rows : Rows)
     → TellsEnd Tells (past_of frames gone) m tai packets (first_fault packets m.pt) rows → HasPut frames m tai packets gone rows.text.items
@@ -68,7 +68,7 @@ by-rows : (frames : Bool) (m : Media) (note : FileNote) (v : Verdict) (put gone 
 by-rows frames m note v [] gone rest some text status = absurd (omega (arith, some))
 by-rows frames m note v (byte ∷ put) gone rest some text status = λ i. record { text = text i; status = status i }
 
-some-put : (header put gone text : List ℕ) → gone ++ text ≡ header ++ put → length header < length gone + length text → 0 < length put
+pub some-put : (header put gone text : List ℕ) → gone ++ text ≡ header ++ put → length header < length gone + length text → 0 < length put
 some-put header put gone text e more =
     omega (arith, more, sym (length-append gone text) ∙ ap length e ∙ length-append header put)
 
