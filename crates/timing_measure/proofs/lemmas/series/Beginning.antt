@@ -1,12 +1,11 @@
 -- What stands where `series` stops before the end of a capture is a prefix of the text of an answer.
-use Rattle.std.proofs.Common.{◌≡◌, ◌≤◌, ◌<◌, ◌+◌, ◌^◌, ℕ, true, List, [], ◌∷◌, ◌++◌, length, drop, take, Bool, Option, Some, None, inl, inr, refl, ap, ◌∙◌, sym}
+use Rattle.std.proofs.Common.{◌≡◌, ◌≤◌, ◌<◌, ◌+◌, ◌^◌, ℕ, List, [], ◌∷◌, ◌++◌, length, drop, take, Bool, Option, Some, None, inl, inr, refl, ap, ◌∙◌, sym}
 use Rattle.std.proofs.Common.{subst, arith, append-nil, append_assoc, length-append, take-append-drop}
 use Rattle.std.specs.Prelude.{◌⊎◌}
 use Rattle.std.proofs.lemmas.List.Elements.{filter_map-append}
 use Rattle.timing_base.specs.Captures.{Record}
 use Rattle.timing_base.specs.Flows.{first_fault_below}
 use Rattle.timing_base.specs.Judged.{judged}
-use Rattle.timing_base.specs.Keys.{key_of}
 use Rattle.timing_base.specs.Media.{IsMedia, Media}
 use Rattle.timing_base.specs.declared.capture.FileNote.{FileNote}
 use Rattle.timing_base.specs.declared.packet.FlowPacket.{FlowPacket}
@@ -26,16 +25,15 @@ use Rattle.fail_interval.specs.declared.flow.OpenRun.{OpenRun}
 use Rattle.fail_interval.specs.declared.judge.State.{State}
 use Rattle.fail_interval.specs.declared.judge.State.TheVariants.{Going, Refused, Spent}
 use Rattle.flow_measure.specs.rows.Rows.{header_text}
-use Rattle.flow_measure.specs.rows.Told.{AreRowsSoFar, PastRows, Tells}
+use Rattle.flow_measure.specs.rows.Told.{PastRows, Tells}
 use Rattle.flow_measure.specs.rows.making.Meters.{StandsFor as RowsStandsFor}
 use Rattle.flow_measure.specs.declared.rows.meter.RowsMeter.{RowsMeter}
 use Rattle.flow_measure.specs.declared.rows.rows.Rows.{Rows}
-use Rattle.timing_reach.specs.steps.Answers.{Answer}
 use Rattle.timing_reach.specs.steps.Ran.{Appended, Output}
 use Rattle.timing_measure.specs.series.Copies.{Stopped}
 use Rattle.timing_measure.specs.series.Rows.{AreRowsOfFlow, AreRowsUpTo}
 use Rattle.timing_measure.specs.series.Series.{BeginsIn, series_of}
-use Rattle.timing_measure.specs.series.Stands.{HoldsText, StandsFor, Waits, past_of, text_of}
+use Rattle.timing_measure.specs.series.Stands.{StandsFor, Waits, past_of, text_of}
 use Rattle.timing_measure.specs.declared.series.flow.SeriesFlow.{SeriesFlow}
 use Rattle.timing_measure.proofs.lemmas.series.Ending.{some-put}
 use Rattle.timing_measure.proofs.lemmas.series.Fronting.{RowsBefore, rows-ahead}

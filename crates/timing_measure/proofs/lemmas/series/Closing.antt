@@ -1,7 +1,6 @@
 -- The rest of the answer of a flow, behind what was written.
-use Rattle.std.proofs.Common.{◌≡◌, ◌≤◌, ◌+◌, ◌^◌, ℕ, Bool, true, false, List, [], ◌∷◌, ◌++◌, Option, Some, refl, ap, sym, ◌∙◌, append-nil, subst}
+use Rattle.std.proofs.Common.{◌≡◌, ◌^◌, ℕ, Bool, true, false, List, [], ◌∷◌, refl, ap, sym, ◌∙◌, append-nil, subst}
 use Rattle.std.specs.Prelude.{◌⊎◌, ◌||◌, if◌then◌else◌}
-use Rattle.std.proofs.Common.{inl, inr}
 use Rattle.std.proofs.lemmas.Bool.{false≢true}
 use Rattle.timing_base.specs.Captures.{Record}
 use Rattle.timing_base.specs.Judged.{judged}
@@ -19,11 +18,11 @@ use Rattle.timing_reach.specs.steps.Answers.{Answer}
 use Rattle.timing_reach.specs.steps.Ends.{look_ends}
 use Rattle.timing_reach.specs.steps.Ran.{Output}
 use Rattle.udp_rtp.specs.Flow.{flow}
-use Rattle.timing_measure.specs.series.Copies.{Copies, CopiesIn, CopiesSome, Stopped}
+use Rattle.timing_measure.specs.series.Copies.{CopiesIn, CopiesSome, Stopped}
 use Rattle.timing_measure.specs.series.Ends.{EndsSeries}
 use Rattle.timing_measure.specs.series.Series.{BeginsIn, HasSeries, series_of}
 use Rattle.timing_measure.specs.series.Stands.{StandsFor}
-use Rattle.timing_measure.specs.series.Status.{is_unjudged, series_status}
+use Rattle.timing_measure.specs.series.Status.{is_unjudged}
 use Rattle.timing_measure.specs.series.Streams.{HasBegun, HasRest, HasRestStatus, is_silent_stream}
 use Rattle.timing_measure.specs.declared.series.flow.SeriesFlow.{SeriesFlow}
 use Rattle.timing_measure.proofs.lemmas.series.Beginning.{stopped-begins}

@@ -1,6 +1,7 @@
 -- The rows of the first packets of a flow are a prefix of those of more packets, and of all.
-use Rattle.std.proofs.Common.{◌≡◌, ◌≤◌, ◌<◌, ◌+◌, ◌-◌, ℕ, zero, suc, Bool, true, false, List, [], ◌∷◌, ◌++◌, length, drop, take, Option, Some, None, refl, ap, ◌∙◌}
-use Rattle.std.proofs.Common.{sym, subst, arith, append-nil, append_assoc, length-append, take-add}
+use Rattle.std.proofs.Common.{◌≡◌, ◌≤◌, ◌<◌, ◌+◌, ◌-◌, ℕ, zero, suc, Bool, true, false, List, [], ◌∷◌, ◌++◌, length, drop, take, Option, Some}
+use Rattle.std.proofs.Common.{None, refl, ap, ◌∙◌}
+use Rattle.std.proofs.Common.{sym, subst, arith, append-nil, append_assoc, take-add}
 use Rattle.std.proofs.Common.{inl, inr}
 use Rattle.std.specs.Prelude.{⊤, slice_index, slice_range}
 use Rattle.std.proofs.lemmas.Bool.{cases_lt}
@@ -195,6 +196,19 @@ starts-open packets tai places i is within =
 abbrev pub RowsBefore : (frames : Bool) → Media → (tai : ℕ) → List FlowPacket → (to : ℕ) → List ℕ → Type 0
 RowsBefore frames m tai packets to text = AreRowsSoFar frames m tai (parts_before m packets tai to) (open_before packets tai to) text
 
+-- a place or a text may be named otherwise
+place-as : (frames : Bool) (m : Media) (tai : ℕ) (packets : List FlowPacket) (to same : ℕ) (text other : List ℕ) → to ≡ same → text ≡ other
+    → RowsBefore frames m tai packets to text → RowsBefore frames m tai packets same other
+place-as frames m tai packets to same text other e f h =
+    subst (λ k. RowsBefore frames m tai packets k other) e (subst (RowsBefore frames m tai packets to) f h)
+
+-- the gaps may be named otherwise
+gaps-as : (frames : Bool) (m : Media) (tai : ℕ) (packets : List FlowPacket) (places same : List ℕ) (to : ℕ) (text : List ℕ) → places ≡ same
+    → AreRowsSoFar frames m tai (parts_over m packets tai 1 0 same) (open_at packets tai same to) text
+    → AreRowsSoFar frames m tai (parts_over m packets tai 1 0 places) (open_at packets tai places to) text
+gaps-as frames m tai packets places same to text e h =
+    subst (λ l. AreRowsSoFar frames m tai (parts_over m packets tai 1 0 l) (open_at packets tai l to) text) (sym e) h
+
 -- there are rows up to packet `to`, behind those before it
 one-more : (frames : Bool) (m : Media) (tai : ℕ) (packets : List FlowPacket) (sound to : ℕ) (b : Bool) (text : List ℕ) → is_cut packets to ≡ b → IsMedia m
     → first_fault_below packets m.pt sound ≡ None → to ≤ sound → to < length packets
@@ -217,7 +231,7 @@ one-more frames m tai packets sound to true text cut is none few within h =
     (subst (λ l. AreRowsOf frames m tai l text) (sym over) ended) in (
       [],
       subst (RowsBefore frames m tai packets (to + 1)) (sym (append-nil text))
-          (subst (λ l. AreRowsSoFar frames m tai (parts_over m packets tai 1 0 l) (open_at packets tai l (to + 1)) text) (sym here) all),
+          (gaps-as frames m tai packets (cuts packets (to + 1)) (places ++ to ∷ []) (to + 1) text here all),
     )
 one-more frames m tai packets sound to false text cut is none few within h =
     let places = cuts packets to in
@@ -227,7 +241,7 @@ one-more frames m tai packets sound to false text cut is none few within h =
     let rows =
     more-open frames m tai (parts_over m packets tai 1 0 places) (open_at packets tai places to) (open_at packets tai places (to + 1)) text is grows h in (
       rows.0,
-      subst (λ l. AreRowsSoFar frames m tai (parts_over m packets tai 1 0 l) (open_at packets tai l (to + 1)) (text ++ rows.0)) (sym here) rows.1,
+      gaps-as frames m tai packets (cuts packets (to + 1)) places (to + 1) (text ++ rows.0) here rows.1,
     )
 
 -- and of any number of packets more
@@ -237,7 +251,7 @@ many-more : (frames : Bool) (m : Media) (tai : ℕ) (packets : List FlowPacket) 
     → (more : List ℕ) × RowsBefore frames m tai packets (to + count) (text ++ more)
 many-more frames m tai packets sound to zero text is none few within h =
     let same : to ≡ to + 0 = omega arith in
-    ([], subst (λ l. RowsBefore frames m tai packets (to + 0) l) (sym (append-nil text)) (subst (λ k. RowsBefore frames m tai packets k text) same h))
+    ([], place-as frames m tai packets to (to + 0) text (text ++ []) same (sym (append-nil text)) h)
 many-more frames m tai packets sound to (suc count) text is none few within h =
     let before = many-more frames m tai packets sound to count text is none (omega (arith, few)) (omega (arith, within)) h in
     let one =
@@ -245,8 +259,8 @@ many-more frames m tai packets sound to (suc count) text is none few within h =
     (omega (arith, within)) before.1 in
     let next : to + count + 1 ≡ to + suc count = omega arith in (
       before.0 ++ one.0,
-      subst (λ l. RowsBefore frames m tai packets (to + suc count) l) (append_assoc text before.0 one.0)
-          (subst (λ k. RowsBefore frames m tai packets k ((text ++ before.0) ++ one.0)) next one.1),
+      place-as frames m tai packets (to + count + 1) (to + suc count) ((text ++ before.0) ++ one.0) (text ++ (before.0 ++ one.0)) next
+          (append_assoc text before.0 one.0) one.1,
     )
 
 -- no packet before a place has a fault

@@ -1,6 +1,7 @@
 -- A series takes a record, and its rows are written.
-use Rattle.std.proofs.Common.{◌≡◌, ◌≤◌, ◌<◌, ◌+◌, ◌∙◌, ◌++◌, ◌∷◌, ℕ, Bool, true, List, [], length, Option, inl, inr, refl, ap, sym, subst, arith, append-nil}
-use Rattle.std.proofs.Common.{append_assoc, length-append}
+use Rattle.std.proofs.Common.{◌≡◌, ◌≤◌, ◌<◌, ◌+◌, ◌∙◌, ◌++◌, ℕ, Bool, true, List, [], length, Option, inl, inr, refl, ap, sym, subst, arith, append-nil}
+use Rattle.std.proofs.Common.{length-append}
+use Rattle.std.specs.Prelude.{IfOk, Result, Ok, Err}
 use Rattle.std.proofs.lemmas.List.Elements.{filter_map-append}
 use Rattle.timing_base.specs.Captures.{Record}
 use Rattle.timing_base.specs.Keys.{key_of}
@@ -13,7 +14,6 @@ use Rattle.fail_interval.specs.Stands.{StandsFor as JudgeStandsFor}
 use Rattle.fail_interval.specs.declared.judge.FlowJudge.{FlowJudge}
 use Rattle.fail_interval.proofs.JudgeTold.{carried-tells}
 use Rattle.flow_demux.specs.Takings.{TakesFlow}
-use Rattle.flow_measure.specs.rows.Rows.{header_text}
 use Rattle.flow_measure.specs.rows.Told.{AreRowsSoFar, Tells}
 use Rattle.flow_measure.specs.rows.making.Meters.{StandsFor as RowsStandsFor}
 use Rattle.flow_measure.specs.declared.rows.meter.RowsMeter.{RowsMeter}
@@ -75,3 +75,8 @@ poured-out old new some media judge same none waits frames m number tai gone ite
 -- nothing was written
 pub poured-none : (x : SeriesFlow) → PoursOn x x []
 poured-none x frames m number tai gone items h = subst (λ l. StandsFor frames m number tai l x items) (sym (append-nil gone)) h
+
+-- what follows from an answer
+pub if-ok : {T E : Type 0} {P Q : T → Type 0} (result : Result T E) → ((x : T) → P x → Q x) → IfOk result P → IfOk result Q
+if-ok (Ok x) next h = next x h
+if-ok (Err e) next h = tt
