@@ -33,8 +33,8 @@ series-took old new more same t frames m number tai gone items h =
     subst (λ (x : Media). Feeds true RowsStandsFor Tells x old.flow.taker new.flow.taker more) h.media_is t.fed in
     record {
       media_is = t.media ∙ h.media_is;
-      fed = subst (IsFed true RowsStandsFor Tells (past_of frames gone) m (key_of 0 number) tai new.flow.taker) (sym (filter_map-append (flow_packet m) items more))
-          (feeds (past_of frames gone) (key_of 0 number) tai (flow items m) h.fed);
+      fed = subst (IsFed true RowsStandsFor Tells (past_of frames gone) m (key_of 0 number) tai new.flow.taker)
+          (sym (filter_map-append (flow_packet m) items more)) (feeds (past_of frames gone) (key_of 0 number) tai (flow items m) h.fed);
       waits = subst (Waits frames gone) (sym same) h.waits;
     }
 
