@@ -11,16 +11,20 @@ use Rattle.timing_base.specs.declared.packet.FlowPacket.{FlowPacket}
 use Rattle.timing_base.specs.declared.packet.PacketFault.{PacketFault}
 use Rattle.timing_base.specs.declared.packet.PacketFault.TheVariants.{Number}
 use Rattle.run_meter.specs.Runs.{JudgedPart, stamps_of}
+use Rattle.fail_interval.specs.Measured.{TellsEnd, TellsOfAll}
 use Rattle.fail_interval.specs.Parts.{judged_packets, judged_parts, part_by, parts_between, parts_in}
 use Rattle.flow_measure.specs.Measured.{AreMeasured, HasNumbers, IsMeasuredRun}
 use Rattle.flow_measure.specs.Packets.{timestamps_of}
 use Rattle.flow_measure.specs.declared.numbers.MeasuredRun.{MeasuredRun}
 use Rattle.flow_measure.specs.declared.numbers.RunNumbers.{RunNumbers}
+use Rattle.flow_measure.specs.declared.numbers_meter.MeasuredRuns.{MeasuredRuns}
 use Rattle.flow_page.specs.drawing.Drawn.{AreCurves, AreRegions}
 use Rattle.flow_page.specs.drawing.Told.{Draws, IsDrawn, IsLongest}
 use Rattle.flow_page.specs.declared.drawing.longest.DrawnRun.{DrawnRun}
+use Rattle.flow_page.specs.declared.drawing.longest.LongestRun.{LongestRun}
 use Rattle.flow_page.specs.declared.shown.ShownRun.{ShownRun}
-use Rattle.timing_measure.specs.page.Ends.{HasRunOf, IsShownOf}
+use Rattle.timing_measure.specs.flows.Ends.{TellsNumbers}
+use Rattle.timing_measure.specs.page.Ends.{HasRunOf, IsShownOf, TellsPair}
 use Rattle.timing_measure.specs.page.Shown.{IsShownRun, Shows}
 
 -- the numbers of runs rise, from this one on
@@ -154,3 +158,21 @@ fault-parts m packets tai first is =
     (λ v. parts_in m packets tai v ≡ []) (λ _. refl)
     (λ _. subst (λ (o : Option FirstFault). parts_in m packets tai (refused_or packets o (judged_runs packets tai)) ≡ []) (sym is)
     (refusal-parts m packets tai _ first.fault))
+
+-- of the outputs of two meters the first has the numbers
+pub numbers-told : (m : Media) (tai : ℕ) (packets : List FlowPacket) (o : Option FirstFault) (out : MeasuredRuns × LongestRun)
+    → TellsEnd TellsPair (tt, tt) m tai packets o out → TellsEnd TellsNumbers tt m tai packets o out.0
+numbers-told m tai packets None out h = h.0
+numbers-told m tai packets (Some first) out h = h.0
+
+-- the longest run of a flow is shown, unless the flow has a fault
+pub flow-shows : (m : Media) (tai : ℕ) (packets : List FlowPacket) (out : MeasuredRuns × LongestRun) (runs : List MeasuredRun) (s : Option ShownRun)
+    → TellsOfAll TellsPair (tt, tt) m tai packets out → AreMeasured (HasNumbers m tai) (judged_parts m packets tai) runs
+    → HasRunOf (out.1).drawn runs s → Shows m tai (judged_parts m packets tai) s
+flow-shows m tai packets out runs s told measured found = go (first_fault packets m.pt) refl told
+  where
+    go : (o : Option FirstFault) → first_fault packets m.pt ≡ o → TellsEnd TellsPair (tt, tt) m tai packets o out
+        → Shows m tai (judged_parts m packets tai) s
+    go None is h = drawn-shows m tai packets runs (out.1).drawn s measured h.1 found
+    go (Some first) is h =
+        none-shows m tai (judged_parts m packets tai) runs (out.1).drawn s (fault-parts m packets tai first is) measured found
