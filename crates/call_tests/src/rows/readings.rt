@@ -30,7 +30,6 @@ struct ChangingShelf {
     inner: MemoryShelf,
     later: MemoryShelf,
     fetched: u32,
-    noted: u32,
 }
 
 impl ChangingShelf {
@@ -77,11 +76,6 @@ impl Shelf for ChangingShelf {
         let UntoldSource { inner, .. } = source;
         self.inner.give_back(inner);
     }
-
-    fn note_change(&mut self, name: &str) {
-        self.noted = self.noted.saturating_add(1);
-        self.inner.note_change(name);
-    }
 }
 
 // A row with a capture that has other contents after it was fetched.
@@ -89,13 +83,12 @@ impl Shelf for ChangingShelf {
 struct Changing {
     row: Row,
     later: &'static [Step],
-    // The expected numbers of its fetches, and of the changes that are noted.
+    // The expected number of its fetches.
     fetched: u32,
-    noted: u32,
 }
 
 impl Changing {
-    // Runs the row, and compares how it ends, the number of fetches, and the number of changes that are noted.
+    // Runs the row, and compares how it ends and the number of fetches.
     fn ended<R: Abort + AllocGlobal + Wait + Threads + Sync>(
         &self,
         rt: &R,
@@ -106,13 +99,11 @@ impl Changing {
             inner: row.shelf(alloc)?,
             later: MemoryShelf::new(alloc),
             fetched: 0,
-            noted: 0,
         };
         shelve(alloc, &mut shelf.later, "a.pcap", self.later, WHOLE)?;
         let found = answered(rt, line, row.sinks, &mut shelf, &NoGate)?;
         found.ended(line, (row.status, row.err))?;
         assert_eq!(rt; shelf.fetched, self.fetched, "{line}");
-        assert_eq!(rt; shelf.noted, self.noted, "{line}");
         Ok(found)
     }
 
@@ -129,7 +120,6 @@ const MEASURED_ONCE: Changing = Changing {
     row: MEASURED,
     later: &[],
     fetched: 1,
-    noted: 0,
 };
 
 const PACKETS_ONCE: Changing = Changing {

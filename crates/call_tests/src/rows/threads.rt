@@ -218,10 +218,6 @@ impl<'a> Shelf for HeldShelf<'a> {
         let UntoldSource { inner, .. } = source;
         self.inner.give_back(inner);
     }
-
-    fn note_change(&mut self, name: &str) {
-        self.inner.note_change(name);
-    }
 }
 
 // Two captures of 20 frames.
