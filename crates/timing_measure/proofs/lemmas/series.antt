@@ -1,6 +1,11 @@
+pub mod Beginning
 pub mod Capturing
+pub mod Closing
 pub mod Copying
 pub mod Ending
+pub mod Existing
+pub mod Fronting
 pub mod Pouring
 pub mod Resting
+pub mod Some
 pub mod Unique

@@ -4,23 +4,30 @@ use Rattle.std.proofs.Common.{arith, length-append}
 use Rattle.timing_base.specs.Captures.{Record}
 use Rattle.timing_base.specs.Flows.{FirstFault, first_fault}
 use Rattle.timing_base.specs.Judged.{judged}
+use Rattle.timing_base.specs.Keys.{key_of}
 use Rattle.timing_base.specs.Media.{Media}
 use Rattle.timing_base.specs.declared.capture.FileNote.{FileNote}
+use Rattle.timing_base.specs.declared.key.FlowKey.{FlowKey}
 use Rattle.timing_base.specs.declared.packet.FlowPacket.{FlowPacket}
+use Rattle.timing_base.specs.declared.row.Row.{Row}
 use Rattle.timing_base.specs.declared.row.Verdict.{Verdict}
 use Rattle.udp_rtp.specs.Flow.{flow}
-use Rattle.fail_interval.specs.Measured.{TellsEnd}
-use Rattle.fail_interval.specs.Row.{verdict_of}
+use Rattle.fail_interval.specs.Measured.{TellsEnd, TellsOfAll}
+use Rattle.fail_interval.specs.Meterings.{IsFed}
+use Rattle.fail_interval.specs.Row.{row, verdict_of}
+use Rattle.fail_interval.specs.Stands.{StandsFor as JudgeStandsFor}
 use Rattle.flow_measure.specs.rows.Rows.{header_text}
-use Rattle.flow_measure.specs.rows.Told.{AreRowsSoFar, Tells}
+use Rattle.flow_measure.specs.rows.Told.{PastRows, Tells}
+use Rattle.flow_measure.specs.rows.making.Meters.{StandsFor as RowsStandsFor}
 use Rattle.flow_measure.specs.declared.rows.rows.Rows.{Rows}
 use Rattle.timing_reach.specs.Asked.{not_judged}
 use Rattle.timing_reach.specs.steps.Answers.{Answer}
-use Rattle.timing_measure.specs.series.Ends.{IsRestOf}
+use Rattle.timing_measure.specs.series.Ends.{EndsSeries, IsRestOf}
 use Rattle.timing_measure.specs.series.Rows.{AreRowsOfFlow, AreRowsUpTo}
 use Rattle.timing_measure.specs.series.Series.{series_of}
-use Rattle.timing_measure.specs.series.Stands.{Waits, past_of}
+use Rattle.timing_measure.specs.series.Stands.{StandsFor, Waits, past_of}
 use Rattle.timing_measure.specs.series.Status.{series_status}
+use Rattle.timing_measure.specs.declared.series.flow.SeriesFlow.{SeriesFlow}
 
 -- these rows were put behind the header, and so much was written
 pub record HasPut (frames : Bool) (m : Media) (tai : ℕ) (packets : List FlowPacket) (gone text : List ℕ) : Type 0 where
@@ -31,8 +38,8 @@ pub record HasPut (frames : Bool) (m : Media) (tai : ℕ) (packets : List FlowPa
 put-up-to : (frames : Bool) (m : Media) (tai : ℕ) (packets : List FlowPacket) (gone : List ℕ) (rows : Rows) (o : Option FirstFault)
     → TellsEnd Tells (past_of frames gone) m tai packets o rows
     → (put : List ℕ) × AreRowsUpTo frames m tai packets o put × (gone ++ rows.text.items ≡ header_text frames ++ put)
-put-up-to frames m tai packets gone rows None h = (h.put, subst (λ f. AreRowsSoFar f m tai _ _ h.put) h.frames_is h.are, h.text_is)
-put-up-to frames m tai packets gone rows (Some first) h = (h.put, subst (λ f. AreRowsSoFar f m tai _ _ h.put) h.frames_is h.are, h.text_is)
+put-up-to frames m tai packets gone rows None h = (h.put, subst (λ f. AreRowsUpTo f m tai packets None h.put) h.frames_is h.are, h.text_is)
+put-up-to frames m tai packets gone rows (Some first) h = (h.put, subst (λ f. AreRowsUpTo f m tai packets (Some first) h.put) h.frames_is h.are, h.text_is)
 
 pub has-put : (frames : Bool) (m : Media) (tai : ℕ) (packets : List FlowPacket) (gone : List ℕ) (rows : Rows)
     → TellsEnd Tells (past_of frames gone) m tai packets (first_fault packets m.pt) rows → HasPut frames m tai packets gone rows.text.items
@@ -68,7 +75,7 @@ by-rows : (frames : Bool) (m : Media) (note : FileNote) (v : Verdict) (put gone 
 by-rows frames m note v [] gone rest some text status = absurd (omega (arith, some))
 by-rows frames m note v (byte ∷ put) gone rest some text status = λ i. record { text = text i; status = status i }
 
-some-put : (header put gone text : List ℕ) → gone ++ text ≡ header ++ put → length header < length gone + length text → 0 < length put
+pub some-put : (header put gone text : List ℕ) → gone ++ text ≡ header ++ put → length header < length gone + length text → 0 < length put
 some-put header put gone text e more =
     omega (arith, more, sym (length-append gone text) ∙ ap length e ∙ length-append header put)
 
@@ -96,3 +103,38 @@ rest-rows frames m tai note items gone waiting rest (inr w) more h head status =
 pub header-some : (frames : Bool) → 0 < length (header_text frames)
 header-some true = omega arith
 header-some false = omega arith
+
+-- what the judge and the rows of a flow that has ended say of its packets
+pub record Finishes (x : SeriesFlow) (told : Row × Rows) : Type 0 where
+  pub result : (m : Media) (key : FlowKey) (tai : ℕ) (packets : List FlowPacket) → JudgeStandsFor m key tai x.flow.taker.judge packets
+      → told.0 ≡ row packets key m tai
+  pub tells : (past : PastRows) (m : Media) (key : FlowKey) (tai : ℕ) (packets : List FlowPacket)
+      → IsFed true RowsStandsFor Tells past m key tai x.flow.taker packets → TellsOfAll Tells past m tai packets told.1
+
+verdict-is : (x : SeriesFlow) (told : Row × Rows) (frames : Bool) (m : Media) (number tai : ℕ) (gone : List ℕ) (items : List Record) → Finishes x told
+    → StandsFor frames m number tai gone x items → told.0.verdict ≡ verdict_of m (judged (flow items m) m.pt tai)
+verdict-is x told frames m number tai gone items f h =
+    ap (λ (r : Row). r.verdict) (f.result m (key_of 0 number) tai (flow items m) h.fed.judge_is)
+
+rows-put : (x : SeriesFlow) (told : Row × Rows) (frames : Bool) (m : Media) (number tai : ℕ) (gone : List ℕ) (items : List Record) → Finishes x told
+    → StandsFor frames m number tai gone x items → HasPut frames m tai (flow items m) gone told.1.text.items
+rows-put x told frames m number tai gone items f h =
+    has-put frames m tai (flow items m) gone told.1 (f.tells (past_of frames gone) m (key_of 0 number) tai (flow items m) h.fed)
+
+-- there is no row: the verdict is the answer
+pub ends-none : (note : FileNote) (x : SeriesFlow) (told : Row × Rows) (rest : Answer) → Finishes x told → 0 < x.waiting
+    → length told.1.text.items ≤ x.waiting → rest ≡ not_judged x.flow.media told.0.verdict
+    → EndsSeries note x rest
+ends-none note x told rest f some few is frames m number tai gone items h =
+    rest-none frames m tai note items gone told.1.text.items x.waiting rest h.waits some few (rows-put x told frames m number tai gone items f h)
+    (is ∙ ap (λ (n : Media). not_judged n told.0.verdict) h.media_is ∙ ap (not_judged m) (verdict-is x told frames m number tai gone items f h))
+
+-- the rows that weren't written yet are the rest
+pub ends-rows : (note : FileNote) (x : SeriesFlow) (told : Row × Rows) (rest : Answer) → Finishes x told
+    → (0 < x.waiting → x.waiting < length told.1.text.items) → rest.text ≡ told.1.text.items → rest.status ≡ series_status note told.0.verdict
+    → EndsSeries note x rest
+ends-rows note x told rest f some text ends frames m number tai gone items h =
+    rest-rows frames m tai note items gone x.waiting rest h.waits
+    (λ waits. subst (λ l. x.waiting < length l) (sym text) (some waits))
+    (subst (HasPut frames m tai (flow items m) gone) (sym text) (rows-put x told frames m number tai gone items f h)) (header-some frames)
+    (ends ∙ ap (series_status note) (verdict-is x told frames m number tai gone items f h))

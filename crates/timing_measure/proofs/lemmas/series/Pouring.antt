@@ -1,18 +1,22 @@
 -- A series takes a record, and its rows are written.
-use Rattle.std.proofs.Common.{◌≡◌, ◌≤◌, ◌<◌, ◌+◌, ◌∙◌, ◌++◌, ◌∷◌, ℕ, Bool, true, List, [], length, Option, inl, inr, refl, ap, sym, subst, arith, append-nil}
-use Rattle.std.proofs.Common.{append_assoc, length-append}
+use Rattle.std.proofs.Common.{◌≡◌, ◌≤◌, ◌<◌, ◌+◌, ◌∙◌, ◌++◌, ℕ, Bool, true, List, [], length, Option, inl, inr, refl, ap, sym, subst, arith, append-nil}
+use Rattle.std.proofs.Common.{length-append}
+use Rattle.std.specs.Prelude.{IfOk, Result, Ok, Err}
 use Rattle.std.proofs.lemmas.List.Elements.{filter_map-append}
 use Rattle.timing_base.specs.Captures.{Record}
 use Rattle.timing_base.specs.Keys.{key_of}
 use Rattle.timing_base.specs.Media.{Media}
 use Rattle.udp_rtp.specs.Flow.{flow, flow_packet}
 use Rattle.run_meter.specs.Runs.{JudgedPart, OpenPart}
-use Rattle.fail_interval.specs.Meterings.{Feeds, room_less}
+use Rattle.fail_interval.specs.Measured.{JudgeTells}
+use Rattle.fail_interval.specs.Meterings.{Feeds, IsFed, room_less}
+use Rattle.fail_interval.specs.Stands.{StandsFor as JudgeStandsFor}
+use Rattle.fail_interval.specs.declared.judge.FlowJudge.{FlowJudge}
 use Rattle.fail_interval.proofs.JudgeTold.{carried-tells}
 use Rattle.flow_demux.specs.Takings.{TakesFlow}
-use Rattle.flow_measure.specs.rows.Rows.{header_text}
 use Rattle.flow_measure.specs.rows.Told.{AreRowsSoFar, Tells}
 use Rattle.flow_measure.specs.rows.making.Meters.{StandsFor as RowsStandsFor}
+use Rattle.flow_measure.specs.declared.rows.meter.RowsMeter.{RowsMeter}
 use Rattle.flow_measure.specs.declared.rows.rows.Rows.{Rows}
 use Rattle.timing_measure.specs.series.Stands.{HasRoom, HoldsText, PoursOn, StandsFor, TakesOn, Waits, past_of, text_of}
 use Rattle.timing_measure.specs.declared.series.flow.SeriesFlow.{SeriesFlow}
@@ -29,8 +33,8 @@ series-took old new more same t frames m number tai gone items h =
     subst (λ (x : Media). Feeds true RowsStandsFor Tells x old.flow.taker new.flow.taker more) h.media_is t.fed in
     record {
       media_is = t.media ∙ h.media_is;
-      fed = subst (λ l. _) (sym (filter_map-append (flow_packet m) items more))
-          (feeds (past_of frames gone) (key_of 0 number) tai (flow items m) h.fed);
+      fed = subst (IsFed true RowsStandsFor Tells (past_of frames gone) m (key_of 0 number) tai new.flow.taker)
+          (sym (filter_map-append (flow_packet m) items more)) (feeds (past_of frames gone) (key_of 0 number) tai (flow items m) h.fed);
       waits = subst (Waits frames gone) (sym same) h.waits;
     }
 
@@ -57,8 +61,10 @@ pub poured-out : (old new : SeriesFlow) → HoldsText old → new.flow.media ≡
 poured-out old new some media judge same none waits frames m number tai gone items h = record {
   media_is = media ∙ h.media_is;
   fed = record {
-    judge_is = subst (λ j. _) (sym judge) h.fed.judge_is;
-    told = λ wants. subst (λ j. _) (sym judge)
+    judge_is = subst (λ (j : FlowJudge RowsMeter). JudgeStandsFor m (key_of 0 number) tai j (flow items m)) (sym judge) h.fed.judge_is;
+    told = λ wants.
+        subst (λ (j : FlowJudge RowsMeter).
+        JudgeTells RowsStandsFor Tells (past_of frames (gone ++ text_of old)) m tai (flow items m) j new.flow.taker.out) (sym judge)
         (carried-tells RowsStandsFor Tells (past_of frames gone) (past_of frames (gone ++ text_of old)) m tai old.flow.taker.judge (flow items m)
         old.flow.taker.out new.flow.taker.out
         (λ over part t. tells-out frames gone old.flow.taker.out new.flow.taker.out m tai over part same none t) (h.fed.told wants));
@@ -69,3 +75,8 @@ poured-out old new some media judge same none waits frames m number tai gone ite
 -- nothing was written
 pub poured-none : (x : SeriesFlow) → PoursOn x x []
 poured-none x frames m number tai gone items h = subst (λ l. StandsFor frames m number tai l x items) (sym (append-nil gone)) h
+
+-- what follows from an answer
+pub if-ok : {T E : Type 0} {P Q : T → Type 0} (result : Result T E) → ((x : T) → P x → Q x) → IfOk result P → IfOk result Q
+if-ok (Ok x) next h = next x h
+if-ok (Err e) next h = tt
