@@ -2,7 +2,6 @@
 //! flow are taken from its capture while that is read.
 
 pub mod captures;
-pub mod feeding;
 pub mod flows;
 mod media;
 pub mod words;

@@ -11,10 +11,8 @@ use Rattle.timing_base.specs.Media.{Media}
 use Rattle.timing_base.specs.declared.capture.FileNote.{FileNote}
 use Rattle.timing_base.specs.declared.key.FlowKey.{FlowKey}
 use Rattle.timing_base.specs.declared.packet.FlowPacket.{FlowPacket}
-use Rattle.timing_base.specs.declared.packet.Rtp.{Rtp}
 use Rattle.fail_interval.specs.Row.{verdict_of}
 use Rattle.fail_interval.specs.Stands.{StandsFor, count_fed}
-use Rattle.fail_interval.specs.Taken.{IsExpected}
 use Rattle.pcap_reader.specs.Records.{Records}
 use Rattle.udp_rtp.specs.Flow.{flow, flow_packet}
 use Rattle.timing_reach.specs.ShapedAgain.{CanBeHeld}
@@ -34,12 +32,12 @@ pub record IsKept (m : Media) (list : Bool) (packets : Kept) (items : List Recor
 -- the flow of this media in these packet records was passed to the judge, and is kept
 pub record IsReading (m : Media) (key : FlowKey) (tai : ℕ) (list : Bool) (r : Reading) (items : List Record) : Type 0
   where
-    pub judge : StandsFor m key tai r.judge (flow items m)
+    pub judge : StandsFor m key tai r.judge.judge (flow items m)
     pub packets : IsKept m list r.packets items
 
 -- the number of packets that were passed
 abbrev pub count_read : Reading → ℕ
-count_read r = count_fed r.judge
+count_read r = count_fed r.judge.judge
 
 -- `count` more packets can be passed
 abbrev pub HasRoom : (count : ℕ) → Reading → Type 0
@@ -48,10 +46,6 @@ HasRoom count r = count_read r + count ≤ 2 ^ 41
 -- if many more packets can be passed, so can fewer
 pub room_less : (few many : ℕ) (r : Reading) → few ≤ many → HasRoom many r → HasRoom few r
 room_less few many r less room = omega (arith, less, room)
-
--- the judge expects this packet next
-abbrev pub Expects : Rtp → Reading → Type 0
-Expects p r = IsExpected r.judge p
 
 -- these packet records were read after those before, and nothing else
 abbrev pub ReadsOn : Media → (old new : Reading) → List Record → Type 0
@@ -83,7 +77,7 @@ reads_other m x r is key tai list items h =
     let packets = flow-on m items r None is ∙ append-nil (flow items m) in
     let records = records-on m items r None is ∙ append-nil (flow_records m items) in
     record {
-      judge = subst (StandsFor m key tai x.judge) (sym packets) h.judge;
+      judge = subst (StandsFor m key tai x.judge.judge) (sym packets) h.judge;
       packets = record {
         kept = subst (AreKept list x.packets) (sym records) h.packets.kept;
         held = subst (All CanBeHeld) (sym records) h.packets.held;

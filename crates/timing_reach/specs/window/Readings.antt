@@ -10,11 +10,10 @@ use Rattle.timing_base.specs.Verdicts.{Judged}
 use Rattle.timing_base.specs.declared.capture.FileNote.{FileNote}
 use Rattle.timing_base.specs.declared.key.FlowKey.{FlowKey}
 use Rattle.timing_base.specs.declared.packet.FlowPacket.{FlowPacket}
-use Rattle.timing_base.specs.declared.packet.Rtp.{Rtp}
 use Rattle.timing_base.specs.declared.row.Verdict.TheVariants as verdict
 use Rattle.fail_interval.specs.Row.{verdict_of}
-use Rattle.fail_interval.specs.Stands.{StandsFor, count_fed}
-use Rattle.fail_interval.specs.Taken.{IsExpected}
+use Rattle.fail_interval.specs.Meterings.{HasRoom as JudgeHasRoom, room_less as judge_less}
+use Rattle.fail_interval.specs.Stands.{StandsFor}
 use Rattle.pcap_reader.specs.Records.{Records}
 use Rattle.udp_rtp.specs.Flow.{flow, flow_packet}
 use Rattle.timing_reach.specs.window.Gauging.{AreWindowsIn, IsGauged, count_gauged}
@@ -23,24 +22,20 @@ use Rattle.timing_reach.specs.declared.window.reading.Reading.{Reading}
 
 -- the packets were passed to the judge of this media and to its gauge, and no others
 pub record IsReading (m : Media) (key : FlowKey) (tai : ℕ) (r : Reading) (packets : List FlowPacket) : Type 0 where
-  pub judge : StandsFor m key tai r.judge packets
+  pub judge : StandsFor m key tai r.judge.judge packets
   pub gauge : IsGauged m tai r.gauge packets
 
 -- `count` more packets can be passed
 pub record HasRoom (count : ℕ) (r : Reading) : Type 0 where
-  pub judge : count_fed r.judge + count ≤ 2 ^ 41
+  pub judge : JudgeHasRoom count r.judge
   pub gauge : count_gauged r.gauge + count ≤ 2 ^ 40
 
 -- if many more packets can be passed, so can fewer
 pub room_less : (few many : ℕ) (r : Reading) → few ≤ many → HasRoom many r → HasRoom few r
 room_less few many r less room = record {
-  judge = omega (arith, less, room.judge);
+  judge = judge_less few many r.judge less room.judge;
   gauge = omega (arith, less, room.gauge);
 }
-
--- the judge expects this packet next
-abbrev pub Expects : Rtp → Reading → Type 0
-Expects p r = IsExpected r.judge p
 
 -- the flow of this media in these records was passed after the packets before, and nothing else
 abbrev pub ReadsOn : Media → (old new : Reading) → List Record → Type 0

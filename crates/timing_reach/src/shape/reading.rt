@@ -5,10 +5,9 @@ ghost use Rattle.timing_base.specs.Captures.{Record};
 ghost use Rattle.timing_base.specs.Media.{Media as MediaValue};
 ghost use Rattle.timing_base.specs.declared.key.FlowKey.{FlowKey as KeyValue};
 
-use crate::judged::feeding::{expected_of, feed_expected};
-use crate::judged::flows::FlowTaker;
 use crate::shape::kept::Kept;
-use fail_interval::FlowJudge;
+use fail_interval::Metered;
+use flow_demux::FlowTaker;
 use std::alloc::{AllocError as OutOfMemory, Global};
 use timing_base::{FlowKey, FlowPacket, Media, Rtp, Verdict};
 
@@ -24,7 +23,7 @@ pub struct KeptFlow {
 /// The judge of a flow, and the packets that are kept.
 #[derive(Drop)]
 pub struct Reading {
-    judge: FlowJudge<()>,
+    judge: Metered<(), ()>,
     packets: Kept,
 }
 
@@ -50,7 +49,7 @@ impl Reading {
             media: number,
         };
         Ok(Reading {
-            judge: FlowJudge::new(alloc, media, key, tai),
+            judge: Metered::new(alloc, media, key, tai, ()),
             packets: Kept::new(alloc, list)?,
         })
     }
@@ -62,22 +61,24 @@ impl Reading {
             → tai ≤ 1000 → IsReading m key tai list self items → IsKeptFlow m tai list items kept) }
     {
         let Reading { judge, packets } = self;
+        let (row, _) = judge.finish()?;
         Ok(KeptFlow {
-            verdict: judge.finish(&mut ())?.verdict,
+            verdict: row.verdict,
             packets,
         })
     }
 }
 
 impl FlowTaker for Reading {
-    ghost use Rattle.timing_reach.specs.shape.Readings.{Expects, HasRoom, ReadsOn, reads_more, reads_none};
+    ghost use Rattle.fail_interval.specs.Meterings.{expected_next};
+    ghost use Rattle.timing_reach.specs.shape.Readings.{HasRoom, ReadsOn, reads_more, reads_none};
     ghost use Rattle.timing_reach.specs.shape.Readings.{reads_other, room_less};
 
     ghost takes = { ReadsOn };
 
     ghost room = { HasRoom };
 
-    ghost expects = { Expects };
+    ghost expects = { λ x. expected_next x.judge };
 
     ghost none = { reads_none };
 
@@ -89,18 +90,21 @@ impl FlowTaker for Reading {
 
     #[inline(always)]
     fn expected(&self) -> Option<Rtp> {
-        expected_of(&self.judge)
+        self.judge.expected()
+    }
+
+    #[inline(always)]
+    fn take_next(&mut self, packet: &FlowPacket, frame: &[u8]) -> Result<bool, OutOfMemory> {
+        if !self.judge.take_next(packet, frame)? {
+            return Ok(false);
+        }
+        self.packets.keep(packet.at, frame)?;
+        Ok(true)
     }
 
     #[inline(always)]
     fn take(&mut self, packet: &FlowPacket, frame: &[u8]) -> Result<(), OutOfMemory> {
-        self.judge.feed(packet.rec, packet.at, packet.rtp, &mut ())?;
-        self.packets.keep(packet.at, frame)
-    }
-
-    #[inline(always)]
-    fn take_expected(&mut self, packet: &FlowPacket, frame: &[u8]) -> Result<(), OutOfMemory> {
-        feed_expected(&mut self.judge, packet)?;
+        self.judge.take(packet, frame)?;
         self.packets.keep(packet.at, frame)
     }
 }

@@ -5,11 +5,10 @@ ghost use Rattle.timing_base.specs.Media.{Media as MediaValue};
 ghost use Rattle.timing_base.specs.declared.key.FlowKey.{FlowKey as KeyValue};
 ghost use Rattle.timing_base.specs.declared.packet.FlowPacket.{FlowPacket as PacketValue};
 
-use crate::judged::feeding::{expected_of, feed_expected};
-use crate::judged::flows::FlowTaker;
 use crate::window::gauge::Gauge;
 use crate::window::windows::Windows;
-use fail_interval::FlowJudge;
+use fail_interval::Metered;
+use flow_demux::FlowTaker;
 use std::alloc::{AllocError as OutOfMemory, Global};
 use timing_base::{FlowKey, FlowPacket, Media, Rtp, Verdict};
 
@@ -25,7 +24,7 @@ pub struct Measured {
 /// The judge of a flow, and its gauge.
 #[derive(Drop)]
 pub struct Reading {
-    judge: FlowJudge<()>,
+    judge: Metered<(), ()>,
     gauge: Gauge,
 }
 
@@ -44,7 +43,7 @@ impl Reading {
             media: number,
         };
         Reading {
-            judge: FlowJudge::new(alloc, media, key, tai),
+            judge: Metered::new(alloc, media, key, tai, ()),
             gauge: Gauge::new(alloc, media, tai),
         }
     }
@@ -55,22 +54,24 @@ impl Reading {
             → IsReading m key tai self packets → IsMeasured m tai packets measured) }
     {
         let Reading { judge, gauge } = self;
+        let (row, _) = judge.finish()?;
         Ok(Measured {
-            verdict: judge.finish(&mut ())?.verdict,
+            verdict: row.verdict,
             windows: gauge.windows(),
         })
     }
 }
 
 impl FlowTaker for Reading {
-    ghost use Rattle.timing_reach.specs.window.Readings.{Expects, HasRoom, ReadsOn, reads_more, reads_none};
+    ghost use Rattle.fail_interval.specs.Meterings.{expected_next};
+    ghost use Rattle.timing_reach.specs.window.Readings.{HasRoom, ReadsOn, reads_more, reads_none};
     ghost use Rattle.timing_reach.specs.window.Readings.{reads_other, room_less};
 
     ghost takes = { ReadsOn };
 
     ghost room = { HasRoom };
 
-    ghost expects = { Expects };
+    ghost expects = { λ x. expected_next x.judge };
 
     ghost none = { reads_none };
 
@@ -82,18 +83,21 @@ impl FlowTaker for Reading {
 
     #[inline(always)]
     fn expected(&self) -> Option<Rtp> {
-        expected_of(&self.judge)
+        self.judge.expected()
     }
 
     #[inline(always)]
-    fn take(&mut self, packet: &FlowPacket, _frame: &[u8]) -> Result<(), OutOfMemory> {
-        self.judge.feed(packet.rec, packet.at, packet.rtp, &mut ())?;
-        self.gauge.pass(packet)
+    fn take_next(&mut self, packet: &FlowPacket, frame: &[u8]) -> Result<bool, OutOfMemory> {
+        if !self.judge.take_next(packet, frame)? {
+            return Ok(false);
+        }
+        self.gauge.pass(packet)?;
+        Ok(true)
     }
 
     #[inline(always)]
-    fn take_expected(&mut self, packet: &FlowPacket, _frame: &[u8]) -> Result<(), OutOfMemory> {
-        feed_expected(&mut self.judge, packet)?;
+    fn take(&mut self, packet: &FlowPacket, frame: &[u8]) -> Result<(), OutOfMemory> {
+        self.judge.take(packet, frame)?;
         self.gauge.pass(packet)
     }
 }

@@ -3,4 +3,4 @@ use Rattle.timing_reach.proofs.window.reading.ReadingFlowTaker.take.Goals as goa
 
 pub returns-clause-takes : goal.returns-clause-takes
 returns-clause-takes c =
-    reads-packet c.pass.result c.args.self.now _ c.args.packet.now c.args._frame.now c.in_ok-feed.ensures.takes.stands c.pass.ensures.passes
+    reads-packet c.pass.result c.args.self.now _ c.args.packet.now c.args.frame.now c.in_ok-take.ensures.takes c.pass.ensures.passes
