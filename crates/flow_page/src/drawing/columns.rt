@@ -2,7 +2,6 @@
 
 ghost use Rattle.std.specs.Prelude.{◌≡◌, ◌≤◌, ◌<◌, ◌+◌, ◌*◌, ◌^◌, ◌++◌, ◌∷◌, [], ℕ, IfOk, List};
 ghost use Rattle.std.specs.Prelude.{length};
-ghost use Rattle.sender_params.specs.Ticks.{NeverFall};
 ghost use Rattle.timing_base.specs.Media.{IsMedia, Media as MediaValue};
 ghost use Rattle.run_meter.specs.Levels.{IsLevel};
 

@@ -77,13 +77,10 @@ impl GroupCurves {
             → DrawsCurves params.now.media n0 self.new first last timestamp }
     {
         let k = self.seen;
-        self.first
-            .feed(since_start(params, n0, k, group.first));
+        self.first.feed(since_start(params, n0, k, group.first));
         self.last.feed(since_start(params, n0, k, at));
-        self.offset
-            .feed(offset_of(params, n0, k, group.timestamp));
-        self.latency
-            .feed(latency_of(group.first, group.timestamp));
+        self.offset.feed(offset_of(params, n0, k, group.timestamp));
+        self.latency.feed(latency_of(group.first, group.timestamp));
         self.seen += 1;
     }
 

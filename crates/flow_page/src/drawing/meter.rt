@@ -68,8 +68,7 @@ impl RunMeter for DrawingMeter {
     ) -> Result<(), OutOfMemory> {
         // No run has more packets, and a meter can count no more.
         if self.all.packets.seen < MOST {
-            self.all
-                .feed(params, packet.at, packet.timestamp, level);
+            self.all.feed(params, packet.at, packet.timestamp, level);
             self.regions.feed(level);
         }
         Ok(())

@@ -151,10 +151,8 @@ impl PacketColumns {
             → DrawsPackets m n self.new (stamps ++ at ∷ []) }
     {
         self.bucket.feed(i128::from(level.bucket));
-        self.gapped
-            .feed(i128::from(level.gapped.occupancy));
-        self.linear
-            .feed(i128::from(level.linear.occupancy));
+        self.gapped.feed(i128::from(level.gapped.occupancy));
+        self.linear.feed(i128::from(level.linear.occupancy));
         self.seen += 1;
     }
 

@@ -39,10 +39,7 @@ fn end_around(proof: FailProof, packets: u64) -> u64
     ensures value { result ≡ min (proof.to + 51) packets }
     ensures few { result ≤ 2 ^ 41 }
 {
-    proof
-        .to
-        .saturating_add(BEHIND + 1)
-        .min(packets)
+    proof.to.saturating_add(BEHIND + 1).min(packets)
 }
 
 /// Returns the level that a model limits for a sender type, in packets.
@@ -240,12 +237,6 @@ fn first_with(first: Option<u64>, packet: u64, breaks: bool) -> Option<u64>
 {
     match first {
         Some(_) => first,
-        None => {
-            if breaks {
-                Some(packet)
-            } else {
-                None
-            }
-        }
+        None => { if breaks { Some(packet) } else { None } }
     }
 }

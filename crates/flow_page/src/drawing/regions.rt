@@ -1,6 +1,6 @@
 //! The regions around the violations of the sender types.
 
-ghost use Rattle.std.specs.Prelude.{◌≡◌, ◌≤◌, ◌<◌, ◌*◌, ◌^◌, ◌++◌, ◌∷◌, [], ℕ, IfOk, List, length};
+ghost use Rattle.std.specs.Prelude.{◌≡◌, ◌≤◌, ◌<◌, ◌^◌, ◌++◌, ◌∷◌, [], ℕ, IfOk, List, length};
 ghost use Rattle.timing_base.specs.Media.{IsMedia, Media};
 ghost use Rattle.timing_base.specs.declared.media.Kind.{Kind as KindValue};
 ghost use Rattle.timing_base.specs.declared.media.Kind.TheVariants.{N, NL, W};
@@ -66,7 +66,13 @@ impl RegionMeters {
         let [narrow, narrow_linear, wide] = judged.kinds;
         let mut regions = Vec::new(alloc);
         put_region(alloc, &self.narrow, narrow, packets, &mut regions)?;
-        put_region(alloc, &self.narrow_linear, narrow_linear, packets, &mut regions)?;
+        put_region(
+            alloc,
+            &self.narrow_linear,
+            narrow_linear,
+            packets,
+            &mut regions,
+        )?;
         put_region(alloc, &self.wide, wide, packets, &mut regions)?;
         Ok(Items::from_vec(regions))
     }

@@ -1,6 +1,6 @@
 -- The packets around the first one that breaks a sender type, with one packet more, and the regions that they make.
-use Rattle.std.proofs.Common.{◌≡◌, ◌<◌, ◌≤◌, ◌+◌, ◌-◌, ◌%◌, ◌/◌, ◌++◌, ◌∷◌, [], ◌||◌, min, ℕ, ℤ, pos, negsuc, Bool, true, false, nat_lt, nat_le, List, length}
-use Rattle.std.proofs.Common.{Option, Some, None, cond, set, inl, inr, true≢false, refl, ap, ◌∙◌, sym, subst, arith, length-append}
+use Rattle.std.proofs.Common.{◌≡◌, ◌<◌, ◌≤◌, ◌+◌, ◌-◌, ◌%◌, ◌++◌, ◌∷◌, [], ◌||◌, min, ℕ, ℤ, pos, negsuc, Bool, true, false, nat_lt, List, length}
+use Rattle.std.proofs.Common.{Option, Some, None, set, inl, inr, true≢false, refl, ap, ◌∙◌, sym, subst, arith, length-append}
 use Rattle.std.specs.Prelude.{int_lt}
 use Rattle.std.specs.Int.{int_max}
 use Rattle.std.specs.List.{slice_index_or}
@@ -18,14 +18,11 @@ use Rattle.timing_base.specs.declared.row.KindVerdict.{KindVerdict}
 use Rattle.timing_base.specs.declared.row.KindVerdict.TheVariants.{Pass, Fail}
 use Rattle.sender_params.specs.Keeps.{held_at, is_empty, is_over}
 use Rattle.sender_params.specs.Limits.{c_max_of, gapped_of, vrx_full_of}
-use Rattle.drain_bucket.specs.Word.{bucket_of}
-use Rattle.vrx_buffer.specs.Occupancy.{IsOccupancy, is_late}
-use Rattle.vrx_buffer.specs.declared.held.Held.{Held}
 use Rattle.run_meter.specs.Levels.{IsHeld, IsLevel}
 use Rattle.run_meter.specs.Runs.{NameFirst, NamesFirst, is_broken}
 use Rattle.run_meter.specs.declared.level.Level.{Level}
 use Rattle.flow_measure.specs.First.{IsFirst}
-use Rattle.flow_measure.specs.Occupancy.{AreOccupancies, buckets_of}
+use Rattle.flow_measure.specs.Occupancy.{buckets_of}
 use Rattle.flow_measure.specs.Columns.{AreCurve}
 use Rattle.flow_measure.specs.Stands.{DrawsCurve}
 use Rattle.flow_measure.specs.declared.columns.curve.Curve.{Curve}
@@ -207,8 +204,8 @@ first-named all judged count few (Some k) proof low same is named =
     elim (cases_lt k proof.to) as (λ _. Some k ≡ Some proof.to) [
       | inl before ↦ absurd (true≢false (sym is.1 ∙ same k (omega (arith, before, named.0)) ∙ named.2 k before))
       | inr rest ↦ elim (cases_lt proof.to k) as (λ _. Some k ≡ Some proof.to) [
-          | inl behind ↦ absurd (true≢false (sym named.1 ∙ sym (same proof.to named.0) ∙ is.2 proof.to behind))
-          | inr none ↦ let e : k ≡ proof.to = omega (arith, rest, none) in ap (λ (x : ℕ). Some x) e
+        | inl behind ↦ absurd (true≢false (sym named.1 ∙ sym (same proof.to named.0) ∙ is.2 proof.to behind))
+        | inr none ↦ let e : k ≡ proof.to = omega (arith, rest, none) in ap (λ (x : ℕ). Some x) e
       ]
     ]
 

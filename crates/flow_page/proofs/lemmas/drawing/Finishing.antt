@@ -1,5 +1,5 @@
 -- The columns of a run, when all its packets came.
-use Rattle.std.proofs.Common.{◌≡◌, ◌*◌, ◌<◌, ℕ, ℤ, List, length, slice_index, inl, inr, refl, ◌∙◌, subst, arith}
+use Rattle.std.proofs.Common.{◌≡◌, ◌*◌, ℕ, ℤ, List, length, slice_index, inl, inr, refl, ◌∙◌, subst, arith}
 use Rattle.std.proofs.lemmas.Bool.{cases_eq}
 use Rattle.timing_base.specs.Media.{Media}
 use Rattle.flow_measure.specs.Columns.{AreCurve, AreEye}

@@ -1,5 +1,5 @@
 -- Lists with several packets more, and what is said of the packets before them.
-use Rattle.std.proofs.Common.{◌≡◌, ◌<◌, ◌≤◌, ◌+◌, ◌-◌, ◌*◌, ◌/◌, ◌++◌, ◌∷◌, [], ℕ, ℤ, Bool, List, length, slice_index, refl, ap, ◌∙◌, sym, subst, arith}
+use Rattle.std.proofs.Common.{◌≡◌, ◌<◌, ◌≤◌, ◌+◌, ◌-◌, ◌*◌, ◌/◌, ◌++◌, ◌∷◌, [], ℕ, ℤ, Bool, List, length, slice_index, ap, ◌∙◌, sym, subst, arith}
 use Rattle.std.proofs.Common.{true, false, nat_lt, ◌||◌, inl, inr, append_assoc, append-nil, length-append}
 use Rattle.std.proofs.lemmas.Bool.{cases_eq}
 use Rattle.std.proofs.lemmas.List.{get_or_append_left}
@@ -25,7 +25,6 @@ use Rattle.flow_measure.specs.Run.{anchor_in}
 use Rattle.flow_measure.proofs.Fronts.{buckets-front, occupancies-front}
 use Rattle.flow_page.specs.drawing.drawing.Columns.{DrawsCurves, DrawsGroups}
 use Rattle.flow_page.specs.declared.drawing.groups.GroupColumns.{GroupColumns}
-use Rattle.flow_page.specs.declared.drawing.groups.GroupCurves.{GroupCurves}
 use Rattle.flow_page.proofs.lemmas.drawing.Feeding.{curves-none, group-first}
 
 -- what is so of the packets before one more is so of those before several more

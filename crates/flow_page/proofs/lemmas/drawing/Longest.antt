@@ -1,10 +1,10 @@
 -- The longest of the judged runs of a flow, with one run more; and the drawing of a run, with one packet more.
-use Rattle.std.proofs.Common.{◌≡◌, ◌<◌, ◌≤◌, ◌+◌, ◌-◌, ◌*◌, ◌++◌, ◌∷◌, [], ℕ, zero, suc, true, false, List, length, slice_index, map, Option, Some, None}
+use Rattle.std.proofs.Common.{◌≡◌, ◌<◌, ◌≤◌, ◌-◌, ◌*◌, ◌++◌, ◌∷◌, [], ℕ, zero, suc, true, false, List, length, slice_index, Option, Some, None}
 use Rattle.std.proofs.Common.{refl, ap, ◌∙◌, sym, subst, arith, append_assoc, true≢false}
 use Rattle.std.proofs.Math.Nat.{mul-le-mul_left}
 use Rattle.std.specs.Prelude.{All}
 use Rattle.std.proofs.lemmas.Bool.{ltb-false, ltb-true}
-use Rattle.std.proofs.lemmas.List.{length-map, map-append}
+use Rattle.std.proofs.lemmas.List.{map-append}
 use Rattle.std.proofs.lemmas.List.Elements.{All-append}
 use Rattle.timing_base.specs.Flows.{read_or_zeros}
 use Rattle.timing_base.specs.Judged.{stamp_of}
@@ -12,7 +12,7 @@ use Rattle.timing_base.specs.Media.{IsMedia, Media}
 use Rattle.timing_base.specs.Verdicts.{Judged}
 use Rattle.timing_base.specs.declared.packet.FlowPacket.{FlowPacket}
 use Rattle.run_meter.specs.Levels.{IsLevel}
-use Rattle.run_meter.specs.Runs.{IsJudgedOf, JudgedPart, NameFirst, RunOf, part_of, stamps_of, told_of}
+use Rattle.run_meter.specs.Runs.{IsJudgedOf, JudgedPart, RunOf, part_of, stamps_of, told_of}
 use Rattle.run_meter.specs.declared.level.Level.{Level}
 use Rattle.run_meter.specs.declared.run.RunPacket.{RunPacket}
 use Rattle.flow_measure.specs.Packets.{timestamps_of}
@@ -20,8 +20,6 @@ use Rattle.flow_measure.proofs.Judging.{stamps-long, stamps-more, timestamps-mor
 use Rattle.flow_page.specs.declared.drawing.columns.RunColumns.{RunColumns}
 use Rattle.flow_page.specs.declared.drawing.longest.DrawnRun.{DrawnRun}
 use Rattle.flow_page.specs.declared.drawing.regions.RegionMeters.{RegionMeters}
-use Rattle.flow_page.specs.declared.shown.Curves.{Curves}
-use Rattle.flow_page.specs.declared.shown.Region.{Region}
 use Rattle.flow_page.specs.drawing.Drawn.{AreCurves, AreRegions}
 use Rattle.flow_page.specs.drawing.Told.{Draws as DrawsLongest, IsDrawn, IsLongest}
 use Rattle.flow_page.specs.drawing.drawing.Columns.{Draws}
@@ -59,14 +57,17 @@ pub longest-new : (m : Media) (tai : ℕ) (parts : List JudgedPart) (part : Judg
     → DrawsLongest m tai parts old
     → IsDrawn m tai part d
     → DrawsLongest m tai (parts ++ part ∷ []) (Some d)
-longest-new m tai parts part None d shorter h drawn =
-    (part, record {
-      before = [];
-      after = [];
-      whole = ap (λ l. l ++ part ∷ []) h;
-      fewer = all-none (Fewer (length part.packets));
-      no_more = all-none (NoMore (length part.packets));
-    }, drawn)
+longest-new m tai parts part None d shorter h drawn = (
+  part,
+  record {
+    before = [];
+    after = [];
+    whole = ap (λ l. l ++ part ∷ []) h;
+    fewer = all-none (Fewer (length part.packets));
+    no_more = all-none (NoMore (length part.packets));
+  },
+  drawn,
+)
 longest-new m tai parts part (Some o) d shorter h drawn =
     let less : o.packets < length part.packets = ltb-true o.packets (length part.packets) shorter in
     let longer = longer-all parts part h.0 h.1 (omega (arith, less, h.2.packets_are)) in
@@ -81,14 +82,17 @@ longest-kept m tai parts part None shorter h = absurd (true≢false shorter)
 longest-kept m tai parts part (Some o) shorter h =
     let most : length part.packets ≤ o.packets = ltb-false o.packets (length part.packets) shorter in
     let l = h.1 in
-    let no_more : NoMore (length h.0.packets) part = omega (arith, most, h.2.packets_are) in
-    (h.0, record {
-      before = l.before;
-      after = l.after ++ part ∷ [];
-      whole = ap (λ x. x ++ part ∷ []) l.whole ∙ append_assoc l.before (h.0 ∷ l.after) (part ∷ []);
-      fewer = l.fewer;
-      no_more = All-append (NoMore (length h.0.packets)) l.after (part ∷ []) l.no_more (all-one (NoMore (length h.0.packets)) part no_more);
-    }, h.2)
+    let no_more : NoMore (length h.0.packets) part = omega (arith, most, h.2.packets_are) in (
+      h.0,
+      record {
+        before = l.before;
+        after = l.after ++ part ∷ [];
+        whole = ap (λ x. x ++ part ∷ []) l.whole ∙ append_assoc l.before (h.0 ∷ l.after) (part ∷ []);
+        fewer = l.fewer;
+        no_more = All-append (NoMore (length h.0.packets)) l.after (part ∷ []) l.no_more (all-one (NoMore (length h.0.packets)) part no_more);
+      },
+      h.2,
+    )
 
 -- what a call says of the columns of a run
 abbrev pub TakesPacket : Media → (n : ℕ) → (old new : RunColumns) → RunPacket → Level → Type 0

@@ -2,7 +2,6 @@
 -- 0.
 use Rattle.std.specs.Prelude.{◌+◌, ◌-◌, ◌%◌, min, nat_le, cond, ℕ, pos, Bool, true, false, List, Option, Some, None}
 use Rattle.std.specs.List.{slice_index_or}
-use Rattle.vrx_buffer.specs.declared.held.Held.{Held}
 use Rattle.run_meter.specs.declared.level.Level.{Level}
 
 -- the first packet that breaks a limit, including the next packet

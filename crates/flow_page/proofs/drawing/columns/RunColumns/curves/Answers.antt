@@ -1,4 +1,4 @@
-use Rattle.std.proofs.Common.{◌≡◌, ◌*◌, true, false, slice_index, refl, ◌∙◌}
+use Rattle.std.proofs.Common.{true, false, slice_index, refl, ◌∙◌}
 use Rattle.flow_measure.specs.Groups.{firsts_of, lasts_of, latency_at, offset_at, since_at}
 use Rattle.flow_measure.specs.Occupancy.{buckets_of}
 use Rattle.flow_measure.specs.Run.{anchor_in}

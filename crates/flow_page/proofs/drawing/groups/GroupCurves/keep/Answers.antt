@@ -1,4 +1,4 @@
-use Rattle.std.proofs.Common.{◌≤◌, arith}
+use Rattle.std.proofs.Common.{arith}
 use Rattle.flow_page.proofs.drawing.groups.GroupCurves.keep.Goals as goal
 
 pub returns-clause-draws : goal.returns-clause-draws

@@ -1,5 +1,4 @@
 use Rattle.std.proofs.Common.{◌≡◌, ◌≤◌, ◌++◌, ◌∷◌, [], length, ap, ◌∙◌, sym, subst}
-use Rattle.std.specs.Prelude.{Some}
 use Rattle.run_meter.specs.Runs.{part_of}
 use Rattle.flow_measure.proofs.Judging.{stamps-long}
 use Rattle.flow_page.specs.drawing.Told.{Draws}

@@ -1,4 +1,4 @@
-use Rattle.std.proofs.Common.{ℕ, ℤ, List, subst}
+use Rattle.std.proofs.Common.{ℕ, ℤ, List}
 use Rattle.std.proofs.lemmas.Result.{IfOk-weaker}
 use Rattle.flow_measure.specs.Columns.{AreCurve}
 use Rattle.flow_measure.specs.Stands.{DrawsCurve}

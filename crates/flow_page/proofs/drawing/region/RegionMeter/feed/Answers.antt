@@ -1,4 +1,4 @@
-use Rattle.std.proofs.Common.{◌<◌, length, ◌∙◌, sym, arith}
+use Rattle.std.proofs.Common.{length, ◌∙◌, sym, arith}
 use Rattle.flow_page.proofs.lemmas.drawing.Around.{all-taken, most-taken, region-same}
 use Rattle.flow_page.proofs.drawing.region.RegionMeter.feed.Goals as goal
 

@@ -1,4 +1,4 @@
-use Rattle.std.proofs.Common.{◌≡◌, ◌+◌, ◌∙◌, min, length, refl, sym, ap}
+use Rattle.std.proofs.Common.{◌+◌, ◌∙◌, min, refl, sym, ap}
 use Rattle.flow_page.proofs.lemmas.drawing.Around.{region-shown}
 use Rattle.flow_page.proofs.drawing.region.RegionMeter.finish.Goals as goal
 
