@@ -8,7 +8,7 @@ ghost use Rattle.timing_outside.specs.Written.{AppendsFront};
 ghost use Rattle.timing_reach.specs.declared.steps.failure.Failure.TheVariants as failure;
 
 use fail_interval::Metered;
-use flow_demux::{FlowTaker, MediaFlow};
+use flow_demux::MediaFlow;
 use flow_measure::rows::{Rows, RowsMeter, header};
 use std::alloc::{AllocError as OutOfMemory, Global};
 use timing_base::{FileNote, FlowKey, Media, Verdict};
@@ -16,7 +16,6 @@ use timing_outside::{Sink, put_all};
 use timing_reach::judged::words::not_judged;
 use timing_reach::steps::{Answer, Failure};
 use timing_report::{Status, any_refused};
-use udp_rtp::datagram;
 
 /// The flow of a job, which is judged while it is read, with the rows of its judged runs that aren't written yet.
 #[derive(Drop)]
@@ -40,62 +39,6 @@ fn status_of(note: FileNote, verdict: &Verdict) -> Status
         Verdict::Unjudged(_) => Status::NotAllJudged,
         Verdict::Judged(_) | Verdict::Runs(_) => Status::Pass,
     }
-}
-
-ghost use Rattle.flow_demux.specs.Awaits.{AwaitsExpected};
-ghost use Rattle.flow_demux.specs.Takings.{TakesFlow};
-
-/// Takes a packet record for one flow: its number, counted from 1, its capture timestamp in nanoseconds, and its frame.
-/// Returns `Err` if memory runs out.
-#[inline(always)]
-fn take_record<F: FlowTaker>(
-    flow: &mut MediaFlow<F>,
-    number: u64,
-    at: u64,
-    frame: &[u8],
-) -> Result<(), OutOfMemory>
-    requires stamp { IsStamp at }
-    requires short { length frame.now ≤ 262144 }
-    requires room { F.room 1 flow.old.taker }
-    requires awaits { AwaitsExpected F.expects flow.old }
-    ensures media { flow.new.media ≡ flow.old.media }
-    ensures awaits { AwaitsExpected F.expects flow.new }
-    ensures room { (count : ℕ) → IfOk result (λ _. F.room (count + 1) flow.old.taker
-        → F.room count flow.new.taker) }
-    ensures takes { IfOk result (λ _. TakesFlow F.takes flow.old flow.new
-        (record { number = number; stamp = at; bytes = frame.now } ∷ [])) }
-{
-    if flow.take_next(number, at, frame)? {
-        return Ok(());
-    }
-    take_read(flow, number, at, frame)
-}
-
-/// Takes a packet record as [`take_record`] does, whatever its frame contains.
-#[cold]
-#[inline(never)]
-fn take_read<F: FlowTaker>(
-    flow: &mut MediaFlow<F>,
-    number: u64,
-    at: u64,
-    frame: &[u8],
-) -> Result<(), OutOfMemory>
-    requires stamp { IsStamp at }
-    requires short { length frame.now ≤ 262144 }
-    requires room { F.room 1 flow.old.taker }
-    requires awaits { AwaitsExpected F.expects flow.old }
-    ensures media { flow.new.media ≡ flow.old.media }
-    ensures awaits { AwaitsExpected F.expects flow.new }
-    ensures room { (count : ℕ) → IfOk result (λ _. F.room (count + 1) flow.old.taker
-        → F.room count flow.new.taker) }
-    ensures takes { IfOk result (λ _. TakesFlow F.takes flow.old flow.new
-        (record { number = number; stamp = at; bytes = frame.now } ∷ [])) }
-{
-    let Some(datagram) = datagram(frame) else {
-        return Ok(());
-    };
-    flow.take_datagram(number, at, frame, &datagram)?;
-    Ok(())
 }
 
 impl SeriesFlow {
@@ -139,7 +82,7 @@ impl SeriesFlow {
         ensures takes { IfOk result (λ _. TakesOn self.old self.new
             (record { number = number; stamp = at; bytes = frame.now } ∷ [])) }
     {
-        take_record(&mut self.flow, number, at, frame)
+        self.flow.take_record(number, at, frame)
     }
 
     /// Writes the rows that were made since the last call, the first of them behind the header. Returns `Err` if a

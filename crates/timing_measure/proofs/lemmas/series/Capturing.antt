@@ -1,6 +1,6 @@
 -- The capture of a text was read while rows were written, and what follows where its text is told.
 use Rattle.std.proofs.Common.{◌≡◌, ◌^◌, ◌++◌, [], ℕ, List, take, Option, Some, None, refl, ap, ◌∙◌, sym, subst, append-nil}
-use Rattle.std.specs.Prelude.{◌≢◌}
+use Rattle.std.specs.Prelude.{◌≢◌, IfOk, Result, Ok, Err}
 use Rattle.std.specs.Io.KnownBytes.{Appends}
 use Rattle.std.proofs.KnownBytes.{Appends-trans}
 use Rattle.timing_base.specs.Captures.{Record}
@@ -12,6 +12,7 @@ use Rattle.pcap_reader.specs.Header.{header}
 use Rattle.pcap_reader.specs.Records.{Records, UnlessReadFault}
 use Rattle.pcap_reader.proofs.Lists.{some_by}
 use Rattle.timing_reach.specs.steps.Ran.{Appended, Output}
+use Rattle.timing_reach.specs.declared.steps.failure.Failure.{Failure}
 use Rattle.timing_measure.specs.series.Copies.{Copied, CopiesIn, CopiesSome, Stopped}
 use Rattle.timing_measure.specs.declared.series.flow.SeriesFlow.{SeriesFlow}
 use Rattle.timing_measure.proofs.lemmas.series.Copying.{appends-same, copies-none, stopped-here}
@@ -81,3 +82,11 @@ wrote-known None o Q told some = (some.0, some.1, λ text t. absurd (not-some te
 wrote-known (Some x) o Q told some =
     let h = told x refl in
     (h.0, h.1, λ text t. subst (λ y. Q y h.0) (some-one x text t) h.2)
+
+-- so where the note is that of the records
+pub copies-kept : (known : Option (List ℕ)) (o : Output) (old new : SeriesFlow) (note : FileNote) (result : Result FileNote Failure)
+    → ((text : List ℕ) → known ≡ Some text → note ≢ file_note.Refused fault.ReadFault → CopiesIn o old new text note)
+    → IfOk result (λ kept. (kept ≡ note) × (note ≢ file_note.Refused fault.ReadFault))
+    → IfOk result (λ kept. (text : List ℕ) → known ≡ Some text → CopiesIn o old new text kept)
+copies-kept known o old new note (Ok kept) told is = λ text whole. subst (CopiesIn o old new text) (sym is.0) (told text whole is.1)
+copies-kept known o old new note (Err e) told is = tt

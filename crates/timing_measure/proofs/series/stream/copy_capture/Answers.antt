@@ -1,8 +1,7 @@
-use Rattle.std.proofs.Common.{◌∙◌, refl, subst, sym}
+use Rattle.std.proofs.Common.{◌∙◌, refl}
+use Rattle.pcapng_reader.specs.Classic.{classic_texts}
 use Rattle.timing_reach.specs.steps.Ran.{output_of}
-use Rattle.timing_measure.proofs.lemmas.series.Pouring.{if-ok}
-use Rattle.timing_measure.specs.series.Copies.{CopiesIn}
-use Rattle.timing_measure.proofs.lemmas.series.Capturing.{copied-stopped, copies-in, front-none, stopped-none}
+use Rattle.timing_measure.proofs.lemmas.series.Capturing.{copied-stopped, copies-in, copies-kept, front-none, stopped-none}
 use Rattle.timing_measure.proofs.lemmas.series.Copying.{any-err}
 use Rattle.timing_measure.proofs.series.stream.copy_capture.Goals as goal
 
@@ -17,10 +16,9 @@ pub returns-in-Ok-copied-clause-told : goal.returns-in-Ok-copied-clause-told
 returns-in-Ok-copied-clause-told g c =
     let o = output_of g.K.Sink c.args.out.now c.copy_rows-copied.new.out in
     let new = c.copy_rows-copied.new.flow in
-    if-ok c.whole_note.result
-    (λ note kept text whole. subst (λ n. CopiesIn o c.args.flow.now new text n) (sym kept.0)
-    (copies-in o c.args.flow.now new text c.in-Ok-copied.note kept.1
-    (λ items end holds. c.in-Ok-copied.ensures.told items end (c.in-Ok-start.ensures.gives text items end (c.in-Ok.ensures.whole ∙ whole) holds))))
+    copies-kept (classic_texts (g.H.Shelf.text c.args.shelf.now) c.args.name.now) o c.args.flow.now new c.in-Ok-copied.note c.whole_note.result
+    (λ text whole own. copies-in o c.args.flow.now new text c.in-Ok-copied.note own
+    (λ items end holds. c.in-Ok-copied.ensures.told items end (c.in-Ok-start.ensures.gives text items end (c.in-Ok.ensures.whole ∙ whole) holds)))
     c.whole_note.ensures.kept
 
 pub returns-in-Ok-copied-clause-stopped : goal.returns-in-Ok-copied-clause-stopped

@@ -10,6 +10,6 @@ returns-clause-room c = λ count.
 
 pub returns-clause-takes : goal.returns-clause-takes
 returns-clause-takes c =
-    let new : SeriesFlow = record { flow = c.take_record.new.flow; waiting = c.args.self.now.waiting } in
+    let new : SeriesFlow = record { flow = c.take_record.new.self; waiting = c.args.self.now.waiting } in
     let r : Record = record { number = c.args.number; stamp = c.args.at; bytes = c.args.frame.now } in
     if-ok c.take_record.result (λ _ takes. series-took c.args.self.now new (r ∷ []) refl takes) c.take_record.ensures.takes
