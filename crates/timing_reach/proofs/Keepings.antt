@@ -58,11 +58,12 @@ keeps-record at frame old was now e more = λ list records r came is h. by list 
         ∙ ap (λ l. file_head ++ l) (sym (came-more records r))
 
 -- a packet of the flow was passed to the judge, and is kept
-pub reads-packet : {T E : Type 0} (result : Result T E) (old new : Reading) (p : FlowPacket) (frame : List ℕ) → IsStamp p.at → length frame ≤ 262144
+pub reads-packet : (old new : Reading) (p : FlowPacket) (frame : List ℕ) → IsStamp p.at → length frame ≤ 262144
     → ((m : Media) (r : Record) → flow_packet m r ≡ Some p → r.bytes ≡ frame → JudgeTakes m old.judge new.judge (r ∷ []))
-    → IfOk result (λ _. Keeps p.at frame old.packets new.packets)
-    → IfOk result (λ _. (m : Media) (r : Record) → flow_packet m r ≡ Some p → r.bytes ≡ frame → ReadsOn m old new (r ∷ []))
-reads-packet (Ok x) old new p frame stamp short takes keeps = λ m r is carried key tai list items h.
+    → Keeps p.at frame old.packets new.packets
+    → (m : Media) (r : Record) → flow_packet m r ≡ Some p → r.bytes ≡ frame
+    → ReadsOn m old new (r ∷ [])
+reads-packet old new p frame stamp short takes keeps = λ m r is carried key tai list items h.
     let of = packet-of m r p is in
     let came : r.stamp ≡ p.at = sym of.at in
     let here : CanBeHeld r = record { stamp = omega (arith, came, stamp); short = subst (λ b. length b ≤ 262144) (sym carried) short } in
@@ -75,7 +76,6 @@ reads-packet (Ok x) old new p frame stamp short takes keeps = λ m r is carried 
         held = subst (All CanBeHeld) (sym records) (All-push CanBeHeld (flow_records m items) r h.packets.held here);
       };
     }
-reads-packet (Err e) old new p frame stamp short takes keeps = tt
 
 -- the records of a text were read
 pub kept-in : (text : List ℕ) (m : Media) (key : FlowKey) (tai : ℕ) (list : Bool) (old new : Reading) (f : KeptFlow) → IsReading m key tai list old []
