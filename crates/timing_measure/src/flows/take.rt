@@ -4,8 +4,10 @@ ghost use Rattle.std.specs.Prelude.{◌≡◌, ◌≤◌, ◌^◌, [], ℕ, All,
 ghost use Rattle.timing_base.specs.Media.{Media as MediaValue};
 ghost use Rattle.timing_outside.specs.Causes.{Rose};
 ghost use Rattle.timing_outside.specs.Shelves.{StaysAs};
+ghost use Rattle.pcap_reader.specs.Taken.{TakesFew};
 ghost use Rattle.pcapng_reader.specs.Classic.{classic_texts};
 ghost use Rattle.timing_reach.specs.steps.Answers.{OnReadFault};
+ghost use Rattle.timing_reach.specs.steps.Taken.{TakesText};
 ghost use Rattle.flow_demux.specs.Awaits.{AwaitsExpected};
 ghost use Rattle.timing_measure.specs.flows.Meters.{HasRoom, expected_next};
 ghost use Rattle.timing_measure.specs.flows.Taken.{AreMetered, AreTakenIn, AreTakenOf};
@@ -14,7 +16,7 @@ use crate::both::Both;
 use crate::flows::flow::FlowMeter;
 use crate::flows::output::FlowOutput;
 use flow_demux::{Demux, MediaFlow};
-use pcap_reader::Taker;
+use pcap_reader::{Taken, Taker};
 use run_meter::RunMeter;
 use std::alloc::{AllocError as OutOfMemory, Global};
 use timing_base::{CaptureJob, FileNote, Media};
@@ -58,6 +60,28 @@ fn begin_flows<M: RunMeter<Out = O>, O: FlowOutput>(
     Ok(flows)
 }
 
+/// Opens the capture of a job and gives its packet records to a taker. Returns how many there were and how the capture
+/// ends, and the taker. The source goes back to the shelf.
+fn take_by<H: Shelf, T: Taker<Stop = OutOfMemory> + Drop>(
+    alloc: Global,
+    job: &CaptureJob,
+    shelf: &mut H,
+    mut taker: T,
+) -> Result<(Taken, T), Failure>
+    requires { T.room 1 (2 ^ 36) taker }
+    ensures told { IfOk result (λ taken. (text : List ℕ)
+        → classic_texts (H.text shelf.old) job.now.capture ≡ Some text
+        → TakesText T.takes text 0 taker taken.1 taken.0) }
+    ensures fed { IfOk result (λ taken. TakesFew T.takes (2 ^ 36) taker taken.1) }
+    ensures cause { IfErr result (λ e. OnReadFault e (λ i. (i ≡ Input.Capture 0)
+        × Rose (H.faults shelf.old job.now.capture) (H.faults shelf.new job.now.capture))) }
+    ensures there { IfOk result (λ _. ¬ H.lacks shelf.old job.now.capture) }
+    ensures stays { StaysAs H.text H.lacks H.faults shelf.old shelf.new }
+{
+    let taken = take_capture(alloc, shelf, job.capture.as_str(), &mut taker)?;
+    Ok((taken, taker))
+}
+
 /// Opens the capture of a job, takes the flows of these media from its packet records, and gives the records to
 /// `beside` too. The source goes back to the shelf.
 pub fn take_flows<
@@ -86,11 +110,11 @@ pub fn take_flows<
     ensures stays { StaysAs H.text H.lacks H.faults shelf.old shelf.new }
 {
     let flows = begin_flows::<M, O>(alloc, media, job.tai)?;
-    let mut both = Both {
+    let both = Both {
         first: Demux::new(alloc, flows)?,
         second: beside,
     };
-    let taken = take_capture(alloc, shelf, job.capture.as_str(), &mut both)?;
+    let (taken, both) = take_by(alloc, job, shelf, both)?;
     let Both {
         first: demux,
         second: beside,

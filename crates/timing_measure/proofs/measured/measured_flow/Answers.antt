@@ -13,7 +13,7 @@ returns c = λ m number tai packets h. record {
   source = h.source;
   verdict_is = h.verdict_is;
   runs = subst (λ l. AreMeasured (HasNumbers m tai) (judged_parts m packets tai) l)
-      (ap (λ v. judged_alone v c.args.end.out.runs.items) (sym h.verdict_is) ∙ sym c.judged_runs.ensures)
+      (ap (λ v. judged_alone v c.args.end.out.runs.items) (sym h.verdict_is) ∙ sym c.judged_runs-runs.ensures)
       (measured-alone (HasNumbers m tai) m tai packets c.args.end.out.runs.items
       (end-told TellsNumbers tt m tai packets (first_fault packets m.pt) c.args.end.out h.told));
 }

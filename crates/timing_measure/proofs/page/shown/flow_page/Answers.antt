@@ -4,7 +4,7 @@ use Rattle.timing_measure.proofs.page.shown.flow_page.Goals as goal
 
 pub returns : goal.returns
 returns c = λ m number tai packets h.
-    let flow = c.measured_flow.ensures m number tai packets (record {
+    let flow = c.measured_flow-flow.ensures m number tai packets (record {
       media = h.media;
       count = h.count;
       source = h.source;
@@ -13,5 +13,5 @@ returns c = λ m number tai packets h.
     }) in
     record {
       flow_is = flow;
-      shows = flow-shows m tai packets c.args.end.out _ _ h.told flow.runs c.shown_of.ensures;
+      shows = flow-shows m tai packets c.args.end.out _ _ h.told flow.runs c.shown_of-shown.ensures;
     }
