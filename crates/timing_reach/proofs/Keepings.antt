@@ -1,5 +1,5 @@
 -- What is kept of a flow while it is judged, and the run that is judged of it.
-use Rattle.std.specs.Prelude.{IfOk, Result, Ok, Err, if◌then◌else◌, is_some}
+use Rattle.std.specs.Prelude.{if◌then◌else◌, is_some}
 use Rattle.std.proofs.Common.{◌≡◌, ◌≤◌, ℕ, Bool, true, false, List, [], ◌∷◌, ◌++◌, length, map, take, drop, All, Option, Some, None}
 use Rattle.std.proofs.Common.{refl, arith, ap, ap₂, ◌∙◌, sym, subst, append-nil, append_assoc}
 use Rattle.std.specs.Global.{Global}

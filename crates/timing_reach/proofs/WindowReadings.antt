@@ -1,6 +1,6 @@
 -- What the reading of a flow finds that is measured while it is judged.
-use Rattle.std.specs.Prelude.{IfErr, IfOk, IsSome, Result, Ok, Err, Option, Some, None}
-use Rattle.std.proofs.Common.{◌≡◌, ◌≤◌, ◌+◌, ℕ, List, [], ◌∷◌, ◌++◌, refl, arith, ap, ◌∙◌, subst}
+use Rattle.std.specs.Prelude.{IfErr, IsSome, Result, Ok, Err, Option, Some, None}
+use Rattle.std.proofs.Common.{◌≡◌, ◌≤◌, ◌+◌, ℕ, List, [], ◌∷◌, refl, arith, ap, ◌∙◌, subst}
 use Rattle.timing_base.specs.Captures.{Record}
 use Rattle.timing_base.specs.Judged.{JudgedRun, in_one_run, judged, whole_frames}
 use Rattle.timing_base.specs.Media.{Media}
