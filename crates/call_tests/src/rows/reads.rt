@@ -33,7 +33,7 @@ const FAILS_BEHIND_FRAME: Row = Row {
     reads: Reads {
         piece: 100,
         fail: 17,
-        fetch_fails: false,
+        ..WHOLE
     },
     status: Status::ReadFault(Input::Capture(0)),
     out: &[
@@ -47,8 +47,9 @@ static SERIES_FAILS_LATER: [Row; 2] = [
     FAILS_BEHIND_FRAME,
     Row {
         reads: Reads {
+            piece: 100,
             fail: 30,
-            ..FAILS_BEHIND_FRAME.reads
+            ..WHOLE
         },
         ..FAILS_BEHIND_FRAME
     },
