@@ -46,10 +46,13 @@ longest-once parts a b h k = once-by h.before a h.after k.before b k.after (sym 
 
 -- of three runs the second
 pub second-longest : IsLongest (part_of 1 2 ∷ part_of 2 4 ∷ part_of 4 4 ∷ []) (part_of 2 4)
-second-longest = record {
-  before = part_of 1 2 ∷ [];
-  after = part_of 4 4 ∷ [];
-  whole = refl;
-  fewer = All-cons (Fewer 4) (part_of 1 2) [] (omega arith) (All-nil (Fewer 4));
-  no_more = All-cons (NoMore 4) (part_of 4 4) [] (omega arith) (All-nil (NoMore 4));
-}
+second-longest =
+    let first : length (part_of 1 2).packets ≡ 2 = refl in
+    let third : length (part_of 4 4).packets ≡ 4 = refl in
+    record {
+      before = part_of 1 2 ∷ [];
+      after = part_of 4 4 ∷ [];
+      whole = refl;
+      fewer = All-cons (Fewer 4) (part_of 1 2) [] (omega (arith, first)) (All-nil (Fewer 4));
+      no_more = All-cons (NoMore 4) (part_of 4 4) [] (omega (arith, third)) (All-nil (NoMore 4));
+    }
