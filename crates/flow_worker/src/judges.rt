@@ -1,12 +1,11 @@
 //! The judges of a worker for one file, or for joined files.
 
-ghost use Rattle.std.specs.Prelude.{◌≡◌, ◌≤◌, ◌<◌, ◌+◌, ◌^◌, ◌++◌, ◌∷◌, [], ℕ, Bool, List, All, IfOk, IfNone, IfSome, IsTrue, OnOk, filter, length, map, true};
+ghost use Rattle.std.specs.Prelude.{◌≡◌, ◌≤◌, ◌<◌, ◌+◌, ◌^◌, ◌++◌, ◌∷◌, [], ℕ, Bool, List, All, IfOk, IfNone, IfSome, IsTrue, filter, length, map, true};
 ghost use Rattle.timing_base.specs.declared.key.FlowKey.{FlowKey as KeyValue};
 ghost use Rattle.timing_base.specs.declared.packet.FlowPacket.{FlowPacket as PacketValue};
 ghost use Rattle.timing_base.specs.Keys.{keys_of_file};
-ghost use Rattle.timing_base.specs.Media.{Media as MediaValue};
 ghost use Rattle.timing_base.specs.Routes.{route};
-ghost use Rattle.fail_interval.specs.Stands.{StandsFor, count_fed};
+ghost use Rattle.fail_interval.specs.Stands.{StandsFor, Takes, count_fed};
 ghost use Rattle.fail_interval.specs.States.{IsReading};
 ghost use Rattle.timing_base.specs.Captures.{IsStamp};
 ghost use Rattle.flow_worker.specs.Judging.{Expects};
@@ -178,10 +177,7 @@ fn feed_next(
     requires stamp { IsStamp at }
     requires reading { IsReading rtp }
     requires few { count_fed judge.old < 2 ^ 41 }
-    ensures fed { count_fed judge.new ≤ count_fed judge.old + 1 }
-    ensures stands { (media : MediaValue) (key : KeyValue) (tai : ℕ) (packets : List PacketValue)
-        → StandsFor media key tai judge.old packets → OnOk result (StandsFor media key tai judge.new
-        (packets ++ record { rec = rec; at = at; rtp = rtp } ∷ [])) }
+    ensures { Takes judge.old judge.new (record { rec = rec; at = at; rtp = rtp }) result }
 {
     if is_expected(judge, rtp) && judge.feed_judged(rec, at)? {
         return Ok(());

@@ -39,7 +39,8 @@ once-by [] a rest (y ∷ before) b after e few most low high =
 once-by (x ∷ past) a rest [] b after e few most low high =
     absurd (crossed b a x past rest after (sym e) (All-head (Fewer (length a.packets)) x past few) high)
 once-by (x ∷ past) a rest (y ∷ before) b after e few most low high =
-    once-by past a rest before b after (ap later e) (All-tail (Fewer (length a.packets)) x past few) most (All-tail (Fewer (length b.packets)) y before low) high
+    once-by past a rest before b after (ap later e) (All-tail (Fewer (length a.packets)) x past few) most
+    (All-tail (Fewer (length b.packets)) y before low) high
 
 pub longest-once : (parts : List JudgedPart) (a b : JudgedPart) → IsLongest parts a → IsLongest parts b → a ≡ b
 longest-once parts a b h k = once-by h.before a h.after k.before b k.after (sym h.whole ∙ k.whole) h.fewer h.no_more k.fewer k.no_more

@@ -1,6 +1,7 @@
 use Rattle.std.proofs.Common.{◌≡◌, ◌^◌, ℕ, [], ap, arith, refl, rules, subst, sym}
 use Rattle.timing_base.specs.Jobs.{CaptureJob}
 use Rattle.std.proofs.lemmas.List.Elements.{All-same}
+use Rattle.timing_base.specs.Jobs.{CaptureJob}
 use Rattle.timing_measure.specs.flows.Meters.{HasRoom}
 use Rattle.timing_measure.specs.flows.Taken.{AreMetered, AreTakenIn, AreTakenOf}
 use Rattle.timing_measure.specs.declared.flows.take.TakenFlows.{TakenFlows}
