@@ -23,8 +23,8 @@ use Rattle.timing_measure.specs.declared.flows.flow.FlowEnd.{FlowEnd}
 use Rattle.timing_measure.specs.declared.flows.flow.FlowMeter.{FlowMeter}
 
 -- both meters of a run were fed these packets
-abbrev pub PairStandsFor : Pair NumbersMeter DrawingMeter → Media → (tai : ℕ) → RunOf → (fed committed : List FlowPacket)
-    → Type 0
+abbrev pub PairStandsFor : Pair NumbersMeter DrawingMeter → Media → (tai : ℕ) → RunOf
+    → (fed committed : List FlowPacket) → Type 0
 PairStandsFor x m tai r fed committed =
     NumbersStandsFor x.first m tai r fed committed × DrawingStandsFor x.second m tai r fed committed
 

@@ -5,7 +5,7 @@ use Rattle.timing_base.specs.declared.packet.FlowPacket.{FlowPacket}
 use Rattle.run_meter.specs.Runs.{JudgedPart}
 
 -- this many packets; which ones doesn't matter
-pub several : ℕ → List FlowPacket
+abbrev pub several : ℕ → List FlowPacket
 several zero = []
 several (suc count) = sent 2 20 7 101 false ∷ several count
 

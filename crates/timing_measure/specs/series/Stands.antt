@@ -19,6 +19,10 @@ text_of x = x.flow.taker.out.text.items
 abbrev pub HoldsText : SeriesFlow → Type 0
 HoldsText x = x.waiting < length (text_of x)
 
+-- no row waits to be written
+abbrev pub HoldsNoText : SeriesFlow → Type 0
+HoldsNoText x = length (text_of x) ≤ x.waiting
+
 -- the text at the beginning, which is the header, and the part of the text that was written
 abbrev pub past_of : (frames : Bool) → (gone : List ℕ) → PastRows
 past_of frames gone = record { frames = frames; first = header_text frames; gone = gone }

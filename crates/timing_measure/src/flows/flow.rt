@@ -77,8 +77,8 @@ impl<M: RunMeter<Out = O>, O: Drop> FlowMeter<M, O> {
 }
 
 impl<M: RunMeter<Out = O>, O: Drop> FlowTaker for FlowMeter<M, O> {
-    ghost use Rattle.timing_measure.specs.flows.Meters.{HasRoom, TakesOn, expected_next, room_less, takes_more, takes_none};
-    ghost use Rattle.timing_measure.specs.flows.Meters.{takes_other};
+    ghost use Rattle.timing_measure.specs.flows.Meters.{HasRoom, TakesOn, expected_next, room_less};
+    ghost use Rattle.timing_measure.specs.flows.Meters.{takes_more, takes_none, takes_other};
 
     ghost takes = { λ m old new items. TakesOn M.WANTS_LEVELS M.stands M.tells m old new items };
 

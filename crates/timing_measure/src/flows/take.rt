@@ -68,7 +68,7 @@ fn take_by<H: Shelf, T: Taker<Stop = OutOfMemory> + Drop>(
     shelf: &mut H,
     mut taker: T,
 ) -> Result<(Taken, T), Failure>
-    requires { T.room 1 (2 ^ 36) taker }
+    requires room { T.room 1 (2 ^ 36) taker }
     ensures told { IfOk result (λ taken. (text : List ℕ)
         → classic_texts (H.text shelf.old) job.now.capture ≡ Some text
         → TakesText T.takes text 0 taker taken.1 taken.0) }

@@ -42,7 +42,8 @@ fn status_of(note: FileNote, verdict: &Verdict) -> Status
 }
 
 impl SeriesFlow {
-    ghost use Rattle.timing_measure.specs.series.Stands.{HasRoom, HoldsText, PoursOn, StandsFor, TakesOn, text_of};
+    ghost use Rattle.timing_measure.specs.series.Stands.{HasRoom, HoldsNoText, HoldsText, PoursOn, StandsFor, TakesOn};
+    ghost use Rattle.timing_measure.specs.series.Stands.{text_of};
     ghost use Rattle.timing_measure.specs.series.Ends.{EndsSeries};
 
     /// Returns the flow before the first packet record of a capture. Rows are frames or fields if `frames` is true,
@@ -85,13 +86,14 @@ impl SeriesFlow {
         self.flow.take_record(number, at, frame)
     }
 
-    /// Writes the rows that were made since the last call, the first of them behind the header. Returns `Err` if a
-    /// write fails; then a prefix of them was written.
+    /// Writes the rows that were made since the last call, the first of them behind the header, so that none waits.
+    /// Returns `Err` if a write fails; then a prefix of them was written.
     #[inline(always)]
     pub fn pour<K: Sink>(&mut self, out: &mut K) -> Result<(), Failure>
         ensures room { (count : ℕ) → HasRoom count self.old → HasRoom count self.new }
         ensures poured { IfOk result (λ _. (poured : List ℕ)
             × Appends (K.written out.old) (K.written out.new) poured × PoursOn self.old self.new poured) }
+        ensures none { IfOk result (λ _. HoldsNoText self.new) }
         ensures failed { IfErr result (λ e. (e ≡ failure.WriteFault)
             × Rose (K.faults out.old) (K.faults out.new)
             × HoldsText self.old × AppendsFront (K.written out.old) (K.written out.new) (text_of self.old)) }
@@ -111,6 +113,7 @@ impl SeriesFlow {
         ensures room { (count : ℕ) → HasRoom count self.old → HasRoom count self.new }
         ensures poured { IfOk result (λ _. Appends (K.written out.old) (K.written out.new) (text_of self.old)
             × PoursOn self.old self.new (text_of self.old)) }
+        ensures none { IfOk result (λ _. HoldsNoText self.new) }
         ensures failed { IfErr result (λ e. (e ≡ failure.WriteFault)
             × Rose (K.faults out.old) (K.faults out.new)
             × AppendsFront (K.written out.old) (K.written out.new) (text_of self.old)) }

@@ -39,17 +39,21 @@ once-by [] a rest (y ∷ before) b after e few most low high =
 once-by (x ∷ past) a rest [] b after e few most low high =
     absurd (crossed b a x past rest after (sym e) (All-head (Fewer (length a.packets)) x past few) high)
 once-by (x ∷ past) a rest (y ∷ before) b after e few most low high =
-    once-by past a rest before b after (ap later e) (All-tail (Fewer (length a.packets)) x past few) most (All-tail (Fewer (length b.packets)) y before low) high
+    once-by past a rest before b after (ap later e) (All-tail (Fewer (length a.packets)) x past few) most
+    (All-tail (Fewer (length b.packets)) y before low) high
 
 pub longest-once : (parts : List JudgedPart) (a b : JudgedPart) → IsLongest parts a → IsLongest parts b → a ≡ b
 longest-once parts a b h k = once-by h.before a h.after k.before b k.after (sym h.whole ∙ k.whole) h.fewer h.no_more k.fewer k.no_more
 
 -- of three runs the second
 pub second-longest : IsLongest (part_of 1 2 ∷ part_of 2 4 ∷ part_of 4 4 ∷ []) (part_of 2 4)
-second-longest = record {
-  before = part_of 1 2 ∷ [];
-  after = part_of 4 4 ∷ [];
-  whole = refl;
-  fewer = All-cons (Fewer 4) (part_of 1 2) [] (omega arith) (All-nil (Fewer 4));
-  no_more = All-cons (NoMore 4) (part_of 4 4) [] (omega arith) (All-nil (NoMore 4));
-}
+second-longest =
+    let first : length (part_of 1 2).packets ≡ 2 = refl in
+    let third : length (part_of 4 4).packets ≡ 4 = refl in
+    record {
+      before = part_of 1 2 ∷ [];
+      after = part_of 4 4 ∷ [];
+      whole = refl;
+      fewer = All-cons (Fewer 4) (part_of 1 2) [] (omega (arith, first)) (All-nil (Fewer 4));
+      no_more = All-cons (NoMore 4) (part_of 4 4) [] (omega (arith, third)) (All-nil (NoMore 4));
+    }

@@ -4,8 +4,8 @@ use Rattle.std.specs.Prelude.{⊤, All}
 use Rattle.std.proofs.lemmas.Bool.{cond_both}
 use Rattle.std.proofs.lemmas.List.Elements.{All-cons, All-head, All-nil, All-tail}
 use Rattle.timing_base.specs.Flows.{FirstFault, cuts, first_fault, packet}
-use Rattle.timing_base.specs.Judged.{FlowVerdict, RunOutcome, absent, gap, in_one_run, in_runs, judged, judged_runs, no_whole_frame, refusal, refused, refused_or}
-use Rattle.timing_base.specs.Judged.{run_outcome, whole_frames}
+use Rattle.timing_base.specs.Judged.{FlowVerdict, RunOutcome, absent, gap, in_one_run, in_runs, judged, judged_runs, no_whole_frame}
+use Rattle.timing_base.specs.Judged.{refusal, refused, refused_or, run_outcome, whole_frames}
 use Rattle.timing_base.specs.Media.{Media}
 use Rattle.timing_base.specs.declared.packet.FlowPacket.{FlowPacket}
 use Rattle.timing_base.specs.declared.packet.PacketFault.{PacketFault}

@@ -168,19 +168,20 @@ no-more : (parts : List JudgedPart) (part : JudgedPart) (most : ℕ) → length 
 no-more parts part most few h =
     subst (All (NoMore most)) (sym h.whole)
     (All-append (NoMore most) h.before (part ∷ h.after)
-    (All-weaker (Fewer length part.packets) (NoMore most) (λ p less. omega (arith, less, few)) h.before h.fewer)
-    (All-cons (NoMore most) part h.after few (All-weaker (NoMore length part.packets) (NoMore most) (λ p less. omega (arith, less, few)) h.after h.no_more)))
+    (All-weaker (Fewer (length part.packets)) (NoMore most) (λ p less. omega (arith, less, few)) h.before h.fewer)
+    (All-cons (NoMore most) part h.after few
+    (All-weaker (NoMore (length part.packets)) (NoMore most) (λ p less. omega (arith, less, few)) h.after h.no_more)))
 
 longest-more : (p q : JudgedPart) (parts : List JudgedPart) → IsLongest parts q → (part : JudgedPart) × IsLongest (p ∷ parts) part
 longest-more p q parts h =
-    elim (cases_lt length p.packets q.values.packets) as (λ _. (part : JudgedPart) × IsLongest (p ∷ parts) part) [
+    elim (cases_lt (length p.packets) (length q.packets)) as (λ _. (part : JudgedPart) × IsLongest (p ∷ parts) part) [
       | inl less ↦ (
         q,
         record {
           before = p ∷ h.before;
           after = h.after;
           whole = ap (λ l. p ∷ l) h.whole;
-          fewer = All-cons (Fewer q.values.packets) p h.before less h.fewer;
+          fewer = All-cons (Fewer (length q.packets)) p h.before less h.fewer;
           no_more = h.no_more;
         },
       )
@@ -190,8 +191,8 @@ longest-more p q parts h =
           before = [];
           after = parts;
           whole = refl;
-          fewer = All-nil (Fewer length p.packets);
-          no_more = no-more parts q length p.packets most h;
+          fewer = All-nil (Fewer (length p.packets));
+          no_more = no-more parts q (length p.packets) most h;
         },
       )
     ]
@@ -199,7 +200,7 @@ longest-more p q parts h =
 some-longest : (p : JudgedPart) (parts : List JudgedPart) → (part : JudgedPart) × IsLongest (p ∷ parts) part
 some-longest p [] = (
   p,
-  record { before = []; after = []; whole = refl; fewer = All-nil (Fewer length p.packets); no_more = All-nil (NoMore length p.packets) },
+  record { before = []; after = []; whole = refl; fewer = All-nil (Fewer (length p.packets)); no_more = All-nil (NoMore (length p.packets)) },
 )
 some-longest p (q ∷ parts) = let later = some-longest q parts in longest-more p later.0 (q ∷ parts) later.1
 

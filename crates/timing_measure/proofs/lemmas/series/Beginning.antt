@@ -97,7 +97,7 @@ begun-state frames gone m tai packets rest (Refused rec fault) out is at told =
 begun-state frames gone m tai packets rest Spent out is at told = absurd at
 
 -- a flow whose records were taken has begun with its rows, whatever records follow
-pub series-begun : (frames : Bool) (m : Media) (number tai : ℕ) (gone : List ℕ) (x : SeriesFlow) (taken rest : List Record) → IsMedia m
+series-begun : (frames : Bool) (m : Media) (number tai : ℕ) (gone : List ℕ) (x : SeriesFlow) (taken rest : List Record) → IsMedia m
     → StandsFor frames m number tai gone x taken
     → AreBegun frames m tai (flow (taken ++ rest) m) gone (text_of x)
 series-begun frames m number tai gone x taken rest is h =

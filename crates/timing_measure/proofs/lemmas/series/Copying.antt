@@ -7,13 +7,13 @@ use Rattle.timing_base.specs.Captures.{Record}
 use Rattle.std.specs.Prelude.{Err, IfErr, Result}
 use Rattle.timing_base.specs.declared.capture.FileNote.{FileNote}
 use Rattle.timing_base.specs.declared.capture.PcapFault.{PcapFault}
-use Rattle.pcap_reader.specs.Readers.{Counts, Gives, GivesNote, Steps, WillGive, frame_count}
+use Rattle.pcap_reader.specs.Readers.{Counts, Gives, Steps, WillGive, frame_count}
 use Rattle.pcap_reader.specs.declared.reader.PcapReader.{PcapReader}
 use Rattle.pcap_reader.specs.declared.reader.Step.{Step}
 use Rattle.pcap_reader.specs.declared.reader.Step.TheVariants as step
 use Rattle.timing_outside.specs.Written.{AppendsFront}
 use Rattle.timing_reach.specs.steps.Ran.{Output}
-use Rattle.timing_measure.specs.series.Copies.{Copied, Copies, IsCopying, Stopped}
+use Rattle.timing_measure.specs.series.Copies.{Copies, IsCopying, Stopped}
 use Rattle.timing_measure.specs.series.Stands.{HoldsText, PoursOn, StandsFor, TakesOn, text_of}
 use Rattle.timing_measure.specs.declared.series.flow.SeriesFlow.{SeriesFlow}
 
@@ -37,7 +37,7 @@ copies-none o f same = record {
 }
 
 -- some records more were taken
-pub copies-more : (o : Output) (old mid new : SeriesFlow) (a b : List Record) → Copies o old mid a → TakesOn mid new b → Copies o old new (a ++ b)
+copies-more : (o : Output) (old mid new : SeriesFlow) (a b : List Record) → Copies o old mid a → TakesOn mid new b → Copies o old new (a ++ b)
 copies-more o old mid new a b c t = record {
   written = c.written;
   appended = c.appended;
@@ -47,7 +47,7 @@ copies-more o old mid new a b c t = record {
 }
 
 -- what was made was written
-pub copies-poured : (o : Output) (new : Option (List ℕ)) (now : ℕ) (old f g : SeriesFlow) (items : List Record) (poured : List ℕ)
+copies-poured : (o : Output) (new : Option (List ℕ)) (now : ℕ) (old f g : SeriesFlow) (items : List Record) (poured : List ℕ)
     → Copies o old f items → Appends o.new new poured → PoursOn f g poured → Copies (until o new now) old g items
 copies-poured o new now old f g items poured c more pours = record {
   written = c.written ++ poured;
@@ -82,7 +82,7 @@ take-more (x ∷ a) b k =
     ap (λ j. take j (x ∷ (a ++ b))) e ∙ ap (λ l. x ∷ l) (take-more a b k)
 
 -- a write failed: a front of what was made stands behind what was written
-pub stopped-broken : (o : Output) (new : Option (List ℕ)) (now : ℕ) (old f : SeriesFlow) (taken rest items : List Record)
+stopped-broken : (o : Output) (new : Option (List ℕ)) (now : ℕ) (old f : SeriesFlow) (taken rest items : List Record)
     → items ≡ taken ++ rest → Copies o old f taken → HoldsText f → AppendsFront o.new new (text_of f)
     → Stopped (until o new now) old items
 stopped-broken o new now old f taken rest items whole c some front = record {
@@ -103,7 +103,7 @@ pub counted : (old new at : ℕ) (bytes : Bor (List ℕ)) (result : Result Step 
 counted old new at bytes result is h = (subst (λ r. Counts old new r) is h).2
 
 -- a reader answered a frame, and its record was taken
-pub copying-more : {S : Type 0} (left : S → Option (List ℕ)) (name : S → List ℕ) (faults : S → ℕ) (o : Output) (first reader new : PcapReader S)
+copying-more : {S : Type 0} (left : S → Option (List ℕ)) (name : S → List ℕ) (faults : S → ℕ) (o : Output) (first reader new : PcapReader S)
     (old f g : SeriesFlow) (at : ℕ) (bytes : Bor (List ℕ)) (result : Result Step PcapFault)
     → result ≡ Ok (step.Frame at bytes) → Steps left name faults reader new result
     → TakesOn f g (record { number = frame_count new; stamp = at; bytes = bytes.now } ∷ [])
@@ -144,23 +144,6 @@ copying-poured gives o new now first reader old f g poured c more pours = record
   copies = copies-poured o new now old f g c.taken poured c.copies more pours;
   told = c.told;
 }
-
--- the records ended
-pub copied-end : {S : Type 0} (left : S → Option (List ℕ)) (name : S → List ℕ) (faults : S → ℕ) (o : Output) (first reader new : PcapReader S)
-    (old f : SeriesFlow) (note : FileNote) (result : Result Step PcapFault)
-    → ((items : List Record) (end : FileNote) → Gives left new result items end → GivesNote note items end)
-    → Steps left name faults reader new result
-    → IsCopying (WillGive left) o first reader old f
-    → (items : List Record) (end : FileNote) → WillGive left first items end → Copied o old f note items end
-copied-end left name faults o first reader new old f note result ends steps c items end gives =
-    let before = c.told items end gives in
-    record {
-      taken = c.taken;
-      rest = before.0;
-      whole = before.1;
-      ends = ends before.0 end (steps.gives before.0 end before.2);
-      copies = c.copies;
-    }
 
 -- it stopped, for want of memory, or since a write failed
 pub copying-stopped : {R : Type 0} (gives : R → List Record → FileNote → Type 0) (o : Output) (first reader : R) (old f : SeriesFlow)

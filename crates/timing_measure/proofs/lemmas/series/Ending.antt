@@ -30,7 +30,7 @@ use Rattle.timing_measure.specs.series.Status.{series_status}
 use Rattle.timing_measure.specs.declared.series.flow.SeriesFlow.{SeriesFlow}
 
 -- these rows were put behind the header, and so much was written
-pub record HasPut (frames : Bool) (m : Media) (tai : ℕ) (packets : List FlowPacket) (gone text : List ℕ) : Type 0 where
+record HasPut (frames : Bool) (m : Media) (tai : ℕ) (packets : List FlowPacket) (gone text : List ℕ) : Type 0 where
   pub put : List ℕ
   pub are : AreRowsOfFlow frames m tai packets put
   pub text_is : gone ++ text ≡ header_text frames ++ put
@@ -41,7 +41,7 @@ put-up-to : (frames : Bool) (m : Media) (tai : ℕ) (packets : List FlowPacket) 
 put-up-to frames m tai packets gone rows None h = (h.put, subst (λ f. AreRowsUpTo f m tai packets None h.put) h.frames_is h.are, h.text_is)
 put-up-to frames m tai packets gone rows (Some first) h = (h.put, subst (λ f. AreRowsUpTo f m tai packets (Some first) h.put) h.frames_is h.are, h.text_is)
 
-pub has-put : (frames : Bool) (m : Media) (tai : ℕ) (packets : List FlowPacket) (gone : List ℕ) (rows : Rows)
+has-put : (frames : Bool) (m : Media) (tai : ℕ) (packets : List FlowPacket) (gone : List ℕ) (rows : Rows)
     → TellsEnd Tells (past_of frames gone) m tai packets (first_fault packets m.pt) rows → HasPut frames m tai packets gone rows.text.items
 has-put frames m tai packets gone rows h =
     let p = put-up-to frames m tai packets gone rows (first_fault packets m.pt) h in
@@ -52,7 +52,7 @@ no-bytes [] e = refl
 no-bytes (x ∷ xs) e = absurd (omega (arith, e))
 
 -- the header still waits, and there is no row
-pub rest-none : (frames : Bool) (m : Media) (tai : ℕ) (note : FileNote) (items : List Record) (gone text : List ℕ) (waiting : ℕ) (rest : Answer)
+rest-none : (frames : Bool) (m : Media) (tai : ℕ) (note : FileNote) (items : List Record) (gone text : List ℕ) (waiting : ℕ) (rest : Answer)
     → Waits frames gone waiting → 0 < waiting → length text ≤ waiting → HasPut frames m tai (flow items m) gone text
     → rest ≡ not_judged m (verdict_of m (judged (flow items m) m.pt tai))
     → IsRestOf frames m tai note items gone rest
@@ -79,7 +79,7 @@ pub some-put : (header put gone text : List ℕ) → gone ++ text ≡ header ++ 
 some-put header put gone text e more =
     omega (arith, more, sym (length-append gone text) ∙ ap length e ∙ length-append header put)
 
-pub rest-rows : (frames : Bool) (m : Media) (tai : ℕ) (note : FileNote) (items : List Record) (gone : List ℕ) (waiting : ℕ) (rest : Answer)
+rest-rows : (frames : Bool) (m : Media) (tai : ℕ) (note : FileNote) (items : List Record) (gone : List ℕ) (waiting : ℕ) (rest : Answer)
     → Waits frames gone waiting → (0 < waiting → waiting < length rest.text) → HasPut frames m tai (flow items m) gone rest.text
     → 0 < length (header_text frames)
     → rest.status ≡ series_status note (verdict_of m (judged (flow items m) m.pt tai))
@@ -100,7 +100,7 @@ rest-rows frames m tai note items gone waiting rest (inr w) more h head status =
 }
 
 -- a header has bytes
-pub header-some : (frames : Bool) → 0 < length (header_text frames)
+header-some : (frames : Bool) → 0 < length (header_text frames)
 header-some true = omega arith
 header-some false = omega arith
 

@@ -54,7 +54,7 @@ parts-behind frames m tai (one ∷ over) part text rest h next = (
 )
 
 -- the open run is over, and its rows are those of one run more, if it has a complete frame or field
-pub so-far-over : (frames : Bool) (m : Media) (tai number : ℕ) (first : FlowPacket) (packets : List FlowPacket) (over : List JudgedPart) (o : RunOutcome)
+so-far-over : (frames : Bool) (m : Media) (tai number : ℕ) (first : FlowPacket) (packets : List FlowPacket) (over : List JudgedPart) (o : RunOutcome)
     (text : List ℕ)
     → AreRowsSoFar frames m tai over (open_by number first packets o) text
     → AreRowsOf frames m tai (over ++ part_by m number first packets o) text
@@ -65,7 +65,7 @@ so-far-over frames m tai number first packets over (whole_frames run) text h =
     (parts-behind frames m tai over _ h.0 h.1 h.3 h.4)
 
 -- the open run has more complete frames or fields, or its first ones
-abbrev pub Grows : (old new : Option OpenPart) → Type 0
+abbrev Grows : (old new : Option OpenPart) → Type 0
 Grows None None = ⊤
 Grows None (Some new) = 1 ≤ new.run.n
 Grows (Some old) None = ⊥

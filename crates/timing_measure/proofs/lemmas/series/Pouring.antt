@@ -18,7 +18,7 @@ use Rattle.flow_measure.specs.rows.Told.{AreRowsSoFar, Tells}
 use Rattle.flow_measure.specs.rows.making.Meters.{StandsFor as RowsStandsFor}
 use Rattle.flow_measure.specs.declared.rows.meter.RowsMeter.{RowsMeter}
 use Rattle.flow_measure.specs.declared.rows.rows.Rows.{Rows}
-use Rattle.timing_measure.specs.series.Stands.{HasRoom, HoldsText, PoursOn, StandsFor, TakesOn, Waits, past_of, text_of}
+use Rattle.timing_measure.specs.series.Stands.{HasRoom, HoldsText, PoursOn, TakesOn, Waits, past_of, text_of}
 use Rattle.timing_measure.specs.declared.series.flow.SeriesFlow.{SeriesFlow}
 
 -- room for many packets is room for few
@@ -71,10 +71,6 @@ poured-out old new some media judge same none waits frames m number tai gone ite
   };
   waits = subst (Waits frames (gone ++ text_of old)) (sym waits) (waits-out frames gone (text_of old) old.waiting some h.waits);
 }
-
--- nothing was written
-pub poured-none : (x : SeriesFlow) → PoursOn x x []
-poured-none x frames m number tai gone items h = subst (λ l. StandsFor frames m number tai l x items) (sym (append-nil gone)) h
 
 -- what follows from an answer
 pub if-ok : {T E : Type 0} {P Q : T → Type 0} (result : Result T E) → ((x : T) → P x → Q x) → IfOk result P → IfOk result Q

@@ -144,7 +144,7 @@ ends-rest old mid new before between now (Err e) ends kept sdp p =
     })
 
 -- what a front is, seen of the run from its start
-pub begins-seen : (i : Inputs) (mid : List ℕ → Option (List ℕ)) (job : SeriesJob) (m : Media) (front : List ℕ)
+begins-seen : (i : Inputs) (mid : List ℕ → Option (List ℕ)) (job : SeriesJob) (m : Media) (front : List ℕ)
     → ((n : List ℕ) → mid n ≡ i.texts n)
     → ((text : List ℕ) → i.texts job.flow.sdp ≡ Some text → IsFound (session text) job.flow.media (Ok m))
     → ((text : List ℕ) → classic_texts mid job.flow.capture ≡ Some text → (front ≡ []) ⊎ BeginsIn job.frames job.flow.tai m text front)
@@ -199,7 +199,7 @@ unread-follows i name Q o failure.WriteFault cause = inl refl
 unread-follows i name Q o failure.OutOfMemory cause = inr (inl refl)
 
 -- no input was read, so nothing was written
-pub rests-unread : (i : Inputs) (o : Output) (job : SeriesJob) (e : Failure) → o.new ≡ o.old
+rests-unread : (i : Inputs) (o : Output) (job : SeriesJob) (e : Failure) → o.new ≡ o.old
     → OnReadFault e (λ x. (x ≡ input.Sdp) × HasRisen i job.flow.sdp)
     → Rests o (FollowsSeries job i) (BeginsSeries job i) (Err e)
 rests-unread i o job (failure.ReadFault x) same cause =
