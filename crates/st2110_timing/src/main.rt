@@ -5,6 +5,9 @@
 //! [`usage_hints::hint`] adds an explanation.
 #![tactic(auto)]
 
+mod stream;
+
+use crate::stream::Stream;
 use std::alloc::{AllocError as OutOfMemory, Global};
 use std::io::ErrorKind;
 use std::process::ExitCode;
@@ -118,13 +121,13 @@ fn explain_status<R: Files + AllocGlobal + Drop, K: Sink>(
 
 fn main(rt: HostRuntime) -> ExitCode {
     let _streams = null_devices(&rt);
-    let mut err = StdSink::new(&rt, rt.stderr());
+    let mut err = StdSink::new(&rt, Stream::Err(rt.stderr()));
     let Ok((words, are_text)) = words(&rt) else {
         print_on(&mut err, Status::OutOfMemory.error_line().as_str());
         return ExitCode::from(Status::OutOfMemory.code());
     };
     let mut shelf = FileShelf::new(&rt);
-    let mut out = StdSink::new(&rt, rt.stdout());
+    let mut out = StdSink::new(&rt, Stream::Out(rt.stdout()));
     let status = run(
         &rt,
         rt.alloc(),
