@@ -172,14 +172,26 @@ fn draft_line(alloc: Global, name: &str) -> Result<String, OutOfMemory> {
     )
 }
 
+/// Returns the capture of a request for the draft of a session description.
+fn draft_of(request: &Request) -> Option<&FileName> {
+    match request {
+        Request::Scan(job) => match job.form {
+            ScanForm::Draft => Some(&job.capture),
+            ScanForm::Lines | ScanForm::Json => None,
+        },
+        _ => None,
+    }
+}
+
 /// Returns the line about the end of a `scan --draft` without a video or over a malformed capture,
 /// or an empty text for another command, whose output gives the reason.
 fn unjudged_lines(alloc: Global, words: &[String]) -> Result<String, OutOfMemory> {
     match read_words(alloc, words) {
-        Ok(Request::Scan(job)) if job.form == ScanForm::Draft => {
-            draft_line(alloc, job.capture.as_str())
-        }
-        Ok(_) | Err(WordFault::Usage) => Ok(String::new(alloc)),
+        Ok(request) => match draft_of(&request) {
+            Some(name) => draft_line(alloc, name.as_str()),
+            None => Ok(String::new(alloc)),
+        },
+        Err(WordFault::Usage) => Ok(String::new(alloc)),
         Err(WordFault::OutOfMemory) => Err(OutOfMemory),
     }
 }
